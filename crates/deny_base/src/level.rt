@@ -1,0 +1,44 @@
+ghost use Rattle.std.proofs.Common.{rules};
+ghost use Rattle.std.specs.Prelude.{◌≡◌};
+ghost use Rattle.deny_base.specs.Level.{severity_of};
+
+use crate::list::Plain;
+
+/// The level that a policy gives a rule.
+#[derive(Debug, Clone, Copy, PartialEq, Eq)]
+pub enum LintLevel {
+    Allow,
+    Warn,
+    Deny,
+}
+
+impl Plain for LintLevel {
+    ghost clone_is_equal = { Prim.search rules };
+}
+
+impl LintLevel {
+    /// The severity of a finding of a rule at this level: a note, a warning or an error.
+    pub fn severity(self) -> Severity
+        ensures { result ≡ severity_of self }
+    {
+        match self {
+            LintLevel::Allow => Severity::Note,
+            LintLevel::Warn => Severity::Warning,
+            LintLevel::Deny => Severity::Error,
+        }
+    }
+}
+
+/// How grave a finding is. An error alone makes the verdict a failure.
+#[derive(Debug, Clone, Copy, PartialEq, Eq)]
+pub enum Severity {
+    Bug,
+    Error,
+    Warning,
+    Note,
+    Help,
+}
+
+impl Plain for Severity {
+    ghost clone_is_equal = { Prim.search rules };
+}

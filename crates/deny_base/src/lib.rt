@@ -1,0 +1,15 @@
+//! What every layer speaks of: text and lists that contracts see as such, spans, levels, codes,
+//! keys with their order, findings, and the outside world as traits.
+#![tactic(auto)]
+
+mod level;
+mod list;
+mod memory;
+mod span;
+mod text;
+
+pub use level::{LintLevel, Severity};
+pub use list::{List, Plain};
+pub use memory::NoMemory;
+pub use span::{Kid, Span, Spanned};
+pub use text::Text;

@@ -1,0 +1,20 @@
+use std::alloc::{AllocError, AllocFailed};
+
+/// An allocation failed. It can come at any point of a call whose answer names it.
+#[derive(Debug, Clone, Copy, PartialEq, Eq)]
+pub struct NoMemory;
+
+impl From<AllocError> for NoMemory {
+    fn from(_error: AllocError) -> NoMemory {
+        NoMemory
+    }
+}
+
+impl<T> From<AllocFailed<T>> for NoMemory
+where
+    T: Drop,
+{
+    fn from(_error: AllocFailed<T>) -> NoMemory {
+        NoMemory
+    }
+}
