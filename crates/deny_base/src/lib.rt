@@ -2,12 +2,22 @@
 //! keys with their order, findings, and the outside world as traits.
 #![tactic(auto)]
 
+mod check;
+mod code;
+mod edge;
+mod finding;
+mod key;
 mod level;
 mod list;
 mod memory;
 mod span;
 mod text;
 
+pub use check::{Check, Which};
+pub use code::{Code, DiagnosticCode};
+pub use edge::{DepKind, Edge};
+pub use finding::{Diag, Diagnostic};
+pub use key::{Key, Section};
 pub use level::{LintLevel, Severity};
 pub use list::{List, Plain};
 pub use memory::NoMemory;

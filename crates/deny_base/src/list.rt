@@ -1,3 +1,4 @@
+ghost use Rattle.std.proofs.Common.{rules};
 ghost use Rattle.std.specs.Prelude.{◌≡◌, ◌++◌, ◌∷◌, [], OnOk, OnErr, Some, length};
 ghost use Rattle.std.specs.Cmp.Lexicographic.{slice_cmp, slice_partial_cmp, pointwise, lists_per, lists_equiv, lists_po, lists_total, lists_agrees, lists_ties};
 
@@ -9,6 +10,14 @@ use std::marker::Model;
 /// A type whose copy equals what it copies, so that a copy of a list of it does too.
 pub trait Plain: Clone {
     ghost clone_is_equal: { (x y : Self) → Self.is_clone x y → y ≡ x };
+}
+
+impl Plain for u32 {
+    ghost clone_is_equal = { Prim.search rules };
+}
+
+impl<T: Plain> Plain for Option<T> {
+    ghost clone_is_equal = { Prim.search (rules, T.clone_is_equal) };
 }
 
 /// A `Vec` that contracts see as the list of its items, so that equal lists are equal values.
