@@ -1,5 +1,5 @@
 -- The codes of findings: their words, their order, and the order of the sections of a report.
-use Rattle.std.specs.Prelude.{ℕ, ◌+◌, List, codes}
+use Rattle.std.specs.Prelude.{ℕ, List, codes}
 use Rattle.std.specs.Ordering.{nat_cmp, on}
 use Rattle.std.specs.declared.cmp.Ordering.{Ordering}
 use Rattle.deny_base.specs.declared.code.Code.{Code}

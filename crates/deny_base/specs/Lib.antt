@@ -1,3 +1,5 @@
+pub mod Ascending
 pub mod Code
+pub mod KeyOrder
 pub mod Level
 pub mod formers

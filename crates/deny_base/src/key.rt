@@ -2,7 +2,10 @@ ghost use Rattle.std.specs.Prelude.{◌≡◌, ◌==◌, Some, refl};
 ghost use Rattle.std.specs.Ordering.{nat_cmp, on};
 ghost use Rattle.std.specs.Cmp.{IsTotalOrder, nat_cmp_total, on_total, on_per, on_equiv, nat_eq_equiv, partial_equiv_from_equiv, partial_order_from_own_ties, partial_order_from_total, unsigned_ties};
 ghost use Rattle.std.proofs.Common.{rules};
+ghost use Rattle.std.specs.FinMap.{IsAntisymmetric};
 ghost use Rattle.deny_base.specs.Code.{section_number, section_cmp};
+ghost use Rattle.deny_base.specs.KeyOrder.{key_cmp};
+ghost use Rattle.deny_base.specs.declared.key.Key.{Key};
 
 use crate::code::DiagnosticCode;
 use crate::list::{List, Plain};
@@ -105,3 +108,10 @@ pub struct Key {
 impl Plain for Key {
     ghost clone_is_equal = { Prim.search rules };
 }
+
+/// The order of keys is by their fields in order, it is total, and only equal keys tie.
+pub fn key_order()
+    ensures fields { (a b : Key) → ⟦<Key as Ord>⟧.cmp a b ≡ key_cmp a b }
+    ensures total { IsTotalOrder key_cmp }
+    ensures equal { IsAntisymmetric key_cmp }
+{}

@@ -1,0 +1,124 @@
+-- Only equal keys tie.
+use Rattle.std.proofs.Common.{◌≡◌, ℕ, List, [], ◌∷◌, slice_index_or, refl, sym, ap, ◌∙◌}
+use Rattle.std.specs.Ordering.{nat_cmp, ordering_then}
+use Rattle.std.specs.Cmp.{IsTotalOrder, nat_cmp_total, on_total, then_total}
+use Rattle.std.specs.Cmp.Lexicographic.{slice_cmp, nat_list_cmp_total}
+use Rattle.std.specs.FinMap.{IsAntisymmetric, nat_cmp-IsAntisymmetric, slice_cmp-IsAntisymmetric}
+use Rattle.std.specs.declared.cmp.Ordering.{Ordering}
+use Rattle.std.specs.declared.cmp.Ordering.TheVariants.{Less, Equal, Greater}
+use Rattle.deny_base.specs.Code.{section_cmp, section_number, diagnostic_code_cmp, diagnostic_code_number, code_number}
+use Rattle.deny_base.specs.KeyOrder.{key_cmp, span_cmp}
+use Rattle.deny_base.specs.declared.code.Code.TheVariants.{Banned, Duplicate}
+use Rattle.deny_base.specs.declared.code.DiagnosticCode.{DiagnosticCode}
+use Rattle.deny_base.specs.declared.code.DiagnosticCode.TheVariants.{Bans}
+use Rattle.deny_base.specs.declared.key.Key.{Key}
+use Rattle.deny_base.specs.declared.key.Section.{Section}
+use Rattle.deny_base.specs.declared.key.Section.TheVariants as section
+use Rattle.deny_base.specs.declared.span.Span.{Span}
+
+then_first : (r s : Ordering) → ordering_then r s ≡ Equal → r ≡ Equal
+then_first Less s e = cc e
+then_first Equal s e = refl
+then_first Greater s e = cc e
+
+then_second : (r s : Ordering) → ordering_then r s ≡ Equal → s ≡ Equal
+then_second Less s e = cc e
+then_second Equal s e = e
+then_second Greater s e = cc e
+
+-- what stands at a number of the order of declaration
+sections : List Section
+sections = section.Deprecated ∷ section.Crates ∷ section.Groups ∷ section.Workspace ∷ section.Unused ∷ section.Std ∷ section.Licenses ∷ section.LicensesUnused ∷ []
+
+section_at : ℕ → Section
+section_at n = slice_index_or sections n section.Deprecated
+
+section_at-number : (s : Section) → section_at (section_number s) ≡ s
+unfolding section_at sections section_number
+section_at-number section.Deprecated = refl
+section_at-number section.Crates = refl
+section_at-number section.Groups = refl
+section_at-number section.Workspace = refl
+section_at-number section.Unused = refl
+section_at-number section.Std = refl
+section_at-number section.Licenses = refl
+section_at-number section.LicensesUnused = refl
+
+section_cmp-exact : IsAntisymmetric section_cmp
+section_cmp-exact a b e =
+    sym (section_at-number a) ∙ (ap section_at (nat_cmp-IsAntisymmetric (section_number a) (section_number b) e) ∙ section_at-number b)
+
+diagnostic_codes : List DiagnosticCode
+diagnostic_codes = Bans Banned ∷ Bans Duplicate ∷ []
+
+diagnostic_code_at : ℕ → DiagnosticCode
+diagnostic_code_at n = slice_index_or diagnostic_codes n (Bans Banned)
+
+diagnostic_code_at-number : (code : DiagnosticCode) → diagnostic_code_at (diagnostic_code_number code) ≡ code
+unfolding diagnostic_code_at diagnostic_codes diagnostic_code_number code_number
+diagnostic_code_at-number (Bans Banned) = refl
+diagnostic_code_at-number (Bans Duplicate) = refl
+
+diagnostic_code_cmp-exact : IsAntisymmetric diagnostic_code_cmp
+diagnostic_code_cmp-exact a b e =
+    sym (diagnostic_code_at-number a) ∙ (ap diagnostic_code_at (nat_cmp-IsAntisymmetric (diagnostic_code_number a) (diagnostic_code_number b) e) ∙ diagnostic_code_at-number b)
+
+text_cmp-exact : IsAntisymmetric (slice_cmp nat_cmp)
+text_cmp-exact = slice_cmp-IsAntisymmetric nat_cmp-IsAntisymmetric
+
+span_from : ℕ → ℕ → Span
+span_from start end = record { start = start; end = end }
+
+span_from-is : (s : Span) → span_from s.start s.end ≡ s
+unfolding span_from
+span_from-is s = refl
+
+span_cmp-exact : IsAntisymmetric span_cmp
+span_cmp-exact a b e =
+    let starts : a.start ≡ b.start = nat_cmp-IsAntisymmetric a.start b.start (then_first _ _ e) in
+    let ends : a.end ≡ b.end = nat_cmp-IsAntisymmetric a.end b.end (then_second (nat_cmp a.start b.start) (nat_cmp a.end b.end) e) in
+    cc (span_from-is a, span_from-is b)
+
+key_from : Section → ℕ → DiagnosticCode → Span → List ℕ → ℕ → List ℕ → Key
+key_from section place code entry text other places =
+    record { section = section; place = place; code = code; entry = entry; text = text; other = other; places = places }
+
+key_from-is : (k : Key) → key_from k.section k.place k.code k.entry k.text k.other k.places ≡ k
+unfolding key_from
+key_from-is k = refl
+
+pub key_cmp-exact : IsAntisymmetric key_cmp
+key_cmp-exact a b e =
+    let after_section = then_second (section_cmp a.section b.section) _ e in
+    let after_place = then_second (nat_cmp a.place b.place) _ after_section in
+    let after_code = then_second (diagnostic_code_cmp a.code b.code) _ after_place in
+    let after_entry = then_second (span_cmp a.entry b.entry) _ after_code in
+    let after_text = then_second (slice_cmp nat_cmp a.text b.text) _ after_entry in
+    let after_other = then_second (nat_cmp a.other b.other) _ after_text in
+    let section : a.section ≡ b.section = section_cmp-exact a.section b.section (then_first _ _ e) in
+    let place : a.place ≡ b.place = nat_cmp-IsAntisymmetric a.place b.place (then_first _ _ after_section) in
+    let code : a.code ≡ b.code = diagnostic_code_cmp-exact a.code b.code (then_first _ _ after_place) in
+    let entry : a.entry ≡ b.entry = span_cmp-exact a.entry b.entry (then_first _ _ after_code) in
+    let text : a.text ≡ b.text = text_cmp-exact a.text b.text (then_first _ _ after_entry) in
+    let other : a.other ≡ b.other = nat_cmp-IsAntisymmetric a.other b.other (then_first _ _ after_text) in
+    let places : a.places ≡ b.places = text_cmp-exact a.places b.places after_other in
+    cc (key_from-is a, key_from-is b)
+
+section_cmp-total : IsTotalOrder section_cmp
+section_cmp-total = on_total section_number nat_cmp_total
+
+diagnostic_code_cmp-total : IsTotalOrder diagnostic_code_cmp
+diagnostic_code_cmp-total = on_total diagnostic_code_number nat_cmp_total
+
+span_cmp-total : IsTotalOrder span_cmp
+span_cmp-total = then_total (on_total (λ (s : Span). s.start) nat_cmp_total) (on_total (λ (s : Span). s.end) nat_cmp_total)
+
+pub key_cmp-total : IsTotalOrder key_cmp
+key_cmp-total =
+    then_total (on_total (λ (k : Key). k.section) section_cmp-total)
+    (then_total (on_total (λ (k : Key). k.place) nat_cmp_total)
+    (then_total (on_total (λ (k : Key). k.code) diagnostic_code_cmp-total)
+    (then_total (on_total (λ (k : Key). k.entry) span_cmp-total)
+    (then_total (on_total (λ (k : Key). k.text) nat_list_cmp_total)
+    (then_total (on_total (λ (k : Key). k.other) nat_cmp_total)
+    (on_total (λ (k : Key). k.places) nat_list_cmp_total))))))

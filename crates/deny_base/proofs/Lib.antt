@@ -1,0 +1,2 @@
+pub mod AscendingLemmas
+pub mod KeyEqual
