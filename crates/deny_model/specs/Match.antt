@@ -1,0 +1,16 @@
+-- Which crates an entry speaks of.
+use Rattle.std.specs.Prelude.{ℕ, ◌&&◌, Bool, true, List, Option, Some, None}
+use Rattle.semver.specs.EvalViews.{matches_views}
+use Rattle.semver.specs.Parse.{Held, Parts}
+use Rattle.deny_model.specs.Graph.{Crate}
+use Rattle.deny_model.specs.Policy.{Spec}
+use Rattle.deny_model.specs.Text.{same_text}
+
+-- whether a version meets a requirement; without one every version does
+abbrev pub meets : Option (List Held) → Parts → Bool
+meets None version = true
+meets (Some requirement) version = matches_views requirement version
+
+-- the names are equal, and the version meets the requirement
+unfoldable pub matches : Spec → Crate → Bool
+matches spec c = same_text spec.name c.name && meets spec.requirement c.version

@@ -1,0 +1,3 @@
+//! Definitions alone: what a graph, a policy and a report are, and what stands in a report. Every
+//! crate's contracts cite these words; none of them retraces a body.
+#![tactic(auto)]
