@@ -1,5 +1,5 @@
 -- A dependency graph: crates in order, the members among them, and the edges between them.
-use Rattle.std.specs.Prelude.{ℕ, ◌&&◌, ◌||◌, ◌==◌, ◌++◌, Bool, List, filter, codes}
+use Rattle.std.specs.Prelude.{ℕ, ◌&&◌, ◌==◌, ◌++◌, Bool, List, filter, codes}
 use Rattle.std.specs.List.{list_any}
 use Rattle.semver.specs.Identifiers.{parts_text}
 use Rattle.semver.specs.Parse.{Parts}

@@ -1,11 +1,10 @@
 -- The key of each kind of finding.
-use Rattle.std.specs.Prelude.{ℕ, List, [], ◌∷◌, map}
+use Rattle.std.specs.Prelude.{ℕ, List, [], ◌∷◌}
 use Rattle.deny_base.specs.declared.code.Code.TheVariants.{Banned, Duplicate}
 use Rattle.deny_base.specs.declared.code.DiagnosticCode.TheVariants.{Bans}
 use Rattle.deny_base.specs.declared.key.Key.{Key}
 use Rattle.deny_base.specs.declared.key.Section.TheVariants as section
 use Rattle.deny_base.specs.declared.span.Span.{Span}
-use Rattle.deny_model.specs.Graph.{Crate}
 
 abbrev pub no_span : Span
 no_span = record { start = 0; end = 0 }

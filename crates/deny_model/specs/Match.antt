@@ -1,5 +1,5 @@
 -- Which crates an entry speaks of.
-use Rattle.std.specs.Prelude.{ℕ, ◌&&◌, Bool, true, List, Option, Some, None}
+use Rattle.std.specs.Prelude.{◌&&◌, Bool, true, List, Option, Some, None}
 use Rattle.semver.specs.EvalViews.{matches_views}
 use Rattle.semver.specs.Parse.{Held, Parts}
 use Rattle.deny_model.specs.Graph.{Crate}

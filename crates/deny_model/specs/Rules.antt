@@ -1,5 +1,5 @@
 -- The crate rules: which keys stand.
-use Rattle.std.specs.Prelude.{◌≡◌, ◌≢◌, ◌≤◌, ℕ, Bool, List, filter, map, length, Contains}
+use Rattle.std.specs.Prelude.{◌≡◌, ◌≢◌, ◌≤◌, ℕ, List, filter, map, length, Contains}
 use Rattle.std.specs.List.{flat_map}
 use Rattle.std.specs.Ordering.{nat_cmp, on, then_cmp}
 use Rattle.std.specs.Cmp.Lexicographic.{slice_cmp}
@@ -18,7 +18,7 @@ use Rattle.deny_model.specs.Graph.{Crate, Graph}
 use Rattle.deny_model.specs.Groups.{reduced}
 use Rattle.deny_model.specs.Keys.{banned_key, duplicate_key}
 use Rattle.deny_model.specs.Match.{matches}
-use Rattle.deny_model.specs.Policy.{Policy, Spec}
+use Rattle.deny_model.specs.Policy.{Policy}
 
 -- a crate is banned once for each entry that matches it
 unfoldable pub banned_keys_of : Policy → Crate → List Key

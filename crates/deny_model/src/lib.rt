@@ -1,3 +1,8 @@
 //! Definitions alone: what a graph, a policy and a report are, and what stands in a report. Every
-//! crate's contracts cite these words; none of them retraces a body.
+//! crate's contracts cite these words; none of them retraces a body. Functions with empty bodies
+//! carry the laws of the definitions.
 #![tactic(auto)]
+
+mod laws;
+
+pub use laws::one_report;
