@@ -1,2 +1,3 @@
 pub mod AscendingLemmas
 pub mod KeyEqual
+pub mod PieceLemmas

@@ -1,8 +1,8 @@
 -- Reading goes on by a piece.
-use Rattle.std.proofs.Common.{◌≡◌, ℕ, ◌+◌, ◌-◌, ◌≤◌, List, ◌++◌, length, take, drop, sym, ap, subst, ◌∙◌, arith, length-append, Option, Some, None, IfSome, rules}
+use Rattle.std.proofs.Common.{◌≡◌, ℕ, ◌≤◌, List, ◌++◌, length, take, drop, sym, ap, subst, ◌∙◌, arith, length-append, Option, Some, None, IfSome, rules}
 use Rattle.std.proofs.Math.Seq.{take-add}
 use Rattle.std.proofs.lemmas.List.{length-take-le}
-use Rattle.deny_base.specs.Count.{counted, RoseBy}
+use Rattle.deny_base.specs.Count.{counted}
 use Rattle.deny_base.specs.Disk.{Disk, Files, IsLater, IsPieceOf, bytes_at}
 use Rattle.deny_base.specs.Read.{IsReading}
 

@@ -1,9 +1,9 @@
 -- A disk as contracts see it: what stands at each path, where that is told, and its counts.
-use Rattle.std.specs.Prelude.{◌≡◌, ℕ, ◌+◌, ◌-◌, ◌<◌, ◌≤◌, List, [], length, take, drop, Option, Some, None}
+use Rattle.std.specs.Prelude.{◌≡◌, ℕ, ◌-◌, ◌<◌, ◌≤◌, List, [], length, take, drop, Option, Some, None}
 use Rattle.std.specs.Ordering.{nat_cmp}
 use Rattle.std.specs.Cmp.Lexicographic.{slice_cmp}
 use Rattle.std.specs.FinMap as map
-use Rattle.deny_base.specs.Count.{RoseBy, Rose}
+use Rattle.deny_base.specs.Count.{Rose}
 use Rattle.deny_base.specs.declared.disk.Call.{Call}
 use Rattle.deny_base.specs.declared.disk.Place.{Place}
 use Rattle.deny_base.specs.declared.disk.Place.TheVariants.{Folder, File}

@@ -1,5 +1,9 @@
 pub mod Ascending
 pub mod Code
+pub mod Count
+pub mod Disk
 pub mod KeyOrder
 pub mod Level
+pub mod Out
+pub mod Read
 pub mod formers
