@@ -1,3 +1,4 @@
 pub mod AscendingLemmas
 pub mod KeyEqual
 pub mod PieceLemmas
+pub mod TextMapLemmas

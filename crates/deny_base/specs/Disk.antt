@@ -22,6 +22,10 @@ pub record Disk : Type 0 where
   -- the bytes that reading gave
   pub given : ℕ
 
+-- a disk that tells nothing of what it holds, and has one count of failures for every call and path
+abbrev pub untold : ℕ → ℕ → Disk
+untold faults given = record { files = None; faults = faults; faults_at = λ _ _. faults; given = given }
+
 -- the same disk later: what it holds stays, and no count falls
 pub record IsLater (old new : Disk) : Type 0 where
   pub files : new.files ≡ old.files

@@ -4,6 +4,9 @@ pub mod Count
 pub mod Disk
 pub mod KeyOrder
 pub mod Level
+pub mod MemoryDisk
+pub mod MemoryOut
 pub mod Out
 pub mod Read
+pub mod TextMap
 pub mod formers

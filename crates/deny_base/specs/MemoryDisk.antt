@@ -24,7 +24,7 @@ memory_seen memory = record {
   files = Some memory.files;
   faults = memory.faults;
   faults_at = λ _ _. memory.faults;
-  given = memory.given
+  given = memory.given;
 }
 
 abbrev pub is_failing : List (List ℕ) → List ℕ → Bool

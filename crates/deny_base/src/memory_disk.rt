@@ -39,11 +39,11 @@ impl Model for MemoryDisk {
     ghost coded = { Prim.hlevel (codes, finite.code {R = slice_cmp nat_cmp} (coded_list coded_ℕ) place.the_row.coded) };
 
     ghost view = { λ d. record {
-        files = d.files;
-        failing = d.failing;
-        piece = d.piece;
-        faults = d.faults;
-        given = d.given
+      files = d.files;
+      failing = d.failing;
+      piece = d.piece;
+      faults = d.faults;
+      given = d.given;
     } };
 
     ghost invariant = { λ d. 1 ≤ d.piece };
@@ -116,7 +116,12 @@ impl MemoryDisk {
     pub fn new(alloc: Global, piece: usize) -> MemoryDisk
         requires { 1 ≤ piece }
         ensures { result ≡ record {
-            files = finite.empty; failing = []; piece = piece; faults = 0; given = 0 } }
+          files = finite.empty;
+          failing = [];
+          piece = piece;
+          faults = 0;
+          given = 0;
+        } }
     {
         MemoryDisk {
             alloc,
@@ -154,7 +159,10 @@ impl MemoryDisk {
     fn is_failing(&self, path: &str) -> bool
         ensures { result ≡ is_failing self.now.failing path.now }
     {
-        self.failing.as_slice().iter().any(|other| other.as_str() == path)
+        self.failing
+            .as_slice()
+            .iter()
+            .any(|other| other.as_str() == path)
     }
 
     /// The text that a call on `path` reads. There is none where the call fails.
@@ -214,5 +222,36 @@ impl PackageFiles for MemoryDisk {
                 Err(DiskError::Failed)
             }
         }
+    }
+}
+
+#[cfg(test)]
+mod tests {
+    use super::*;
+    use crate::read::{ReadEnd, read_whole};
+
+    /// The text of the file that was put, read in pieces, and how the other paths end.
+    fn reads_in_pieces(rt: &HostRuntime, piece: usize) -> Result<bool, NoMemory>
+        requires { 1 ≤ piece }
+    {
+        let mut disk = MemoryDisk::new(rt.alloc(), piece);
+        disk.put_file("/ws/app/Cargo.toml", b"seven b")?;
+        disk.put_file("/ws/bad", b"text")?;
+        disk.fail_path("/ws/bad")?;
+        let text = read_whole(rt.alloc(), &mut disk, "/ws/app/Cargo.toml");
+        let folder = read_whole(rt.alloc(), &mut disk, "/ws/app");
+        let failing = read_whole(rt.alloc(), &mut disk, "/ws/bad");
+        Ok(
+            matches!(text, Ok(bytes) if bytes.as_slice() == b"seven b".as_slice())
+                && matches!(folder, Err(ReadEnd::Fault))
+                && matches!(failing, Err(ReadEnd::Fault)),
+        )
+    }
+
+    #[test]
+    fn a_text_is_read_whole_in_pieces(rt: HostRuntime) -> Result<(), NoMemory> {
+        assert!(rt; reads_in_pieces(&rt, 1)?);
+        assert!(rt; reads_in_pieces(&rt, 3)?);
+        Ok(())
     }
 }

@@ -73,3 +73,17 @@ impl Out for MemoryOut {
         Ok(())
     }
 }
+
+#[cfg(test)]
+mod tests {
+    use super::*;
+
+    #[test]
+    fn takes_what_there_is_room_for(rt: HostRuntime) -> Result<(), NoMemory> {
+        let mut out = MemoryOut::new(rt.alloc(), 5)?;
+        assert!(rt; out.put(b"abc").is_ok());
+        assert!(rt; out.put(b"def").is_err());
+        assert!(rt; out.bytes() == b"abcde".as_slice());
+        Ok(())
+    }
+}

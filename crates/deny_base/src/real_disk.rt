@@ -1,9 +1,9 @@
-ghost use Rattle.std.specs.Prelude.{◌≤◌, length, None, IfOk};
+ghost use Rattle.std.specs.Prelude.{◌≡◌, ◌≤◌, length, IfOk};
+ghost use Rattle.deny_base.specs.Disk.{untold};
 
 use crate::disk::{DiskError, PackageFiles};
-use std::fs;
-use std::io;
 use std::os::unix::fs::FileExt;
+use std::{fs, io};
 
 /// The files of the system. It tells nothing of what they hold, and has one count of failures for
 /// every call and path.
@@ -16,7 +16,9 @@ pub struct RealDisk<'r> {
 
 impl<'r> RealDisk<'r> {
     /// The files of the system, with counts of 0.
-    pub fn new(rt: &'r HostRuntime) -> RealDisk<'r> {
+    pub fn new(rt: &'r HostRuntime) -> RealDisk<'r>
+        ensures { ⟦<RealDisk<'r> as PackageFiles>⟧.seen result ≡ untold 0 0 }
+    {
         RealDisk {
             rt,
             faults: 0,
@@ -33,12 +35,7 @@ fn read_file(rt: &HostRuntime, path: &str, offset: u64, buf: &mut [u8]) -> io::R
 }
 
 impl<'r> PackageFiles for RealDisk<'r> {
-    ghost seen = { λ disk. record {
-        files = None;
-        faults = disk.faults;
-        faults_at = λ _ _. disk.faults;
-        given = disk.given
-    } };
+    ghost seen = { λ disk. untold disk.faults disk.given };
 
     fn read_at(&mut self, path: &str, offset: u64, buf: &mut [u8]) -> Result<usize, DiskError> {
         match read_file(self.rt, path, offset, buf) {

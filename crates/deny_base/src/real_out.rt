@@ -1,4 +1,4 @@
-ghost use Rattle.std.specs.Prelude.{◌≤◌, ◌<◌, length, None, IfSome};
+ghost use Rattle.std.specs.Prelude.{◌≡◌, ◌≤◌, ◌<◌, length, None, IfSome};
 
 use crate::out::{Out, OutFault};
 use std::io::Write;
@@ -19,7 +19,9 @@ pub struct RealOut<'r> {
 
 impl<'r> RealOut<'r> {
     /// Standard output, with a count of 0.
-    pub fn out(rt: &'r HostRuntime) -> RealOut<'r> {
+    pub fn out(rt: &'r HostRuntime) -> RealOut<'r>
+        ensures { ⟦<RealOut<'r> as Out>⟧.faults result ≡ 0 }
+    {
         RealOut {
             rt,
             stream: Stream::Out,
@@ -28,7 +30,9 @@ impl<'r> RealOut<'r> {
     }
 
     /// Standard error, with a count of 0.
-    pub fn err(rt: &'r HostRuntime) -> RealOut<'r> {
+    pub fn err(rt: &'r HostRuntime) -> RealOut<'r>
+        ensures { ⟦<RealOut<'r> as Out>⟧.faults result ≡ 0 }
+    {
         RealOut {
             rt,
             stream: Stream::Err,

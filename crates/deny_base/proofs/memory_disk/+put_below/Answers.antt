@@ -9,7 +9,7 @@ pub returns-in-Err-clause-err : goal.returns-in-Err-clause-err
 returns-in-Err-clause-err t c =
     let folder : List ℕ = c.in-Some.folder.now in
     let free : is_some (finite.get c.args.files.now folder) ≡ false =
-        (λ i. is_some (finite.get c.args.files.now (sym c.as_str.ensures i))) ∙ sym c.if-contains_key.ensures in
+    (λ i. is_some (finite.get c.args.files.now (sym c.as_str.ensures i))) ∙ sym c.if-contains_key.ensures in
     c.remove.ensures.after
     ∙ (λ i. finite.remove (c.in-Err.ensures.err i) (c.as_str-in-Err.ensures i))
     ∙ (λ i. finite.remove (c.in_ok-insert.ensures.ok i) folder)
