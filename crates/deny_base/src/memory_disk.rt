@@ -230,7 +230,14 @@ mod tests {
     use super::*;
     use crate::read::{ReadEnd, read_whole};
 
-    /// The text of the file that was put, read in pieces, and how the other paths end.
+    fn is_text(read: &Result<Vec<u8>, ReadEnd>, text: &[u8]) -> bool {
+        match read {
+            Ok(bytes) => bytes.as_slice() == text,
+            Err(_end) => false,
+        }
+    }
+
+    /// A file, a folder and a path that is to fail, each read whole.
     fn reads_in_pieces(rt: &HostRuntime, piece: usize) -> Result<bool, NoMemory>
         requires { 1 ≤ piece }
     {
@@ -239,13 +246,9 @@ mod tests {
         disk.put_file("/ws/bad", b"text")?;
         disk.fail_path("/ws/bad")?;
         let text = read_whole(rt.alloc(), &mut disk, "/ws/app/Cargo.toml");
-        let folder = read_whole(rt.alloc(), &mut disk, "/ws/app");
-        let failing = read_whole(rt.alloc(), &mut disk, "/ws/bad");
-        Ok(
-            matches!(text, Ok(bytes) if bytes.as_slice() == b"seven b".as_slice())
-                && matches!(folder, Err(ReadEnd::Fault))
-                && matches!(failing, Err(ReadEnd::Fault)),
-        )
+        let folder = read_whole(rt.alloc(), &mut disk, "/ws/app").is_err();
+        let failing = read_whole(rt.alloc(), &mut disk, "/ws/bad").is_err();
+        Ok(is_text(&text, b"seven b") && folder && failing)
     }
 
     #[test]

@@ -1,4 +1,4 @@
-use Rattle.std.proofs.Common.{◌≡◌, ap, sym, ◌∙◌, is_some, false, List, ℕ}
+use Rattle.std.proofs.Common.{◌≡◌, sym, ◌∙◌, is_some, false, List, ℕ}
 use Rattle.std.specs.FinMap as finite
 use Rattle.deny_base.specs.declared.disk.Place.TheVariants.{Folder}
 use Rattle.deny_base.proofs.TextMapLemmas.{remove-insert}
