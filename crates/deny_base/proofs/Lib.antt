@@ -2,3 +2,4 @@ pub mod AscendingLemmas
 pub mod KeyEqual
 pub mod PieceLemmas
 pub mod TextMapLemmas
+pub mod WritingLemmas

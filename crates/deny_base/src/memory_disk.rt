@@ -209,8 +209,9 @@ impl PackageFiles for MemoryDisk {
         ensures exact { MatchOption (text_to_read self.old path.now)
             (result ≡ Err DiskError.Failed)
             (λ text. result ≡ Ok (min (min self.old.piece (length buf.new)) (length text - offset))) }
-        ensures after { self.new ≡
-            record self.old { faults = self.new.faults; given = self.new.given } }
+        ensures after { MatchResult result
+            (λ n. self.new ≡ record self.old { given = counted self.old.given n })
+            (λ _. self.new ≡ record self.old { faults = counted self.old.faults 1 }) }
     {
         match self.piece_of(path, offset, buf) {
             Some(count) => {

@@ -1,4 +1,4 @@
-ghost use Rattle.std.specs.Prelude.{◌≡◌, ◌-◌, ◌<◌, ◌≤◌, ◌↔◌, ◌++◌, [], length, take, min, Some, IsErr, IfOk, OnOk, OnErr};
+ghost use Rattle.std.specs.Prelude.{◌≡◌, ◌-◌, ◌<◌, ◌≤◌, ◌↔◌, ◌++◌, [], length, take, min, Some, IsErr, IfOk, OnOk, OnErr, MatchResult};
 ghost use Rattle.deny_base.specs.Count.{Rose, counted};
 ghost use Rattle.deny_base.specs.Out.{Appends, AppendsFront};
 
@@ -62,6 +62,9 @@ impl Out for MemoryOut {
         ensures too_long { IsErr result ↔ (self.old.room < length bytes.now) }
         ensures taken { self.new.bytes ≡ self.old.bytes ++ take self.old.room bytes.now }
         ensures room { self.new.room ≡ self.old.room - length bytes.now }
+        ensures counted { MatchResult result
+            (λ _. self.new.faults ≡ self.old.faults)
+            (λ _. self.new.faults ≡ counted self.old.faults 1) }
     {
         let taken = bytes.len().min(self.room);
         self.bytes.extend_from_slice(&bytes[..taken]).unwrap();

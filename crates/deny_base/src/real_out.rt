@@ -1,4 +1,5 @@
-ghost use Rattle.std.specs.Prelude.{◌≡◌, ◌≤◌, ◌<◌, length, None, IfSome};
+ghost use Rattle.std.specs.Prelude.{◌≡◌, ◌≤◌, ℕ, length, take, None, OnOk, OnErr};
+ghost use Rattle.std.specs.Io.KnownBytes.{Appends};
 
 use crate::out::{Out, OutFault};
 use std::io::Write;
@@ -39,16 +40,22 @@ impl<'r> RealOut<'r> {
             faults: 0,
         }
     }
+}
 
-    /// Writes some of the bytes, and says how many, if any.
-    fn write_some(&self, bytes: &[u8]) -> Option<usize>
-        ensures { IfSome result (λ n. n ≤ length bytes.now) }
-    {
-        match self.stream {
-            Stream::Out => self.rt.stdout().write(bytes).ok(),
-            Stream::Err => self.rt.stderr().write(bytes).ok(),
+/// Writes all of the bytes, or stops where a write fails or takes nothing.
+fn write_all<W: Write>(writer: &mut W, bytes: &[u8]) -> Result<(), OutFault>
+    ensures ok { OnOk result (Appends (W.contents writer.old) (W.contents writer.new) bytes.now) }
+    ensures front { OnErr result ((n : ℕ) × (n ≤ length bytes.now)
+        × Appends (W.contents writer.old) (W.contents writer.new) (take n bytes.now)) }
+{
+    let mut rest = bytes;
+    while !rest.is_empty() {
+        match writer.write(rest) {
+            Ok(n) if n > 0 => rest = &rest[n..],
+            _ => return Err(OutFault),
         }
     }
+    Ok(())
 }
 
 impl<'r> Out for RealOut<'r> {
@@ -57,16 +64,13 @@ impl<'r> Out for RealOut<'r> {
     ghost faults = { λ out. out.faults };
 
     fn put(&mut self, bytes: &[u8]) -> Result<(), OutFault> {
-        let mut rest = bytes;
-        while !rest.is_empty() {
-            match self.write_some(rest) {
-                Some(n) if n > 0 => rest = &rest[n..],
-                _ => {
-                    self.faults = self.faults.saturating_add(1);
-                    return Err(OutFault);
-                }
-            }
+        let result = match self.stream {
+            Stream::Out => write_all(&mut self.rt.stdout(), bytes),
+            Stream::Err => write_all(&mut self.rt.stderr(), bytes),
+        };
+        if result.is_err() {
+            self.faults = self.faults.saturating_add(1);
         }
-        Ok(())
+        result
     }
 }
