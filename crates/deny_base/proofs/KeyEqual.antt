@@ -16,12 +16,12 @@ use Rattle.deny_base.specs.declared.key.Section.{Section}
 use Rattle.deny_base.specs.declared.key.Section.TheVariants as section
 use Rattle.deny_base.specs.declared.span.Span.{Span}
 
-then_first : (r s : Ordering) → ordering_then r s ≡ Equal → r ≡ Equal
+pub then_first : (r s : Ordering) → ordering_then r s ≡ Equal → r ≡ Equal
 then_first Less s e = cc e
 then_first Equal s e = refl
 then_first Greater s e = cc e
 
-then_second : (r s : Ordering) → ordering_then r s ≡ Equal → s ≡ Equal
+pub then_second : (r s : Ordering) → ordering_then r s ≡ Equal → s ≡ Equal
 then_second Less s e = cc e
 then_second Equal s e = e
 then_second Greater s e = cc e

@@ -1,4 +1,5 @@
 pub mod AscendingLemmas
+pub mod EdgeEqual
 pub mod KeyEqual
 pub mod PieceLemmas
 pub mod TextMapLemmas

@@ -2,6 +2,7 @@ pub mod Ascending
 pub mod Code
 pub mod Count
 pub mod Disk
+pub mod Edge
 pub mod KeyOrder
 pub mod Level
 pub mod MemoryDisk

@@ -25,7 +25,7 @@ mod text_map;
 pub use check::{Check, Which};
 pub use code::{Code, DiagnosticCode};
 pub use disk::{Call, DiskError, PackageFiles, Place};
-pub use edge::{DepKind, Edge};
+pub use edge::{DepKind, Edge, edge_order};
 pub use finding::{Diag, Diagnostic};
 pub use key::{Key, Section, key_order};
 pub use level::{LintLevel, Severity};
