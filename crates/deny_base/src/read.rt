@@ -84,7 +84,7 @@ fn read_piece<D: PackageFiles>(
 /// Reads the text at `path` to its end.
 ///
 /// `Fault` comes only where a read of this path failed, `Long` only where the text has 2^28 bytes
-/// or more, and never a text of that size. The time grows with the text alone.
+/// or more; a text of that size is never given. The time grows with the text alone.
 pub fn read_whole<D: PackageFiles>(
     alloc: Global,
     disk: &mut D,
