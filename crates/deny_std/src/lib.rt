@@ -1,0 +1,9 @@
+//! The table of crates that the standard library replaces: its bytes are read once from end to end,
+//! and what is handed out are slices of them.
+#![tactic(auto)]
+
+mod error;
+mod place;
+mod region;
+
+pub use error::ReplacementError;

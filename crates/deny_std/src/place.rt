@@ -1,0 +1,43 @@
+//! Where the texts of a table stand in its bytes.
+
+/// A text's place: its first byte's offset, and how many bytes it has.
+#[derive(Clone, Copy)]
+pub(crate) struct TextPlace {
+    pub at: usize,
+    pub size: usize,
+}
+
+#[derive(Clone, Copy)]
+pub(crate) struct ApiPlace {
+    pub name: TextPlace,
+    pub url: TextPlace,
+}
+
+#[derive(Clone, Copy)]
+pub(crate) struct ReplacementPlace {
+    pub krate: ApiPlace,
+    pub std: ApiPlace,
+    pub note: Option<TextPlace>,
+}
+
+/// The numbers at the head of an entry's items.
+#[derive(Clone, Copy)]
+pub(crate) struct Counts {
+    pub groups: u8,
+    pub unstable: u8,
+    pub unavailable: u8,
+}
+
+/// The head of a group: its minor version, and how many replacements are stable since then.
+#[derive(Clone, Copy)]
+pub(crate) struct GroupHead {
+    pub minor: u8,
+    pub count: u8,
+}
+
+/// What was read, and the offset right after it.
+#[derive(Clone, Copy)]
+pub(crate) struct Read<T> {
+    pub value: T,
+    pub next: usize,
+}
