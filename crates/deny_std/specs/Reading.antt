@@ -24,7 +24,7 @@ abbrev pub read : {A : Type 0} → A → ℕ → Read A
 read value next = record { value = value; next = next }
 
 -- the little endian number of so many bytes
-abbrev pub number : ℕ → List ℕ → ℕ → ℕ
+unfoldable pub number : ℕ → List ℕ → ℕ → ℕ
 number zero bytes at = 0
 number (suc width) bytes at = slice_index bytes at + 256 * number width bytes (at + 1)
 

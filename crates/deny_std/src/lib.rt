@@ -5,5 +5,6 @@
 mod error;
 mod place;
 mod region;
+mod table;
 
 pub use error::ReplacementError;

@@ -1,6 +1,6 @@
 //! One entry's bytes, and the readers of what stands in them.
 
-ghost use Rattle.std.specs.Prelude.{◌≡◌, ◌+◌, ◌≤◌, length};
+ghost use Rattle.std.specs.Prelude.{◌≡◌, ◌+◌, ◌≤◌, length, IfOk};
 ghost use Rattle.std.specs.Str.{is_utf8};
 ghost use Rattle.deny_std.specs.Place.{contents};
 ghost use Rattle.deny_std.specs.Reading.{next_of, many};
@@ -32,9 +32,10 @@ impl<'d> Region<'d> {
         })
     }
 
-    #[tactic(auto, unfolding(crate::specs::Region::text))]
+    #[tactic(auto, unfolding(crate::specs::Region::text, crate::specs::Reading::number))]
     pub fn text(&self, at: usize) -> Result<Read<TextPlace>, ReplacementError>
-        ensures { result ≡ text (bounds self.now.bytes.now self.now.stop) at }
+        ensures value { result ≡ text (bounds self.now.bytes.now self.now.stop) at }
+        ensures inside { IfOk result (λ t. t.value.at + t.value.size ≤ length self.now.bytes.now) }
     {
         if at >= self.stop {
             return Err(ReplacementError::Bad(at));
