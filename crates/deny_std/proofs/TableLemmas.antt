@@ -1,5 +1,6 @@
 -- On the head, the offsets and the entries of a table.
 use Rattle.std.proofs.Common.{◌≡◌, ℕ, zero, suc, ◌+◌, ◌-◌, ◌*◌, ◌<◌, ◌≤◌, ◌==◌, ◌||◌, ◌&&◌, nat_lt, nat_le, Bool, true, false, List, [], ◌∷◌, length, Option, Some, None, Result, Ok, Err, refl, sym, ap, ◌∙◌, arith, subst, inl, inr}
+use Rattle.std.specs.Result.{result_unwrap_or}
 use Rattle.std.proofs.Math.Nat.{eq-or-lt_of_le}
 use Rattle.std.proofs.lemmas.Bool.{and_parts, ltb-true}
 use Rattle.std.proofs.lemmas.Bool.Decides.{nat_tests}
@@ -8,7 +9,7 @@ use Rattle.deny_std.specs.declared.error.ReplacementError.TheVariants.{Bad}
 use Rattle.deny_std.specs.declared.place.TextPlace.{TextPlace}
 use Rattle.deny_std.specs.Reading.{◌>>=◌, ◌>>◌, unless_bad, number, done_of}
 use Rattle.deny_std.specs.Region.{bounds}
-use Rattle.deny_std.specs.Table.{start_of, stop_of, is_offset, IsOffset, HasOffsets, offsets, Entry, entry, name_of, bounds_of, entries}
+use Rattle.deny_std.specs.Table.{start_of, stop_of, is_offset, IsOffset, HasOffsets, offsets, Entry, entry, name_of, bounds_of, entries, header, count_of, table, read_entries, IsRead}
 
 -- a test that breaks nothing holds
 pub unless_bad-ok : (test : Bool) (offset : ℕ) → unless_bad test offset ≡ Ok tt → test ≡ true
@@ -138,3 +139,42 @@ pub place_in-region : (bytes of_region : List ℕ) (read here : TextPlace) → o
 place_in-region bytes of_region read here same inside is =
     let one : read ≡ here = cc in
     rw (← same, ← one) inside
+
+-- the steps of a table, each after those before it hold
+pub table-header : (bytes : List ℕ) (e : ReplacementError) → header bytes ≡ Err e → table bytes ≡ Err e
+unfolding table
+table-header bytes e h = rw h refl
+
+pub table-count : (bytes : List ℕ) (e : ReplacementError) → header bytes ≡ Ok 1 → count_of bytes ≡ Err e → table bytes ≡ Err e
+unfolding table
+table-count bytes e h c = rw (h, c) refl
+
+pub table-offsets : (bytes : List ℕ) (count : ℕ) (e : ReplacementError) → header bytes ≡ Ok 1 → count_of bytes ≡ Ok count
+    → offsets bytes count 0 count ≡ Err e → table bytes ≡ Err e
+unfolding table
+table-offsets bytes count e h c o = rw (h, c, o) refl
+
+pub table-entries : (bytes : List ℕ) (count : ℕ) → header bytes ≡ Ok 1 → count_of bytes ≡ Ok count
+    → offsets bytes count 0 count ≡ Ok tt → table bytes ≡ entries 1 bytes count None 0 count
+unfolding table
+table-entries bytes count h c o = rw (h, c, o) refl
+
+done-err : {A : Type 0} (r : Result A ReplacementError) (e : ReplacementError) → done_of r ≡ Err e → r ≡ Err e
+done-err (Ok x) e is = cc
+done-err (Err d) e is = let same : d ≡ e = cc in ap Err same
+
+done-ok : {A : Type 0} (r : Result A ReplacementError) (other : A) → done_of r ≡ Ok tt → r ≡ Ok (result_unwrap_or r other)
+done-ok (Ok x) other is = refl
+done-ok (Err d) other is = cc
+
+pub table-bad : (bytes : List ℕ) (count : ℕ) (e : ReplacementError) → header bytes ≡ Ok 1 → count_of bytes ≡ Ok count
+    → offsets bytes count 0 count ≡ Ok tt → done_of (entries 1 bytes count None 0 count) ≡ Err e → table bytes ≡ Err e
+table-bad bytes count e h c o es = table-entries bytes count h c o ∙ done-err (entries 1 bytes count None 0 count) e es
+
+pub table-read : (bytes : List ℕ) (count : ℕ) → header bytes ≡ Ok 1 → count_of bytes ≡ Ok count
+    → offsets bytes count 0 count ≡ Ok tt → IsRead bytes count → table bytes ≡ Ok (read_entries bytes count)
+table-read bytes count h c o es = table-entries bytes count h c o ∙ es.entries
+
+pub entries-read : (bytes : List ℕ) (count : ℕ) → offsets bytes count 0 count ≡ Ok tt
+    → done_of (entries 1 bytes count None 0 count) ≡ Ok tt → IsRead bytes count
+entries-read bytes count o es = record { offsets = offsets-all bytes count o; entries = done-ok (entries 1 bytes count None 0 count) [] es }

@@ -1,5 +1,6 @@
 -- A table's bytes, in the order in which they are tested. Numbers are little endian.
-use Rattle.std.specs.Prelude.{ℕ, zero, suc, ◌+◌, ◌-◌, ◌*◌, ◌==◌, ◌&&◌, ◌||◌, ◌<◌, ◌≤◌, Bool, true, nat_lt, nat_le, List, [], ◌∷◌, length, Option, Some, None, Result, Ok, Err, slice_index, if◌then◌else◌}
+use Rattle.std.specs.Prelude.{◌≡◌, ℕ, zero, suc, ◌+◌, ◌-◌, ◌*◌, ◌==◌, ◌&&◌, ◌||◌, ◌<◌, ◌≤◌, Bool, true, nat_lt, nat_le, List, [], ◌∷◌, length, Option, Some, None, Result, Ok, Err, slice_index, if◌then◌else◌}
+use Rattle.std.specs.Result.{result_unwrap_or}
 use Rattle.std.specs.Cmp.Lexicographic.{slice_cmp}
 use Rattle.std.specs.Ordering.{nat_cmp, is_lt}
 use Rattle.deny_std.specs.declared.error.ReplacementError.{ReplacementError}
@@ -105,3 +106,17 @@ table bytes = do
   count ← count_of bytes
   offsets bytes count 0 count
   entries width bytes count None 0 count
+
+-- A table: its bytes, and the entries in them.
+pub record Table : Type 0 where
+  pub bytes : List ℕ
+  pub entries : List Entry
+
+-- what a list is where its reading is known to hold
+abbrev pub read_entries : List ℕ → ℕ → List Entry
+read_entries bytes count = result_unwrap_or (entries 1 bytes count None 0 count) []
+
+-- that reading holds, and the offsets before it
+pub record IsRead (bytes : List ℕ) (count : ℕ) : Type 0 where
+  pub offsets : HasOffsets bytes count
+  pub entries : entries 1 bytes count None 0 count ≡ Ok (read_entries bytes count)

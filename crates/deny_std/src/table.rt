@@ -1,6 +1,6 @@
 //! The replacement table: its head, its offsets and its entries.
 
-ghost use Rattle.std.specs.Prelude.{◌≡◌, ◌+◌, ◌*◌, ◌≤◌, ◌<◌, ◌==◌, ◌||◌, ◌-◌, nat_lt, Ok, Err, Some, length, MatchResult, IfOk, None};
+ghost use Rattle.std.specs.Prelude.{◌≡◌, ◌+◌, ◌*◌, ◌≤◌, ◌<◌, ◌==◌, ◌||◌, ◌-◌, nat_lt, Ok, Err, Some, length, MatchResult, IfOk, IfErr, None};
 ghost use Rattle.std.specs.Option.{ForSome};
 ghost use Rattle.deny_std.specs.Place.{contents};
 ghost use Rattle.deny_std.specs.Reading.{unless_bad, done_of, number};
@@ -10,9 +10,46 @@ ghost use Rattle.deny_std.specs.Table.{has_byte, header, count_of, start_of, sto
 use crate::error::ReplacementError;
 use crate::place::TextPlace;
 use crate::region::Region;
+use std::alloc::Global;
+use std::marker::Model;
 
 const MARK: u8 = 0xcd;
 const VERSION: u8 = 1;
+
+/// A replacement table over a caller's bytes, which contracts see as those bytes and their entries.
+#[derive(Drop)]
+pub struct ReplacementData<'d> {
+    bytes: &'d [u8],
+    count: u32,
+}
+
+impl<'d> Model for ReplacementData<'d> {
+    ghost use Rattle.deny_std.specs.Table.{Table, IsRead, read_entries};
+
+    ghost Value = { Table };
+
+    ghost view = { λ d. record { bytes = d.bytes.now; entries = read_entries d.bytes.now d.count } };
+
+    ghost invariant = { λ d. IsRead d.bytes.now d.count };
+}
+
+impl<'d> ReplacementData<'d> {
+    /// Reads a whole table, of which nothing is copied.
+    ///
+    /// The bytes are refused as `Bad` exactly where they are no table, with the byte offset of their
+    /// first break. No memory is needed.
+    pub fn from_bytes(_alloc: Global, bytes: &'d [u8]) -> Result<ReplacementData<'d>, ReplacementError>
+        ensures bytes { IfOk result (λ t. t.bytes ≡ bytes.now) }
+        ensures entries { IfOk result (λ t. table bytes.now ≡ Ok t.entries) }
+        ensures bad { IfErr result (λ e. table bytes.now ≡ Err e) }
+    {
+        check_header(bytes)?;
+        let count = count(bytes)?;
+        check_offsets(bytes, count)?;
+        check_entries(bytes, count)?;
+        Ok(ReplacementData { bytes, count })
+    }
+}
 
 /// The byte at an offset has to be this one.
 fn check_byte(bytes: &[u8], at: usize, value: u8) -> Result<(), ReplacementError>
