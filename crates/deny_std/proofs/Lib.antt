@@ -1,3 +1,5 @@
 pub mod PlaceLemmas
 pub mod ReadingLemmas
 pub mod TableLemmas
+pub mod LayoutLemmas
+pub mod TableLaw

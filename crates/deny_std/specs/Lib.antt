@@ -2,3 +2,4 @@ pub mod Place
 pub mod Reading
 pub mod Region
 pub mod Table
+pub mod Layout
