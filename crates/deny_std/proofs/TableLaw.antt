@@ -14,7 +14,9 @@ use Rattle.deny_std.specs.declared.place.TextPlace.{TextPlace}
 use Rattle.deny_std.specs.Place.{contents}
 use Rattle.deny_std.specs.Reading.{◌>>=◌, ◌>>◌, unless_bad, read, number}
 use Rattle.deny_std.specs.Region.{Bounds, Items, text, items}
-use Rattle.deny_std.specs.Table.{Entry, header, has_byte, count_of, start_of, stop_of, is_offset, IsOffset, HasOffsets, offsets, is_above, entry, bounds_of, entries, table}
+use Rattle.deny_std.specs.Head.{header, has_byte, count_of, start_of, is_offset, IsOffset, HasOffsets, offsets}
+use Rattle.deny_std.specs.Entries.{Entry, stop_of, is_above, entry, bounds_of, entries}
+use Rattle.deny_std.specs.Table.{table}
 use Rattle.deny_std.specs.Layout.{IsText, IsItems, IsEntry, IsTable}
 use Rattle.deny_std.proofs.TableLemmas.{offsets-all}
 use Rattle.deny_std.proofs.LayoutLemmas.{bind-ok, unless_bad-then, text-sound, text-complete, items-sound, items-complete}

@@ -9,7 +9,9 @@ use Rattle.deny_std.specs.declared.error.ReplacementError.TheVariants.{Bad}
 use Rattle.deny_std.specs.declared.place.TextPlace.{TextPlace}
 use Rattle.deny_std.specs.Reading.{◌>>=◌, ◌>>◌, unless_bad, number, done_of}
 use Rattle.deny_std.specs.Region.{bounds}
-use Rattle.deny_std.specs.Table.{start_of, stop_of, is_offset, IsOffset, HasOffsets, offsets, Entry, entry, name_of, bounds_of, entries, header, count_of, table, read_entries, IsRead}
+use Rattle.deny_std.specs.Head.{start_of, is_offset, IsOffset, HasOffsets, offsets, header, count_of}
+use Rattle.deny_std.specs.Entries.{stop_of, Entry, entry, name_of, bounds_of, entries}
+use Rattle.deny_std.specs.Table.{table, read_entries, IsRead}
 
 -- a test that breaks nothing holds
 pub unless_bad-ok : (test : Bool) (offset : ℕ) → unless_bad test offset ≡ Ok tt → test ≡ true

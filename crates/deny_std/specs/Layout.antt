@@ -9,7 +9,8 @@ use Rattle.deny_std.specs.declared.place.ReplacementPlace.{ReplacementPlace}
 use Rattle.deny_std.specs.Place.{contents}
 use Rattle.deny_std.specs.Reading.{number}
 use Rattle.deny_std.specs.Region.{Bounds, Group, Items, note_of}
-use Rattle.deny_std.specs.Table.{Entry, HasOffsets, bounds_of, start_of}
+use Rattle.deny_std.specs.Head.{HasOffsets, start_of}
+use Rattle.deny_std.specs.Entries.{Entry, bounds_of}
 
 -- At one offset stands a byte, and another offset comes after it.
 pub record IsByte (b : Bounds) (at value next : ℕ) : Type 0 where

@@ -2,7 +2,9 @@
 //! and what is handed out are slices of them.
 #![tactic(auto)]
 
+mod entries;
 mod error;
+mod head;
 mod place;
 mod region;
 mod table;

@@ -1,5 +1,8 @@
 //! Where the texts of a table stand in its bytes.
 
+ghost use Rattle.std.specs.Prelude.{◌≡◌, ◌+◌, ◌≤◌, length};
+ghost use Rattle.deny_std.specs.Place.{contents};
+
 /// A text's place: its first byte's offset, and how many bytes it has.
 #[derive(Clone, Copy)]
 pub(crate) struct TextPlace {
@@ -40,4 +43,12 @@ pub(crate) struct GroupHead {
 pub(crate) struct Read<T> {
     pub value: T,
     pub next: usize,
+}
+
+/// The bytes at a place.
+pub(crate) fn slice_at(bytes: &[u8], place: TextPlace) -> &[u8]
+    requires { place.at + place.size ≤ length bytes.now }
+    ensures { result.now ≡ contents bytes.now place }
+{
+    &bytes[place.at..place.at + place.size]
 }

@@ -1,6 +1,6 @@
 use Rattle.std.proofs.Common.{rules, ◌≡◌, ◌∙◌, ◌+◌, ◌-◌, arith, sym}
 use Rattle.deny_std.proofs.TableLemmas.{entries-more, entries-break, entries-none, name_of-region, place_in-region}
-use Rattle.deny_std.proofs.table.check_entries.Goals as goal
+use Rattle.deny_std.proofs.entries.check_entries.Goals as goal
 
 pub returns-in_err-check_entry : goal.returns-in_err-check_entry
 returns-in_err-check_entry c =

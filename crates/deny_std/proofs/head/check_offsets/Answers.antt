@@ -1,7 +1,7 @@
 use Rattle.std.proofs.Common.{rules, ◌≡◌, ◌∙◌, ◌+◌, ◌-◌, arith, sym}
-use Rattle.deny_std.specs.Table.{offsets}
+use Rattle.deny_std.specs.Head.{offsets}
 use Rattle.deny_std.proofs.TableLemmas.{offsets-more, offsets-break, offsets-none}
-use Rattle.deny_std.proofs.table.check_offsets.Goals as goal
+use Rattle.deny_std.proofs.head.check_offsets.Goals as goal
 
 pub returns-in_err-check_offset : goal.returns-in_err-check_offset
 returns-in_err-check_offset c =

@@ -1,6 +1,6 @@
 use Rattle.std.proofs.Common.{◌≡◌, ◌-◌}
-use Rattle.deny_std.specs.Table.{offsets}
-use Rattle.deny_std.proofs.table.check_offsets.Given as goal
+use Rattle.deny_std.specs.Head.{offsets}
+use Rattle.deny_std.proofs.head.check_offsets.Given as goal
 
 -- what is left to test breaks where the whole breaks
 abbrev pub invariant-loop-i : goal.invariant-loop-i

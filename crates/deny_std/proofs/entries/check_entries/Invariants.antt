@@ -1,8 +1,8 @@
 use Rattle.std.proofs.Common.{◌≡◌, ◌+◌, ◌-◌, ◌≤◌, None, length}
 use Rattle.std.specs.Option.{ForSome}
 use Rattle.deny_std.specs.Reading.{done_of}
-use Rattle.deny_std.specs.Table.{entries}
-use Rattle.deny_std.proofs.table.check_entries.Given as goal
+use Rattle.deny_std.specs.Entries.{entries}
+use Rattle.deny_std.proofs.entries.check_entries.Given as goal
 
 -- what is left to test breaks where the whole breaks
 abbrev pub invariant-loop-i : goal.invariant-loop-i
