@@ -3,3 +3,4 @@ pub mod ReadingLemmas
 pub mod TableLemmas
 pub mod LayoutLemmas
 pub mod TableLaw
+pub mod NamesLemmas

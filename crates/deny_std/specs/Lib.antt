@@ -5,3 +5,4 @@ pub mod Head
 pub mod Entries
 pub mod Table
 pub mod Layout
+pub mod Names

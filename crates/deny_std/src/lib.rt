@@ -5,6 +5,7 @@
 mod entries;
 mod error;
 mod head;
+mod names;
 mod place;
 mod region;
 mod table;
