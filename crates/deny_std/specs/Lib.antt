@@ -6,3 +6,5 @@ pub mod Entries
 pub mod Table
 pub mod Layout
 pub mod Names
+pub mod Item
+pub mod Cursor

@@ -2,12 +2,15 @@
 //! and what is handed out are slices of them.
 #![tactic(auto)]
 
+mod cursor;
 mod entries;
 mod error;
 mod head;
+mod item;
 mod names;
 mod place;
 mod region;
 mod table;
 
 pub use error::ReplacementError;
+pub use item::{Api, ApiReplacement, ReplacementItem};

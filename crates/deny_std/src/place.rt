@@ -1,7 +1,9 @@
 //! Where the texts of a table stand in its bytes.
 
 ghost use Rattle.std.specs.Prelude.{◌≡◌, ◌+◌, ◌≤◌, length};
-ghost use Rattle.deny_std.specs.Place.{contents};
+ghost use Rattle.deny_std.specs.Place.{contents, IsTextIn};
+
+use std::str;
 
 /// A text's place: its first byte's offset, and how many bytes it has.
 #[derive(Clone, Copy)]
@@ -21,6 +23,14 @@ pub(crate) struct ReplacementPlace {
     pub krate: ApiPlace,
     pub std: ApiPlace,
     pub note: Option<TextPlace>,
+}
+
+/// An item of an entry, by the places of its texts.
+#[derive(Clone, Copy)]
+pub(crate) enum ItemPlace {
+    Stable { replacement: ReplacementPlace, minor: u8 },
+    Unstable { replacement: ReplacementPlace },
+    Unavailable { api: ApiPlace },
 }
 
 /// The numbers at the head of an entry's items.
@@ -51,4 +61,12 @@ pub(crate) fn slice_at(bytes: &[u8], place: TextPlace) -> &[u8]
     ensures { result.now ≡ contents bytes.now place }
 {
     &bytes[place.at..place.at + place.size]
+}
+
+/// The text at a place.
+pub(crate) fn text_at(bytes: &[u8], place: TextPlace) -> &str
+    requires { IsTextIn bytes.now place }
+    ensures { result.now ≡ contents bytes.now place }
+{
+    str::from_utf8(slice_at(bytes, place)).unwrap()
 }
