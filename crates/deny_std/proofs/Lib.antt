@@ -4,3 +4,4 @@ pub mod TableLemmas
 pub mod LayoutLemmas
 pub mod TableLaw
 pub mod NamesLemmas
+pub mod CursorLemmas
