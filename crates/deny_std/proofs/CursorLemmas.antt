@@ -33,7 +33,7 @@ many-zero : {A : Type 0} (reader : ℕ → Result (Read A) ReplacementError) (at
 unfolding many
 many-zero reader at = refl
 
-ok-is : {A : Type 0} {x y : A} (e : Result A ReplacementError) → e ≡ Ok x → e ≡ Ok y → x ≡ y
+pub ok-is : {A : Type 0} {x y : A} (e : Result A ReplacementError) → e ≡ Ok x → e ≡ Ok y → x ≡ y
 ok-is e first second = cc
 
 zero-is : {A : Type 0} (reader : ℕ → Result (Read A) ReplacementError) (at : ℕ) (all : Read (List A))
@@ -236,3 +236,61 @@ pub coming-begin : (b : Bounds) (minor : ℕ) (counts : Counts) (at : ℕ) (all 
     → counted_items b counts at ≡ Ok all → coming b minor 0 counts at ≡ Ok (items_of all.value)
 unfolding coming many
 coming-begin b minor counts at all is = rw is refl
+
+-- the same, where the numbers are not zero
+
+pub stable_gives : (b : Bounds) (minor stable : ℕ) (counts : Counts) (at : ℕ) (items : List ItemPlace) → 0 < stable
+    → coming b minor stable counts at ≡ Ok items
+    → (first : Read ReplacementPlace) × (replacement b at ≡ Ok first) × IsStep b minor (stable - 1) counts first.next items (Stable first.value minor)
+stable_gives b minor stable counts at items some is =
+    let e : stable ≡ suc (stable - 1) = omega arith in
+    stable_step b minor (stable - 1) counts at items
+        (coming-parts b minor (suc (stable - 1)) counts at items (subst (λ n. coming b minor n counts at ≡ Ok items) e is))
+
+counts_are : (counts : Counts) (groups unstable : ℕ) → counts.groups ≡ groups → counts.unstable ≡ unstable
+    → counts ≡ record { groups = groups; unstable = unstable; unavailable = counts.unavailable }
+counts_are counts groups unstable first second = rw (← first, ← second) refl
+
+pub unstable_gives : (b : Bounds) (minor stable : ℕ) (counts : Counts) (at : ℕ) (items : List ItemPlace) → stable ≡ 0
+    → counts.groups ≡ 0 → 0 < counts.unstable → coming b minor stable counts at ≡ Ok items
+    → (first : Read ReplacementPlace) × (replacement b at ≡ Ok first)
+        × IsStep b minor stable (record counts { unstable = counts.unstable - 1 }) first.next items (Unstable first.value)
+unstable_gives b minor stable counts at items none groups some is =
+    let e : counts.unstable ≡ suc (counts.unstable - 1) = omega arith in
+    let whole : coming b minor 0 (record { groups = 0; unstable = suc (counts.unstable - 1); unavailable = counts.unavailable }) at ≡ Ok items =
+        subst (λ c. coming b minor 0 c at ≡ Ok items) (counts_are counts 0 (suc (counts.unstable - 1)) groups e)
+            (subst (λ n. coming b minor n counts at ≡ Ok items) none is) in
+    let step = unstable_step b minor (counts.unstable - 1) counts.unavailable at items (coming-parts b minor 0 _ at items whole) in
+    (step.0, step.1,
+        subst (λ n. IsStep b minor n (record counts { unstable = counts.unstable - 1 }) step.0.next items (Unstable step.0.value)) (sym none)
+            (subst (λ g. IsStep b minor 0 (record { groups = g; unstable = counts.unstable - 1; unavailable = counts.unavailable }) step.0.next items (Unstable step.0.value))
+                (sym groups) step.2))
+
+pub unavailable_gives : (b : Bounds) (minor stable : ℕ) (counts : Counts) (at : ℕ) (items : List ItemPlace) → stable ≡ 0
+    → counts.groups ≡ 0 → counts.unstable ≡ 0 → 0 < counts.unavailable → coming b minor stable counts at ≡ Ok items
+    → (first : Read ApiPlace) × (api b at ≡ Ok first)
+        × IsStep b minor stable (record counts { unavailable = counts.unavailable - 1 }) first.next items (Unavailable first.value)
+unavailable_gives b minor stable counts at items none groups unstable some is =
+    let e : counts.unavailable ≡ suc (counts.unavailable - 1) = omega arith in
+    let whole : coming b minor 0 (record { groups = 0; unstable = 0; unavailable = suc (counts.unavailable - 1) }) at ≡ Ok items =
+        subst (λ n. coming b minor 0 (record { groups = 0; unstable = 0; unavailable = n }) at ≡ Ok items) e
+            (subst (λ c. coming b minor 0 c at ≡ Ok items) (counts_are counts 0 0 groups unstable)
+                (subst (λ n. coming b minor n counts at ≡ Ok items) none is)) in
+    let step = unavailable_step b minor (counts.unavailable - 1) at items (coming-parts b minor 0 _ at items whole) in
+    (step.0, step.1,
+        subst (λ n. IsStep b minor n (record counts { unavailable = counts.unavailable - 1 }) step.0.next items (Unavailable step.0.value)) (sym none)
+            (subst (λ g. IsStep b minor 0 (record { groups = g; unstable = counts.unstable; unavailable = counts.unavailable - 1 }) step.0.next items (Unavailable step.0.value))
+                (sym groups)
+                (subst (λ u. IsStep b minor 0 (record { groups = 0; unstable = u; unavailable = counts.unavailable - 1 }) step.0.next items (Unavailable step.0.value))
+                    (sym unstable) step.2)))
+
+pub group_gives : (b : Bounds) (minor stable : ℕ) (counts : Counts) (at : ℕ) (items : List ItemPlace) → stable ≡ 0
+    → 0 < counts.groups → coming b minor stable counts at ≡ Ok items
+    → (head : Read GroupHead) × (group_head b at ≡ Ok head)
+        × (coming b head.value.minor head.value.count (record counts { groups = counts.groups - 1 }) head.next ≡ Ok items)
+group_gives b minor stable counts at items none some is =
+    let e : counts.groups ≡ suc (counts.groups - 1) = omega arith in
+    let whole : coming b minor 0 (record { groups = suc (counts.groups - 1); unstable = counts.unstable; unavailable = counts.unavailable }) at ≡ Ok items =
+        subst (λ c. coming b minor 0 c at ≡ Ok items) (counts_are counts (suc (counts.groups - 1)) counts.unstable e refl)
+            (subst (λ n. coming b minor n counts at ≡ Ok items) none is) in
+    group_step b minor (counts.groups - 1) counts.unstable counts.unavailable at items (coming-parts b minor 0 _ at items whole)

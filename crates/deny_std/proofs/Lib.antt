@@ -5,3 +5,4 @@ pub mod LayoutLemmas
 pub mod TableLaw
 pub mod NamesLemmas
 pub mod CursorLemmas
+pub mod CursorSteps

@@ -1,5 +1,5 @@
 -- The items of an entry that are still to come.
-use Rattle.std.specs.Prelude.{◌≡◌, ℕ, List, [], ◌++◌, map, Result, Ok}
+use Rattle.std.specs.Prelude.{◌≡◌, ℕ, List, [], ◌∷◌, ◌++◌, map, Result, Ok}
 use Rattle.std.specs.Result.{result_unwrap_or}
 use Rattle.deny_std.specs.declared.error.ReplacementError.{ReplacementError}
 use Rattle.deny_std.specs.declared.place.ItemPlace.{ItemPlace}
@@ -8,6 +8,7 @@ use Rattle.deny_std.specs.declared.place.Counts.{Counts}
 use Rattle.deny_std.specs.Reading.{◌>>=◌, many}
 use Rattle.deny_std.specs.declared.cursor.Cursor.{Cursor}
 use Rattle.deny_std.specs.Region.{Bounds, bounds, replacement, counted_items}
+use Rattle.deny_std.specs.Place.{IsItemIn}
 use Rattle.deny_std.specs.Item.{items_of}
 
 -- The items from an offset on, in a group of this minor version with so many replacements left, and
@@ -18,10 +19,16 @@ coming b minor stable counts at = do
   rest ← counted_items b counts group.next
   Ok (map (λ replacement. Stable replacement minor) group.value ++ items_of rest.value)
 
--- they are these
-abbrev pub items_left : Bounds → ℕ → ℕ → Counts → ℕ → List ItemPlace
-items_left b minor stable counts at = result_unwrap_or (coming b minor stable counts at) []
-
 -- the items that a cursor still has to give
 abbrev pub coming_of : Cursor → Result (List ItemPlace) ReplacementError
 coming_of c = coming (bounds c.region.bytes.now c.region.stop) c.minor c.stable c.counts c.at
+
+abbrev pub left_of : Cursor → List ItemPlace
+left_of c = result_unwrap_or (coming_of c) []
+
+-- One item was given: the first of those to come, and the others come after it.
+pub record Gives (old new : Cursor) (place : ItemPlace) : Type 0 where
+  pub same : new.region ≡ old.region
+  pub reads : coming_of new ≡ Ok (left_of new)
+  pub item : left_of old ≡ place ∷ left_of new
+  pub texts : IsItemIn old.region.bytes.now place

@@ -1,11 +1,7 @@
 //! A place between two items of an entry.
 
-ghost use Rattle.std.specs.Prelude.{◌≡◌, ◌+◌, ◌<◌, ◌∷◌, [], List, Ok, MatchOption, IfSome};
-ghost use Rattle.deny_std.specs.declared.place.ItemPlace.{ItemPlace};
-ghost use Rattle.deny_std.specs.declared.place.ItemPlace.TheVariants.{Stable, Unstable, Unavailable};
-ghost use Rattle.deny_std.specs.Place.{IsItemIn};
-ghost use Rattle.deny_std.specs.Region.{bounds};
-ghost use Rattle.deny_std.specs.Cursor.{coming};
+ghost use Rattle.std.specs.Prelude.{◌≡◌, ◌<◌, Ok};
+ghost use Rattle.deny_std.specs.Cursor.{coming_of, left_of, Gives};
 
 use crate::place::{Counts, ItemPlace};
 use crate::region::Region;
@@ -19,4 +15,68 @@ pub(crate) struct Cursor<'d> {
     pub minor: u8,
     pub stable: u8,
     pub counts: Counts,
+}
+
+impl<'d> Cursor<'d> {
+    /// The next replacement of the group at hand.
+    fn next_stable(&mut self) -> ItemPlace
+        requires some { 0 < self.old.stable }
+        requires reads { coming_of self.old ≡ Ok (left_of self.old) }
+        ensures { Gives self.old self.new result }
+    {
+        let read = self.region.replacement(self.at).unwrap();
+        self.at = read.next;
+        self.stable -= 1;
+        ItemPlace::Stable {
+            replacement: read.value,
+            minor: self.minor,
+        }
+    }
+
+    /// The next replacement that is not stable.
+    fn next_unstable(&mut self) -> ItemPlace
+        requires stable { self.old.stable ≡ 0 }
+        requires groups { self.old.counts.groups ≡ 0 }
+        requires some { 0 < self.old.counts.unstable }
+        requires reads { coming_of self.old ≡ Ok (left_of self.old) }
+        ensures { Gives self.old self.new result }
+    {
+        let read = self.region.replacement(self.at).unwrap();
+        self.at = read.next;
+        self.counts.unstable -= 1;
+        ItemPlace::Unstable {
+            replacement: read.value,
+        }
+    }
+
+    /// The next API without a replacement.
+    fn next_unavailable(&mut self) -> ItemPlace
+        requires stable { self.old.stable ≡ 0 }
+        requires groups { self.old.counts.groups ≡ 0 }
+        requires unstable { self.old.counts.unstable ≡ 0 }
+        requires some { 0 < self.old.counts.unavailable }
+        requires reads { coming_of self.old ≡ Ok (left_of self.old) }
+        ensures { Gives self.old self.new result }
+    {
+        let read = self.region.api(self.at).unwrap();
+        self.at = read.next;
+        self.counts.unavailable -= 1;
+        ItemPlace::Unavailable { api: read.value }
+    }
+
+    /// Goes on to the next group.
+    fn begin_group(&mut self)
+        requires stable { self.old.stable ≡ 0 }
+        requires some { 0 < self.old.counts.groups }
+        requires reads { coming_of self.old ≡ Ok (left_of self.old) }
+        ensures same { self.new.region ≡ self.old.region }
+        ensures left { coming_of self.new ≡ Ok (left_of self.old) }
+        ensures stable { 0 < self.new.stable }
+    {
+        let head = self.region.group_head(self.at).unwrap();
+        self.at = head.next;
+        self.minor = head.value.minor;
+        self.stable = head.value.count;
+        self.counts.groups -= 1;
+    }
 }
