@@ -185,7 +185,7 @@ unavailable_step b minor left at items is =
     })
 
 -- none is left
-none_left : (b : Bounds) (minor at : ℕ) → coming b minor 0 (record { groups = 0; unstable = 0; unavailable = 0 }) at ≡ Ok []
+pub none_left : (b : Bounds) (minor at : ℕ) → coming b minor 0 (record { groups = 0; unstable = 0; unavailable = 0 }) at ≡ Ok []
 unfolding coming counted_items many
 none_left b minor at = refl
 
@@ -247,9 +247,9 @@ stable_gives b minor stable counts at items some is =
     stable_step b minor (stable - 1) counts at items
         (coming-parts b minor (suc (stable - 1)) counts at items (subst (λ n. coming b minor n counts at ≡ Ok items) e is))
 
-counts_are : (counts : Counts) (groups unstable : ℕ) → counts.groups ≡ groups → counts.unstable ≡ unstable
-    → counts ≡ record { groups = groups; unstable = unstable; unavailable = counts.unavailable }
-counts_are counts groups unstable first second = rw (← first, ← second) refl
+pub counts_are : (counts : Counts) (groups unstable unavailable : ℕ) → counts.groups ≡ groups → counts.unstable ≡ unstable
+    → counts.unavailable ≡ unavailable → counts ≡ record { groups = groups; unstable = unstable; unavailable = unavailable }
+counts_are counts groups unstable unavailable first second third = rw (← first, ← second, ← third) refl
 
 pub unstable_gives : (b : Bounds) (minor stable : ℕ) (counts : Counts) (at : ℕ) (items : List ItemPlace) → stable ≡ 0
     → counts.groups ≡ 0 → 0 < counts.unstable → coming b minor stable counts at ≡ Ok items
@@ -258,7 +258,7 @@ pub unstable_gives : (b : Bounds) (minor stable : ℕ) (counts : Counts) (at : �
 unstable_gives b minor stable counts at items none groups some is =
     let e : counts.unstable ≡ suc (counts.unstable - 1) = omega arith in
     let whole : coming b minor 0 (record { groups = 0; unstable = suc (counts.unstable - 1); unavailable = counts.unavailable }) at ≡ Ok items =
-        subst (λ c. coming b minor 0 c at ≡ Ok items) (counts_are counts 0 (suc (counts.unstable - 1)) groups e)
+        subst (λ c. coming b minor 0 c at ≡ Ok items) (counts_are counts 0 (suc (counts.unstable - 1)) counts.unavailable groups e refl)
             (subst (λ n. coming b minor n counts at ≡ Ok items) none is) in
     let step = unstable_step b minor (counts.unstable - 1) counts.unavailable at items (coming-parts b minor 0 _ at items whole) in
     (step.0, step.1,
@@ -274,7 +274,7 @@ unavailable_gives b minor stable counts at items none groups unstable some is =
     let e : counts.unavailable ≡ suc (counts.unavailable - 1) = omega arith in
     let whole : coming b minor 0 (record { groups = 0; unstable = 0; unavailable = suc (counts.unavailable - 1) }) at ≡ Ok items =
         subst (λ n. coming b minor 0 (record { groups = 0; unstable = 0; unavailable = n }) at ≡ Ok items) e
-            (subst (λ c. coming b minor 0 c at ≡ Ok items) (counts_are counts 0 0 groups unstable)
+            (subst (λ c. coming b minor 0 c at ≡ Ok items) (counts_are counts 0 0 counts.unavailable groups unstable refl)
                 (subst (λ n. coming b minor n counts at ≡ Ok items) none is)) in
     let step = unavailable_step b minor (counts.unavailable - 1) at items (coming-parts b minor 0 _ at items whole) in
     (step.0, step.1,
@@ -291,6 +291,6 @@ pub group_gives : (b : Bounds) (minor stable : ℕ) (counts : Counts) (at : ℕ)
 group_gives b minor stable counts at items none some is =
     let e : counts.groups ≡ suc (counts.groups - 1) = omega arith in
     let whole : coming b minor 0 (record { groups = suc (counts.groups - 1); unstable = counts.unstable; unavailable = counts.unavailable }) at ≡ Ok items =
-        subst (λ c. coming b minor 0 c at ≡ Ok items) (counts_are counts (suc (counts.groups - 1)) counts.unstable e refl)
+        subst (λ c. coming b minor 0 c at ≡ Ok items) (counts_are counts (suc (counts.groups - 1)) counts.unstable counts.unavailable e refl refl)
             (subst (λ n. coming b minor n counts at ≡ Ok items) none is) in
     group_step b minor (counts.groups - 1) counts.unstable counts.unavailable at items (coming-parts b minor 0 _ at items whole)

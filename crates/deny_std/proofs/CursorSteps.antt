@@ -15,9 +15,9 @@ use Rattle.deny_std.specs.declared.cursor.Cursor.{Cursor}
 use Rattle.deny_std.specs.Place.{contents, IsTextIn, IsApiIn, IsReplacementIn, IsItemIn}
 use Rattle.deny_std.specs.Region.{Bounds, bounds, api, replacement, group_head, note_of}
 use Rattle.deny_std.specs.Layout.{IsText, IsApi, IsReplacement}
-use Rattle.deny_std.specs.Cursor.{coming, coming_of, left_of, Gives}
+use Rattle.deny_std.specs.Cursor.{coming, coming_of, left_of, Gives, Ends}
 use Rattle.deny_std.proofs.LayoutLemmas.{api-sound, replacement-sound, group_head-sound}
-use Rattle.deny_std.proofs.CursorLemmas.{ok-is, IsStep, stable_gives, unstable_gives, unavailable_gives, group_gives}
+use Rattle.deny_std.proofs.CursorLemmas.{ok-is, counts_are, none_left, IsStep, stable_gives, unstable_gives, unavailable_gives, group_gives}
 
 text-in : (b : Bounds) (at : ℕ) (place : TextPlace) (next : ℕ) → b.stop ≤ length b.bytes → IsText b at place next → IsTextIn b.bytes place
 text-in b at place next within is =
@@ -142,3 +142,15 @@ pub group_ready : (old : Cursor) (r : Result (Read GroupHead) ReplacementError) 
 group_ready old r none some reads is =
     let next = group_gives (bounds old.region.bytes.now old.region.stop) old.minor old.stable old.counts old.at (left_of old) none some reads in
     is-ok r _ next.0 is next.1
+
+-- with nothing left a cursor has ended
+pub ended_answer : (c : Cursor) → c.stable ≡ 0 → c.counts.groups ≡ 0 → c.counts.unstable ≡ 0 → c.counts.unavailable ≡ 0
+    → coming_of c ≡ Ok (left_of c) → Ends c c
+ended_answer c none groups unstable unavailable reads =
+    let b = bounds c.region.bytes.now c.region.stop in
+    let counts : c.counts ≡ record { groups = 0; unstable = 0; unavailable = 0 } = counts_are c.counts 0 0 0 groups unstable unavailable in
+    let nothing : coming_of c ≡ Ok [] =
+        subst (λ n. coming b c.minor n c.counts c.at ≡ Ok []) (sym none)
+            (subst (λ n. coming b c.minor 0 n c.at ≡ Ok []) (sym counts) (none_left b c.minor c.at)) in
+    let left : [] ≡ left_of c = left-is (coming_of c) [] [] nothing in
+    record { same = refl; reads = reads; before = sym left; after = sym left }

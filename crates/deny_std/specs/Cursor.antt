@@ -32,3 +32,10 @@ pub record Gives (old new : Cursor) (place : ItemPlace) : Type 0 where
   pub reads : coming_of new ≡ Ok (left_of new)
   pub item : left_of old ≡ place ∷ left_of new
   pub texts : IsItemIn old.region.bytes.now place
+
+-- No item is left, now and later.
+pub record Ends (old new : Cursor) : Type 0 where
+  pub same : new.region ≡ old.region
+  pub reads : coming_of new ≡ Ok (left_of new)
+  pub before : left_of old ≡ []
+  pub after : left_of new ≡ []

@@ -8,3 +8,4 @@ pub mod Layout
 pub mod Names
 pub mod Item
 pub mod Cursor
+pub mod Replacement

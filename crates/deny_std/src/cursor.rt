@@ -1,7 +1,7 @@
 //! A place between two items of an entry.
 
-ghost use Rattle.std.specs.Prelude.{◌≡◌, ◌<◌, Ok};
-ghost use Rattle.deny_std.specs.Cursor.{coming_of, left_of, Gives};
+ghost use Rattle.std.specs.Prelude.{◌≡◌, ◌<◌, Ok, MatchOption};
+ghost use Rattle.deny_std.specs.Cursor.{coming_of, left_of, Gives, Ends};
 
 use crate::place::{Counts, ItemPlace};
 use crate::region::Region;
@@ -78,5 +78,43 @@ impl<'d> Cursor<'d> {
         self.minor = head.value.minor;
         self.stable = head.value.count;
         self.counts.groups -= 1;
+    }
+
+    /// Goes on to the next group where the one at hand has ended.
+    fn settle(&mut self)
+        requires { coming_of self.old ≡ Ok (left_of self.old) }
+        ensures same { self.new.region ≡ self.old.region }
+        ensures left { coming_of self.new ≡ Ok (left_of self.old) }
+        ensures settled { self.new.stable ≡ 0 → self.new.counts.groups ≡ 0 }
+    {
+        if self.stable == 0 && self.counts.groups > 0 {
+            self.begin_group();
+        }
+    }
+
+    /// The next item, with no group ahead where none is at hand.
+    fn next_settled(&mut self) -> Option<ItemPlace>
+        requires settled { self.old.stable ≡ 0 → self.old.counts.groups ≡ 0 }
+        requires reads { coming_of self.old ≡ Ok (left_of self.old) }
+        ensures { MatchOption result (Ends self.old self.new) (λ place. Gives self.old self.new place) }
+    {
+        if self.stable > 0 {
+            Some(self.next_stable())
+        } else if self.counts.unstable > 0 {
+            Some(self.next_unstable())
+        } else if self.counts.unavailable > 0 {
+            Some(self.next_unavailable())
+        } else {
+            None
+        }
+    }
+
+    /// The next item.
+    pub fn next(&mut self) -> Option<ItemPlace>
+        requires { coming_of self.old ≡ Ok (left_of self.old) }
+        ensures { MatchOption result (Ends self.old self.new) (λ place. Gives self.old self.new place) }
+    {
+        self.settle();
+        self.next_settled()
     }
 }

@@ -10,7 +10,9 @@ mod item;
 mod names;
 mod place;
 mod region;
+mod replacement;
 mod table;
 
 pub use error::ReplacementError;
+pub use replacement::{Replacement, ReplacementIter};
 pub use item::{Api, ApiReplacement, ReplacementItem};
