@@ -6,3 +6,4 @@ pub mod TableLaw
 pub mod NamesLemmas
 pub mod CursorLemmas
 pub mod CursorSteps
+pub mod ReplacementLemmas
