@@ -176,7 +176,7 @@ items-sound b at r is =
       unavailable = unavailable_row.0
     })
 
-place_is : (at size : ℕ) (place : TextPlace) → place.at ≡ at → place.size ≡ size → place ≡ record { at = at; size = size }
+pub place_is : (at size : ℕ) (place : TextPlace) → place.at ≡ at → place.size ≡ size → place ≡ record { at = at; size = size }
 place_is at size place first second = rw (← first, ← second) refl
 
 pub text-complete : (b : Bounds) (at : ℕ) (place : TextPlace) (next : ℕ) → IsText b at place next → text b at ≡ Ok (read place next)

@@ -7,3 +7,5 @@ pub mod NamesLemmas
 pub mod CursorLemmas
 pub mod CursorSteps
 pub mod ReplacementLemmas
+pub mod EntryLemmas
+pub mod BreakLemmas

@@ -1,10 +1,12 @@
 -- A table, in the order in which its bytes are tested: head, offsets, entries.
-use Rattle.std.specs.Prelude.{◌≡◌, ℕ, List, [], None, Result, Ok}
+use Rattle.std.specs.Prelude.{◌≡◌, ℕ, List, [], Option, None, Result, Ok, find, bytes_eq}
 use Rattle.std.specs.Result.{result_unwrap_or}
 use Rattle.deny_std.specs.declared.error.ReplacementError.{ReplacementError}
+use Rattle.deny_std.specs.Place.{contents}
 use Rattle.deny_std.specs.Reading.{◌>>=◌, ◌>>◌}
 use Rattle.deny_std.specs.Head.{header, count_of, HasOffsets, offsets}
 use Rattle.deny_std.specs.Entries.{Entry, entries}
+use Rattle.deny_std.specs.Replacement.{EntryItems}
 
 -- the entries of a table, or its first break
 unfoldable pub table : List ℕ → Result (List Entry) ReplacementError
@@ -18,6 +20,14 @@ table bytes = do
 pub record Table : Type 0 where
   pub bytes : List ℕ
   pub entries : List Entry
+
+-- the entry that has a name
+abbrev pub entry_named : Table → List ℕ → Option Entry
+entry_named t name = find (λ e. bytes_eq (contents t.bytes e.name) name) t.entries
+
+-- what it says, over the bytes of the table
+abbrev pub items_in : Table → Entry → EntryItems
+items_in t e = record { bytes = t.bytes; items = e.items }
 
 -- what a list is where its reading is known to hold
 abbrev pub read_entries : List ℕ → ℕ → List Entry

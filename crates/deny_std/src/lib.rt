@@ -14,5 +14,6 @@ mod replacement;
 mod table;
 
 pub use error::ReplacementError;
+pub use table::ReplacementData;
 pub use replacement::{Replacement, ReplacementIter};
 pub use item::{Api, ApiReplacement, ReplacementItem};

@@ -1,11 +1,15 @@
 //! The replacement table.
 
-ghost use Rattle.std.specs.Prelude.{◌≡◌, Ok, Err, IfOk, IfErr};
-ghost use Rattle.deny_std.specs.Table.{table};
+ghost use Rattle.std.specs.Prelude.{◌≡◌, ◌≢◌, ◌↔◌, ℕ, List, Ok, Err, IfOk, IfErr, OnErr, MatchResult, option_map};
+ghost use Rattle.deny_std.specs.Entries.{Entry};
+ghost use Rattle.deny_std.specs.Layout.{IsTable};
+ghost use Rattle.deny_std.specs.Table.{table, entry_named, items_in, IsRead, read_entries};
 
-use crate::entries::check_entries;
+use crate::entries::{check_entries, region_of};
 use crate::error::ReplacementError;
-use crate::head::{check_header, check_offsets, count};
+use crate::head::{check_header, check_offsets, count, start_of};
+use crate::names::find;
+use crate::replacement::Replacement;
 use std::alloc::Global;
 use std::marker::Model;
 
@@ -34,12 +38,37 @@ impl<'d> ReplacementData<'d> {
     pub fn from_bytes(_alloc: Global, bytes: &'d [u8]) -> Result<ReplacementData<'d>, ReplacementError>
         ensures bytes { IfOk result (λ t. t.bytes ≡ bytes.now) }
         ensures entries { IfOk result (λ t. table bytes.now ≡ Ok t.entries) }
-        ensures bad { IfErr result (λ e. table bytes.now ≡ Err e) }
+        ensures table { IfOk result (λ t. IsTable bytes.now t.entries) }
+
+        ensures first_break { IfErr result (λ e. table bytes.now ≡ Err e) }
+        ensures bad { (offset : ℕ) → (result ≡ Err (ReplacementError.Bad offset)) ↔ (table bytes.now ≡ Err (ReplacementError.Bad offset)) }
+        ensures no_table { OnErr result ((es : List Entry) → IsTable bytes.now es → ⊥) }
+        ensures no_memory { result ≢ Err ReplacementError.Memory }
     {
-        check_header(bytes)?;
-        let count = count(bytes)?;
-        check_offsets(bytes, count)?;
-        check_entries(bytes, count)?;
+        let count = check(bytes)?;
         Ok(ReplacementData { bytes, count })
     }
+
+    /// What the table says of the crate with a name. The names rise, so it is found by halving: in steps
+    /// logarithmic in the number of entries.
+    pub fn entry(&self, name: &str) -> Option<Replacement<'d>>
+        ensures { result ≡ option_map (items_in self.now) (entry_named self.now name.now) }
+    {
+        let i = find(self.bytes, self.count, name.as_bytes())?;
+        let region = region_of(self.bytes, self.count, i);
+        Some(Replacement::open(&region, start_of(self.bytes, i)))
+    }
+}
+
+/// Tests all bytes of a table, and answers the number of its entries.
+fn check(bytes: &[u8]) -> Result<u32, ReplacementError>
+    ensures { MatchResult result
+        (λ count. IsRead bytes.now count × (table bytes.now ≡ Ok (read_entries bytes.now count)))
+        (λ e. table bytes.now ≡ Err e) }
+{
+    check_header(bytes)?;
+    let count = count(bytes)?;
+    check_offsets(bytes, count)?;
+    check_entries(bytes, count)?;
+    Ok(count)
 }
