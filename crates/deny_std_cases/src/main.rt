@@ -1,0 +1,15 @@
+//! Reads replacement tables from standard input, one a line, and prints what each of them holds.
+//! `tools/replacement_cases.py` writes its input and the answers that are wanted.
+#![tactic(auto)]
+
+mod cases;
+
+use std::io;
+
+fn main(rt: HostRuntime) -> io::Result<()> {
+    for line in rt.lines(rt.alloc()) {
+        let text = cases::answer(rt.alloc(), line?.as_str())?;
+        println!(rt; "{text}")?;
+    }
+    Ok(())
+}
