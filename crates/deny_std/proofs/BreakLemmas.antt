@@ -1,15 +1,13 @@
 -- No reading of a table wants memory: each of its breaks has an offset.
 use Rattle.std.proofs.Common.{◌≡◌, ℕ, zero, suc, ◌+◌, ◌*◌, ◌&&◌, Bool, true, false, nat_lt, nat_le, List, length, Option, None, Some, Result, Ok, Err, if◌then◌else◌, ap, ◌∙◌}
-use Rattle.std.specs.Str.{is_utf8}
 use Rattle.deny_std.specs.declared.error.ReplacementError.{ReplacementError}
 use Rattle.deny_std.specs.declared.error.ReplacementError.TheVariants.{Bad, Memory}
 use Rattle.deny_std.specs.declared.place.TextPlace.{TextPlace}
 use Rattle.deny_std.specs.declared.place.Read.{Read}
-use Rattle.deny_std.specs.Place.{contents}
-use Rattle.deny_std.specs.Reading.{◌>>=◌, ◌>>◌, unless_bad, read, many, number}
+use Rattle.deny_std.specs.Reading.{◌>>=◌, ◌>>◌, unless_bad, many, number}
 use Rattle.deny_std.specs.Region.{Bounds, byte, text, api, replacement, group_head, group, counts, counted_items, items}
 use Rattle.deny_std.specs.Head.{has_byte, header, count_of, offsets, is_offset, start_of}
-use Rattle.deny_std.specs.Entries.{Entry, entry, entries, is_above, bounds_of}
+use Rattle.deny_std.specs.Entries.{Entry, entry, entries, bounds_of}
 use Rattle.deny_std.specs.Table.{table}
 use Rattle.deny_std.specs.Layout.{IsTable}
 use Rattle.deny_std.proofs.TableLaw.{table-complete}
@@ -66,8 +64,8 @@ unfolding items counts counted_items
 items-answer b at = bound _ _
     (bound _ _ (byte-answer b at) (λ groups. bound _ _ (byte-answer b groups.next) (λ unstable. bound _ _ (byte-answer b unstable.next) (λ last. given _))))
     (λ count. bound _ _ (many-answer (group b) (group-answer b) count.value.groups count.next)
-        (λ groups. bound _ _ (many-answer (replacement b) (replacement-answer b) count.value.unstable groups.next)
-            (λ unstable. bound _ _ (many-answer (api b) (api-answer b) count.value.unavailable unstable.next) (λ last. given _))))
+    (λ groups. bound _ _ (many-answer (replacement b) (replacement-answer b) count.value.unstable groups.next)
+    (λ unstable. bound _ _ (many-answer (api b) (api-answer b) count.value.unavailable unstable.next) (λ last. given _))))
 
 entry-answer : (b : Bounds) (before : Option TextPlace) (start : ℕ) → IsAnswer (entry b before start)
 unfolding entry
@@ -78,7 +76,7 @@ unfolding entries
 entries-answer width bytes count before i zero = given _
 entries-answer width bytes count before i (suc left) =
     bound _ _ (entry-answer (bounds_of width bytes count i) before (start_of bytes i))
-        (λ one. bound _ _ (entries-answer width bytes count (Some one.name) (i + 1) left) (λ others. given _))
+    (λ one. bound _ _ (entries-answer width bytes count (Some one.name) (i + 1) left) (λ others. given _))
 
 first : {A : Type 0} (test : Bool) (offset : ℕ) (r : Result (Unit {0}) ReplacementError) (s : Result A ReplacementError)
     → IsAnswer (r >> s) → IsAnswer ((unless_bad test offset >> r) >> s)

@@ -1,6 +1,6 @@
 -- A cursor after it gave an item.
-use Rattle.std.proofs.Common.{◌≡◌, ℕ, ◌+◌, ◌-◌, ◌<◌, ◌≤◌, List, [], ◌∷◌, length, Option, Some, None, Result, Ok, Err, refl, sym, ap, ◌∙◌, arith, subst}
-use Rattle.std.specs.Prelude.{nat_lt, IsUtf8, IsOk}
+use Rattle.std.proofs.Common.{◌≡◌, ℕ, ◌-◌, ◌<◌, ◌≤◌, [], ◌∷◌, length, Option, Some, Result, Ok, refl, sym, ap, ◌∙◌, arith, subst}
+use Rattle.std.specs.Prelude.{IsOk}
 use Rattle.std.specs.Result.{result_unwrap_or}
 use Rattle.deny_std.specs.declared.error.ReplacementError.{ReplacementError}
 use Rattle.deny_std.specs.declared.place.TextPlace.{TextPlace}
@@ -9,12 +9,11 @@ use Rattle.deny_std.specs.declared.place.ReplacementPlace.{ReplacementPlace}
 use Rattle.deny_std.specs.declared.place.ItemPlace.{ItemPlace}
 use Rattle.deny_std.specs.declared.place.ItemPlace.TheVariants.{Stable, Unstable, Unavailable}
 use Rattle.deny_std.specs.declared.place.GroupHead.{GroupHead}
-use Rattle.deny_std.specs.declared.place.Counts.{Counts}
 use Rattle.deny_std.specs.declared.place.Read.{Read}
 use Rattle.deny_std.specs.declared.cursor.Cursor.{Cursor}
-use Rattle.deny_std.specs.Place.{contents, IsTextIn, IsApiIn, IsReplacementIn, IsItemIn}
+use Rattle.deny_std.specs.Place.{IsTextIn, IsApiIn, IsReplacementIn, IsItemIn}
 use Rattle.deny_std.specs.Region.{Bounds, bounds, api, replacement, group_head, note_of}
-use Rattle.deny_std.specs.Layout.{IsText, IsApi, IsReplacement}
+use Rattle.deny_std.specs.Layout.{IsText, IsApi}
 use Rattle.deny_std.specs.Cursor.{coming, coming_of, left_of, Gives, Ends}
 use Rattle.deny_std.proofs.LayoutLemmas.{api-sound, replacement-sound, group_head-sound}
 use Rattle.deny_std.proofs.CursorLemmas.{ok-is, counts_are, none_left, IsStep, stable_gives, unstable_gives, unavailable_gives, group_gives}
@@ -28,7 +27,7 @@ text-in b at place next within is =
 api-in : (b : Bounds) (at : ℕ) (place : ApiPlace) (next : ℕ) → b.stop ≤ length b.bytes → IsApi b at place next → IsApiIn b.bytes place
 api-in b at place next within is = record {
   name = text-in b at place.name is.after_name within is.name;
-  url = text-in b is.after_name place.url next within is.url
+  url = text-in b is.after_name place.url next within is.url;
 }
 
 note-in : (b : Bounds) (at : ℕ) (place : TextPlace) (next : ℕ) (said : Option TextPlace) → b.stop ≤ length b.bytes → IsText b at place next
@@ -44,7 +43,7 @@ replacement-in b at r within is =
     record {
       krate = api-in b at r.value.krate layout.after_krate within layout.krate;
       std = api-in b layout.after_krate r.value.std layout.after_std within layout.std;
-      note = note-in b layout.after_std layout.note_place r.next r.value.note within layout.note_text layout.note
+      note = note-in b layout.after_std layout.note_place r.next r.value.note within layout.note_text layout.note;
     }
 
 pub api-read-in : (b : Bounds) (at : ℕ) (r : Read ApiPlace) → b.stop ≤ length b.bytes → api b at ≡ Ok r → IsApiIn b.bytes r.value
@@ -66,7 +65,7 @@ gives old new place same step texts =
       same = same;
       reads = step.reads ∙ ap Ok rest_is;
       item = step.item ∙ ap (λ l. place ∷ l) rest_is;
-      texts = texts
+      texts = texts;
     }
 
 pub stable_answer : (old : Cursor) (got : Read ReplacementPlace) → 0 < old.stable → coming_of old ≡ Ok (left_of old)
@@ -77,8 +76,8 @@ stable_answer old got some reads is =
     let step = stable_gives b old.minor old.stable old.counts old.at (left_of old) some reads in
     let same : step.0 ≡ got = ok-is _ step.1 is in
     gives old (record old { at = got.next; stable = old.stable - 1 }) (Stable got.value old.minor) refl
-        (subst (λ (r : Read ReplacementPlace). IsStep b old.minor (old.stable - 1) old.counts r.next (left_of old) (Stable r.value old.minor)) same step.2)
-        (replacement-in b old.at got old.region.within is)
+    (subst (λ (r : Read ReplacementPlace). IsStep b old.minor (old.stable - 1) old.counts r.next (left_of old) (Stable r.value old.minor)) same step.2)
+    (replacement-in b old.at got old.region.within is)
 
 pub unstable_answer : (old : Cursor) (got : Read ReplacementPlace) → old.stable ≡ 0 → old.counts.groups ≡ 0 → 0 < old.counts.unstable
     → coming_of old ≡ Ok (left_of old) → replacement (bounds old.region.bytes.now old.region.stop) old.at ≡ Ok got
@@ -89,8 +88,8 @@ unstable_answer old got none groups some reads is =
     let step = unstable_gives b old.minor old.stable old.counts old.at (left_of old) none groups some reads in
     let same : step.0 ≡ got = ok-is _ step.1 is in
     gives old (record old { at = got.next; counts = counts }) (Unstable got.value) refl
-        (subst (λ (r : Read ReplacementPlace). IsStep b old.minor old.stable counts r.next (left_of old) (Unstable r.value)) same step.2)
-        (replacement-in b old.at got old.region.within is)
+    (subst (λ (r : Read ReplacementPlace). IsStep b old.minor old.stable counts r.next (left_of old) (Unstable r.value)) same step.2)
+    (replacement-in b old.at got old.region.within is)
 
 pub unavailable_answer : (old : Cursor) (got : Read ApiPlace) → old.stable ≡ 0 → old.counts.groups ≡ 0 → old.counts.unstable ≡ 0
     → 0 < old.counts.unavailable → coming_of old ≡ Ok (left_of old) → api (bounds old.region.bytes.now old.region.stop) old.at ≡ Ok got
@@ -101,20 +100,25 @@ unavailable_answer old got none groups unstable some reads is =
     let step = unavailable_gives b old.minor old.stable old.counts old.at (left_of old) none groups unstable some reads in
     let same : step.0 ≡ got = ok-is _ step.1 is in
     gives old (record old { at = got.next; counts = counts }) (Unavailable got.value) refl
-        (subst (λ (r : Read ApiPlace). IsStep b old.minor old.stable counts r.next (left_of old) (Unavailable r.value)) same step.2)
-        (api-read-in b old.at got old.region.within is)
+    (subst (λ (r : Read ApiPlace). IsStep b old.minor old.stable counts r.next (left_of old) (Unavailable r.value)) same step.2)
+    (api-read-in b old.at got old.region.within is)
 
 pub group_answer : (old : Cursor) (got : Read GroupHead) → old.stable ≡ 0 → 0 < old.counts.groups
     → coming_of old ≡ Ok (left_of old) → group_head (bounds old.region.bytes.now old.region.stop) old.at ≡ Ok got
-    → (coming_of (record old { at = got.next; minor = got.value.minor; stable = got.value.count;
-            counts = record old.counts { groups = old.counts.groups - 1 } }) ≡ Ok (left_of old)) × (0 < got.value.count)
+    → (coming_of (record old {
+      at = got.next;
+      minor = got.value.minor;
+      stable = got.value.count;
+      counts = record old.counts { groups = old.counts.groups - 1 };
+    }) ≡ Ok (left_of old)) × (0 < got.value.count)
 group_answer old got none some reads is =
     let b = bounds old.region.bytes.now old.region.stop in
     let counts = record old.counts { groups = old.counts.groups - 1 } in
     let next = group_gives b old.minor old.stable old.counts old.at (left_of old) none some reads in
-    let same : next.0 ≡ got = ok-is _ next.1 is in
-    (subst (λ (h : Read GroupHead). coming b h.value.minor h.value.count counts h.next ≡ Ok (left_of old)) same next.2,
-     (group_head-sound b old.at got is).3)
+    let same : next.0 ≡ got = ok-is _ next.1 is in (
+      subst (λ (h : Read GroupHead). coming b h.value.minor h.value.count counts h.next ≡ Ok (left_of old)) same next.2,
+      (group_head-sound b old.at got is).3,
+    )
 
 -- what a cursor is about to read is there
 pub stable_ready : (old : Cursor) (r : Result (Read ReplacementPlace) ReplacementError) → 0 < old.stable → coming_of old ≡ Ok (left_of old)
@@ -150,7 +154,7 @@ ended_answer c none groups unstable unavailable reads =
     let b = bounds c.region.bytes.now c.region.stop in
     let counts : c.counts ≡ record { groups = 0; unstable = 0; unavailable = 0 } = counts_are c.counts 0 0 0 groups unstable unavailable in
     let nothing : coming_of c ≡ Ok [] =
-        subst (λ n. coming b c.minor n c.counts c.at ≡ Ok []) (sym none)
-            (subst (λ n. coming b c.minor 0 n c.at ≡ Ok []) (sym counts) (none_left b c.minor c.at)) in
+    subst (λ n. coming b c.minor n c.counts c.at ≡ Ok []) (sym none)
+    (subst (λ n. coming b c.minor 0 n c.at ≡ Ok []) (sym counts) (none_left b c.minor c.at)) in
     let left : [] ≡ left_of c = left-is (coming_of c) [] [] nothing in
     record { same = refl; reads = reads; before = sym left; after = sym left }

@@ -1,26 +1,25 @@
 -- On the entries of a table that holds, and the one that has a name.
-use Rattle.std.proofs.Common.{◌≡◌, ℕ, zero, suc, ◌+◌, ◌-◌, ◌*◌, ◌<◌, ◌≤◌, Bool, true, false, nat_lt, List, [], ◌∷◌, length, Option, Some, None, Result, Ok, Err, refl, sym, ap, ◌∙◌, arith, subst, if◌then◌else◌}
+use Rattle.std.proofs.Common.{◌≡◌, ℕ, zero, suc, ◌+◌, ◌<◌, ◌≤◌, Bool, true, false, nat_lt, List, [], ◌∷◌, length, Option, Some, None, Ok, refl, sym, ap, ◌∙◌, arith, subst, if◌then◌else◌}
 use Rattle.std.specs.Prelude.{find, IsOk, option_map, bytes_eq, ◌≢◌}
 use Rattle.std.specs.List.{slice_get}
 use Rattle.std.specs.Cmp.Lexicographic.{slice_cmp, nat_list_cmp_total}
 use Rattle.std.specs.Ordering.{nat_cmp}
 use Rattle.std.specs.declared.cmp.Ordering.TheVariants.{Less, Equal}
-use Rattle.std.proofs.lemmas.Bool.{ltb-true, lt-ltb, ltb-false}
+use Rattle.std.proofs.lemmas.Bool.{ltb-true}
 use Rattle.std.proofs.lemmas.Cmp.{tied_itself}
 use Rattle.std.proofs.lemmas.Slice.Eq.{bytes_eq-Decides}
 use Rattle.std.proofs.lemmas.Option.{slice_get_within}
-use Rattle.deny_std.specs.declared.error.ReplacementError.{ReplacementError}
 use Rattle.deny_std.specs.declared.place.TextPlace.{TextPlace}
 use Rattle.deny_std.specs.Place.{contents}
-use Rattle.deny_std.specs.Region.{Bounds, Items, bounds, text_place}
-use Rattle.deny_std.specs.Head.{start_of, IsOffset, HasOffsets}
-use Rattle.deny_std.specs.Entries.{Entry, stop_of, bounds_of, entry, entries}
-use Rattle.deny_std.specs.Layout.{IsText, IsEntry}
+use Rattle.deny_std.specs.Region.{Items, bounds}
+use Rattle.deny_std.specs.Head.{start_of, HasOffsets}
+use Rattle.deny_std.specs.Entries.{Entry, stop_of, bounds_of, entry}
+use Rattle.deny_std.specs.Layout.{IsEntry}
 use Rattle.deny_std.specs.Names.{name_place, name_at, HasNames}
 use Rattle.deny_std.specs.Table.{Table, IsRead, read_entries, entry_named, items_in}
 use Rattle.deny_std.specs.Replacement.{EntryItems}
 use Rattle.deny_std.proofs.LayoutLemmas.{place_is}
-use Rattle.deny_std.proofs.TableLaw.{IsEntries, IsAbove, entries-sound, entry-complete}
+use Rattle.deny_std.proofs.TableLaw.{IsEntries, entries-sound, entry-complete}
 use Rattle.deny_std.proofs.NamesLemmas.{rising_all}
 
 stop-inside : (bytes : List ℕ) (count i : ℕ) → HasOffsets bytes count → stop_of bytes count i ≤ length bytes
@@ -52,12 +51,12 @@ named bytes count i is below =
     let all = all-entries bytes count is in
     let one = got (read_entries bytes count) i (rw all.0 below) in
     let layout : IsEntry (bounds_of 1 bytes count i) (start_of bytes i) one.0 =
-        subst (λ n. IsEntry (bounds_of 1 bytes count n) (start_of bytes n) one.0) (omega arith) (all.1.each i one.0 one.1) in
+    subst (λ n. IsEntry (bounds_of 1 bytes count n) (start_of bytes n) one.0) (omega arith) (all.1.each i one.0 one.1) in
     record {
       e = one.0;
       at = one.1;
       place = sym (place_is _ _ one.0.name layout.name.after_length layout.name.size);
-      layout = layout
+      layout = layout;
     }
 
 names_are : (bytes : List ℕ) (count i : ℕ) (n : IsNamed bytes count i) → name_at bytes i ≡ contents bytes n.e.name
@@ -68,7 +67,7 @@ pub has_names : (bytes : List ℕ) (count : ℕ) → IsRead bytes count → HasN
 has_names bytes count is = record {
   offsets = is.offsets;
   inside = inside;
-  rising = rising
+  rising = rising;
 }
   where
     inside : (i : ℕ) → i < count → (name_place bytes i).at + (name_place bytes i).size ≤ length bytes
@@ -80,6 +79,7 @@ has_names bytes count is = record {
         let here : n.e.name.at + n.e.name.size ≤ length bytes = omega arith in
         let P : TextPlace → Type 0 = λ p. p.at + p.size ≤ length bytes in
         subst P (sym n.place) here
+
     rising : (i : ℕ) → i + 1 < count → slice_cmp nat_cmp (name_at bytes i) (name_at bytes (i + 1)) ≡ Less
     rising i below =
         let all = all-entries bytes count is in
@@ -141,7 +141,7 @@ entry_none bytes count name is apart = find-none _ (read_entries bytes count) ea
         let n = named bytes count k is below in
         let same : n.e ≡ e = some-is (slice_get (read_entries bytes count) k) n.at at in
         no_name (contents bytes e.name) name
-            (λ equal. apart k below (names_are bytes count k n ∙ ap (λ (t : Entry). contents bytes t.name) same ∙ equal))
+        (λ equal. apart k below (names_are bytes count k n ∙ ap (λ (t : Entry). contents bytes t.name) same ∙ equal))
 
 -- the entry that has the name is the only one
 pub entry_some : (bytes : List ℕ) (count i : ℕ) (name : List ℕ) → IsRead bytes count → i < count → name_at bytes i ≡ name
@@ -154,17 +154,17 @@ entry_some bytes count i name is below same n =
         let m = named bytes count k is (omega arith) in
         let one : m.e ≡ e = some-is (slice_get (read_entries bytes count) k) m.at at in
         let less : slice_cmp nat_cmp (name_at bytes k) (name_at bytes i) ≡ Less =
-            rising_all (λ j. name_at bytes j) count (has_names bytes count is).rising k i earlier below in
+        rising_all (λ j. name_at bytes j) count (has_names bytes count is).rising k i earlier below in
         no_name (contents bytes e.name) name
-            (λ equal. not_equal (name_at bytes k) (name_at bytes i) less
-                (names_are bytes count k m ∙ ap (λ (t : Entry). contents bytes t.name) one ∙ equal ∙ sym same))
+        (λ equal. not_equal (name_at bytes k) (name_at bytes i) less
+        (names_are bytes count k m ∙ ap (λ (t : Entry). contents bytes t.name) one ∙ equal ∙ sym same))
 
 pub none_answer : (t : Table) (bytes : List ℕ) (count : ℕ) (name given : List ℕ) → record { bytes = bytes; entries = read_entries bytes count } ≡ t
     → IsRead bytes count → given ≡ name → ((i : ℕ) → i < count → name_at bytes i ≢ given) → option_map (items_in t) (entry_named t name) ≡ None
 none_answer t bytes count name given view is same apart =
     subst (λ v. option_map (items_in v) (entry_named v name) ≡ None) view
-        (ap (λ o. option_map (items_in (record { bytes = bytes; entries = read_entries bytes count })) o)
-            (entry_none bytes count name is (λ i below equal. apart i below (equal ∙ sym same))))
+    (ap (λ o. option_map (items_in (record { bytes = bytes; entries = read_entries bytes count })) o)
+    (entry_none bytes count name is (λ i below equal. apart i below (equal ∙ sym same))))
 
 entry_items : (r : EntryItems) (bytes : List ℕ) (items : Items) → r.bytes ≡ bytes → r.items ≡ items → r ≡ record { bytes = bytes; items = items }
 entry_items r bytes items first second = rw (← first, ← second) refl
@@ -178,11 +178,11 @@ some_answer t bytes of_region count i stop start name given r view is same below
     let n = named bytes count i is below in
     let items_are : r.items ≡ n.e.items = r_items n.e (opened bytes of_region count i stop start n of_bytes ends begins) in
     let r_is : r ≡ record { bytes = bytes; items = n.e.items } =
-        entry_items r bytes n.e.items (r_bytes ∙ of_bytes) items_are in
+    entry_items r bytes n.e.items (r_bytes ∙ of_bytes) items_are in
     let here : option_map (items_in (record { bytes = bytes; entries = read_entries bytes count }))
-            (entry_named (record { bytes = bytes; entries = read_entries bytes count }) name) ≡ Some (record { bytes = bytes; items = n.e.items }) =
-        ap (λ o. option_map (items_in (record { bytes = bytes; entries = read_entries bytes count })) o)
-            (entry_some bytes count i name is below (at ∙ same) n) in
+    (entry_named (record { bytes = bytes; entries = read_entries bytes count }) name) ≡ Some (record { bytes = bytes; items = n.e.items }) =
+    ap (λ o. option_map (items_in (record { bytes = bytes; entries = read_entries bytes count })) o)
+    (entry_some bytes count i name is below (at ∙ same) n) in
     subst (λ v. Some r ≡ option_map (items_in v) (entry_named v name)) view (ap Some r_is ∙ sym here)
 
 pub open_answer : (bytes of_region : List ℕ) (count i stop start : ℕ) → IsRead bytes count → i < count → of_region ≡ bytes

@@ -1,5 +1,5 @@
 -- What the readers answer is what a table is, both ways.
-use Rattle.std.proofs.Common.{◌≡◌, ℕ, zero, suc, ◌+◌, ◌<◌, ◌≤◌, ◌&&◌, nat_lt, nat_le, Bool, true, false, List, [], ◌∷◌, length, Option, Some, None, Result, Ok, Err, slice_index, refl, sym, ap, ◌∙◌, arith, subst, if◌then◌else◌}
+use Rattle.std.proofs.Common.{◌≡◌, ℕ, zero, suc, ◌+◌, ◌<◌, ◌≤◌, ◌&&◌, nat_lt, nat_le, Bool, true, false, List, [], ◌∷◌, length, Result, Ok, Err, slice_index, refl, sym, ap, ◌∙◌, arith, subst, if◌then◌else◌}
 use Rattle.std.proofs.lemmas.Bool.{and_parts, ltb-true, lt-ltb}
 use Rattle.std.proofs.lemmas.Bool.Decides.{nat_tests}
 use Rattle.std.specs.Str.{is_utf8}
@@ -15,7 +15,7 @@ use Rattle.deny_std.specs.declared.place.Read.{Read}
 use Rattle.deny_std.specs.Place.{contents}
 use Rattle.deny_std.specs.Reading.{◌>>=◌, ◌>>◌, unless_bad, read, number, many}
 use Rattle.deny_std.specs.Region.{Bounds, Group, Items, note_of, text_place, byte, text, api, replacement, group_head, group, counts, counted_items, items}
-use Rattle.deny_std.specs.Layout.{IsByte, IsText, IsApi, IsReplacement, IsRow, ended, more, IsGroup, IsItems, IsEntry}
+use Rattle.deny_std.specs.Layout.{IsByte, IsText, IsApi, IsReplacement, IsRow, ended, more, IsGroup, IsItems}
 
 -- a step that came to its end did so by a first part
 pub bind-ok : {A B : Type 0} (r : Result A ReplacementError) (f : A → Result B ReplacementError) (y : B)
@@ -53,7 +53,7 @@ unfolding text
 text-sound b at r is =
     let place = text_place b at in
     let parts = test-ok (nat_le place.at b.stop && nat_le (place.at + place.size) b.stop && is_utf8 (contents b.bytes place))
-        (read place (place.at + place.size)) r (Bad at) is in
+    (read place (place.at + place.size)) r (Bad at) is in
     let both = and_parts (nat_le place.at b.stop && nat_le (place.at + place.size) b.stop) (is_utf8 (contents b.bytes place)) parts.0 in
     let within = and_parts (nat_le place.at b.stop) (nat_le (place.at + place.size) b.stop) both.0 in
     let last : nat_le (place.at + place.size) b.stop ≡ true = within.1 in
@@ -62,7 +62,7 @@ text-sound b at r is =
       size = refl;
       after = refl;
       inside = grind (arith, nat_tests);
-      utf8 = IsUtf8-from_is_utf8 (contents b.bytes place) both.1
+      utf8 = IsUtf8-from_is_utf8 (contents b.bytes place) both.1;
     })
 
 pub api-sound : (b : Bounds) (at : ℕ) (r : Read ApiPlace) → api b at ≡ Ok r → IsApi b at r.value r.next
@@ -74,7 +74,7 @@ api-sound b at r is =
     subst (λ t. IsApi b at t.value t.next) same (record {
       after_name = first.0.next;
       name = text-sound b at first.0 first.1;
-      url = text-sound b first.0.next second.0 second.1
+      url = text-sound b first.0.next second.0 second.1;
     })
 
 pub replacement-sound : (b : Bounds) (at : ℕ) (r : Read ReplacementPlace) → replacement b at ≡ Ok r → IsReplacement b at r.value r.next
@@ -91,7 +91,7 @@ replacement-sound b at r is =
       krate = api-sound b at krate.0 krate.1;
       std = api-sound b krate.0.next std.0 std.1;
       note_text = text-sound b std.0.next note.0 note.1;
-      note = refl
+      note = refl;
     })
 
 -- so many of a kind were read: they stand in a row, and are so many
@@ -108,7 +108,7 @@ many-sound {A} reader IsOne one (suc count) at r is =
     let same : read (first.0.value ∷ others.0.value) others.0.next ≡ r = cc in
     let later = many-sound reader IsOne one count first.0.next others.0 others.1 in
     subst (λ (t : Read (List A)). IsRow IsOne at t.value t.next × (length t.value ≡ suc count)) same
-        (more (one at first.0 first.1) later.0, ap suc later.1)
+    (more (one at first.0 first.1) later.0, ap suc later.1)
 
 pub group_head-sound : (b : Bounds) (at : ℕ) (r : Read GroupHead) → group_head b at ≡ Ok r
     → (middle : ℕ) × IsByte b at r.value.minor middle × IsByte b middle r.value.count r.next × (0 < r.value.count)
@@ -119,7 +119,7 @@ group_head-sound b at r is =
     let tested = unless_bad-then (nat_lt 0 count.0.value) minor.0.next (Ok (read (record { minor = minor.0.value; count = count.0.value }) count.0.next)) r count.2 in
     let same : read (record { minor = minor.0.value; count = count.0.value }) count.0.next ≡ r = cc in
     subst (λ (t : Read GroupHead). (middle : ℕ) × IsByte b at t.value.minor middle × IsByte b middle t.value.count t.next × (0 < t.value.count))
-        same (minor.0.next, byte-sound b at minor.0 minor.1, byte-sound b minor.0.next count.0 count.1, ltb-true 0 count.0.value tested.0)
+    same (minor.0.next, byte-sound b at minor.0 minor.1, byte-sound b minor.0.next count.0 count.1, ltb-true 0 count.0.value tested.0)
 
 pub group-sound : (b : Bounds) (at : ℕ) (r : Read Group) → group b at ≡ Ok r → IsGroup b at r.value r.next
 unfolding group
@@ -135,7 +135,7 @@ group-sound b at r is =
       minor = top.1;
       count = rw row.1 top.2;
       some = rw row.1 top.3;
-      replacements = row.0
+      replacements = row.0;
     })
 
 pub counts-sound : (b : Bounds) (at : ℕ) (r : Read Counts) → counts b at ≡ Ok r
@@ -147,8 +147,13 @@ counts-sound b at r is =
     let unavailable = bind-ok (byte b unstable.0.next) _ r unstable.2 in
     let same : read (record { groups = groups.0.value; unstable = unstable.0.value; unavailable = unavailable.0.value }) unavailable.0.next ≡ r = cc in
     subst (λ (t : Read Counts). (one : ℕ) × (two : ℕ) × IsByte b at t.value.groups one × IsByte b one t.value.unstable two × IsByte b two t.value.unavailable t.next)
-        same (groups.0.next, unstable.0.next, byte-sound b at groups.0 groups.1, byte-sound b groups.0.next unstable.0 unstable.1,
-            byte-sound b unstable.0.next unavailable.0 unavailable.1)
+    same (
+      groups.0.next,
+      unstable.0.next,
+      byte-sound b at groups.0 groups.1,
+      byte-sound b groups.0.next unstable.0 unstable.1,
+      byte-sound b unstable.0.next unavailable.0 unavailable.1,
+    )
 
 pub items-sound : (b : Bounds) (at : ℕ) (r : Read Items) → items b at ≡ Ok r → IsItems b at r.value r.next
 unfolding items counted_items
@@ -173,7 +178,7 @@ items-sound b at r is =
       unavailable_at = unstable.0.next;
       groups = group_row.0;
       unstable = unstable_row.0;
-      unavailable = unavailable_row.0
+      unavailable = unavailable_row.0;
     })
 
 pub place_is : (at size : ℕ) (place : TextPlace) → place.at ≡ at → place.size ≡ size → place ≡ record { at = at; size = size }
@@ -189,7 +194,7 @@ text-complete b at place next is =
     let whole : nat_le (place.at + place.size) b.stop ≡ true = grind (arith, nat_tests) in
     let utf8 : is_utf8 (contents b.bytes place) ≡ true = is_utf8-from_IsUtf8 (contents b.bytes place) is.utf8 in
     let P : TextPlace → Type 0 = λ p. (if nat_le p.at b.stop && nat_le (p.at + p.size) b.stop && is_utf8 (contents b.bytes p)
-        then Ok (read p (p.at + p.size)) else Err (Bad at)) ≡ Ok (read place next) in
+    then Ok (read p (p.at + p.size)) else Err (Bad at)) ≡ Ok (read place next) in
     subst P same (rw (inside, whole, utf8, ends) refl)
 
 pub api-complete : (b : Bounds) (at : ℕ) (place : ApiPlace) (next : ℕ) → IsApi b at place next → api b at ≡ Ok (read place next)
@@ -201,8 +206,12 @@ pub replacement-complete : (b : Bounds) (at : ℕ) (place : ReplacementPlace) (n
     → replacement b at ≡ Ok (read place next)
 unfolding replacement
 replacement-complete b at place next is =
-    rw (api-complete b at place.krate is.after_krate is.krate, api-complete b is.after_krate place.std is.after_std is.std,
-        text-complete b is.after_std is.note_place next is.note_text, ← is.note) refl
+    rw (
+      api-complete b at place.krate is.after_krate is.krate,
+      api-complete b is.after_krate place.std is.after_std is.std,
+      text-complete b is.after_std is.note_place next is.note_text,
+      ← is.note,
+    ) refl
 
 pub many-complete : {A : Type 0} (reader : ℕ → Result (Read A) ReplacementError) (IsOne : ℕ → A → ℕ → Type 0)
     → ((at : ℕ) (x : A) (next : ℕ) → IsOne at x next → reader at ≡ Ok (read x next))
@@ -216,15 +225,21 @@ pub group-complete : (b : Bounds) (at : ℕ) (g : Group) (next : ℕ) → IsGrou
 unfolding group group_head
 group-complete b at g next is =
     let test : nat_lt 0 (length g.replacements) ≡ true = lt-ltb 0 (length g.replacements) is.some in
-    rw (byte-complete b at g.minor is.after_minor is.minor, byte-complete b is.after_minor (length g.replacements) is.after_count is.count,
-        test, many-complete (replacement b) (IsReplacement b) (replacement-complete b) is.after_count g.replacements next is.replacements) refl
+    rw (
+      byte-complete b at g.minor is.after_minor is.minor,
+      byte-complete b is.after_minor (length g.replacements) is.after_count is.count,
+      test,
+      many-complete (replacement b) (IsReplacement b) (replacement-complete b) is.after_count g.replacements next is.replacements,
+    ) refl
 
 pub items-complete : (b : Bounds) (at : ℕ) (all : Items) (next : ℕ) → IsItems b at all next → items b at ≡ Ok (read all next)
 unfolding items counts counted_items
 items-complete b at all next is =
-    rw (byte-complete b at (length all.groups) is.after_groups is.groups_count,
-        byte-complete b is.after_groups (length all.unstable) is.after_unstable is.unstable_count,
-        byte-complete b is.after_unstable (length all.unavailable) is.after_counts is.unavailable_count,
-        many-complete (group b) (IsGroup b) (group-complete b) is.after_counts all.groups is.unstable_at is.groups,
-        many-complete (replacement b) (IsReplacement b) (replacement-complete b) is.unstable_at all.unstable is.unavailable_at is.unstable,
-        many-complete (api b) (IsApi b) (api-complete b) is.unavailable_at all.unavailable next is.unavailable) refl
+    rw (
+      byte-complete b at (length all.groups) is.after_groups is.groups_count,
+      byte-complete b is.after_groups (length all.unstable) is.after_unstable is.unstable_count,
+      byte-complete b is.after_unstable (length all.unavailable) is.after_counts is.unavailable_count,
+      many-complete (group b) (IsGroup b) (group-complete b) is.after_counts all.groups is.unstable_at is.groups,
+      many-complete (replacement b) (IsReplacement b) (replacement-complete b) is.unstable_at all.unstable is.unavailable_at is.unstable,
+      many-complete (api b) (IsApi b) (api-complete b) is.unavailable_at all.unavailable next is.unavailable,
+    ) refl

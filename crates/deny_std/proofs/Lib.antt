@@ -3,9 +3,9 @@ pub mod ReadingLemmas
 pub mod TableLemmas
 pub mod LayoutLemmas
 pub mod TableLaw
+pub mod BreakLemmas
 pub mod NamesLemmas
+pub mod EntryLemmas
 pub mod CursorLemmas
 pub mod CursorSteps
 pub mod ReplacementLemmas
-pub mod EntryLemmas
-pub mod BreakLemmas

@@ -8,7 +8,6 @@ use Rattle.std.proofs.lemmas.Map.Text.{is_eq-slice_cmp}
 use Rattle.std.proofs.lemmas.Slice.Eq.{bytes_eq-Decides}
 use Rattle.std.specs.Cmp.Lexicographic.{slice_cmp, nat_list_cmp_total}
 use Rattle.std.specs.Ordering.{nat_cmp, ordering_reverse, is_eq}
-use Rattle.std.specs.declared.cmp.Ordering.{Ordering}
 use Rattle.std.specs.declared.cmp.Ordering.TheVariants.{Less, Equal, Greater}
 use Rattle.deny_std.specs.Names.{name_at, HasNames}
 
@@ -23,7 +22,7 @@ rising_by names count rising i (suc more) below =
     let last = rising (i + 1 + more) (omega arith) in
     let here : i + 1 + more + 1 ≡ i + 1 + suc more = omega arith in
     subst (λ n. slice_cmp nat_cmp (names i) (names n) ≡ Less) here
-        (nat_list_cmp_total.trans (names i) (names (i + 1 + more)) (names (i + 1 + more + 1)) before last)
+    (nat_list_cmp_total.trans (names i) (names (i + 1 + more)) (names (i + 1 + more + 1)) before last)
 
 pub rising_all : (names : ℕ → List ℕ) (count : ℕ) → ((i : ℕ) → i + 1 < count → slice_cmp nat_cmp (names i) (names (i + 1)) ≡ Less)
     → (i j : ℕ) → i < j → j < count → slice_cmp nat_cmp (names i) (names j) ≡ Less
@@ -43,9 +42,9 @@ pub below_found : (bytes : List ℕ) (count middle : ℕ) (name : List ℕ) → 
 below_found bytes count middle name has inside is k below =
     let at_most : k ≤ middle = omega arith in
     elim (eq-or-lt_of_le at_most) [
-      inl same ↦ subst (λ n. slice_cmp nat_cmp (name_at bytes n) name ≡ Less) (sym same) is
-    | inr less ↦ nat_list_cmp_total.trans (name_at bytes k) (name_at bytes middle) name
-        (rising_all (λ n. name_at bytes n) count has.rising k middle less inside) is
+      | inl same ↦ subst (λ n. slice_cmp nat_cmp (name_at bytes n) name ≡ Less) (sym same) is
+      | inr less ↦ nat_list_cmp_total.trans (name_at bytes k) (name_at bytes middle) name
+          (rising_all (λ n. name_at bytes n) count has.rising k middle less inside) is
     ]
 
 -- where one name is above it, so are those after it
@@ -54,9 +53,9 @@ pub above_found : (bytes : List ℕ) (count middle : ℕ) (name : List ℕ) → 
     → slice_cmp nat_cmp (name_at bytes k) name ≡ Greater
 above_found bytes count middle name has is k from inside =
     elim (eq-or-lt_of_le from) [
-      inl same ↦ subst (λ n. slice_cmp nat_cmp (name_at bytes n) name ≡ Greater) same is
-    | inr more ↦ turned name (name_at bytes k) (nat_list_cmp_total.trans name (name_at bytes middle) (name_at bytes k)
-        (turned_back (name_at bytes middle) name is) (rising_all (λ n. name_at bytes n) count has.rising middle k more inside))
+      | inl same ↦ subst (λ n. slice_cmp nat_cmp (name_at bytes n) name ≡ Greater) same is
+      | inr more ↦ turned name (name_at bytes k) (nat_list_cmp_total.trans name (name_at bytes middle) (name_at bytes k)
+          (turned_back (name_at bytes middle) name is) (rising_all (λ n. name_at bytes n) count has.rising middle k more inside))
     ]
 
 -- names that tie are equal
@@ -72,6 +71,7 @@ not_found bytes count low high name crossed below above i inside same = placed (
   where
     ties : slice_cmp nat_cmp (name_at bytes i) name ≡ Equal
     ties = ap (λ n. slice_cmp nat_cmp n name) same ∙ tied_itself nat_list_cmp_total name
+
     placed : (test : Bool) → nat_lt i low ≡ test → ⊥
     placed true is = let less : slice_cmp nat_cmp (name_at bytes i) name ≡ Less = below i (ltb-true i low is) in let tie = ties in cc
     placed false is =

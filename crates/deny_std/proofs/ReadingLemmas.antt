@@ -1,5 +1,5 @@
 -- On readers that come one after the other.
-use Rattle.std.proofs.Common.{◌≡◌, ℕ, zero, suc, ◌+◌, ◌-◌, ◌<◌, ◌≤◌, List, ◌∷◌, Result, Ok, Err, refl, sym, ap, ◌∙◌, arith, subst}
+use Rattle.std.proofs.Common.{◌≡◌, ℕ, suc, ◌+◌, Result, Ok, Err, refl, sym, ap, ◌∙◌, arith, subst}
 use Rattle.deny_std.specs.declared.error.ReplacementError.{ReplacementError}
 use Rattle.deny_std.specs.declared.place.Read.{Read}
 use Rattle.deny_std.specs.Reading.{◌>>=◌, read, many, next_of}

@@ -1,5 +1,5 @@
 -- On an entry that is opened, and on all of its items.
-use Rattle.std.proofs.Common.{◌≡◌, ℕ, List, [], Option, Some, None, Result, Ok, Err, refl, sym, ap, ◌∙◌, subst}
+use Rattle.std.proofs.Common.{◌≡◌, ℕ, List, [], None, Result, Ok, Err, refl, sym, ap, ◌∙◌, subst}
 use Rattle.std.specs.Prelude.{IsOk}
 use Rattle.std.specs.Result.{result_unwrap_or}
 use Rattle.deny_std.specs.declared.error.ReplacementError.{ReplacementError}
@@ -7,13 +7,12 @@ use Rattle.deny_std.specs.declared.place.TextPlace.{TextPlace}
 use Rattle.deny_std.specs.declared.place.Counts.{Counts}
 use Rattle.deny_std.specs.declared.place.ItemPlace.{ItemPlace}
 use Rattle.deny_std.specs.declared.place.Read.{Read}
-use Rattle.deny_std.specs.Reading.{◌>>=◌, ◌>>◌, unless_bad}
 use Rattle.deny_std.specs.Region.{Bounds, Items, text, counts, counted_items, items}
-use Rattle.deny_std.specs.Entries.{Entry, entry, is_above}
+use Rattle.deny_std.specs.Entries.{Entry, entry}
 use Rattle.deny_std.specs.Item.{items_of}
 use Rattle.deny_std.specs.Cursor.{coming}
 use Rattle.deny_std.specs.Replacement.{items_read}
-use Rattle.deny_std.proofs.LayoutLemmas.{bind-ok, unless_bad-then}
+use Rattle.deny_std.proofs.LayoutLemmas.{bind-ok}
 use Rattle.deny_std.proofs.CursorLemmas.{ok-is, coming-begin}
 
 -- what a reading that holds answered
@@ -28,7 +27,7 @@ ok-left r x is =
 
 pub iter_all : (b : Bounds) (counts : Counts) (at : ℕ) → IsOk (counted_items b counts at)
     → (coming b 0 0 counts at ≡ Ok (result_unwrap_or (coming b 0 0 counts at) []))
-        × (result_unwrap_or (coming b 0 0 counts at) [] ≡ items_of (items_read (counted_items b counts at)))
+    × (result_unwrap_or (coming b 0 0 counts at) [] ≡ items_of (items_read (counted_items b counts at)))
 iter_all b counts at is =
     let all = ok-of (counted_items b counts at) is in
     let left = ok-left (coming b 0 0 counts at) (items_of all.0.value) (coming-begin b 0 counts at all.0 all.1) in
@@ -58,7 +57,7 @@ open-parts b start e is =
       name_read = name.1;
       count_read = count.1;
       all_read = count.2;
-      items = ap (λ (t : Entry). t.items) same
+      items = ap (λ (t : Entry). t.items) same;
     }
 
 is-ok : {A : Type 0} (r s : Result A ReplacementError) (x : A) → r ≡ s → s ≡ Ok x → IsOk r
@@ -85,9 +84,9 @@ open_items b start name count e is named counted =
     let parts = open-parts b start e is in
     let one : parts.name ≡ name = ok-is _ parts.name_read named in
     let two : parts.count ≡ count =
-        ok-is _ (subst (λ (n : Read TextPlace). counts b n.next ≡ Ok parts.count) one parts.count_read) counted in
+    ok-is _ (subst (λ (n : Read TextPlace). counts b n.next ≡ Ok parts.count) one parts.count_read) counted in
     let all : counted_items b count.value count.next ≡ Ok parts.all =
-        subst (λ (k : Read Counts). counted_items b k.value k.next ≡ Ok parts.all) two parts.all_read in
+    subst (λ (k : Read Counts). counted_items b k.value k.next ≡ Ok parts.all) two parts.all_read in
     (is-ok _ _ parts.all refl all, ap items_read all ∙ parts.items)
 
 pub open_holds : (b : Bounds) (start : ℕ) (name : Read TextPlace) (count : Read Counts) → IsOk (entry b None start)

@@ -1,5 +1,5 @@
 -- A table is what its reading answers, both ways.
-use Rattle.std.proofs.Common.{◌≡◌, ℕ, zero, suc, ◌+◌, ◌-◌, ◌*◌, ◌<◌, ◌≤◌, ◌==◌, ◌&&◌, nat_lt, nat_le, Bool, true, false, List, [], ◌∷◌, length, take, Option, Some, None, Result, Ok, Err, slice_index, refl, sym, ap, ◌∙◌, arith, subst, if◌then◌else◌, ◌||◌, lit<, length-take}
+use Rattle.std.proofs.Common.{◌≡◌, ℕ, zero, suc, ◌+◌, ◌-◌, ◌*◌, ◌<◌, ◌≤◌, ◌==◌, ◌&&◌, nat_lt, nat_le, true, List, [], ◌∷◌, length, take, Option, Some, None, Result, Ok, Err, slice_index, refl, sym, ap, ◌∙◌, arith, subst, ◌||◌, lit<, length-take}
 use Rattle.std.specs.List.{slice_get}
 use Rattle.std.specs.Cmp.Lexicographic.{slice_cmp}
 use Rattle.std.specs.Ordering.{nat_cmp, is_lt}
@@ -9,15 +9,14 @@ use Rattle.std.proofs.lemmas.Bool.{and_parts, and_from, ltb-true, lt-ltb, eqb-tr
 use Rattle.std.proofs.lemmas.Bool.Decides.{nat_tests}
 use Rattle.std.proofs.lemmas.List.{get_or-take}
 use Rattle.deny_std.specs.declared.error.ReplacementError.{ReplacementError}
-use Rattle.deny_std.specs.declared.error.ReplacementError.TheVariants.{Bad}
 use Rattle.deny_std.specs.declared.place.TextPlace.{TextPlace}
 use Rattle.deny_std.specs.Place.{contents}
-use Rattle.deny_std.specs.Reading.{◌>>=◌, ◌>>◌, unless_bad, read, number}
-use Rattle.deny_std.specs.Region.{Bounds, Items, text, items}
+use Rattle.deny_std.specs.Reading.{◌>>=◌, ◌>>◌, number}
+use Rattle.deny_std.specs.Region.{Bounds, text, items}
 use Rattle.deny_std.specs.Head.{header, has_byte, count_of, start_of, is_offset, IsOffset, HasOffsets, offsets}
-use Rattle.deny_std.specs.Entries.{Entry, stop_of, is_above, entry, bounds_of, entries}
+use Rattle.deny_std.specs.Entries.{Entry, is_above, entry, bounds_of, entries}
 use Rattle.deny_std.specs.Table.{table}
-use Rattle.deny_std.specs.Layout.{IsText, IsItems, IsEntry, IsTable}
+use Rattle.deny_std.specs.Layout.{IsEntry, IsTable}
 use Rattle.deny_std.proofs.TableLemmas.{offsets-all}
 use Rattle.deny_std.proofs.LayoutLemmas.{bind-ok, unless_bad-then, text-sound, text-complete, items-sound, items-complete}
 
@@ -34,7 +33,7 @@ is_above-true : (bytes : List ℕ) (before : Option TextPlace) (name : TextPlace
 is_above-true bytes None name is = record { above = λ b none. cc }
 is_above-true bytes (Some a) name is = record {
   above = λ b some. let same : a ≡ b = cc in
-      subst (λ t. slice_cmp nat_cmp (contents bytes t) (contents bytes name) ≡ Less) same (is_lt-true _ is)
+      subst (λ t. slice_cmp nat_cmp (contents bytes t) (contents bytes name) ≡ Less) same (is_lt-true _ is);
 }
 
 true-is_above : (bytes : List ℕ) (before : Option TextPlace) (name : TextPlace) → IsAbove bytes before name → is_above bytes before name ≡ true
@@ -47,7 +46,7 @@ unfolding entry
 entry-sound b before start e is =
     let name = bind-ok (text b start) _ e is in
     let tested = unless_bad-then (is_above b.bytes before name.0.value) start
-        (items b name.0.next >>= (λ rest. Ok (record { name = name.0.value; items = rest.value }))) e name.2 in
+    (items b name.0.next >>= (λ rest. Ok (record { name = name.0.value; items = rest.value }))) e name.2 in
     let rest = bind-ok (items b name.0.next) _ e tested.1 in
     let same : record { name = name.0.value; items = rest.0.value } ≡ e = cc in
     subst (λ (f : Entry). IsEntry b start f × IsAbove b.bytes before f.name) same (
@@ -55,17 +54,20 @@ entry-sound b before start e is =
         after_name = name.0.next;
         next = rest.0.next;
         name = text-sound b start name.0 name.1;
-        items = items-sound b name.0.next rest.0 rest.1
+        items = items-sound b name.0.next rest.0 rest.1;
       },
-      is_above-true b.bytes before name.0.value tested.0
+      is_above-true b.bytes before name.0.value tested.0,
     )
 
 pub entry-complete : (b : Bounds) (before : Option TextPlace) (start : ℕ) (e : Entry) → IsEntry b start e → IsAbove b.bytes before e.name
     → entry b before start ≡ Ok e
 unfolding entry
 entry-complete b before start e is above =
-    rw (text-complete b start e.name is.after_name is.name, true-is_above b.bytes before e.name above,
-        items-complete b is.after_name e.items is.next is.items) refl
+    rw (
+      text-complete b start e.name is.after_name is.name,
+      true-is_above b.bytes before e.name above,
+      items-complete b is.after_name e.items is.next is.items,
+    ) refl
 
 -- Several entries, from one of that number on.
 pub record IsEntries (width : ℕ) (bytes : List ℕ) (count : ℕ) (before : Option TextPlace) (i : ℕ) (es : List Entry) : Type 0 where
@@ -82,7 +84,7 @@ entries-cons : (width : ℕ) (bytes : List ℕ) (count : ℕ) (before : Option T
 entries-cons width bytes count before i x xs one above others = record {
   each = each;
   first = λ e is. let same : x ≡ e = cc in subst (λ (t : Entry). IsAbove bytes before t.name) same above;
-  rising = rising
+  rising = rising;
 }
   where
     each : (k : ℕ) (e : Entry) → slice_get (x ∷ xs) k ≡ Some e → IsEntry (bounds_of width bytes count (i + k)) (start_of bytes (i + k)) e
@@ -90,10 +92,11 @@ entries-cons width bytes count before i x xs one above others = record {
         let same : x ≡ e = cc in
         let here : i ≡ i + zero = omega arith in
         subst (λ n. IsEntry (bounds_of width bytes count n) (start_of bytes n) e) here
-            (subst (λ t. IsEntry (bounds_of width bytes count i) (start_of bytes i) t) same one)
+        (subst (λ t. IsEntry (bounds_of width bytes count i) (start_of bytes i) t) same one)
     each (suc k) e is =
         let there : i + 1 + k ≡ i + suc k = omega arith in
         subst (λ n. IsEntry (bounds_of width bytes count n) (start_of bytes n) e) there (others.each k e is)
+
     rising : (k : ℕ) (e f : Entry) → slice_get (x ∷ xs) k ≡ Some e → slice_get (x ∷ xs) (k + 1) ≡ Some f → IsAbove bytes (Some e.name) f.name
     rising zero e f is after =
         let same : x ≡ e = cc in
@@ -107,7 +110,7 @@ unfolding entries
 entries-sound width bytes count before i zero es is =
     let same : [] ≡ es = cc in
     subst (λ l. (length l ≡ 0) × IsEntries width bytes count before i l) same
-        (refl, record { each = λ k e none. cc; first = λ e none. cc; rising = λ k e f none. cc })
+    (refl, record { each = λ k e none. cc; first = λ e none. cc; rising = λ k e f none. cc })
 entries-sound width bytes count before i (suc left) es is =
     let one = bind-ok (entry (bounds_of width bytes count i) before (start_of bytes i)) _ es is in
     let others = bind-ok (entries width bytes count (Some one.0.name) (i + 1) left) _ es one.2 in
@@ -115,7 +118,7 @@ entries-sound width bytes count before i (suc left) es is =
     let here = entry-sound (bounds_of width bytes count i) before (start_of bytes i) one.0 one.1 in
     let later = entries-sound width bytes count (Some one.0.name) (i + 1) left others.0 others.1 in
     subst (λ l. (length l ≡ suc left) × IsEntries width bytes count before i l) same
-        (ap suc later.0, entries-cons width bytes count before i one.0 others.0 here.0 here.1 later.1)
+    (ap suc later.0, entries-cons width bytes count before i one.0 others.0 here.0 here.1 later.1)
 
 entries-tail : (width : ℕ) (bytes : List ℕ) (count : ℕ) (before : Option TextPlace) (i : ℕ) (x : Entry) (xs : List Entry)
     → IsEntries width bytes count before i (x ∷ xs) → IsEntries width bytes count (Some x.name) (i + 1) xs
@@ -123,7 +126,7 @@ entries-tail width bytes count before i x xs all = record {
   each = λ k e is. let there : i + suc k ≡ i + 1 + k = omega arith in
       subst (λ n. IsEntry (bounds_of width bytes count n) (start_of bytes n) e) there (all.each (suc k) e is);
   first = λ e is. all.rising 0 x e refl is;
-  rising = λ k e f is after. all.rising (suc k) e f is (get-suc x xs (k + 1) (suc k + 1) (omega arith) ∙ after)
+  rising = λ k e f is after. all.rising (suc k) e f is (get-suc x xs (k + 1) (suc k + 1) (omega arith) ∙ after);
 }
 
 pub entries-complete : (width : ℕ) (bytes : List ℕ) (count : ℕ) (before : Option TextPlace) (i : ℕ) (es : List Entry)
@@ -133,9 +136,11 @@ entries-complete width bytes count before i [] all = refl
 entries-complete width bytes count before i (x ∷ xs) all =
     let here : i + 0 ≡ i = omega arith in
     let one : IsEntry (bounds_of width bytes count i) (start_of bytes i) x =
-        subst (λ n. IsEntry (bounds_of width bytes count n) (start_of bytes n) x) here (all.each 0 x refl) in
-    rw (entry-complete (bounds_of width bytes count i) before (start_of bytes i) x one (all.first x refl),
-        entries-complete width bytes count (Some x.name) (i + 1) xs (entries-tail width bytes count before i x xs all)) refl
+    subst (λ n. IsEntry (bounds_of width bytes count n) (start_of bytes n) x) here (all.each 0 x refl) in
+    rw (
+      entry-complete (bounds_of width bytes count i) before (start_of bytes i) x one (all.first x refl),
+      entries-complete width bytes count (Some x.name) (i + 1) xs (entries-tail width bytes count before i x xs all),
+    ) refl
 
 has_byte-true : (bytes : List ℕ) (at value : ℕ) → has_byte bytes at value ≡ true → (at < length bytes) × (slice_index bytes at ≡ value)
 has_byte-true bytes at value is =
@@ -182,8 +187,12 @@ header-complete bytes is =
     let b = mark_at bytes 1 (lit< tt) is in
     let c = mark_at bytes 2 (lit< tt) is in
     let d = mark_at bytes 3 (lit< tt) is in
-    rw (true-has_byte bytes 0 0xcd a.0 a.1, true-has_byte bytes 1 0xcd b.0 b.1, true-has_byte bytes 2 0xcd c.0 c.1,
-        true-has_byte bytes 3 1 d.0 d.1) refl
+    rw (
+      true-has_byte bytes 0 0xcd a.0 a.1,
+      true-has_byte bytes 1 0xcd b.0 b.1,
+      true-has_byte bytes 2 0xcd c.0 c.1,
+      true-has_byte bytes 3 1 d.0 d.1,
+    ) refl
 
 count-sound : (bytes : List ℕ) (count : ℕ) → count_of bytes ≡ Ok count → (0 < count) × (number 4 bytes 4 ≡ count)
 unfolding count_of
@@ -229,7 +238,7 @@ gathered bytes count es mark some number_is placed size all =
       count = counted.1;
       offsets = offsets-all bytes (length es) counted.2;
       each = λ i e at. subst (λ n. IsEntry (bounds_of 1 bytes (length es) n) (start_of bytes n) e) (omega arith) (counted.3.each i e at);
-      rising = λ i e f at after. (counted.3.rising i e f at after).above e.name refl
+      rising = λ i e f at after. (counted.3.rising i e f at after).above e.name refl;
     }
 
 -- what the reading answers is a table
@@ -251,13 +260,16 @@ unfolding table
 table-complete bytes es is =
     let placed : IsOffset bytes (length es) 0 = is.offsets.each 0 is.some in
     let whole = placed.whole in
-    rw (header-complete bytes is.mark, count-complete bytes (length es) (omega arith) is.some is.count,
-        offsets-complete bytes (length es) 0 (length es) (omega arith) is.offsets)
-      (entries-complete 1 bytes (length es) None 0 es (record {
-        each = λ k e at. subst (λ n. IsEntry (bounds_of 1 bytes (length es) n) (start_of bytes n) e) (omega arith) (is.each k e at);
-        first = λ e at. record { above = λ b none. cc };
-        rising = λ k e f at after. record {
-          above = λ b some. let same : e.name ≡ b = cc in
-              subst (λ t. slice_cmp nat_cmp (contents bytes t) (contents bytes f.name) ≡ Less) same (is.rising k e f at after)
-        }
-      }))
+    rw (
+      header-complete bytes is.mark,
+      count-complete bytes (length es) (omega arith) is.some is.count,
+      offsets-complete bytes (length es) 0 (length es) (omega arith) is.offsets,
+    )
+    (entries-complete 1 bytes (length es) None 0 es (record {
+      each = λ k e at. subst (λ n. IsEntry (bounds_of 1 bytes (length es) n) (start_of bytes n) e) (omega arith) (is.each k e at);
+      first = λ e at. record { above = λ b none. cc };
+      rising = λ k e f at after. record {
+        above = λ b some. let same : e.name ≡ b = cc in
+            subst (λ t. slice_cmp nat_cmp (contents bytes t) (contents bytes f.name) ≡ Less) same (is.rising k e f at after);
+      };
+    }))

@@ -2,12 +2,11 @@
 use Rattle.std.proofs.Common.{◌≡◌, ℕ, zero, suc, ◌+◌, ◌-◌, ◌*◌, ◌<◌, ◌≤◌, ◌==◌, ◌||◌, ◌&&◌, nat_lt, nat_le, Bool, true, false, List, [], ◌∷◌, length, Option, Some, None, Result, Ok, Err, refl, sym, ap, ◌∙◌, arith, subst, inl, inr}
 use Rattle.std.specs.Result.{result_unwrap_or}
 use Rattle.std.proofs.Math.Nat.{eq-or-lt_of_le}
-use Rattle.std.proofs.lemmas.Bool.{and_parts, ltb-true}
+use Rattle.std.proofs.lemmas.Bool.{ltb-true}
 use Rattle.std.proofs.lemmas.Bool.Decides.{nat_tests}
 use Rattle.deny_std.specs.declared.error.ReplacementError.{ReplacementError}
-use Rattle.deny_std.specs.declared.error.ReplacementError.TheVariants.{Bad}
 use Rattle.deny_std.specs.declared.place.TextPlace.{TextPlace}
-use Rattle.deny_std.specs.Reading.{◌>>=◌, ◌>>◌, unless_bad, number, done_of}
+use Rattle.deny_std.specs.Reading.{◌>>=◌, ◌>>◌, unless_bad, done_of}
 use Rattle.deny_std.specs.Region.{bounds}
 use Rattle.deny_std.specs.Head.{start_of, is_offset, IsOffset, HasOffsets, offsets, header, count_of}
 use Rattle.deny_std.specs.Entries.{stop_of, Entry, entry, name_of, bounds_of, entries}
@@ -76,8 +75,8 @@ offsets-ok bytes count i (suc left) is k from to =
     let both = first_offset bytes count i left (unless_bad (is_offset bytes count i) (8 + 4 * i)) is in
     let here : IsOffset bytes count i = is_offset-true bytes count i (unless_bad-ok (is_offset bytes count i) (8 + 4 * i) both.0) in
     elim (eq-or-lt_of_le from) [
-      inl same ↦ subst (λ n. IsOffset bytes count n) same here
-    | inr later ↦ offsets-ok bytes count (i + 1) left both.1 k (omega arith) (omega arith)
+      | inl same ↦ subst (λ n. IsOffset bytes count n) same here
+      | inr later ↦ offsets-ok bytes count (i + 1) left both.1 k (omega arith) (omega arith)
     ]
 
 pub offsets-all : (bytes : List ℕ) (count : ℕ) → offsets bytes count 0 count ≡ Ok tt → HasOffsets bytes count
@@ -108,8 +107,8 @@ unfolding entries
 entries-break width bytes count before i left now e is broken =
     let is_suc : suc left ≡ now = omega arith in
     subst (λ n. done_of (entries width bytes count before i n) ≡ Err e) is_suc
-        (done_entries (entry (bounds_of width bytes count i) before (start_of bytes i)) e
-            (λ first. entries width bytes count (Some first.name) (i + 1) left) broken)
+    (done_entries (entry (bounds_of width bytes count i) before (start_of bytes i)) e
+    (λ first. entries width bytes count (Some first.name) (i + 1) left) broken)
 
 -- an entry holds, and the others come next
 pub entries-more : (width : ℕ) (bytes : List ℕ) (count : ℕ) (before : Option TextPlace) (i left now : ℕ) (name : TextPlace)
@@ -119,8 +118,8 @@ unfolding entries
 entries-more width bytes count before i left now name is holds =
     let is_suc : suc left ≡ now = omega arith in
     subst (λ n. done_of (entries width bytes count before i n) ≡ done_of (entries width bytes count (Some name) (i + 1) left)) is_suc
-        (done_more (entry (bounds_of width bytes count i) before (start_of bytes i)) name
-            (λ first. entries width bytes count (Some first) (i + 1) left) holds)
+    (done_more (entry (bounds_of width bytes count i) before (start_of bytes i)) name
+    (λ first. entries width bytes count (Some first) (i + 1) left) holds)
 
 pub entries-none : (width : ℕ) (bytes : List ℕ) (count : ℕ) (before : Option TextPlace) (i left : ℕ)
     → left ≡ 0 → done_of (entries width bytes count before i left) ≡ Ok tt

@@ -29,7 +29,7 @@ start_of bytes i = number 4 bytes (8 + 4 * i)
 -- an offset is there whole, not inside the head, above the one before, and below the length
 abbrev pub is_offset : List ℕ → ℕ → ℕ → Bool
 is_offset bytes count i =
-  nat_le (8 + 4 * i + 4) (length bytes)
+    nat_le (8 + 4 * i + 4) (length bytes)
     && nat_le (8 + 4 * count) (start_of bytes i)
     && (i == 0 || nat_lt (start_of bytes (i - 1)) (start_of bytes i))
     && nat_lt (start_of bytes i) (length bytes)

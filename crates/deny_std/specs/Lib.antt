@@ -3,9 +3,9 @@ pub mod Reading
 pub mod Region
 pub mod Head
 pub mod Entries
-pub mod Table
-pub mod Layout
 pub mod Names
 pub mod Item
 pub mod Cursor
 pub mod Replacement
+pub mod Table
+pub mod Layout

@@ -1,4 +1,5 @@
--- An entry's bytes, read from its first to its last item.
+-- An entry's bytes, from its name to its last item, in the order in which they are read. The first break ends
+-- the reading: a text breaks at its length, a missing byte at the entry's end, a number that is 0 at its place.
 use Rattle.std.specs.Prelude.{ℕ, ◌+◌, ◌==◌, ◌&&◌, nat_lt, nat_le, List, Option, Some, None, Result, Ok, Err, slice_index, if◌then◌else◌}
 use Rattle.std.specs.Str.{is_utf8}
 use Rattle.deny_std.specs.declared.error.ReplacementError.{ReplacementError}
@@ -33,9 +34,9 @@ text_place b at = record { at = at + b.width; size = number b.width b.bytes at }
 -- a text: its length, then that many bytes of UTF-8, all inside the entry
 unfoldable pub text : Bounds → ℕ → Result (Read TextPlace) ReplacementError
 text b at =
-  let place = text_place b at in
-  let next = place.at + place.size in
-  if nat_le place.at b.stop && nat_le next b.stop && is_utf8 (contents b.bytes place)
+    let place = text_place b at in
+    let next = place.at + place.size in
+    if nat_le place.at b.stop && nat_le next b.stop && is_utf8 (contents b.bytes place)
     then Ok (read place next) else Err (Bad at)
 
 -- an API: its name, its address

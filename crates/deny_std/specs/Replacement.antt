@@ -1,5 +1,5 @@
 -- What an entry says, and what is left of it, over the bytes in which its texts stand.
-use Rattle.std.specs.Prelude.{◌≡◌, ℕ, List, [], Result, Ok, Err}
+use Rattle.std.specs.Prelude.{ℕ, List, [], Result, Ok, Err}
 use Rattle.deny_std.specs.declared.error.ReplacementError.{ReplacementError}
 use Rattle.deny_std.specs.declared.place.ItemPlace.{ItemPlace}
 use Rattle.deny_std.specs.declared.place.Read.{Read}

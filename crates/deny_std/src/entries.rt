@@ -9,7 +9,7 @@ ghost use Rattle.deny_std.specs.Entries.{is_above, entry, name_of, stop_of, entr
 
 use crate::error::ReplacementError;
 use crate::head::start_of;
-use crate::place::{slice_at, TextPlace};
+use crate::place::{TextPlace, slice_at};
 use crate::region::Region;
 
 /// A name is above the one before it.
@@ -26,7 +26,11 @@ fn is_above(bytes: &[u8], before: Option<TextPlace>, name: TextPlace) -> bool
 
 /// An entry, whose name is to be above the one before; answers the name.
 #[tactic(auto, unfolding(crate::specs::Entries::entry))]
-fn check_entry(region: &Region, before: Option<TextPlace>, start: usize) -> Result<TextPlace, ReplacementError>
+fn check_entry(
+    region: &Region,
+    before: Option<TextPlace>,
+    start: usize,
+) -> Result<TextPlace, ReplacementError>
     requires { ForSome before (λ p. p.at + p.size ≤ length region.now.bytes.now) }
     ensures value { result ≡ name_of (entry (bounds region.now.bytes.now region.now.stop) before start) }
     ensures inside { IfOk result (λ p. p.at + p.size ≤ length region.now.bytes.now) }

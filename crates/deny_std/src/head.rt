@@ -7,6 +7,7 @@ ghost use Rattle.deny_std.specs.Head.{has_byte, header, count_of, start_of, is_o
 use crate::error::ReplacementError;
 
 const MARK: u8 = 0xcd;
+
 const VERSION: u8 = 1;
 
 /// The byte at an offset has to be this one.

@@ -5,7 +5,7 @@ ghost use Rattle.deny_std.specs.declared.place.TextPlace.{TextPlace};
 ghost use Rattle.deny_std.specs.Place.{contents, IsTextIn, IsApiIn, IsReplacementIn, IsItemIn};
 ghost use Rattle.deny_std.specs.Item.{IsApiAt, IsReplacementAt, IsItemAt};
 
-use crate::place::{text_at, ApiPlace, ItemPlace, ReplacementPlace, TextPlace};
+use crate::place::{ApiPlace, ItemPlace, ReplacementPlace, TextPlace, text_at};
 
 /// An API.
 #[derive(Clone, Copy, Debug)]
@@ -36,9 +36,13 @@ pub enum ReplacementItem<'d> {
         minor: u8,
     },
     /// It has a replacement that is not stable.
-    Unstable { replacement: ApiReplacement<'d> },
+    Unstable {
+        replacement: ApiReplacement<'d>,
+    },
     /// It has none.
-    Unavailable { api: Api<'d> },
+    Unavailable {
+        api: Api<'d>,
+    },
 }
 
 fn api_at(bytes: &[u8], place: ApiPlace) -> Api

@@ -1,5 +1,5 @@
-//! The table of crates that the standard library replaces: its bytes are read once from end to end,
-//! and what is handed out are slices of them.
+//! The table of crates that the standard library replaces. Its bytes are read once from end to end,
+//! nothing of them is copied, and each text that is handed out is the slice of them at its place.
 #![tactic(auto)]
 
 mod cursor;
@@ -14,6 +14,6 @@ mod replacement;
 mod table;
 
 pub use error::ReplacementError;
-pub use table::ReplacementData;
-pub use replacement::{Replacement, ReplacementIter};
 pub use item::{Api, ApiReplacement, ReplacementItem};
+pub use replacement::{Replacement, ReplacementIter};
+pub use table::ReplacementData;

@@ -4,7 +4,7 @@ ghost use Rattle.std.specs.Prelude.{◌≡◌, ◌≢◌, ℕ, ◌<◌, MatchOpt
 ghost use Rattle.deny_std.specs.Names.{name_place, name_at, HasNames};
 
 use crate::head::start_of;
-use crate::place::{slice_at, TextPlace};
+use crate::place::{TextPlace, slice_at};
 use std::cmp::Ordering;
 
 /// The bytes of an entry's name.

@@ -28,9 +28,16 @@ pub(crate) struct ReplacementPlace {
 /// An item of an entry, by the places of its texts.
 #[derive(Clone, Copy)]
 pub(crate) enum ItemPlace {
-    Stable { replacement: ReplacementPlace, minor: u8 },
-    Unstable { replacement: ReplacementPlace },
-    Unavailable { api: ApiPlace },
+    Stable {
+        replacement: ReplacementPlace,
+        minor: u8,
+    },
+    Unstable {
+        replacement: ReplacementPlace,
+    },
+    Unavailable {
+        api: ApiPlace,
+    },
 }
 
 /// The numbers at the head of an entry's items.

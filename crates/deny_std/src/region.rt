@@ -177,11 +177,7 @@ impl<'d> Region<'d> {
 fn note_of(place: TextPlace) -> Option<TextPlace>
     ensures { result ≡ note_of place }
 {
-    if place.size == 0 {
-        None
-    } else {
-        Some(place)
-    }
+    if place.size == 0 { None } else { Some(place) }
 }
 
 /// Whether UTF-8 stands at a place.

@@ -7,7 +7,7 @@ ghost use Rattle.deny_std.specs.Entries.{Entry, entry};
 ghost use Rattle.deny_std.specs.Item.{items_of, IsItemAt};
 
 use crate::cursor::Cursor;
-use crate::item::{item_at, ReplacementItem};
+use crate::item::{ReplacementItem, item_at};
 use crate::place::Counts;
 use crate::region::Region;
 use std::marker::Model;
@@ -28,8 +28,8 @@ impl<'d> Model for Replacement<'d> {
     ghost Value = { EntryItems };
 
     ghost view = { λ r. record {
-        bytes = r.region.bytes.now;
-        items = items_read (counted_items (bounds r.region.bytes.now r.region.stop) r.counts r.at)
+      bytes = r.region.bytes.now;
+      items = items_read (counted_items (bounds r.region.bytes.now r.region.stop) r.counts r.at);
     } };
 
     ghost invariant = { λ r. IsOk (counted_items (bounds r.region.bytes.now r.region.stop) r.counts r.at) };

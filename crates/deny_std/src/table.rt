@@ -31,11 +31,15 @@ impl<'d> Model for ReplacementData<'d> {
 }
 
 impl<'d> ReplacementData<'d> {
-    /// Reads a whole table, of which nothing is copied.
+    /// Reads a whole table, of which nothing is copied. Bytes after an entry's last item are ignored.
     ///
-    /// The bytes are refused as `Bad` exactly where they are no table, with the byte offset of their
-    /// first break. No memory is needed.
-    pub fn from_bytes(_alloc: Global, bytes: &'d [u8]) -> Result<ReplacementData<'d>, ReplacementError>
+    /// The bytes are refused as `Bad` exactly where they are no table, with the byte offset of their first
+    /// break: of the mark and version, the number of entries, their offsets, and the entries, in this order.
+    /// No memory is wanted, so `Memory` never comes. The time grows in step with the bytes.
+    pub fn from_bytes(
+        _alloc: Global,
+        bytes: &'d [u8],
+    ) -> Result<ReplacementData<'d>, ReplacementError>
         ensures bytes { IfOk result (λ t. t.bytes ≡ bytes.now) }
         ensures entries { IfOk result (λ t. table bytes.now ≡ Ok t.entries) }
         ensures table { IfOk result (λ t. IsTable bytes.now t.entries) }

@@ -8,5 +8,5 @@ use Rattle.deny_std.proofs.entries.check_entries.Given as goal
 abbrev pub invariant-loop-i : goal.invariant-loop-i
 invariant-loop-i l = record {
   same : done_of (entries 1 l.bytes l.count l.before l.i (l.count - l.i)) ≡ done_of (entries 1 l.bytes l.count None 0 l.count);
-  inside : ForSome l.before (λ p. p.at + p.size ≤ length l.bytes)
+  inside : ForSome l.before (λ p. p.at + p.size ≤ length l.bytes);
 }

@@ -1,5 +1,4 @@
-use Rattle.std.proofs.Common.{rules, ◌≡◌, ◌∙◌, ◌+◌, ◌-◌, arith, sym}
-use Rattle.deny_std.specs.Head.{offsets}
+use Rattle.std.proofs.Common.{rules, ◌∙◌, ◌+◌, ◌-◌, arith, sym}
 use Rattle.deny_std.proofs.TableLemmas.{offsets-more, offsets-break, offsets-none}
 use Rattle.deny_std.proofs.head.check_offsets.Goals as goal
 
@@ -12,8 +11,8 @@ returns-in_err-check_offset c =
 pub loop-i-preserved : goal.loop-i-preserved
 loop-i-preserved c =
     sym (offsets-more c.args.bytes.now c.args.count c.loop-i.i (c.args.count - (c.loop-i.i + 1)) (c.args.count - c.loop-i.i) (omega arith)
-        (sym c.in_ok-check_offset.ensures))
-        ∙ c.loop-i.invariant
+    (sym c.in_ok-check_offset.ensures))
+    ∙ c.loop-i.invariant
 
 pub returns : goal.returns
 returns c = sym (offsets-none c.args.bytes.now c.args.count c.loop-i.i (c.args.count - c.loop-i.i) (omega arith)) ∙ c.loop-i.invariant

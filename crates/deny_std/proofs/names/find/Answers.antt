@@ -1,8 +1,6 @@
-use Rattle.std.proofs.Common.{rules, ◌≡◌, ℕ, ◌+◌, ◌-◌, ◌/◌, ◌<◌, arith, sym, ap, ◌∙◌}
+use Rattle.std.proofs.Common.{◌+◌, ◌-◌, ◌/◌, ◌<◌, arith, sym, ap, ◌∙◌}
 use Rattle.std.specs.Cmp.Lexicographic.{slice_cmp}
 use Rattle.std.specs.Ordering.{nat_cmp}
-use Rattle.std.specs.declared.cmp.Ordering.TheVariants.{Less, Equal, Greater}
-use Rattle.deny_std.specs.Names.{name_at, HasNames}
 use Rattle.deny_std.proofs.NamesLemmas.{below_found, above_found, found, not_found}
 use Rattle.deny_std.proofs.names.find.Goals as goal
 
@@ -15,7 +13,7 @@ loop-low-preserved-in-Less c =
       inside = c.loop-low.invariant.inside;
       below = below_found c.args.bytes.now c.args.count middle c.args.name.now c.requires inside
           (ap (λ n. slice_cmp nat_cmp n c.args.name.now) (sym c.name_at.ensures) ∙ sym c.in-Less.ensures);
-      above = c.loop-low.invariant.above
+      above = c.loop-low.invariant.above;
     }
 
 pub returns-in-Equal : goal.returns-in-Equal
@@ -29,7 +27,7 @@ loop-low-preserved c =
       inside = omega arith;
       below = c.loop-low.invariant.below;
       above = above_found c.args.bytes.now c.args.count middle c.args.name.now c.requires
-          (ap (λ n. slice_cmp nat_cmp n c.args.name.now) (sym c.name_at.ensures) ∙ sym c.in-Greater.ensures)
+          (ap (λ n. slice_cmp nat_cmp n c.args.name.now) (sym c.name_at.ensures) ∙ sym c.in-Greater.ensures);
     }
 
 pub returns : goal.returns

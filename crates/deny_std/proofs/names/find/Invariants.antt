@@ -11,7 +11,7 @@ invariant-loop-low l = record {
   ordered : l.low ≤ l.high;
   inside : l.high ≤ l.count;
   below : (k : ℕ) → k < l.low → slice_cmp nat_cmp (name_at l.bytes k) l.name ≡ Less;
-  above : (k : ℕ) → l.high ≤ k → k < l.count → slice_cmp nat_cmp (name_at l.bytes k) l.name ≡ Greater
+  above : (k : ℕ) → l.high ≤ k → k < l.count → slice_cmp nat_cmp (name_at l.bytes k) l.name ≡ Greater;
 }
 
 abbrev pub decreases-loop-low : goal.decreases-loop-low

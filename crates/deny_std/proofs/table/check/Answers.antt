@@ -1,4 +1,4 @@
-use Rattle.std.proofs.Common.{rules, ◌≡◌, sym}
+use Rattle.std.proofs.Common.{rules, sym}
 use Rattle.deny_std.proofs.TableLemmas.{table-header, table-count, table-offsets, table-bad, table-read, entries-read, offsets-all}
 use Rattle.deny_std.proofs.table.check.Goals as goal
 
@@ -13,7 +13,7 @@ returns-in_err-count c =
 pub returns-in_err-check_offsets : goal.returns-in_err-check_offsets
 returns-in_err-check_offsets c =
     let broken = table-offsets c.args.bytes.now c.in_ok-count.count _ c.in_ok-check_header.ensures (sym c.in_ok-count.ensures)
-        (sym c.in_err-check_offsets.ensures) in
+    (sym c.in_err-check_offsets.ensures) in
     search (rules, broken)
 
 pub check_entries-requires : goal.check_entries-requires
@@ -22,11 +22,13 @@ check_entries-requires c = offsets-all c.args.bytes.now c.in_ok-count.count (sym
 pub returns-in_err-check_entries : goal.returns-in_err-check_entries
 returns-in_err-check_entries c =
     let broken = table-bad c.args.bytes.now c.in_ok-count.count _ c.in_ok-check_header.ensures (sym c.in_ok-count.ensures)
-        (sym c.in_ok-check_offsets.ensures) (sym c.in_err-check_entries.ensures) in
+    (sym c.in_ok-check_offsets.ensures) (sym c.in_err-check_entries.ensures) in
     search (rules, broken)
 
 pub returns : goal.returns
 returns c =
-    let holds = entries-read c.args.bytes.now c.in_ok-count.count (sym c.in_ok-check_offsets.ensures) (sym c.in_ok-check_entries.ensures) in
-    (holds, table-read c.args.bytes.now c.in_ok-count.count c.in_ok-check_header.ensures (sym c.in_ok-count.ensures)
-        (sym c.in_ok-check_offsets.ensures) holds)
+    let holds = entries-read c.args.bytes.now c.in_ok-count.count (sym c.in_ok-check_offsets.ensures) (sym c.in_ok-check_entries.ensures) in (
+      holds,
+      table-read c.args.bytes.now c.in_ok-count.count c.in_ok-check_header.ensures (sym c.in_ok-count.ensures)
+          (sym c.in_ok-check_offsets.ensures) holds,
+    )

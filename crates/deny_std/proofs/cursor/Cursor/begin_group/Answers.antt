@@ -8,9 +8,9 @@ unwrap-head-requires c = group_ready c.args.self.now _ c.requires.stable c.requi
 pub returns-clause-left : goal.returns-clause-left
 returns-clause-left c =
     (group_answer c.args.self.now c.unwrap-head.result c.requires.stable c.requires.some c.requires.reads
-        (sym c.group_head.ensures ∙ c.unwrap-head.ensures)).0
+    (sym c.group_head.ensures ∙ c.unwrap-head.ensures)).0
 
 pub returns-clause-stable : goal.returns-clause-stable
 returns-clause-stable c =
     (group_answer c.args.self.now c.unwrap-head.result c.requires.stable c.requires.some c.requires.reads
-        (sym c.group_head.ensures ∙ c.unwrap-head.ensures)).1
+    (sym c.group_head.ensures ∙ c.unwrap-head.ensures)).1

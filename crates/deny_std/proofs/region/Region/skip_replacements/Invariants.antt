@@ -7,4 +7,4 @@ use Rattle.deny_std.proofs.region.Region.skip_replacements.Given as goal
 abbrev pub invariant-loop-place : goal.invariant-loop-place
 invariant-loop-place l =
     next_of (many (replacement (bounds l.self.bytes.now l.self.stop)) (l.count - l._place) l.next)
-        ≡ next_of (many (replacement (bounds l.self.bytes.now l.self.stop)) l.count l.at)
+    ≡ next_of (many (replacement (bounds l.self.bytes.now l.self.stop)) l.count l.at)

@@ -1,4 +1,4 @@
-use Rattle.std.proofs.Common.{◌≡◌, ◌∙◌, ap}
+use Rattle.std.proofs.Common.{◌∙◌, ap}
 use Rattle.deny_std.specs.Region.{bounds}
 use Rattle.deny_std.specs.Item.{items_of}
 use Rattle.deny_std.proofs.ReplacementLemmas.{iter_all}

@@ -1,4 +1,4 @@
-use Rattle.std.proofs.Common.{rules, ◌≡◌, ◌∙◌, sym}
+use Rattle.std.proofs.Common.{rules}
 use Rattle.deny_std.proofs.EntryLemmas.{has_names, none_answer, some_answer, open_answer}
 use Rattle.deny_std.proofs.table.ReplacementData.entry.Goals as goal
 
@@ -8,16 +8,16 @@ find-requires c = has_names c.self.inside.bytes.now c.self.inside.count c.self.i
 pub returns-in_err-i : goal.returns-in_err-i
 returns-in_err-i c =
     rw (none_answer c.args.self.now c.self.inside.bytes.now c.self.inside.count c.args.name.now _ c.self.view_is c.self.invariant
-        c.as_bytes.ensures.value c.in_err-i.ensures) (search rules)
+    c.as_bytes.ensures.value c.in_err-i.ensures) (search rules)
 
 pub open-requires : goal.open-requires
 open-requires c =
     open_answer c.self.inside.bytes.now _ c.self.inside.count c.in_ok-i.i _ _ c.self.invariant c.in_ok-i.ensures.0
-        c.region_of-region.ensures.bytes c.region_of-region.ensures.stop c.start_of.ensures
+    c.region_of-region.ensures.bytes c.region_of-region.ensures.stop c.start_of.ensures
 
 pub returns : goal.returns
 returns c =
     some_answer c.args.self.now c.self.inside.bytes.now _ c.self.inside.count c.in_ok-i.i _ _ c.args.name.now _ c.open.result
-        c.self.view_is c.self.invariant c.as_bytes.ensures.value c.in_ok-i.ensures.0 c.in_ok-i.ensures.1
-        c.region_of-region.ensures.bytes c.region_of-region.ensures.stop c.start_of.ensures
-        c.open.ensures.bytes c.open.ensures.items
+    c.self.view_is c.self.invariant c.as_bytes.ensures.value c.in_ok-i.ensures.0 c.in_ok-i.ensures.1
+    c.region_of-region.ensures.bytes c.region_of-region.ensures.stop c.start_of.ensures
+    c.open.ensures.bytes c.open.ensures.items

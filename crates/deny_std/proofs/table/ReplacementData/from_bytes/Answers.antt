@@ -1,4 +1,4 @@
-use Rattle.std.proofs.Common.{rules, ◌≡◌, sym}
+use Rattle.std.proofs.Common.{rules}
 use Rattle.deny_std.proofs.BreakLemmas.{ok-no_break, break-no_table, break-no_memory}
 use Rattle.deny_std.proofs.TableLaw.{table-sound}
 use Rattle.deny_std.proofs.table.ReplacementData.from_bytes.Goals as goal
