@@ -1,6 +1,8 @@
 //! One case: a table's bytes and the names that are looked up in it, in hex.
 
-use deny_std::{Api, ApiReplacement, Replacement, ReplacementData, ReplacementError, ReplacementItem};
+use deny_std::{
+    Api, ApiReplacement, Replacement, ReplacementData, ReplacementError, ReplacementItem,
+};
 use std::alloc::{AllocError, Global};
 use std::str;
 
@@ -20,7 +22,11 @@ fn push_api(answer: &mut String, alloc: Global, api: &Api) -> Result<(), AllocEr
     push_text(answer, alloc, api.url)
 }
 
-fn push_replacement(answer: &mut String, alloc: Global, replacement: &ApiReplacement) -> Result<(), AllocError> {
+fn push_replacement(
+    answer: &mut String,
+    alloc: Global,
+    replacement: &ApiReplacement,
+) -> Result<(), AllocError> {
     push_api(answer, alloc, &replacement.krate)?;
     push_api(answer, alloc, &replacement.std)?;
     match replacement.note {
@@ -47,7 +53,11 @@ fn push_item(answer: &mut String, alloc: Global, item: &ReplacementItem) -> Resu
     }
 }
 
-fn push_items(answer: &mut String, alloc: Global, replacement: &Replacement) -> Result<(), AllocError> {
+fn push_items(
+    answer: &mut String,
+    alloc: Global,
+    replacement: &Replacement,
+) -> Result<(), AllocError> {
     let mut items = replacement.iter();
     let mut first = true;
     while let Some(item) = items.next() {
@@ -60,7 +70,12 @@ fn push_items(answer: &mut String, alloc: Global, replacement: &Replacement) -> 
     Ok(())
 }
 
-fn push_look_up(answer: &mut String, alloc: Global, table: &ReplacementData, word: &str) -> Result<(), AllocError> {
+fn push_look_up(
+    answer: &mut String,
+    alloc: Global,
+    table: &ReplacementData,
+    word: &str,
+) -> Result<(), AllocError> {
     let name = bytes_of(alloc, word);
     answer.push_str("; <")?;
     answer.push_str(hex::encode(alloc, name.as_slice())?.as_str())?;
@@ -75,7 +90,7 @@ fn push_look_up(answer: &mut String, alloc: Global, table: &ReplacementData, wor
 }
 
 /// The answer to a case: `Ok` and what is said of each name, or why the bytes were refused.
-pub fn answer(alloc: Global, line: &str) -> Result<String, AllocError> {
+pub(crate) fn answer(alloc: Global, line: &str) -> Result<String, AllocError> {
     let mut words = line.split(' ');
     let bytes = bytes_of(alloc, words.next().unwrap_or(""));
     match ReplacementData::from_bytes(alloc, bytes.as_slice()) {
