@@ -1,8 +1,10 @@
-ghost use Rattle.std.specs.Prelude.{◌≡◌, List};
+ghost use Rattle.std.specs.Prelude.{◌≡◌, ℕ, List, Contains};
+ghost use Rattle.deny_base.specs.Ascending.{Lists};
 ghost use Rattle.deny_base.specs.declared.key.Key.{Key};
-ghost use Rattle.deny_model.specs.Graph.{Graph};
+ghost use Rattle.deny_model.specs.Graph.{Crate, Graph};
+ghost use Rattle.deny_model.specs.Groups.{reduced};
 ghost use Rattle.deny_model.specs.Policy.{Policy};
-ghost use Rattle.deny_model.specs.Rules.{AreKeys};
+ghost use Rattle.deny_model.specs.Rules.{AreKeys, version_cmp};
 
 /// A policy and a graph have one report: no two lists of keys are both theirs.
 pub fn one_report()
@@ -10,3 +12,9 @@ pub fn one_report()
 {
     deny_base::key_order();
 }
+
+/// The crates of a name that may stand side by side have one order: by version, and by id where
+/// versions tie.
+pub fn one_group()
+    ensures { (g : Graph) → (name : List ℕ) → (xs ys : List Crate) → Lists version_cmp (Contains (reduced g name)) xs → Lists version_cmp (Contains (reduced g name)) ys → xs ≡ ys }
+{}

@@ -5,4 +5,4 @@
 
 mod laws;
 
-pub use laws::one_report;
+pub use laws::{one_group, one_report};
