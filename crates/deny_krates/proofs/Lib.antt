@@ -1,0 +1,15 @@
+pub mod BuildLemmas
+pub mod CheckedLemmas
+pub mod DependentsLemmas
+pub mod ElementsLemmas
+pub mod GraphIs
+pub mod GraphLemmas
+pub mod IndexLemmas
+pub mod ListLemmas
+pub mod Loop
+pub mod OrderLemmas
+pub mod OrderlyLemmas
+pub mod ReachLemmas
+pub mod ResolvedLemmas
+pub mod Runs
+pub mod Shorter

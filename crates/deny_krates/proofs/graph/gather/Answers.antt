@@ -1,0 +1,30 @@
+use Rattle.std.proofs.Common.{◌≡◌, ◌<◌, ◌+◌, ◌∙◌, List, Some, length, sym, subst, rules}
+use Rattle.std.specs.Prelude.{slice_get}
+use Rattle.deny_krates.specs.Graph.{IsKeptNode}
+use Rattle.deny_krates.specs.declared.checked.Row.{Row}
+use Rattle.deny_krates.specs.declared.document.Package.{Package}
+use Rattle.deny_krates.specs.declared.graph.Kept.{Kept}
+use Rattle.deny_krates.proofs.GraphLemmas.{IsGathered, gathered_more, gathered_skip, read_at}
+use Rattle.deny_krates.proofs.graph.gather.Goals.{then-marks-node+in_ok-clone+in_ok-push, else-marks-node}
+use Rattle.deny_krates.proofs.graph.gather.Goals as goal
+
+pub loop-node-preserved : goal.loop-node-preserved
+loop-node-preserved c =
+    let packages = c.args.packages.now in
+    let rows = c.args.rows.now in
+    let marks = c.args.marks.now in
+    let node = c.loop-node.node in
+    let row = c.index-rows-node.result in
+    let at = read_at rows node row c.loop-node-test.true c.index-rows-node.is in
+    elim c.if-marks-node.branch [
+      | then-marks-node+in_ok-clone+in_ok-push w ↦
+          let owned : row.owner < length packages = subst (λ (r : Row). r.owner < length packages) (sym c.index-rows-node.is) (c.requires.owned node row c.loop-node-test.true) in
+          let listed = w.index-packages-row.result in
+          let owner = read_at packages row.owner listed owned w.index-packages-row.is in
+          let copied : w.in_ok-clone.field-0 ≡ listed = search (rules, w.in_ok-clone.ensures.cases) in
+          let k : Kept = record { listed = w.in_ok-clone.field-0; node = node } in
+          let is : IsKeptNode packages rows marks k = record { row = row; at = at; marked = w.if-marks-node.true; owner = subst (λ (p : Package). slice_get packages row.owner ≡ Some p) (sym copied) owner } in
+          subst (λ (ks : List Kept). IsGathered packages rows marks ks (node + 1)) (sym (w.kept-is ∙ w.in_ok-push.ensures.ok)) (gathered_more packages rows marks c.loop-node.kept k c.loop-node.invariant is)
+      | else-marks-node w ↦
+          subst (λ (ks : List Kept). IsGathered packages rows marks ks (node + 1)) (sym w.kept-is) (gathered_skip packages rows marks c.loop-node.kept node c.loop-node.invariant w.if-marks-node.false)
+    ]

@@ -1,0 +1,6 @@
+use Rattle.std.proofs.Common.{◌≡◌, map, take}
+use Rattle.deny_krates.specs.declared.graph.Kept.{Kept}
+use Rattle.deny_krates.proofs.graph.nodes_of.Given as goal
+
+abbrev pub invariant-loop-each : goal.invariant-loop-each
+invariant-loop-each l = l.nodes ≡ map (λ (k : Kept). k.node) (take l.each-index l.kept)

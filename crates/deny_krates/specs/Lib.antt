@@ -1,0 +1,15 @@
+pub mod Checked
+pub mod Crates
+pub mod Dependents
+pub mod Document
+pub mod Elements
+pub mod Graph
+pub mod Index
+pub mod Kept
+pub mod Member
+pub mod Numbered
+pub mod Orderly
+pub mod Packages
+pub mod Reach
+pub mod Read
+pub mod Reading
