@@ -1,0 +1,11 @@
+pub mod PieceLaws
+pub mod EntryLaws
+pub mod LineLaws
+pub mod PolicyLaws
+pub mod PlaceLaws
+pub mod Members
+pub mod DependentLaws
+pub mod VersionLaws
+pub mod GroupLaws
+pub mod KeyLaws
+pub mod Rows

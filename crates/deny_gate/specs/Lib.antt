@@ -1,0 +1,9 @@
+pub mod Bans
+pub mod Duplicates
+pub mod Gating
+pub mod Minded
+pub mod PlainPolicy
+pub mod PolicyReading
+pub mod PolicyView
+pub mod Report
+pub mod Standing
