@@ -1,0 +1,27 @@
+//! The program: the system's files and outputs, the words without the program's own name, and the
+//! status that the run ends with.
+#![tactic(auto)]
+
+use deny_base::{RealDisk, RealOut};
+use deny_cli::run;
+use std::process::ExitCode;
+use std::{env, io};
+
+/// The status where the system cannot give the words. No run ends with it.
+const NO_WORDS: u8 = 28;
+
+/// The words without the program's own name.
+fn words_of(rt: &HostRuntime) -> io::Result<Vec<String>> {
+    Ok(env::args(rt)?.skip(1).collect(rt.alloc())?)
+}
+
+fn main(rt: HostRuntime) -> ExitCode {
+    let Ok(words) = words_of(&rt) else {
+        return ExitCode::from(NO_WORDS);
+    };
+    let mut disk = RealDisk::new(&rt);
+    let mut out = RealOut::out(&rt);
+    let mut err = RealOut::err(&rt);
+    let ended = run(rt.alloc(), words.as_slice(), &mut disk, &mut out, &mut err);
+    ExitCode::from(ended.status)
+}

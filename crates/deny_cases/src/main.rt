@@ -1,0 +1,26 @@
+//! Runs cases that standard input gives as data, one JSON object a line, over a disk and outputs
+//! in memory, and prints a JSON object for each: its name, its status, and what was written.
+//!
+//! A case has a `name` and its `words`. `files` gives each path a text: a string, an object
+//! `{"hex": "00ff"}` or `{"repeat": "ab", "times": 3}`, or an array of these, one after another.
+//! `fail` lists the paths whose reading fails, `piece` is how many bytes a read gives at most,
+//! `room` and `err_room` how many bytes the outputs take; these four may be left out.
+#![tactic(auto)]
+
+mod case;
+mod case_error;
+mod text;
+
+use case::Case;
+use case_error::CaseError;
+use std::io;
+
+fn main(rt: HostRuntime) -> Result<(), CaseError> {
+    let alloc = rt.alloc();
+    let input = io::read_to_string(alloc, rt.reader())?;
+    for line in input.as_str().lines() {
+        let case = Case::from_line(alloc, line)?;
+        println!(rt; "{}", case.run(alloc)?)?;
+    }
+    Ok(())
+}

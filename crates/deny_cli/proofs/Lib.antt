@@ -1,0 +1,3 @@
+pub mod CausesLemmas
+pub mod Rows
+pub mod WordsLemmas

@@ -1,0 +1,58 @@
+ghost use Rattle.std.specs.Prelude.{◌≡◌};
+ghost use Rattle.deny_cli.specs.Outcome.{bits_of, status_of};
+
+use deny_base::Which;
+use deny_gate::{GateError, Report, Verdict};
+
+/// What a run comes to.
+#[derive(Debug, PartialEq, Eq, Drop)]
+pub enum Outcome {
+    /// The report was written whole.
+    Done(Report),
+    /// The words are not accepted: no accepted list goes on at the word of this number, or the
+    /// words end too early, and this is how many there are.
+    Usage(usize),
+    /// Reading this text failed.
+    Read(Which),
+    /// The gate gave no report.
+    Gate(GateError),
+    /// The output took only the first bytes of this report's lines.
+    Write(Report),
+    /// Memory ran out.
+    Memory,
+}
+
+impl Outcome {
+    /// The status that a program ends with: the bits of the verdict where the run is done, and else
+    /// 16 for the words, 17 for reading, 23 for writing, 24 for memory, 25 for a text that is not
+    /// of the plain form.
+    pub fn status(&self) -> u8
+        ensures { result ≡ status_of self.now }
+    {
+        match self {
+            Outcome::Done(report) => bits(report.verdict),
+            Outcome::Usage(_) => 16,
+            Outcome::Read(_) => 17,
+            Outcome::Write(_) => 23,
+            Outcome::Gate(GateError::Memory) | Outcome::Memory => 24,
+            Outcome::Gate(GateError::NotBuilt(_)) => 25,
+        }
+    }
+}
+
+/// A bit for each check that has an error.
+pub(crate) fn bits(verdict: Verdict) -> u8
+    ensures { result ≡ bits_of verdict }
+{
+    match verdict {
+        Verdict::Pass => 0,
+        Verdict::Fail(bits) => bits,
+    }
+}
+
+/// What a run comes to, and the status that the program ends with.
+#[derive(Debug, PartialEq, Eq, Drop)]
+pub struct Ended {
+    pub status: u8,
+    pub outcome: Outcome,
+}

@@ -1,0 +1,185 @@
+ghost use Rattle.std.specs.Prelude.{◌≡◌, ◌<◌, ◌^◌, length, IfOk, IfErr, if◌then◌else◌};
+ghost use Rattle.std.specs.List.{list_any};
+ghost use Rattle.deny_base.specs.Count.{Rose};
+ghost use Rattle.deny_base.specs.Disk.{IsLater};
+ghost use Rattle.deny_gate.specs.Report.{has_error};
+ghost use Rattle.deny_base.specs.declared.check.Which.{Which};
+ghost use Rattle.deny_cli.specs.Causes.{ComesBy, StopsBy, StopsAt, IsReportAt, IsReportOn, IsPlainRun, IsRefusedRun, IsReadable, end_stop, IsPolicyStop};
+ghost use Rattle.deny_cli.specs.Outcome.{IfDone, IsUsage, IsDoneOrMemory, IsNotBuiltOrMemory, status_of};
+ghost use Rattle.deny_cli.specs.Outputs.{LeavesOut, LeavesErr, PutsLine, WritesReport};
+ghost use Rattle.deny_cli.specs.Words.{texts, IsAccepted};
+
+use crate::lines::{lines, memory_line, stop_line};
+use crate::outcome::{Ended, Outcome};
+use crate::words::{Paths, read_words};
+use deny_base::{NoMemory, Out, OutFault, PackageFiles, ReadEnd, Which, read_whole};
+use deny_gate::{GateError, Inputs, Report, gate};
+use std::alloc::Global;
+
+/// Why a text that was not read to its end stops a run. A long one is not of the plain form.
+fn end_stop(which: Which, end: ReadEnd) -> Outcome
+    ensures { result ≡ end_stop which end }
+{
+    match end {
+        ReadEnd::Fault => Outcome::Read(which),
+        ReadEnd::Long => Outcome::Gate(GateError::NotBuilt(which)),
+        ReadEnd::Memory => Outcome::Memory,
+    }
+}
+
+/// Why long metadata stops a run: the policy is looked at first.
+fn long_metadata_stop<D: PackageFiles>(alloc: Global, policy: Vec<u8>, disk: &mut D) -> Outcome
+    requires { length policy.items < 2 ^ 28 }
+    ensures stop { IsPolicyStop policy.items result }
+    ensures later { IsLater (D.seen disk.old) (D.seen disk.new) }
+{
+    let inputs = Inputs {
+        policy,
+        metadata: Vec::new(alloc),
+    };
+    match gate(alloc, &inputs, disk) {
+        Err(GateError::NotBuilt(Which::Policy)) => Outcome::Gate(GateError::NotBuilt(
+            Which::Policy,
+        )),
+        Err(GateError::Memory) => Outcome::Gate(GateError::Memory),
+        _ => Outcome::Gate(GateError::NotBuilt(Which::Metadata)),
+    }
+}
+
+/// The report on the texts at these paths, or why there is none.
+fn report_at<D: PackageFiles>(
+    alloc: Global,
+    paths: Paths<'_>,
+    disk: &mut D,
+) -> Result<Report, Outcome>
+    ensures report { IfOk result
+        (IsReportAt (D.seen disk.old) paths.entry.policy.now paths.entry.metadata.now) }
+    ensures stop { IfErr result (StopsAt (D.seen disk.old) (D.seen disk.new)
+        paths.entry.policy.now paths.entry.metadata.now) }
+    ensures later { IsLater (D.seen disk.old) (D.seen disk.new) }
+{
+    let policy = match read_whole(alloc, disk, paths.policy) {
+        Ok(policy) => policy,
+        Err(end) => return Err(end_stop(Which::Policy, end)),
+    };
+    let metadata = match read_whole(alloc, disk, paths.metadata) {
+        Ok(metadata) => metadata,
+        Err(ReadEnd::Long) => return Err(long_metadata_stop(alloc, policy, disk)),
+        Err(end) => return Err(end_stop(Which::Metadata, end)),
+    };
+    match gate(alloc, &Inputs { policy, metadata }, disk) {
+        Ok(report) => Ok(report),
+        Err(error) => Err(Outcome::Gate(error)),
+    }
+}
+
+/// The report on the texts that the words name, or why there is none.
+fn report_on<D: PackageFiles>(
+    alloc: Global,
+    words: &[String],
+    disk: &mut D,
+) -> Result<Report, Outcome>
+    ensures report { IfOk result (IsReportOn (D.seen disk.old) (texts words.now)) }
+    ensures stop { IfErr result
+        (StopsBy (D.seen disk.old) (D.seen disk.new) (texts words.now)) }
+    ensures later { IsLater (D.seen disk.old) (D.seen disk.new) }
+{
+    match read_words(words) {
+        Ok(paths) => report_at(alloc, paths, disk),
+        Err(at) => Err(Outcome::Usage(at)),
+    }
+}
+
+/// Writes the lines of a report, all at once.
+fn write_report<W: Out>(alloc: Global, report: Report, out: &mut W) -> Outcome
+    ensures { WritesReport W.written W.faults out.old out.new report result }
+{
+    match lines(alloc, &report) {
+        Ok(text) => match out.put(text.as_str().as_bytes()) {
+            Ok(()) => Outcome::Done(report),
+            Err(OutFault) => Outcome::Write(report),
+        },
+        Err(NoMemory) => Outcome::Memory,
+    }
+}
+
+/// What a run comes to. Nothing is told of a stop yet.
+fn outcome_of<D: PackageFiles, W: Out>(
+    alloc: Global,
+    words: &[String],
+    disk: &mut D,
+    out: &mut W,
+) -> Outcome
+    ensures cause { ComesBy (D.seen disk.old) (D.seen disk.new) (texts words.now) result }
+    ensures out { LeavesOut W.written W.faults out.old out.new result }
+    ensures later { IsLater (D.seen disk.old) (D.seen disk.new) }
+{
+    match report_on(alloc, words, disk) {
+        Ok(report) => write_report(alloc, report, out),
+        Err(stop) => stop,
+    }
+}
+
+/// Puts one line. What a failing output makes of it changes nothing.
+fn put_line<E: Out>(line: &str, err: &mut E)
+    ensures { PutsLine E.written E.faults err.old err.new line.now }
+{
+    let _ = err.put(line.as_bytes());
+}
+
+/// Tells why a run stopped; a run that is done tells nothing.
+fn tell<E: Out>(alloc: Global, outcome: &Outcome, err: &mut E)
+    ensures { LeavesErr E.written E.faults err.old err.new outcome.now }
+{
+    if let Outcome::Done(_) = outcome {
+        return;
+    }
+    match stop_line(alloc, outcome) {
+        Ok(line) => put_line(line.as_str(), err),
+        Err(NoMemory) => put_line(memory_line(), err),
+    }
+}
+
+/// Runs the program on these words, without the program's own name: `check POLICY METADATA`.
+///
+/// The two texts are read from `disk`. The lines of the report go to `out`, in one piece, and the
+/// one line that tells a stop to `err`; what a failing `err` makes of it changes nothing. The
+/// order of the causes is: words, reading the policy, reading the metadata, their forms (the
+/// policy first), the output. Want of memory can come at any point but the first.
+pub fn run<D: PackageFiles, W: Out, E: Out>(
+    alloc: Global,
+    words: &[String],
+    disk: &mut D,
+    out: &mut W,
+    err: &mut E,
+) -> Ended
+    // Each outcome comes by its cause alone; a report is the one of the texts that were read.
+    ensures cause { ComesBy (D.seen disk.old) (D.seen disk.new) (texts words.now) result.outcome }
+    // Words that are not accepted always end so.
+    ensures usage { (¬ IsAccepted (texts words.now)) → IsUsage result.outcome }
+    // Accepted words and plain texts end with a report, where nothing outside fails.
+    ensures completes { IsPlainRun (D.seen disk.old) (texts words.now)
+        → IsReadable (D.seen disk.old) (D.seen disk.new) (texts words.now)
+        → (¬ Rose (W.faults out.old) (W.faults out.new))
+        → IsDoneOrMemory result.outcome }
+    // A text that is not plain is refused, the policy first, where reading does not fail.
+    ensures refuses { (which : Which)
+        → IsRefusedRun (D.seen disk.old) (texts words.now) which
+        → IsReadable (D.seen disk.old) (D.seen disk.new) (texts words.now)
+        → IsNotBuiltOrMemory which result.outcome }
+
+    ensures status { result.status ≡ status_of result.outcome }
+    ensures fails { IfDone result.outcome (λ report.
+        result.status ≡ (if list_any has_error report.findings then 2 else 0)) }
+
+    ensures out { LeavesOut W.written W.faults out.old out.new result.outcome }
+    ensures err { LeavesErr E.written E.faults err.old err.new result.outcome }
+    ensures later { IsLater (D.seen disk.old) (D.seen disk.new) }
+{
+    let outcome = outcome_of(alloc, words, disk, out);
+    tell(alloc, &outcome, err);
+    Ended {
+        status: outcome.status(),
+        outcome,
+    }
+}
