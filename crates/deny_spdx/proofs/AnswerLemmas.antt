@@ -1,0 +1,76 @@
+-- A reader that keeps to a grammar answers as that says.
+use Rattle.std.proofs.Common.{◌≡◌, ℕ, List, [], ◌∷◌, ◌++◌, length, Option, Some, None, Result, Err, sym, ◌∙◌, ap, subst, arith}
+use Rattle.deny_spdx.specs.declared.error.SpdxError.{SpdxError}
+use Rattle.deny_spdx.specs.declared.error.SpdxError.TheVariants.{Bad, Memory}
+use Rattle.deny_spdx.specs.declared.token.Token.{Token}
+use Rattle.deny_spdx.specs.Reader.{run_by}
+use Rattle.deny_spdx.specs.Bad.{Spells, AreWhole, Begin, GoesWrong, ends, no_token, token, IsBadAt, IsAnswer}
+use Rattle.deny_spdx.specs.Reading as reading
+use Rattle.deny_spdx.specs.Reading.{IsRead, IsReadTo, IsStuck, StopsAt, Stops, NoBlankFirst}
+use Rattle.deny_spdx.proofs.StepsLemmas.{LeadsTo, run_by-stuck}
+use Rattle.deny_spdx.proofs.BadLemmas.{IsClear}
+
+-- the reader takes what S spells, and nothing else
+pub record KeepsTo {R A : Type 0} (S : List Token → A → Type 0) (step : R → Token → Option R) (start : R) (whole : R → Option A) : Type 0 where
+  pub reads : (tokens : List Token) (x : A) → S tokens x → LeadsTo step start whole tokens x
+  pub spelled : (tokens : List Token) (r : R) (x : A) → run_by step start tokens ≡ Some r → whole r ≡ Some x → S tokens x
+  pub begins : (tokens : List Token) (r : R) → run_by step start tokens ≡ Some r → Begin S tokens
+
+pub is_clear : {R A : Type 0} (S : List Token → A → Type 0) (step : R → Token → Option R) (start : R) (whole : R → Option A) → KeepsTo S step start whole → IsClear S
+is_clear {R} {A} S step start whole k tokens x y d e =
+    let first = k.reads tokens x d in
+    let second = k.reads tokens y e in
+    let to_same : Some first.to ≡ Some second.to = sym first.runs ∙ second.runs in
+    let same : first.to ≡ second.to = cc in
+    let found : Some x ≡ Some y = sym first.is ∙ (ap whole same ∙ second.is) in
+    cc
+
+pub spells : {R A : Type 0} (S : List Token → A → Type 0) (step : R → Token → Option R) (start : R) (whole : R → Option A) → KeepsTo S step start whole → (text : List ℕ) (last : R) (found : Option A) (x : A) → IsRead step start text last → found ≡ whole last → found ≡ Some x → Spells S text x
+spells S step start whole k text last found x d e f = record { tokens = d.tokens; all = d.all; spelled = k.spelled d.tokens last x d.runs (sym e ∙ f) }
+
+not_whole : {R A : Type 0} (S : List Token → A → Type 0) (step : R → Token → Option R) (start : R) (whole : R → Option A) → KeepsTo S step start whole → (tokens : List Token) (last : R) → run_by step start tokens ≡ Some last → whole last ≡ None → AreWhole S tokens → ⊥
+not_whole S step start whole k tokens last runs nothing w =
+    let lead = k.reads tokens w.0 w.1 in
+    let to_same : Some lead.to ≡ Some last = sym lead.runs ∙ runs in
+    let same : lead.to ≡ last = cc in
+    let found : Some w.0 ≡ None = sym lead.is ∙ (ap whole same ∙ nothing) in
+    cc
+
+-- the text ends too early
+pub ends_bad : {R A : Type 0} (S : List Token → A → Type 0) (step : R → Token → Option R) (start : R) (whole : R → Option A) → KeepsTo S step start whole → (text : List ℕ) (last : R) (found : Option A) → IsRead step start text last → found ≡ whole last → found ≡ None → IsBadAt S text (length text)
+ends_bad S step start whole k text last found d e f = record {
+  tokens = d.tokens;
+  rest = [];
+  before = d.all;
+  begins = k.begins d.tokens last d.runs;
+  wrong = ends (not_whole S step start whole k d.tokens last d.runs (sym e ∙ f));
+  at = omega arith;
+}
+
+wrong_at : {R A : Type 0} (S : List Token → A → Type 0) (step : R → Token → Option R) (start : R) (whole : R → Option A) → KeepsTo S step start whole → (tokens : List Token) (last : R) (rest : List ℕ) → run_by step start tokens ≡ Some last → NoBlankFirst rest → IsStuck step last rest → GoesWrong S tokens rest
+wrong_at S step start whole k tokens last rest runs plain (reading.no_token b other) = no_token b plain other
+wrong_at {A = A} S step start whole k tokens last rest runs plain (reading.token t begins stuck) = token t begins refuses
+  where
+    refuses : Begin S (tokens ++ t ∷ []) → ⊥
+    refuses b =
+        let lead = k.reads _ b.1.0 b.1.1 in
+        let nowhere : Some lead.to ≡ None = sym lead.runs ∙ run_by-stuck step start last tokens b.0 t runs stuck in
+        cc
+
+-- a byte or a token can't stand there
+pub stops_bad : {R A : Type 0} (S : List Token → A → Type 0) (step : R → Token → Option R) (start : R) (whole : R → Option A) → KeepsTo S step start whole → (text : List ℕ) (place : ℕ) → StopsAt step start text place → IsBadAt S text place
+stops_bad S step start whole k text place d = record {
+  tokens = d.to.tokens;
+  rest = d.rest;
+  before = d.to.before;
+  begins = k.begins d.to.tokens d.last d.to.runs;
+  wrong = wrong_at S step start whole k d.to.tokens d.last d.rest d.to.runs d.to.plain d.stuck;
+  at = d.at;
+}
+
+pub stops_answer : {R A : Type 0} (S : List Token → A → Type 0) (step : R → Token → Option R) (start : R) (whole : R → Option A) → KeepsTo S step start whole → (text : List ℕ) (e : SpdxError) → Stops step start text e → IsAnswer S text (Err e)
+stops_answer S step start whole k text (Bad place) d = stops_bad S step start whole k text place d
+stops_answer S step start whole k text Memory d = tt
+
+pub refused_at : {A : Type 0} (S : List Token → A → Type 0) (text : List ℕ) (result : Result A SpdxError) (place : ℕ) → IsAnswer S text result → result ≡ Err (Bad place) → IsBadAt S text place
+refused_at {A} S text result place d e = let P : Result A SpdxError → Type 0 = λ x. IsAnswer S text x in subst P e d

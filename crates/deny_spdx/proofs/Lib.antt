@@ -1,0 +1,10 @@
+pub mod AfterLemmas
+pub mod AnswerLemmas
+pub mod BadLemmas
+pub mod FrontLemmas
+pub mod KeepsLemmas
+pub mod ReadingLemmas
+pub mod RunLemmas
+pub mod StepsLemmas
+pub mod TokenLemmas
+pub mod TruthLemmas

@@ -1,0 +1,104 @@
+ghost use Rattle.std.specs.Prelude.{◌≡◌, ℕ, length, false, slice_get, unwrap_or, IfOk, Ok, Err};
+ghost use Rattle.std.specs.List.{list_any, list_all};
+ghost use Rattle.deny_spdx.specs.Truth.{truth};
+ghost use Rattle.deny_spdx.specs.Grammar.{IsExpression};
+ghost use Rattle.deny_spdx.specs.Bad.{Spells, IsBadAt, Answers};
+
+use crate::error::SpdxError;
+use crate::parse::read_expression;
+use crate::requirement::Requirement;
+use deny_base::List;
+use std::alloc::Global;
+
+/// How an expression is put together. The requirements stand in it by their numbers, which count
+/// from 0 in text order.
+#[derive(Debug, Drop)]
+pub enum Tree {
+    /// The requirement of this number holds.
+    Requirement(usize),
+    /// Each of the parts holds.
+    All(List<Tree>),
+    /// One of the parts holds.
+    Any(List<Tree>),
+}
+
+/// A licence expression.
+#[derive(Debug, Drop)]
+pub struct Expression {
+    pub requirements: List<Requirement>,
+    pub tree: Tree,
+}
+
+impl Expression {
+    /// The expression that the text spells. `Bad` comes exactly where it spells none, at the place
+    /// where it goes wrong first, and `Memory` where an allocation fails.
+    pub fn parse(alloc: Global, text: &str) -> Result<Expression, SpdxError>
+        ensures read { IfOk result (Spells IsExpression text.now) }
+        ensures spelled { (e : Expression) → Spells IsExpression text.now e → Answers (Ok e) result }
+
+        ensures refused { (place : ℕ) → result ≡ Err (SpdxError.Bad place) → IsBadAt IsExpression text.now place }
+        ensures bad { (place : ℕ) → IsBadAt IsExpression text.now place → Answers (Err (SpdxError.Bad place)) result }
+    {
+        read_expression(alloc, text)
+    }
+
+    /// The requirements in text order, equal ones repeated.
+    pub fn requirements(&self) -> &[Requirement]
+        ensures { result.now ≡ self.now.requirements }
+    {
+        self.requirements.as_slice()
+    }
+
+    /// Whether the expression holds, where the requirement of each number holds as `allowed` says.
+    pub fn evaluate(&self, allowed: &[bool]) -> bool
+        requires { length allowed.now ≡ length self.now.requirements }
+        ensures { result ≡ truth allowed.now self.now.tree }
+    {
+        holds(&self.tree, allowed)
+    }
+}
+
+/// Whether the tree holds.
+#[cycle(truth)]
+fn holds(tree: &Tree, allowed: &[bool]) -> bool
+    ensures { result ≡ truth allowed.now tree.now }
+{
+    match tree {
+        Tree::Requirement(number) => value_of(allowed, *number),
+        Tree::All(parts) => all_hold(parts.as_slice(), allowed),
+        Tree::Any(parts) => any_holds(parts.as_slice(), allowed),
+    }
+}
+
+/// Whether each of the parts holds.
+#[cycle(truth)]
+fn all_hold(parts: &[Tree], allowed: &[bool]) -> bool
+    ensures { result ≡ list_all (truth allowed.now) parts.now }
+{
+    for part in parts {
+        if !holds(part, allowed) {
+            return false;
+        }
+    }
+    true
+}
+
+/// Whether one of the parts holds.
+#[cycle(truth)]
+fn any_holds(parts: &[Tree], allowed: &[bool]) -> bool
+    ensures { result ≡ list_any (truth allowed.now) parts.now }
+{
+    for part in parts {
+        if holds(part, allowed) {
+            return true;
+        }
+    }
+    false
+}
+
+/// The value of this number, and false past the end.
+fn value_of(values: &[bool], number: usize) -> bool
+    ensures { result ≡ unwrap_or (slice_get values.now number) false }
+{
+    values.get(number).copied().unwrap_or(false)
+}

@@ -1,0 +1,295 @@
+ghost use Rattle.std.specs.Prelude.{◌≡◌, IfOk};
+ghost use Rattle.deny_spdx.specs.Reader.{start, settled, with_requirement, word_step, with_step, open_step, and_step, or_step, close_step, step, whole};
+
+use crate::expression::{Expression, Tree};
+use crate::level::Level;
+use crate::requirement::Requirement;
+use crate::token::Token;
+use crate::token_reader::TokenReader;
+use deny_base::{List, NoMemory, Text};
+use std::alloc::Global;
+
+/// How many parentheses may be open at a place.
+const NESTING: usize = 64;
+
+/// What the tokens so far end with.
+#[derive(Drop)]
+pub enum Phase {
+    /// An operator or an open parenthesis, or there are no tokens: a requirement or `(` must come.
+    Operand,
+    /// A word: `WITH` may come as well as what may follow a requirement.
+    Named(Text),
+    /// `WITH` behind this word: an exception must come.
+    Excepted(Text),
+    /// A requirement with its exception, or a closed parenthesis.
+    Operator,
+}
+
+/// A reader of an expression's tokens, behind some of them.
+#[derive(Drop)]
+pub struct Reader {
+    pub requirements: List<Requirement>,
+    pub outer: List<Level>,
+    pub level: Level,
+    pub phase: Phase,
+}
+
+impl Reader {
+    /// The reader before the first token.
+    pub fn new(alloc: Global) -> Reader
+        ensures { result ≡ start }
+    {
+        Reader {
+            requirements: List::new(alloc),
+            outer: List::new(alloc),
+            level: Level::new(alloc),
+            phase: Phase::Operand,
+        }
+    }
+
+    /// The expression that the tokens are, or none where they are not a whole one.
+    pub fn whole(self) -> Result<Option<Expression>, NoMemory>
+        ensures { IfOk result (λ found. found ≡ whole (settled self)) }
+    {
+        self.settled()?.into_expression()
+    }
+
+    #[tactic(auto, unfolding(crate::specs::Reader::whole))]
+    fn into_expression(self) -> Result<Option<Expression>, NoMemory>
+        ensures { IfOk result (λ found. found ≡ whole self) }
+    {
+        let Reader {
+            requirements,
+            outer,
+            level,
+            phase,
+        } = self;
+        match phase {
+            Phase::Operator if outer.len() == 0 => Ok(Some(Expression {
+                requirements,
+                tree: Tree::Any(level.into_alternatives()?),
+            })),
+            _ => Ok(None),
+        }
+    }
+
+    /// The reader with one more requirement, which is whole.
+    fn with_requirement(self, requirement: Requirement) -> Result<Reader, NoMemory>
+        ensures { IfOk result (λ after. after ≡ with_requirement self requirement) }
+    {
+        let Reader {
+            mut requirements,
+            outer,
+            level,
+            phase: _,
+        } = self;
+        let number = requirements.len();
+        requirements.push(requirement)?;
+        let level = level.with_part(Tree::Requirement(number))?;
+        Ok(Reader {
+            requirements,
+            outer,
+            level,
+            phase: Phase::Operator,
+        })
+    }
+
+    /// The reader for which a word at the end is a whole requirement.
+    #[tactic(auto, unfolding(crate::specs::Reader::settled))]
+    fn settled(self) -> Result<Reader, NoMemory>
+        ensures { IfOk result (λ after. after ≡ settled self) }
+    {
+        let Reader {
+            requirements,
+            outer,
+            level,
+            phase,
+        } = self;
+        match phase {
+            Phase::Named(id) => {
+                let requirement = Requirement {
+                    id,
+                    exception: None,
+                };
+                let reader = Reader {
+                    requirements,
+                    outer,
+                    level,
+                    phase: Phase::Operator,
+                };
+                reader.with_requirement(requirement)
+            },
+            phase => Ok(Reader {
+                requirements,
+                outer,
+                level,
+                phase,
+            }),
+        }
+    }
+
+    #[tactic(auto, unfolding(crate::specs::Reader::word_step))]
+    fn take_word(self, word: Text) -> Result<Option<Reader>, NoMemory>
+        ensures { IfOk result (λ after. after ≡ word_step self word) }
+    {
+        let Reader {
+            requirements,
+            outer,
+            level,
+            phase,
+        } = self;
+        match phase {
+            Phase::Operand => Ok(Some(Reader {
+                requirements,
+                outer,
+                level,
+                phase: Phase::Named(word),
+            })),
+            Phase::Excepted(id) => {
+                let requirement = Requirement {
+                    id,
+                    exception: Some(word),
+                };
+                let reader = Reader {
+                    requirements,
+                    outer,
+                    level,
+                    phase: Phase::Operator,
+                };
+                Ok(Some(reader.with_requirement(requirement)?))
+            },
+            _ => Ok(None),
+        }
+    }
+
+    #[tactic(auto, unfolding(crate::specs::Reader::with_step))]
+    fn take_with(self) -> Option<Reader>
+        ensures { result ≡ with_step self }
+    {
+        let Reader {
+            requirements,
+            outer,
+            level,
+            phase,
+        } = self;
+        match phase {
+            Phase::Named(id) => Some(Reader {
+                requirements,
+                outer,
+                level,
+                phase: Phase::Excepted(id),
+            }),
+            _ => None,
+        }
+    }
+
+    #[tactic(auto, unfolding(crate::specs::Reader::open_step))]
+    fn take_open(self, alloc: Global) -> Result<Option<Reader>, NoMemory>
+        ensures { IfOk result (λ after. after ≡ open_step self) }
+    {
+        let Reader {
+            requirements,
+            mut outer,
+            level,
+            phase,
+        } = self;
+        match phase {
+            Phase::Operand if outer.len() < NESTING => {
+                outer.push(level)?;
+                Ok(Some(Reader {
+                    requirements,
+                    outer,
+                    level: Level::new(alloc),
+                    phase: Phase::Operand,
+                }))
+            },
+            _ => Ok(None),
+        }
+    }
+
+    #[tactic(auto, unfolding(crate::specs::Reader::and_step))]
+    fn take_and(self) -> Option<Reader>
+        ensures { result ≡ and_step self }
+    {
+        let Reader {
+            requirements,
+            outer,
+            level,
+            phase,
+        } = self;
+        match phase {
+            Phase::Operator => Some(Reader {
+                requirements,
+                outer,
+                level,
+                phase: Phase::Operand,
+            }),
+            _ => None,
+        }
+    }
+
+    #[tactic(auto, unfolding(crate::specs::Reader::or_step))]
+    fn take_or(self, alloc: Global) -> Result<Option<Reader>, NoMemory>
+        ensures { IfOk result (λ after. after ≡ or_step self) }
+    {
+        let Reader {
+            requirements,
+            outer,
+            level,
+            phase,
+        } = self;
+        match phase {
+            Phase::Operator => Ok(Some(Reader {
+                requirements,
+                outer,
+                level: Level {
+                    alternatives: level.into_alternatives()?,
+                    parts: List::new(alloc),
+                },
+                phase: Phase::Operand,
+            })),
+            _ => Ok(None),
+        }
+    }
+
+    #[tactic(auto, unfolding(crate::specs::Reader::close_step))]
+    fn take_close(self) -> Result<Option<Reader>, NoMemory>
+        ensures { IfOk result (λ after. after ≡ close_step self) }
+    {
+        let Reader {
+            requirements,
+            mut outer,
+            level,
+            phase,
+        } = self;
+        let Phase::Operator = phase else {
+            return Ok(None);
+        };
+        let Some(enclosing) = outer.vec.pop() else {
+            return Ok(None);
+        };
+        let group = Tree::Any(level.into_alternatives()?);
+        Ok(Some(Reader {
+            requirements,
+            outer,
+            level: enclosing.with_part(group)?,
+            phase: Phase::Operator,
+        }))
+    }
+}
+
+impl TokenReader for Reader {
+    ghost step = { step };
+
+    #[tactic(auto, unfolding(crate::specs::Reader::step))]
+    fn take(self, alloc: Global, token: Token) -> Result<Option<Reader>, NoMemory> {
+        match token {
+            Token::Word(word) => self.take_word(word),
+            Token::And => Ok(self.settled()?.take_and()),
+            Token::Or => self.settled()?.take_or(alloc),
+            Token::With => Ok(self.take_with()),
+            Token::Open => self.take_open(alloc),
+            Token::Close => self.settled()?.take_close(),
+        }
+    }
+}

@@ -1,0 +1,36 @@
+ghost use Rattle.std.proofs.Common.{rules};
+ghost use Rattle.std.specs.Prelude.{◌≡◌, ℕ, IfOk, Ok, Err};
+ghost use Rattle.deny_spdx.specs.Grammar.{IsRequirement};
+ghost use Rattle.deny_spdx.specs.Bad.{Spells, IsBadAt, Answers};
+
+use crate::error::SpdxError;
+use crate::parse::read_requirement;
+use deny_base::{Plain, Text};
+use std::alloc::Global;
+
+/// A licence that an expression asks for, with the exception to it where one is named. A `+` behind
+/// either is not kept. Two are equal where both parts are, byte for byte.
+#[derive(Debug, Clone, PartialEq, Eq, Drop)]
+pub struct Requirement {
+    pub id: Text,
+    pub exception: Option<Text>,
+}
+
+impl Plain for Requirement {
+    ghost clone_is_equal = { Prim.search rules };
+}
+
+impl Requirement {
+    /// The one requirement that the text spells: a word, or word `WITH` word. `Bad` comes exactly
+    /// for any other text, at the place where it goes wrong first, and `Memory` where an allocation
+    /// fails.
+    pub fn parse(alloc: Global, text: &str) -> Result<Requirement, SpdxError>
+        ensures read { IfOk result (Spells IsRequirement text.now) }
+        ensures spelled { (r : Requirement) → Spells IsRequirement text.now r → Answers (Ok r) result }
+
+        ensures refused { (place : ℕ) → result ≡ Err (SpdxError.Bad place) → IsBadAt IsRequirement text.now place }
+        ensures bad { (place : ℕ) → IsBadAt IsRequirement text.now place → Answers (Err (SpdxError.Bad place)) result }
+    {
+        read_requirement(alloc, text)
+    }
+}
