@@ -139,7 +139,10 @@ def read_package(package):
 
 
 def read_dependency(dep):
-    kinds = dep.get("dep_kinds", []) if isinstance(dep, dict) else None
+    require(isinstance(dep, dict))
+    kinds = dep.get("dep_kinds")
+    if kinds is None:  # null is as missing
+        kinds = []
     require(isinstance(kinds, list) and len(kinds) <= 1)
     require(all(isinstance(kind, dict) and kind.get("kind") is None for kind in kinds))
     return member(dep, "pkg", str)
