@@ -1,0 +1,15 @@
+pub mod BackLemmas
+pub mod Braces
+pub mod Bytes
+pub mod ClassLemmas
+pub mod FitsLemmas
+pub mod GlobLemmas
+pub mod Listing
+pub mod Marks
+pub mod Once
+pub mod PieceLemmas
+pub mod ReadingLemmas
+pub mod Place
+pub mod RowLemmas
+pub mod Seams
+pub mod Spelling

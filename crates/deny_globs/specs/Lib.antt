@@ -1,0 +1,9 @@
+pub mod Characters
+pub mod Class
+pub mod Faults
+pub mod Fits
+pub mod Pieces
+pub mod Reading
+pub mod Rows
+pub mod Steps
+pub mod Tree

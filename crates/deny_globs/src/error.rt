@@ -1,0 +1,20 @@
+use deny_base::NoMemory;
+
+/// Why a text is no glob.
+#[derive(Debug, Clone, Copy, PartialEq, Eq)]
+pub enum GlobError {
+    /// The text is no glob, and the character that begins at this byte is the first that is bad.
+    Bad(usize),
+    Memory,
+}
+
+impl From<NoMemory> for GlobError {
+    ghost use Rattle.std.specs.Prelude.{◌≡◌};
+    ghost use Rattle.deny_globs.specs.declared.error.GlobError.TheVariants.{Memory};
+
+    ghost from_gives = { λ _ e. e ≡ Memory };
+
+    fn from(_error: NoMemory) -> GlobError {
+        GlobError::Memory
+    }
+}

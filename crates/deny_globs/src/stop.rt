@@ -1,0 +1,20 @@
+use deny_base::NoMemory;
+
+/// Why a pattern is not read on.
+#[derive(Debug, Drop)]
+pub enum Stop {
+    /// The character with this number is bad.
+    Fault(usize),
+    Memory,
+}
+
+impl From<NoMemory> for Stop {
+    ghost use Rattle.std.specs.Prelude.{◌≡◌};
+    ghost use Rattle.deny_globs.specs.declared.stop.Stop.TheVariants.{Memory};
+
+    ghost from_gives = { λ _ e. e ≡ Memory };
+
+    fn from(_error: NoMemory) -> Stop {
+        Stop::Memory
+    }
+}
