@@ -1,4 +1,4 @@
-use crate::{DepKind, Krates, MetadataFault};
+use crate::{Krates, MetadataFault};
 
 // Two members need `x`, one of them through `y`; nothing needs `z`.
 const GRAPH: &str = r#"{"packages":[
@@ -111,32 +111,23 @@ fn is_crate(krates: &Krates, place: usize, id: &str) -> bool {
     }
 }
 
-#[test]
-fn crates_stand_in_order(rt: HostRuntime) {
-    let graph = built(&rt, GRAPH);
-    assert!(rt; graph.is_ok());
-    let Ok(krates) = graph else { return };
-    assert_eq!(rt; krates.krates().len(), 4);
-    assert!(rt; is_crate(&krates, 0, "app"));
-    assert!(rt; is_crate(&krates, 1, "r#x@1.10.0"));
-    assert!(rt; is_crate(&krates, 2, "r#x@1.9.0"));
-    assert!(rt; is_crate(&krates, 3, "y"));
-    assert_eq!(rt; krates.krates_by_name("x").len(), 2);
-    assert!(rt; krates.workspace_members() == [0, 3].as_slice());
+// Crates in order of name, version text, source and id; `z`, which nothing needs, is none of them.
+fn is_in_order(graph: &Result<Krates, MetadataFault>) -> bool {
+    match graph {
+        Ok(krates) => {
+            krates.krates().len() == 4
+                && is_crate(krates, 0, "app")
+                && is_crate(krates, 1, "r#x@1.10.0")
+                && is_crate(krates, 2, "r#x@1.9.0")
+                && is_crate(krates, 3, "y")
+        }
+        Err(_) => false,
+    }
 }
 
 #[test]
-fn dependents_are_told_once(rt: HostRuntime) {
-    let graph = built(&rt, GRAPH);
-    let Ok(krates) = graph else { return };
-    if krates.krates().len() == 4 {
-        let dependents = krates.direct_dependents(2);
-        assert_eq!(rt; dependents.len(), 2);
-        assert!(rt;
-            dependents.iter().all(|d| (d.place == 0 || d.place == 3) && d.kind == DepKind::Normal)
-        );
-        assert_eq!(rt; krates.direct_dependents(3).len(), 1);
-    }
+fn crates_stand_in_order(rt: HostRuntime) {
+    assert!(rt; is_in_order(&built(&rt, GRAPH)));
 }
 
 #[test]
