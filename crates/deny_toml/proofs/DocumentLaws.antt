@@ -1,0 +1,27 @@
+-- The reader of whole texts gives what the grammar says of them, and only that.
+use Rattle.std.proofs.Common.{◌≡◌, ℕ, List, None, Result, Ok, Err, sym, ◌∙◌, subst}
+use Rattle.std.specs.Result.{IfOk}
+use Rattle.deny_toml.specs.declared.failure.Failure.{Failure}
+use Rattle.deny_toml.specs.declared.failure.Failure.TheVariants.{Grammar}
+use Rattle.deny_toml.specs.declared.expression.Expression.{Expression}
+use Rattle.deny_toml.specs.Reading.{Gives}
+use Rattle.deny_toml.specs.Lines.{expressions}
+use Rattle.deny_toml.specs.Grammar.{IsDocument}
+use Rattle.deny_toml.proofs.StringsSound.{none_some, some_is}
+use Rattle.deny_toml.proofs.LinesComplete.{expressions-complete}
+use Rattle.deny_toml.proofs.LinesSound.{expressions-sound}
+
+pub gives_document : (text : List ℕ) (r : Result (List Expression) Failure) → Gives r (expressions text) → IfOk r (λ es. IsDocument text es)
+gives_document text (Ok es) gives = expressions-sound text es gives
+gives_document text (Err e) gives = tt
+
+pub gives_only : (text : List ℕ) (r : Result (List Expression) Failure) → Gives r (expressions text)
+    → IfOk r (λ es. (others : List Expression) → IsDocument text others → others ≡ es)
+gives_only text (Ok es) gives = λ others is. some_is others es (sym (expressions-complete text others is) ∙ gives)
+gives_only text (Err e) gives = tt
+
+pub refuses_all : (text : List ℕ) (r : Result (List Expression) Failure) (left : ℕ) → Gives r (expressions text) → r ≡ Err (Grammar left)
+    → (es : List Expression) → IsDocument text es → ⊥
+refuses_all text r left gives refused es is =
+    let none : expressions text ≡ None = subst (λ x. Gives x (expressions text)) refused gives in
+    none_some es (sym none ∙ expressions-complete text es is)

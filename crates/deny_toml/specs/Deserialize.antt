@@ -1,0 +1,49 @@
+-- What is read from a value, and the faults of a value that is read as one type or another.
+use Rattle.std.specs.Prelude.{◌≡◌, ℕ, ◌+◌, ◌^◌, ℤ, pos, negsuc, List, [], ◌∷◌, ◌++◌, Option, None, Some, nat_lt, ⊤, if◌then◌else◌}
+use Rattle.std.specs.Fmt.{decimal}
+use Rattle.deny_toml.specs.declared.error.ConfigFault.{ConfigFault}
+use Rattle.deny_toml.specs.declared.value.Value.{Value}
+use Rattle.deny_toml.specs.Value.{span_in}
+use Rattle.deny_toml.specs.Faults.{wrong_kind, unreadable, under, in_order}
+
+-- a value of the kind that is read has no fault
+abbrev pub faults_of_kind : {A : Type 0} → Value → Option A → List ConfigFault
+faults_of_kind v None = wrong_kind (span_in v)
+faults_of_kind v (Some x) = []
+
+-- a number that is read as a `u32` is not negative, and below 2 ^ 32
+abbrev pub small_number : ℤ → Option ℕ
+small_number (pos n) = if nat_lt n (2 ^ 32) then Some n else None
+small_number (negsuc n) = None
+
+abbrev pub faults_of_number : Value → Option ℕ → List ConfigFault
+faults_of_number v None = unreadable (span_in v)
+faults_of_number v (Some n) = []
+
+abbrev pub faults_of_small : Value → Option ℤ → List ConfigFault
+faults_of_small v None = wrong_kind (span_in v)
+faults_of_small v (Some n) = faults_of_number v (small_number n)
+
+-- the elements of an array from a place on: each one's faults are under its place
+abbrev pub faults_from : (Value → List ConfigFault) → ℕ → List Value → List ConfigFault
+faults_from faults_of place [] = []
+faults_from faults_of place (v ∷ vs) = under (decimal place) (faults_of v) ++ faults_from faults_of (place + 1) vs
+
+abbrev pub faults_of_array : (Value → List ConfigFault) → Value → Option (List Value) → List ConfigFault
+faults_of_array faults_of v None = wrong_kind (span_in v)
+faults_of_array faults_of v (Some vs) = in_order (faults_from faults_of 0 vs)
+
+-- each element is read, in order
+abbrev pub ReadsEach : {T : Type 0} → (Value → T → Type 0) → List Value → List T → Type 0
+ReadsEach Reads [] [] = ⊤
+ReadsEach Reads [] (x ∷ xs) = ⊥
+ReadsEach Reads (v ∷ vs) [] = ⊥
+ReadsEach Reads (v ∷ vs) (x ∷ xs) = Reads v x × ReadsEach Reads vs xs
+
+abbrev pub ReadsArray : {T : Type 0} → (Value → T → Type 0) → Option (List Value) → List T → Type 0
+ReadsArray Reads None xs = ⊥
+ReadsArray Reads (Some vs) xs = ReadsEach Reads vs xs
+
+-- the list has gained, at its end, what is read from the value
+abbrev pub Adds : {T : Type 0} → (Value → T → Type 0) → Value → List T → List T → Type 0
+Adds {T} Reads v old new = (x : T) × (new ≡ old ++ x ∷ []) × Reads v x

@@ -1,0 +1,74 @@
+-- The faults of a value: how they are named, how they are listed, and in which order.
+use Rattle.std.specs.Prelude.{◌≡◌, ◌≢◌, ℕ, Bool, true, false, List, [], ◌∷◌, ◌++◌, map, ⊤}
+use Rattle.std.specs.Cmp.Lexicographic.{slice_cmp}
+use Rattle.std.specs.BTreeSet.{insert_key}
+use Rattle.std.specs.List.Sorted.{IsStrictlySortedBy}
+use Rattle.std.specs.Ordering.{nat_cmp, on, then_cmp}
+use Rattle.std.specs.declared.cmp.Ordering.{Ordering}
+use Rattle.deny_base.specs.KeyOrder.{span_cmp}
+use Rattle.deny_base.specs.declared.span.Span.{Span}
+use Rattle.deny_toml.specs.declared.error.FaultKind.{FaultKind}
+use Rattle.deny_toml.specs.declared.error.FaultKind.TheVariants as kind
+use Rattle.deny_toml.specs.declared.error.ConfigFault.{ConfigFault}
+use Rattle.deny_toml.specs.declared.error.DeserError.{DeserError}
+use Rattle.deny_toml.specs.declared.error.DeserError.TheVariants.{Faults, Memory}
+
+-- kinds are ordered as they are declared
+unfoldable pub kind_number : FaultKind → ℕ
+kind_number kind.NotUtf8 = 0
+kind_number kind.Grammar = 1
+kind_number kind.Clash = 2
+kind_number kind.Unknown = 3
+kind_number kind.Missing = 4
+kind_number kind.WrongKind = 5
+kind_number kind.Unreadable = 6
+
+abbrev pub kind_cmp : FaultKind → FaultKind → Ordering
+kind_cmp = on kind_number nat_cmp
+
+-- faults are ordered by span, kind and key
+abbrev pub fault_cmp : ConfigFault → ConfigFault → Ordering
+fault_cmp = then_cmp (on (λ f. f.span) span_cmp) (then_cmp (on (λ f. f.kind) kind_cmp) (on (λ f. f.key) (slice_cmp nat_cmp)))
+
+-- the faults in ascending order, each once
+unfoldable pub in_order : List ConfigFault → List ConfigFault
+in_order [] = []
+in_order (f ∷ fs) = insert_key fault_cmp (in_order fs) f
+
+abbrev pub fault_at : FaultKind → List ℕ → Span → ConfigFault
+fault_at kind key span = record { span = span; kind = kind; key = key }
+
+-- the only fault of a value of another kind than the one that is read, and of one that says nothing that can be read
+abbrev pub wrong_kind : Span → List ConfigFault
+wrong_kind span = fault_at kind.WrongKind [] span ∷ []
+
+abbrev pub unreadable : Span → List ConfigFault
+unreadable span = fault_at kind.Unreadable [] span ∷ []
+
+-- whether a fault of this kind names a key, and so is never one of the value itself
+abbrev pub names_key : FaultKind → Bool
+names_key kind.Unknown = true
+names_key kind.Missing = true
+names_key _ = false
+
+-- a path from the value that holds, under this name, the value of the path. The empty path is that value itself,
+-- unless the path names a key, which may be empty too
+abbrev pub path_of : List ℕ → Bool → List ℕ → List ℕ
+path_of name false [] = name
+path_of name false (c ∷ cs) = name ++ 46 ∷ c ∷ cs
+path_of name true path = name ++ 46 ∷ path
+
+abbrev pub path_under : List ℕ → ConfigFault → List ℕ
+path_under name f = path_of name (names_key f.kind) f.key
+
+abbrev pub fault_under : List ℕ → ConfigFault → ConfigFault
+fault_under name f = fault_at f.kind (path_under name f) f.span
+
+-- the faults of a value as those of the value that holds it under this name
+abbrev pub under : List ℕ → List ConfigFault → List ConfigFault
+under name faults = map (fault_under name) faults
+
+-- an error that lists these faults: there are some, and they ascend. Where memory is wanting, it lists none
+abbrev pub Reports : List ConfigFault → DeserError → Type 0
+Reports faults (Faults listed) = (listed ≡ faults) × (faults ≢ []) × IsStrictlySortedBy fault_cmp faults
+Reports faults Memory = ⊤

@@ -1,0 +1,19 @@
+ghost use Rattle.std.specs.Prelude.{◌≡◌, ℕ, ◌^◌, ◌<◌, List, length, IfOk, Err};
+ghost use Rattle.deny_toml.specs.declared.expression.Expression.{Expression};
+ghost use Rattle.deny_toml.specs.Grammar.{IsDocument};
+
+use crate::expression::Expression;
+use crate::failure::Failure;
+use crate::lines::expressions;
+use deny_base::List;
+use std::alloc::Global;
+
+/// The headers and assignments that the text writes, in its order.
+pub(crate) fn document<'t>(alloc: Global, text: &'t str) -> Result<List<Expression<'t>>, Failure>
+    requires small { length text.now < 2 ^ 28 }
+    ensures found { IfOk result (λ es. IsDocument text.now es) }
+    ensures only { IfOk result (λ es. (others : List Expression) → IsDocument text.now others → others ≡ es) }
+    ensures refused { (left : ℕ) → result ≡ Err (Failure.Grammar left) → (es : List Expression) → IsDocument text.now es → ⊥ }
+{
+    expressions(alloc, text)
+}

@@ -1,0 +1,299 @@
+ghost use Rattle.std.specs.Prelude.{◌≡◌, ◌++◌, ◌∷◌, [], IfOk, IfErr, OnOk, Some, None, map};
+ghost use Rattle.deny_toml.specs.Value.{span_in, table_with};
+ghost use Rattle.deny_toml.specs.Calls.{table_in, entry_at, value_at, without};
+ghost use Rattle.deny_toml.specs.Faults.{Reports, under, fault_at};
+ghost use Rattle.deny_toml.specs.Deserialize.{faults_of_kind};
+ghost use Rattle.deny_toml.specs.TableHelper.{required_faults, optional_faults, ReadsRequired, ReadsOptional, table_faults, unknown};
+
+use crate::calls::place_of;
+use crate::deserialize::Deserialize;
+use crate::error::{ConfigFault, DeserError, FaultKind};
+use crate::faults::{keep_faults, put_faults_in_order, put_under};
+use crate::value::{Content, Key, Table, Value};
+use deny_base::{List, NoMemory, Span, Spanned, Text};
+use std::alloc::Global;
+use std::mem;
+
+/// Reads a table key by key, and gathers what is wrong with it: `required` and `optional` take a
+/// key out and read its value, and `finalize` answers the faults, among them each key that is left.
+#[derive(Drop)]
+pub struct TableHelper<'t> {
+    alloc: Global,
+    /// Where the table stands.
+    pub span: Span,
+    /// The keys that are left, with their values.
+    pub entries: List<(Key<'t>, Value<'t>)>,
+    /// The faults that were kept so far, of the keys in the order in which they were read.
+    pub faults: List<ConfigFault>,
+}
+
+impl<'t> TableHelper<'t> {
+    /// Takes the table out of `value`. A value of another kind stays as it is, and is the one fault.
+    pub fn new(alloc: Global, value: &mut Value<'t>) -> Result<TableHelper<'t>, DeserError>
+        ensures table { IfOk result (λ helper. table_in value.old ≡ Some (table_with helper.entries)) }
+        ensures place { IfOk result (λ helper. helper.span ≡ span_in value.old) }
+        ensures no_fault_yet { IfOk result (λ helper. helper.faults ≡ []) }
+        ensures faults { IfErr result (Reports (faults_of_kind value.old (table_in value.old))) }
+        ensures stays { table_in value.old ≡ None → value.new ≡ value.old }
+    {
+        let span = value.span;
+        match &mut value.content {
+            Content::Table(table) => Ok(TableHelper {
+                alloc,
+                span,
+                entries: mem::replace(&mut table.entries, List::new(alloc)),
+                faults: List::new(alloc),
+            }),
+            _ => Err(DeserError::wrong_kind(alloc, span)),
+        }
+    }
+
+    /// Takes a key out, with its value. The time is in step with the number of keys left.
+    pub fn take(&mut self, name: &str) -> Option<(Key<'t>, Value<'t>)>
+        ensures taken { result ≡ entry_at name.now self.old.entries }
+        ensures left { self.new ≡ record self.old { entries = without name.now self.old.entries } }
+    {
+        take_entry(&mut self.entries, name.as_bytes())
+    }
+
+    /// Takes out a key that has to be there, and reads its value. The faults are not kept: a
+    /// missing key is `Missing` at the table, and the faults of the value stand under the key.
+    pub fn required<T: Deserialize>(&mut self, name: &str) -> Result<T, DeserError>
+        ensures ok { IfOk result (ReadsRequired T.faults_of T.reads (value_at name.now self.old.entries)) }
+        ensures faults { IfErr result (Reports (required_faults T.faults_of self.old.span name.now (value_at name.now self.old.entries))) }
+        ensures left { self.new ≡ record self.old { entries = without name.now self.old.entries } }
+    {
+        match self.take(name) {
+            Some((_, mut value)) => read_under(self.alloc, name, &mut value),
+            None => Err(missing(self.alloc, name, self.span)),
+        }
+    }
+
+    /// The same, with the place of the value.
+    pub fn required_s<T: Deserialize>(&mut self, name: &str) -> Result<Spanned<T>, DeserError>
+        ensures ok { IfOk result (ReadsRequired T.faults_of (λ v x. (x.span ≡ span_in v) × T.reads v x.value) (value_at name.now self.old.entries)) }
+        ensures faults { IfErr result (Reports (required_faults T.faults_of self.old.span name.now (value_at name.now self.old.entries))) }
+        ensures left { self.new ≡ record self.old { entries = without name.now self.old.entries } }
+    {
+        self.required::<Spanned<T>>(name)
+    }
+
+    /// Takes out a key that may be left out, and reads its value. Answers None where the key is
+    /// not there, and where its value has faults: these are kept, under the key.
+    pub fn optional<T: Deserialize>(&mut self, name: &str) -> Result<Option<T>, NoMemory>
+        ensures ok { IfOk result (ReadsOptional T.faults_of T.reads (value_at name.now self.old.entries)) }
+        ensures kept { OnOk result (self.new ≡ record self.old { entries = without name.now self.old.entries; faults = self.old.faults ++ optional_faults T.faults_of name.now (value_at name.now self.old.entries) }) }
+    {
+        let Some((_, mut value)) = self.take(name) else {
+            return Ok(None);
+        };
+        match read_under(self.alloc, name, &mut value) {
+            Ok(read) => Ok(Some(read)),
+            Err(DeserError::Faults(faults)) => {
+                self.keep(faults)?;
+                Ok(None)
+            }
+            Err(DeserError::Memory) => Err(NoMemory),
+        }
+    }
+
+    /// The same, with the place of the value.
+    pub fn optional_s<T: Deserialize>(&mut self, name: &str) -> Result<Option<Spanned<T>>, NoMemory>
+        ensures ok { IfOk result (ReadsOptional T.faults_of (λ v x. (x.span ≡ span_in v) × T.reads v x.value) (value_at name.now self.old.entries)) }
+        ensures kept { OnOk result (self.new ≡ record self.old { entries = without name.now self.old.entries; faults = self.old.faults ++ optional_faults T.faults_of name.now (value_at name.now self.old.entries) }) }
+    {
+        self.optional::<Spanned<T>>(name)
+    }
+
+    /// Keeps faults that `required` answered, so that `finalize` answers them with the others.
+    pub fn keep(&mut self, faults: List<ConfigFault>) -> Result<(), NoMemory>
+        ensures { OnOk result (self.new ≡ record self.old { faults = self.old.faults ++ faults }) }
+    {
+        keep_faults(&mut self.faults, faults)
+    }
+
+    /// Ends the reading of the table. Ok exactly where no fault was kept and no key is left: each
+    /// of these is `Unknown`, at the key.
+    #[tactic(auto, using(crate::proofs::FaultLaws::in_order_ascends))]
+    pub fn finalize(self) -> Result<(), DeserError>
+        ensures ok { OnOk result (table_faults self.entry.faults self.entry.entries ≡ []) }
+        ensures faults { IfErr result (Reports (table_faults self.entry.faults self.entry.entries)) }
+    {
+        let mut faults = with_unknown(self.alloc, self.faults, self.entries)?;
+        put_faults_in_order(&mut faults)?;
+        if faults.len() == 0 {
+            Ok(())
+        } else {
+            Err(DeserError::Faults(faults))
+        }
+    }
+}
+
+fn take_entry<'t>(
+    entries: &mut List<(Key<'t>, Value<'t>)>,
+    name: &[u8],
+) -> Option<(Key<'t>, Value<'t>)>
+    ensures taken { result ≡ entry_at name.now entries.old }
+    ensures left { entries.new ≡ without name.now entries.old }
+{
+    let place = place_of(entries.as_slice(), name)?;
+    Some(entries.vec.remove(place))
+}
+
+/// Reads a value, whose faults stand under `name`.
+pub(crate) fn read_under<T: Deserialize>(
+    alloc: Global,
+    name: &str,
+    value: &mut Value<'_>,
+) -> Result<T, DeserError>
+    ensures ok { IfOk result (λ x. (T.faults_of value.old ≡ []) × T.reads value.old x) }
+    ensures faults { IfErr result (Reports (under name.now (T.faults_of value.old))) }
+{
+    match T::deserialize(alloc, value) {
+        Ok(read) => Ok(read),
+        Err(DeserError::Faults(faults)) => Err(DeserError::Faults(put_under(alloc, name, faults)?)),
+        Err(DeserError::Memory) => Err(DeserError::Memory),
+    }
+}
+
+#[tactic(auto, using(crate::proofs::FaultLaws::single_ascends))]
+fn missing(alloc: Global, name: &str, table: Span) -> DeserError
+    ensures { Reports (fault_at FaultKind.Missing name.now table ∷ []) result }
+{
+    match Text::from_str(alloc, name) {
+        Ok(key) => DeserError::of(
+            alloc,
+            ConfigFault {
+                span: table,
+                kind: FaultKind::Missing,
+                key,
+            },
+        ),
+        Err(_) => DeserError::Memory,
+    }
+}
+
+/// The faults that were kept, and after them one of each key that is left.
+fn with_unknown(
+    alloc: Global,
+    kept: List<ConfigFault>,
+    left: List<(Key<'_>, Value<'_>)>,
+) -> Result<List<ConfigFault>, NoMemory>
+    ensures { IfOk result (λ faults. faults ≡ kept ++ map unknown left.entry) }
+{
+    let mut faults = kept;
+    'left: for (key, _) in left.vec {
+        faults.push(ConfigFault {
+            span: key.span,
+            kind: FaultKind::Unknown,
+            key: key.name.into_text(alloc)?,
+        })?;
+    }
+    Ok(faults)
+}
+
+#[cfg(test)]
+mod tests {
+    use super::*;
+    use crate::cow_str::CowStr;
+    use crate::value::Scalar;
+
+    fn entry(
+        name: &'static str,
+        start: u32,
+        content: Content<'static>,
+    ) -> (Key<'static>, Value<'static>) {
+        let span = Span { start, end: start };
+        let key = Key {
+            name: CowStr::borrowed(name),
+            span,
+        };
+        (key, Value { span, content })
+    }
+
+    fn text(text: &'static str) -> Content<'static> {
+        Content::Scalar(Scalar::Text(CowStr::borrowed(text)))
+    }
+
+    /// The table `float = 1.5`, `list = [7, "y"]`, `name = "x"`, `other = true`.
+    fn table(alloc: Global) -> Result<Value<'static>, NoMemory> {
+        let (_, seven) = entry("", 21, Content::Scalar(Scalar::Integer(7)));
+        let (_, letter) = entry("", 24, text("y"));
+        let mut list = List::new(alloc);
+        list.push(seven)?;
+        list.push(letter)?;
+        let mut entries = List::new(alloc);
+        entries.push(entry(
+            "float",
+            1,
+            Content::Scalar(Scalar::Float(CowStr::borrowed("1.5"))),
+        ))?;
+        entries.push(entry("list", 20, Content::Array(list)))?;
+        entries.push(entry("name", 30, text("x")))?;
+        entries.push(entry("other", 40, Content::Scalar(Scalar::Boolean(true))))?;
+        let (_, table) = entry("", 0, Content::Table(Table { entries }));
+        Ok(table)
+    }
+
+    fn is_fault(
+        faults: &[ConfigFault],
+        place: usize,
+        kind: FaultKind,
+        key: &str,
+        start: u32,
+    ) -> bool {
+        match faults.get(place) {
+            Some(fault) => fault.kind == kind
+                && fault.key.as_str() == key
+                && fault.span.start == start,
+            None => false,
+        }
+    }
+
+    fn faults_of(read: Result<(), DeserError>, alloc: Global) -> List<ConfigFault> {
+        match read {
+            Err(DeserError::Faults(faults)) => faults,
+            _ => List::new(alloc),
+        }
+    }
+
+    #[test]
+    fn reads_keys_and_gathers_faults(rt: HostRuntime) -> Result<(), NoMemory> {
+        let mut value = table(rt.alloc())?;
+        let Ok(mut helper) = TableHelper::new(rt.alloc(), &mut value) else {
+            return Err(NoMemory);
+        };
+        let name = helper.required_s::<Text>("name");
+        assert!(rt;
+            matches!(&name, Ok(spanned) if spanned.value.as_str() == "x" && spanned.span.start == 30)
+        );
+        let missing = faults_of(helper.required::<u32>("gone").map(|_| ()), rt.alloc());
+        assert!(rt; is_fault(missing.as_slice(), 0, FaultKind::Missing, "gone", 0));
+        assert!(rt; helper.optional::<List<i64>>("list")?.is_none());
+        assert!(rt; helper.optional::<i64>("float")?.is_none());
+        let faults = faults_of(helper.finalize(), rt.alloc());
+        assert!(rt; faults.len() == 3);
+        assert!(rt; is_fault(faults.as_slice(), 0, FaultKind::WrongKind, "float", 1));
+        assert!(rt; is_fault(faults.as_slice(), 1, FaultKind::WrongKind, "list.1", 24));
+        assert!(rt; is_fault(faults.as_slice(), 2, FaultKind::Unknown, "other", 40));
+        Ok(())
+    }
+
+    #[test]
+    fn paths_lead_to_values(rt: HostRuntime) -> Result<(), NoMemory> {
+        let value = table(rt.alloc())?;
+        for (path, start) in [("", 0u32), ("/list/0", 21), ("/list/1", 24), ("/name", 30)] {
+            let found = value.pointer(path);
+            assert!(rt;
+                matches!(found, Some(found) if found.span.start == start),
+                "at {path}"
+            );
+        }
+        for path in [
+            "name", "/", "/list/2", "/list/01", "/list/+1", "/list/", "/name/0", "/list/0/",
+        ] {
+            assert!(rt; value.pointer(path).is_none(), "at {path}");
+        }
+        Ok(())
+    }
+}
