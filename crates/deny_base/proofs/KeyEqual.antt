@@ -6,11 +6,10 @@ use Rattle.std.specs.Cmp.Lexicographic.{slice_cmp, nat_list_cmp_total}
 use Rattle.std.specs.FinMap.{IsAntisymmetric, nat_cmp-IsAntisymmetric, slice_cmp-IsAntisymmetric}
 use Rattle.std.specs.declared.cmp.Ordering.{Ordering}
 use Rattle.std.specs.declared.cmp.Ordering.TheVariants.{Less, Equal, Greater}
-use Rattle.deny_base.specs.Code.{section_cmp, section_number, diagnostic_code_cmp, diagnostic_code_number, code_number}
+use Rattle.deny_base.proofs.CodeEqual.{diagnostic_code_cmp-total, diagnostic_code_cmp-exact}
+use Rattle.deny_base.specs.Code.{section_cmp, section_number, diagnostic_code_cmp}
 use Rattle.deny_base.specs.KeyOrder.{key_cmp, span_cmp}
-use Rattle.deny_base.specs.declared.code.Code.TheVariants.{Banned, Duplicate}
 use Rattle.deny_base.specs.declared.code.DiagnosticCode.{DiagnosticCode}
-use Rattle.deny_base.specs.declared.code.DiagnosticCode.TheVariants.{Bans}
 use Rattle.deny_base.specs.declared.key.Key.{Key}
 use Rattle.deny_base.specs.declared.key.Section.{Section}
 use Rattle.deny_base.specs.declared.key.Section.TheVariants as section
@@ -48,21 +47,6 @@ section_cmp-exact : IsAntisymmetric section_cmp
 section_cmp-exact a b e =
     sym (section_at-number a) ∙ (ap section_at (nat_cmp-IsAntisymmetric (section_number a) (section_number b) e) ∙ section_at-number b)
 
-diagnostic_codes : List DiagnosticCode
-diagnostic_codes = Bans Banned ∷ Bans Duplicate ∷ []
-
-diagnostic_code_at : ℕ → DiagnosticCode
-diagnostic_code_at n = slice_index_or diagnostic_codes n (Bans Banned)
-
-diagnostic_code_at-number : (code : DiagnosticCode) → diagnostic_code_at (diagnostic_code_number code) ≡ code
-unfolding diagnostic_code_at diagnostic_codes diagnostic_code_number code_number
-diagnostic_code_at-number (Bans Banned) = refl
-diagnostic_code_at-number (Bans Duplicate) = refl
-
-diagnostic_code_cmp-exact : IsAntisymmetric diagnostic_code_cmp
-diagnostic_code_cmp-exact a b e =
-    sym (diagnostic_code_at-number a) ∙ (ap diagnostic_code_at (nat_cmp-IsAntisymmetric (diagnostic_code_number a) (diagnostic_code_number b) e) ∙ diagnostic_code_at-number b)
-
 text_cmp-exact : IsAntisymmetric (slice_cmp nat_cmp)
 text_cmp-exact = slice_cmp-IsAntisymmetric nat_cmp-IsAntisymmetric
 
@@ -73,7 +57,7 @@ span_from-is : (s : Span) → span_from s.start s.end ≡ s
 unfolding span_from
 span_from-is s = refl
 
-span_cmp-exact : IsAntisymmetric span_cmp
+pub span_cmp-exact : IsAntisymmetric span_cmp
 span_cmp-exact a b e =
     let starts : a.start ≡ b.start = nat_cmp-IsAntisymmetric a.start b.start (then_first _ _ e) in
     let ends : a.end ≡ b.end = nat_cmp-IsAntisymmetric a.end b.end (then_second (nat_cmp a.start b.start) (nat_cmp a.end b.end) e) in
@@ -107,10 +91,7 @@ key_cmp-exact a b e =
 section_cmp-total : IsTotalOrder section_cmp
 section_cmp-total = on_total section_number nat_cmp_total
 
-diagnostic_code_cmp-total : IsTotalOrder diagnostic_code_cmp
-diagnostic_code_cmp-total = on_total diagnostic_code_number nat_cmp_total
-
-span_cmp-total : IsTotalOrder span_cmp
+pub span_cmp-total : IsTotalOrder span_cmp
 span_cmp-total = then_total (on_total (λ (s : Span). s.start) nat_cmp_total) (on_total (λ (s : Span). s.end) nat_cmp_total)
 
 pub key_cmp-total : IsTotalOrder key_cmp

@@ -3,8 +3,12 @@ pub mod Code
 pub mod Count
 pub mod Disk
 pub mod Edge
+pub mod Entry
+pub mod Files
 pub mod KeyOrder
 pub mod Level
+pub mod LicenseCode
+pub mod Marks
 pub mod MemoryDisk
 pub mod MemoryOut
 pub mod Out

@@ -1,9 +1,15 @@
-ghost use Rattle.std.specs.Prelude.{◌≡◌, ◌==◌, Some, refl};
+ghost use Rattle.std.specs.Prelude.{◌≡◌, ◌+◌, ◌==◌, Some, refl};
 ghost use Rattle.std.specs.Ordering.{nat_cmp, on};
-ghost use Rattle.std.specs.Cmp.{nat_cmp_total, on_total, on_per, on_equiv, nat_eq_equiv, partial_equiv_from_equiv, partial_order_from_own_ties, partial_order_from_total, unsigned_ties};
+ghost use Rattle.std.specs.Cmp.{IsTotalOrder, nat_cmp_total, on_total, on_per, on_equiv, nat_eq_equiv, partial_equiv_from_equiv, partial_order_from_own_ties, partial_order_from_total, unsigned_ties};
 ghost use Rattle.std.proofs.Common.{rules};
-ghost use Rattle.deny_base.specs.Code.{code_name, diagnostic_code_name, diagnostic_code_number, diagnostic_code_cmp};
+ghost use Rattle.std.specs.FinMap.{IsAntisymmetric};
+ghost use Rattle.deny_base.specs.Code.{code_name, code_number, code_cmp, diagnostic_code_name, diagnostic_code_number, diagnostic_code_cmp};
+ghost use Rattle.deny_base.specs.LicenseCode.{license_code_cmp};
+ghost use Rattle.deny_base.specs.declared.code.Code.{Code};
+ghost use Rattle.deny_base.specs.declared.code.DiagnosticCode.{DiagnosticCode};
+ghost use Rattle.deny_base.specs.declared.license_code.LicenseCode.{LicenseCode};
 
+use crate::license_code::LicenseCode;
 use crate::list::Plain;
 use std::cmp::Ordering;
 use std::fmt;
@@ -12,7 +18,45 @@ use std::fmt;
 #[derive(Debug, Clone, Copy)]
 pub enum Code {
     Banned,
+    Allowed,
+    NotAllowed,
     Duplicate,
+    Skipped,
+    Wildcard,
+    UnmatchedSkip,
+    UnnecessarySkip,
+    AllowedByWrapper,
+    UnmatchedWrapper,
+    SkippedByRoot,
+    UnmatchedSkipRoot,
+    BuildScriptNotAllowed,
+    ExactFeaturesMismatch,
+    FeatureNotExplicitlyAllowed,
+    FeatureBanned,
+    UnknownFeature,
+    DefaultFeatureEnabled,
+    PathBypassed,
+    PathBypassedByGlob,
+    ChecksumMatch,
+    ChecksumMismatch,
+    DeniedByExtension,
+    DetectedExecutable,
+    DetectedExecutableScript,
+    UnableToCheckPath,
+    FeaturesEnabled,
+    UnmatchedBypass,
+    UnmatchedPathBypass,
+    UnmatchedGlob,
+    UnusedWrapper,
+    WorkspaceDuplicate,
+    UnresolvedWorkspaceDependency,
+    UnusedWorkspaceDependency,
+    ReplacedInStd,
+    UnmatchedReplacementIgnore,
+}
+
+impl Plain for Code {
+    ghost clone_is_equal = { Prim.search rules };
 }
 
 impl Code {
@@ -23,15 +67,106 @@ impl Code {
     {
         match self {
             Code::Banned => "banned",
+            Code::Allowed => "allowed",
+            Code::NotAllowed => "not-allowed",
             Code::Duplicate => "duplicate",
+            Code::Skipped => "skipped",
+            Code::Wildcard => "wildcard",
+            Code::UnmatchedSkip => "unmatched-skip",
+            Code::UnnecessarySkip => "unnecessary-skip",
+            Code::AllowedByWrapper => "allowed-by-wrapper",
+            Code::UnmatchedWrapper => "unmatched-wrapper",
+            Code::SkippedByRoot => "skipped-by-root",
+            Code::UnmatchedSkipRoot => "unmatched-skip-root",
+            Code::BuildScriptNotAllowed => "build-script-not-allowed",
+            Code::ExactFeaturesMismatch => "exact-features-mismatch",
+            Code::FeatureNotExplicitlyAllowed => "feature-not-explicitly-allowed",
+            Code::FeatureBanned => "feature-banned",
+            Code::UnknownFeature => "unknown-feature",
+            Code::DefaultFeatureEnabled => "default-feature-enabled",
+            Code::PathBypassed => "path-bypassed",
+            Code::PathBypassedByGlob => "path-bypassed-by-glob",
+            Code::ChecksumMatch => "checksum-match",
+            Code::ChecksumMismatch => "checksum-mismatch",
+            Code::DeniedByExtension => "denied-by-extension",
+            Code::DetectedExecutable => "detected-executable",
+            Code::DetectedExecutableScript => "detected-executable-script",
+            Code::UnableToCheckPath => "unable-to-check-path",
+            Code::FeaturesEnabled => "features-enabled",
+            Code::UnmatchedBypass => "unmatched-bypass",
+            Code::UnmatchedPathBypass => "unmatched-path-bypass",
+            Code::UnmatchedGlob => "unmatched-glob",
+            Code::UnusedWrapper => "unused-wrapper",
+            Code::WorkspaceDuplicate => "workspace-duplicate",
+            Code::UnresolvedWorkspaceDependency => "unresolved-workspace-dependency",
+            Code::UnusedWorkspaceDependency => "unused-workspace-dependency",
+            Code::ReplacedInStd => "replaced-in-std",
+            Code::UnmatchedReplacementIgnore => "unmatched-replacement-ignore",
         }
+    }
+
+    /// The place of the code in the order of declaration.
+    #[tactic(auto, unfolding(crate::specs::Code::code_number))]
+    fn number(self) -> u8
+        ensures { result ≡ code_number self }
+    {
+        self as u8
+    }
+}
+
+impl fmt::Display for Code {
+    ghost output = { λ code. Some (code_name code) };
+
+    fn fmt<W: fmt::Write>(&self, f: &mut fmt::Formatter<W>) -> fmt::Result {
+        f.write_str(self.name())
+    }
+}
+
+impl PartialEq for Code {
+    ghost eq = { λ a b. code_number a == code_number b };
+
+    ghost laws = { on_per code_number (partial_equiv_from_equiv nat_eq_equiv) };
+
+    fn eq(&self, other: &Self) -> bool {
+        self.number() == other.number()
+    }
+}
+
+impl Eq for Code {
+    ghost laws = { on_equiv code_number nat_eq_equiv };
+}
+
+impl PartialOrd for Code {
+    ghost partial_cmp = { λ a b. Some (code_cmp a b) };
+
+    ghost laws = { partial_order_from_own_ties (partial_order_from_total (on_total code_number nat_cmp_total)) (λ a b. unsigned_ties (code_number a) (code_number b)) };
+
+    fn partial_cmp(&self, other: &Self) -> Option<Ordering> {
+        Some(self.cmp(other))
+    }
+}
+
+impl Ord for Code {
+    ghost cmp = { code_cmp };
+
+    ghost total = { on_total code_number nat_cmp_total };
+
+    ghost matches_partial_cmp = { λ a b. refl };
+
+    ghost matches_eq = { λ a b. unsigned_ties (code_number a) (code_number b) };
+
+    fn cmp(&self, other: &Self) -> Ordering {
+        self.number().cmp(&other.number())
     }
 }
 
 /// The kind of a finding, whichever check it comes from.
 #[derive(Debug, Clone, Copy)]
 pub enum DiagnosticCode {
+    /// The policy has a key in a place that is no longer its own.
+    Deprecated,
     Bans(Code),
+    License(LicenseCode),
 }
 
 impl Plain for DiagnosticCode {
@@ -44,18 +179,21 @@ impl DiagnosticCode {
         ensures { result.now ≡ diagnostic_code_name self }
     {
         match self {
+            DiagnosticCode::Deprecated => "deprecated",
             DiagnosticCode::Bans(code) => code.name(),
+            DiagnosticCode::License(code) => code.name(),
         }
     }
 
     /// The place of the code in the order of declaration.
-    #[tactic(auto, unfolding(crate::specs::Code::diagnostic_code_number, crate::specs::Code::code_number))]
+    #[tactic(auto, unfolding(crate::specs::Code::diagnostic_code_number))]
     fn number(self) -> u32
         ensures { result ≡ diagnostic_code_number self }
     {
         match self {
-            DiagnosticCode::Bans(Code::Banned) => 0,
-            DiagnosticCode::Bans(Code::Duplicate) => 1,
+            DiagnosticCode::Deprecated => 0,
+            DiagnosticCode::Bans(code) => 1 + u32::from(code.number()),
+            DiagnosticCode::License(code) => 37 + u32::from(code.number()),
         }
     }
 }
@@ -103,5 +241,37 @@ impl Ord for DiagnosticCode {
 
     fn cmp(&self, other: &Self) -> Ordering {
         self.number().cmp(&other.number())
+    }
+}
+
+/// The order of codes is the order of declaration: deprecated, the codes of bans, those of
+/// licences. It is total, only equal codes tie, and no two codes have the same word.
+pub fn code_order()
+    ensures order { (a b : DiagnosticCode) → ⟦<DiagnosticCode as Ord>⟧.cmp a b ≡ diagnostic_code_cmp a b }
+    ensures total { IsTotalOrder diagnostic_code_cmp }
+    ensures equal { IsAntisymmetric diagnostic_code_cmp }
+    ensures bans { IsAntisymmetric code_cmp }
+    ensures licenses { IsAntisymmetric license_code_cmp }
+    ensures words { (a b : DiagnosticCode) → diagnostic_code_name a ≡ diagnostic_code_name b → a ≡ b }
+{}
+
+#[cfg(test)]
+mod tests {
+    use super::*;
+    use crate::memory::NoMemory;
+
+    fn prints(rt: &HostRuntime, code: DiagnosticCode, word: &str) -> Result<bool, NoMemory> {
+        let printed = format!(in rt.alloc(); "{code}")?;
+        Ok(printed.as_str() == word)
+    }
+
+    #[test]
+    fn a_code_prints_its_word(rt: HostRuntime) -> Result<(), NoMemory> {
+        let script = DiagnosticCode::Bans(Code::BuildScriptNotAllowed);
+        let license = DiagnosticCode::License(LicenseCode::ParseError);
+        assert!(rt; prints(&rt, DiagnosticCode::Deprecated, "deprecated")?);
+        assert!(rt; prints(&rt, script, "build-script-not-allowed")?);
+        assert!(rt; prints(&rt, license, "parse-error")?);
+        Ok(())
     }
 }

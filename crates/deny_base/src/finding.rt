@@ -1,9 +1,12 @@
 ghost use Rattle.std.proofs.Common.{rules};
 
+use crate::check::Check;
 use crate::code::DiagnosticCode;
 use crate::key::Key;
+use crate::label::Label;
 use crate::level::Severity;
-use crate::list::Plain;
+use crate::list::{List, Plain};
+use crate::span::Kid;
 use crate::text::Text;
 
 /// What a report says of a finding.
@@ -12,6 +15,8 @@ pub struct Diagnostic {
     pub severity: Severity,
     pub code: Option<DiagnosticCode>,
     pub message: Text,
+    pub labels: List<Label>,
+    pub notes: List<Text>,
 }
 
 impl Plain for Diagnostic {
@@ -26,5 +31,28 @@ pub struct Diag {
 }
 
 impl Plain for Diag {
+    ghost clone_is_equal = { Prim.search rules };
+}
+
+/// What one check found of a crate, or of no single crate.
+#[derive(Debug, Clone, PartialEq, Eq, Drop)]
+pub struct Pack {
+    pub check: Check,
+    pub kid: Option<Kid>,
+    pub diags: List<Diag>,
+}
+
+impl Plain for Pack {
+    ghost clone_is_equal = { Prim.search rules };
+}
+
+/// A crate in the graph that a finding shows, or one of its features.
+#[derive(Debug, Clone, PartialEq, Eq, Drop)]
+pub struct GraphNode {
+    pub kid: Kid,
+    pub feature: Option<Text>,
+}
+
+impl Plain for GraphNode {
     ghost clone_is_equal = { Prim.search rules };
 }

@@ -1,0 +1,161 @@
+ghost use Rattle.std.specs.Prelude.{◌≡◌, ◌==◌, Some, refl};
+ghost use Rattle.std.specs.Ordering.{nat_cmp, on, eq_by_cmp};
+ghost use Rattle.std.specs.Cmp.{IsTotalOrder, nat_cmp_total, on_total, on_per, on_equiv, nat_eq_equiv, partial_equiv_from_equiv, partial_order_from_own_ties, partial_order_from_total, unsigned_ties};
+ghost use Rattle.std.proofs.Common.{rules};
+ghost use Rattle.std.specs.FinMap.{IsAntisymmetric};
+ghost use Rattle.std.proofs.lemmas.Cmp.{eq_by_cmp_equiv};
+ghost use Rattle.std.specs.Cmp.Rules.{comparing};
+ghost use Rattle.deny_base.specs.Entry.{entry_kind_number, entry_kind_cmp, entry_cmp};
+ghost use Rattle.deny_base.specs.declared.entry.EntryId.{EntryId};
+
+use crate::list::Plain;
+use crate::span::{Kid, Span};
+use crate::text::Text;
+use std::cmp::Ordering;
+
+/// The kinds of entry of a policy that allow something, and so are of use only where they meet it.
+#[derive(Debug, Clone, Copy)]
+pub enum EntryKind {
+    Skip,
+    SkipRoot,
+    Wrapper,
+    Bypass,
+    BypassPath,
+    BypassGlob,
+    ReplacementIgnore,
+    LicenseAllow,
+    LicenseException,
+}
+
+impl Plain for EntryKind {
+    ghost clone_is_equal = { Prim.search rules };
+}
+
+impl EntryKind {
+    /// The place of the kind in the order of declaration.
+    #[tactic(auto, unfolding(crate::specs::Entry::entry_kind_number))]
+    fn number(self) -> u8
+        ensures { result ≡ entry_kind_number self }
+    {
+        self as u8
+    }
+}
+
+impl PartialEq for EntryKind {
+    ghost eq = { λ a b. entry_kind_number a == entry_kind_number b };
+
+    ghost laws = { on_per entry_kind_number (partial_equiv_from_equiv nat_eq_equiv) };
+
+    fn eq(&self, other: &Self) -> bool {
+        self.number() == other.number()
+    }
+}
+
+impl Eq for EntryKind {
+    ghost laws = { on_equiv entry_kind_number nat_eq_equiv };
+}
+
+impl PartialOrd for EntryKind {
+    ghost partial_cmp = { λ a b. Some (entry_kind_cmp a b) };
+
+    ghost laws = { partial_order_from_own_ties (partial_order_from_total (on_total entry_kind_number nat_cmp_total)) (λ a b. unsigned_ties (entry_kind_number a) (entry_kind_number b)) };
+
+    fn partial_cmp(&self, other: &Self) -> Option<Ordering> {
+        Some(self.cmp(other))
+    }
+}
+
+impl Ord for EntryKind {
+    ghost cmp = { entry_kind_cmp };
+
+    ghost total = { on_total entry_kind_number nat_cmp_total };
+
+    ghost matches_partial_cmp = { λ a b. refl };
+
+    ghost matches_eq = { λ a b. unsigned_ties (entry_kind_number a) (entry_kind_number b) };
+
+    fn cmp(&self, other: &Self) -> Ordering {
+        self.number().cmp(&other.number())
+    }
+}
+
+/// An entry of a policy: its kind, and the range of its text.
+#[derive(Debug, Clone, Copy)]
+pub struct EntryId {
+    pub kind: EntryKind,
+    pub range: Span,
+}
+
+impl Plain for EntryId {
+    ghost clone_is_equal = { Prim.search rules };
+}
+
+impl PartialEq for EntryId {
+    ghost eq = { eq_by_cmp entry_cmp };
+
+    ghost laws = { partial_equiv_from_equiv (eq_by_cmp_equiv {R = entry_cmp} (Prim.search comparing)) };
+
+    fn eq(&self, other: &Self) -> bool {
+        self.cmp(other) == Ordering::Equal
+    }
+}
+
+impl Eq for EntryId {
+    ghost laws = { eq_by_cmp_equiv {R = entry_cmp} (Prim.search comparing) };
+}
+
+impl PartialOrd for EntryId {
+    ghost partial_cmp = { λ a b. Some (entry_cmp a b) };
+
+    ghost laws = { partial_order_from_total {R = entry_cmp} (Prim.search comparing) };
+
+    fn partial_cmp(&self, other: &Self) -> Option<Ordering> {
+        Some(self.cmp(other))
+    }
+}
+
+impl Ord for EntryId {
+    ghost cmp = { entry_cmp };
+
+    ghost total = { Prim.search comparing };
+
+    ghost matches_partial_cmp = { λ a b. refl };
+
+    ghost matches_eq = { λ a b. refl };
+
+    fn cmp(&self, other: &Self) -> Ordering {
+        self.range
+            .cmp(&other.range)
+            .then(self.kind.cmp(&other.kind))
+    }
+}
+
+/// Where an entry was met: at a crate, at a crate's direct parent, or at a file of a crate.
+#[derive(Debug, Clone, PartialEq, Eq, Drop)]
+pub enum Witness {
+    Krate(Kid),
+    Parent { krate: Kid, parent: Kid },
+    File { krate: Kid, path: Text },
+}
+
+impl Plain for Witness {
+    ghost clone_is_equal = { Prim.search rules };
+}
+
+/// An entry that was met, and where.
+#[derive(Debug, Clone, PartialEq, Eq, Drop)]
+pub struct Hit {
+    pub entry: EntryId,
+    pub witness: Witness,
+}
+
+impl Plain for Hit {
+    ghost clone_is_equal = { Prim.search rules };
+}
+
+/// The order of entries is by range and then by kind, it is total, and only equal entries tie.
+pub fn entry_order()
+    ensures fields { (a b : EntryId) → ⟦<EntryId as Ord>⟧.cmp a b ≡ entry_cmp a b }
+    ensures total { IsTotalOrder entry_cmp }
+    ensures equal { IsAntisymmetric entry_cmp }
+{}

@@ -1,0 +1,32 @@
+ghost use Rattle.std.proofs.Common.{rules};
+
+use crate::list::Plain;
+use crate::span::Span;
+use crate::text::Text;
+
+/// The number of a file among the files of a run, from 0 in the order in which they were added.
+pub type FileId = u32;
+
+/// Whether a label marks what the finding is about, or what helps to understand it.
+#[derive(Debug, Clone, Copy, PartialEq, Eq)]
+pub enum LabelStyle {
+    Primary,
+    Secondary,
+}
+
+impl Plain for LabelStyle {
+    ghost clone_is_equal = { Prim.search rules };
+}
+
+/// A range of a file, and what is said of it.
+#[derive(Debug, Clone, PartialEq, Eq, Drop)]
+pub struct Label {
+    pub style: LabelStyle,
+    pub file_id: FileId,
+    pub span: Span,
+    pub message: Text,
+}
+
+impl Plain for Label {
+    ghost clone_is_equal = { Prim.search rules };
+}
