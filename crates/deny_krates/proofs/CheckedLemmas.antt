@@ -10,18 +10,18 @@ use Rattle.deny_krates.specs.Checked.{Numbering, Resolved, distinct, known, link
 use Rattle.deny_krates.specs.Index.{IsIndex, place_in}
 use Rattle.deny_krates.specs.Reading.{◌>>=◌, Fails}
 use Rattle.deny_krates.specs.declared.checked.Resolution.{Resolution}
-use Rattle.deny_krates.specs.declared.document.Dependency.{Dependency}
+use Rattle.deny_krates.specs.declared.document.Need.{Need}
 use Rattle.deny_krates.specs.declared.document.Document.{Document}
 use Rattle.deny_krates.specs.declared.fault.MetadataFault.{MetadataFault}
 use Rattle.deny_krates.proofs.Loop.{fails_through}
 
-pub next_links : (packages nodes : Numbering) (deps : List Dependency) (i : ℕ) (dep : Dependency) → i < length deps → dep ≡ slice_index_or deps i dep
+pub next_links : (packages nodes : Numbering) (deps : List Need) (i : ℕ) (dep : Need) → i < length deps → dep ≡ slice_index_or deps i dep
     → links_of packages nodes (drop i deps)
     ≡ known packages nodes dep.pkg >>= (λ node. links_of packages nodes (drop (i + 1) deps) >>= (λ links. Ok (links_to node dep.kinds ++ links)))
 unfolding links_of
 next_links packages nodes deps i dep inside is = rw (drop-cons deps i dep inside, ← is, add-one) refl
 
-pub no_more_links : (packages nodes : Numbering) (deps : List Dependency) (i : ℕ) → length deps ≤ i → links_of packages nodes (drop i deps) ≡ Ok []
+pub no_more_links : (packages nodes : Numbering) (deps : List Need) (i : ℕ) → length deps ≤ i → links_of packages nodes (drop i deps) ≡ Ok []
 unfolding links_of
 no_more_links packages nodes deps i past = rw (drop_of_length-le deps past) refl
 

@@ -20,8 +20,8 @@ use Rattle.deny_base.specs.declared.edge.Edge.{Edge}
 use Rattle.deny_model.specs.Graph.{Crate, dependents, leads}
 use Rattle.deny_krates.specs.Crates.{crate_view, crates_from, graph_of}
 use Rattle.deny_krates.specs.Dependents.{AreDirectDependents, IsLeastKind}
-use Rattle.deny_krates.specs.Graph.{arc_cmp, arc_of, id_in, is_last, with_arc}
-use Rattle.deny_krates.specs.declared.graph.Arc.{Arc}
+use Rattle.deny_krates.specs.Direct.{arc_cmp, arc_of, id_in, is_last, with_arc}
+use Rattle.deny_krates.specs.declared.direct.Arc.{Arc}
 use Rattle.deny_krates.specs.declared.krate.DirectDependent.{DirectDependent}
 use Rattle.deny_krates.specs.declared.krate.Krate.{Krate}
 use Rattle.deny_krates.proofs.GraphIs.{below_or_tie, not_below_itself}
@@ -328,7 +328,7 @@ one_any p (y ∷ xs) (suc k) x at is = or_true (p y) (list_any p xs) (one_any p 
     or_true true b e = refl
     or_true false b e = e
 
-filter_keeps : {A : Type 0} (p : A → Bool) (xs : List A) (k : ℕ) (x : A) → slice_get xs k ≡ Some x → p x ≡ true → Contains (filter p xs) x
+pub filter_keeps : {A : Type 0} (p : A → Bool) (xs : List A) (k : ℕ) (x : A) → slice_get xs k ≡ Some x → p x ≡ true → Contains (filter p xs) x
 filter_keeps p [] k x at is = absurd (none-some x at)
 filter_keeps {A} p (y ∷ xs) zero x at is =
     let same : y ≡ x = some_is y x at in
@@ -339,7 +339,7 @@ filter_keeps {A} p (y ∷ xs) (suc k) x at is = by_test (p y) (filter_keeps p xs
     by_test true has = let place = there (filter p xs) x has in from_there (y ∷ filter p xs) (suc place.0) x place.1
     by_test false has = has
 
-filtered : {A : Type 0} (p : A → Bool) (xs : List A) (x : A) → Contains (filter p xs) x → Contains xs x
+pub filtered : {A : Type 0} (p : A → Bool) (xs : List A) (x : A) → Contains (filter p xs) x → Contains xs x
 filtered p [] x stands = stands
 filtered {A} p (y ∷ xs) x stands = by_test (filtered p xs x) (p y) stands
   where
@@ -353,6 +353,11 @@ filtered {A} p (y ∷ xs) x stands = by_test (filtered p xs x) (p y) stands
         by_place : (Contains (filter p xs) x → Contains xs x) → (k : ℕ) → slice_get (y ∷ filter p xs) k ≡ Some x → Contains (y ∷ xs) x
         by_place rest zero at = from_there (y ∷ xs) 0 x at
         by_place rest (suc k) at = later (rest (from_there (filter p xs) k x at))
+
+pub passes_filter : {A : Type 0} (p : A → Bool) (xs : List A) (x : A) → Contains (filter p xs) x → p x ≡ true
+passes_filter {A} p xs x stands =
+    let at = there (filter p xs) x stands in
+    subst (λ (y : A). p y ≡ true) (get_or_from_slice_get (filter p xs) at.0 x x at.1) (filter_passes p xs at.0 x (slice_get_within (filter p xs) at.0 x at.1))
 
 and_first : (a b : Bool) → (a && b) ≡ true → a ≡ true
 and_first true b e = refl
@@ -391,7 +396,7 @@ edge_is e parent child kind a b c =
     let same : edge_again e.parent e.child e.kind ≡ edge_again parent child kind = cc in
     sym (edge_again-is e) ∙ same
 
-module _ (krates : List Krate) (members : List ℕ) (edges : List Edge) (arcs : List Arc)
+module _ (root : List ℕ) (krates : List Krate) (members : List ℕ) (edges : List Edge) (arcs : List Arc)
     (lists : Lists arc_cmp (Contains (map (arc_of krates) edges)) arcs)
     (parents : All (λ e. e.parent < length krates) edges)
     (ids : (p q : ℕ) → p < length krates → q < length krates → id_in krates p ≡ id_in krates q → p ≡ q) where
@@ -409,11 +414,11 @@ module _ (krates : List Krate) (members : List ℕ) (edges : List Edge) (arcs : 
       let from = arc_edge b stands in
       subst (λ (x : Arc). x.parent < length krates) from.2 (All-contains (λ e. e.parent < length krates) edges from.0 parents from.1)
 
-  pub dependents_are : (child : ℕ) → AreDirectDependents (graph_of krates members edges) child (fold (with_arc child) [] arcs)
+  pub dependents_are : (child : ℕ) → AreDirectDependents (graph_of root krates members edges) child (fold (with_arc child) [] arcs)
   unfolding dependents
   dependents_are child = record {
     ascending = subst (λ (f : ℕ → List ℕ). IsStrictlySortedBy (on (λ d. f d.place) (slice_cmp nat_cmp)) (fold (with_arc child) [] arcs)) (sym (fun_ext (λ p. id_in_graph 0 krates p))) row.ascending;
-    whole = λ k d inside. crate_there (slice_index_or (dependents (graph_of krates members edges) child) k d) (from_there (dependents (graph_of krates members edges) child) k _ (slice_get-get_or (dependents (graph_of krates members edges) child) k d inside));
+    whole = λ k d inside. crate_there (slice_index_or (dependents (graph_of root krates members edges) child) k d) (from_there (dependents (graph_of root krates members edges) child) k _ (slice_get-get_or (dependents (graph_of root krates members edges) child) k d inside));
     sound = λ k d inside. dependent_there (slice_index_or (fold (with_arc child) [] arcs) k d) (from_there (fold (with_arc child) [] arcs) k _ (slice_get-get_or (fold (with_arc child) [] arcs) k d inside));
     kinds = λ k d inside. least_kind (slice_index_or (fold (with_arc child) [] arcs) k d) (from_there (fold (with_arc child) [] arcs) k _ (slice_get-get_or (fold (with_arc child) [] arcs) k d inside));
   }
@@ -421,17 +426,17 @@ module _ (krates : List Krate) (members : List ℕ) (edges : List Edge) (arcs : 
       row : IsRow (id_in krates) child arcs (fold (with_arc child) [] arcs)
       row = rows_are (id_in krates) child arcs arc_named (λ b c stands stands' same. ids b.parent c.parent (arc_inside b stands) (arc_inside c stands') same) lists.ascending
 
-      crate_there : (c : Crate) → Contains (dependents (graph_of krates members edges) child) c → Contains (map (λ d. d.place) (fold (with_arc child) [] arcs)) c.place
+      crate_there : (c : Crate) → Contains (dependents (graph_of root krates members edges) child) c → Contains (map (λ d. d.place) (fold (with_arc child) [] arcs)) c.place
       crate_there c stands =
-          let at = there (dependents (graph_of krates members edges) child) c stands in
-          let passes : list_any (leads c.place child) edges ≡ true = subst (λ (x : Crate). list_any (leads x.place child) edges ≡ true) (get_or_from_slice_get (dependents (graph_of krates members edges) child) at.0 c c at.1)
-          (filter_passes (λ (p : Crate). list_any (leads p.place child) edges) (crates_from 0 krates) at.0 c (slice_get_within (dependents (graph_of krates members edges) child) at.0 c at.1)) in
+          let at = there (dependents (graph_of root krates members edges) child) c stands in
+          let passes : list_any (leads c.place child) edges ≡ true = subst (λ (x : Crate). list_any (leads x.place child) edges ≡ true) (get_or_from_slice_get (dependents (graph_of root krates members edges) child) at.0 c c at.1)
+          (filter_passes (λ (p : Crate). list_any (leads p.place child) edges) (crates_from 0 krates) at.0 c (slice_get_within (dependents (graph_of root krates members edges) child) at.0 c at.1)) in
           let edge = any_one (leads c.place child) edges passes in
           let ends_at = leads_from c.place child edge.0 edge.2 in
           let had = row.whole (arc_of krates edge.0) (edge_arc edge.0 edge.1) ends_at.1 in
           subst (λ (p : ℕ). Contains (map (λ d. d.place) (fold (with_arc child) [] arcs)) p) (had.is ∙ ends_at.0) (contains_map (λ (d : DirectDependent). d.place) (fold (with_arc child) [] arcs) had.dependent had.stands)
 
-      dependent_there : (d : DirectDependent) → Contains (fold (with_arc child) [] arcs) d → Contains (map (λ (c : Crate). c.place) (dependents (graph_of krates members edges) child)) d.place
+      dependent_there : (d : DirectDependent) → Contains (fold (with_arc child) [] arcs) d → Contains (map (λ (c : Crate). c.place) (dependents (graph_of root krates members edges) child)) d.place
       dependent_there d stands =
           let had = row.sound d stands in
           let edge = arc_edge had.arc had.stands in
@@ -441,20 +446,17 @@ module _ (krates : List Krate) (members : List ℕ) (edges : List Edge) (arcs : 
           let place : c.0.place ≡ d.place = c.2 ∙ zero_plus d.place in
           let at = there edges edge.0 edge.1 in
           let passes : list_any (leads c.0.place child) edges ≡ true = one_any (leads c.0.place child) edges at.0 edge.0 at.1 (leads_to c.0.place child edge.0 (parent ∙ sym place) own) in
-          subst (λ (p : ℕ). Contains (map (λ (c : Crate). c.place) (dependents (graph_of krates members edges) child)) p) place
-          (contains_map (λ (c : Crate). c.place) (dependents (graph_of krates members edges) child) c.0 (filter_keeps (λ (p : Crate). list_any (leads p.place child) edges) (crates_from 0 krates) d.place c.0 c.1 passes))
+          subst (λ (p : ℕ). Contains (map (λ (c : Crate). c.place) (dependents (graph_of root krates members edges) child)) p) place
+          (contains_map (λ (c : Crate). c.place) (dependents (graph_of root krates members edges) child) c.0 (filter_keeps (λ (p : Crate). list_any (leads p.place child) edges) (crates_from 0 krates) d.place c.0 c.1 passes))
         where
           zero_plus : (n : ℕ) → 0 + n ≡ n
           zero_plus n = omega arith
 
-      least_kind : (d : DirectDependent) → Contains (fold (with_arc child) [] arcs) d → IsLeastKind (graph_of krates members edges) child d
+      least_kind : (d : DirectDependent) → Contains (fold (with_arc child) [] arcs) d → IsLeastKind edges (λ parent kind. record { parent = parent; child = child; kind = kind }) d
       least_kind d stands =
           let had = row.sound d stands in
           let edge = arc_edge had.arc had.stands in
           record {
             stands = subst (λ (e : Edge). Contains edges e) (edge_is edge.0 d.place child d.kind (ap (λ (x : Arc). x.parent) edge.2 ∙ had.parent) (ap (λ (x : Arc). x.child) edge.2 ∙ had.own) (ap (λ (x : Arc). x.kind) edge.2 ∙ had.kind)) edge.1;
-            least = λ k e inside leads_it.
-                let x = slice_index_or edges k e in
-                let ends_at = leads_from d.place child x leads_it in
-                had.least (arc_of krates x) (edge_arc x (from_there edges k x (slice_get-get_or edges k e inside))) ends_at.1 ends_at.0;
+            least = λ kind there_is. had.least (arc_of krates (record { parent = d.place; child = child; kind = kind })) (edge_arc (record { parent = d.place; child = child; kind = kind }) there_is) refl refl;
           }

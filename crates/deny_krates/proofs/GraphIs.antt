@@ -2,6 +2,7 @@
 use Rattle.std.proofs.Common.{◌≡◌, ◌⊎◌, ◌<◌, ◌+◌, ℕ, zero, suc, inl, inr, List, [], ◌∷◌, Bool, false, Some, length, map, refl, sym, ap, ◌∙◌, subst, arith, add-zero}
 use Rattle.std.specs.Prelude.{◌≢◌, All, AllPairs, Contains, slice_get, slice_index_or}
 use Rattle.std.specs.Cmp.{IsTotalOrder, nat_cmp_total}
+use Rattle.std.specs.Cmp.Lexicographic.{slice_cmp, nat_list_cmp_total}
 use Rattle.std.specs.Ordering.{is_lt, nat_cmp, ordering_then, ordering_reverse}
 use Rattle.std.specs.declared.cmp.Ordering.{Ordering}
 use Rattle.std.specs.declared.cmp.Ordering.TheVariants.{Less, Equal, Greater}
@@ -12,9 +13,9 @@ use Rattle.deny_base.specs.Edge.{edge_cmp}
 use Rattle.deny_base.specs.declared.edge.DepKind.{DepKind}
 use Rattle.deny_base.specs.declared.edge.Edge.{Edge}
 use Rattle.deny_krates.specs.Checked.{node_ids}
-use Rattle.deny_krates.specs.Graph.{IsInverse, IsKeptNode, edge_to, edges_from, kept_cmp, place_at}
+use Rattle.deny_krates.specs.Graph.{IsInverse, IsKeptNode, edge_to, edges_from, kept_cmp, listed, place_at}
 use Rattle.deny_krates.specs.Numbered.{IsNumbered}
-use Rattle.deny_krates.specs.Packages.{package_cmp}
+use Rattle.deny_krates.specs.Packages.{package_cmp, rank_cmp, rank_of}
 use Rattle.deny_krates.specs.Reach.{Reaches, from_start, by_link, links_at}
 use Rattle.deny_krates.specs.Read.{IsCrate, IsEdge, IsMember, IsReached, Needs}
 use Rattle.deny_krates.specs.declared.checked.Link.{Link}
@@ -22,9 +23,10 @@ use Rattle.deny_krates.specs.declared.checked.Row.{Row}
 use Rattle.deny_krates.specs.declared.document.Document.{Document}
 use Rattle.deny_krates.specs.declared.document.Package.{Package}
 use Rattle.deny_krates.specs.declared.graph.Kept.{Kept}
-use Rattle.deny_krates.proofs.GraphLemmas.{one_kept, one_there}
+use Rattle.deny_krates.specs.declared.graph.Rank.{Rank}
+use Rattle.deny_krates.proofs.GraphLemmas.{listed_is, one_kept, one_there}
 use Rattle.deny_krates.proofs.ListLemmas.{there, from_there, map_at, from_map_at, contains_map, from_contains_map, ascends_at, ascends_map, some_is}
-use Rattle.deny_krates.proofs.OrderLemmas.{kept_cmp-total, package_cmp-exact}
+use Rattle.deny_krates.proofs.OrderLemmas.{kept_cmp-total, rank_cmp-exact}
 use Rattle.deny_krates.proofs.ResolvedLemmas.{IsAt, apart, link_needs, linked_row, member_is, need_links, node_at, owner_at, reached_id, reached_number, row_is, row_of_node, start_is}
 
 less-greater : Less ≡ Greater → ⊥
@@ -43,6 +45,11 @@ not_below_itself {A} cmp total x y same below =
 pub not_above : {A : Type 0} (cmp : A → A → Ordering) → IsTotalOrder cmp → (x y : A) → cmp x y ≡ Less → is_lt (cmp y x) ≡ false
 not_above cmp total x y below = ap is_lt (total.antisymm y x ∙ ap ordering_reverse below)
 
+-- nor does a text that is below or the same
+pub not_less : (a b : List ℕ) → (slice_cmp nat_cmp a b ≡ Less) ⊎ (slice_cmp nat_cmp a b ≡ Equal) → is_lt (slice_cmp nat_cmp b a) ≡ false
+not_less a b (inl below) = not_above (slice_cmp nat_cmp) nat_list_cmp_total a b below
+not_less a b (inr tie) = ap is_lt (nat_list_cmp_total.antisymm b a ∙ ap ordering_reverse tie)
+
 then_below : (o p : Ordering) → ordering_then o p ≡ Less → (o ≡ Equal → p ≡ Less → ⊥) → o ≡ Less
 then_below Less p e never = refl
 then_below Equal p e never = absurd (never refl e)
@@ -55,14 +62,14 @@ below_or_tie Greater p e = cc e
 
 module _ (doc : Document) (starting : List ℕ) (rows : List Row) (marks : List Bool) (kept : List Kept) (is : IsNumbered doc starting rows marks kept) where
   -- a kept package has the id of its node, and is reached
-  pub kept_id : (k : Kept) → IsKeptNode doc.packages rows marks k → IsAt doc k.node k.listed.id × IsReached doc k.listed.id
+  pub kept_id : (k : Kept) → IsKeptNode doc.packages rows marks k → IsAt doc k.node (listed doc.packages k).id × IsReached doc (listed doc.packages k).id
   kept_id k stands =
       let row = row_is doc starting rows k.node stands.row is.resolved stands.at in
       let owner = owner_at doc k.node stands.row row in
-      let same : k.listed.id ≡ row.node.id = ap (λ (p : Package). p.id) (one_there doc.packages stands.row.owner k.listed owner.0 stands.owner owner.1) ∙ owner.2 in
-      let at : IsAt doc k.node k.listed.id = subst (λ (t : List ℕ). IsAt doc k.node t) (sym same) (node_at doc k.node row.node row.at) in
+      let same : (listed doc.packages k).id ≡ row.node.id = ap (λ (p : Package). p.id) (one_there doc.packages stands.row.owner (listed doc.packages k) owner.0 stands.stands owner.1) ∙ owner.2 in
+      let at : IsAt doc k.node (listed doc.packages k).id = subst (λ (t : List ℕ). IsAt doc k.node t) (sym same) (node_at doc k.node row.node row.at) in
       let reached = reached_id doc starting rows k.node is.resolved (is.reached.sound k.node stands.marked) in
-      (at, subst (λ (t : List ℕ). IsReached doc t) (one_there (node_ids doc) k.node reached.0 k.listed.id reached.1 at) reached.2)
+      (at, subst (λ (t : List ℕ). IsReached doc t) (one_there (node_ids doc) k.node reached.0 (listed doc.packages k).id reached.1 at) reached.2)
 
   -- a reached node is kept
   pub kept_at : (n : ℕ) → Reaches rows starting n → (place : ℕ) × (k : Kept) × (slice_get kept place ≡ Some k) × (k.node ≡ n) × IsKeptNode doc.packages rows marks k
@@ -71,38 +78,52 @@ module _ (doc : Document) (starting : List ℕ) (rows : List Row) (marks : List 
       let node = from_map_at (λ m. m.id) doc.nodes n id.0 id.1 in
       let row = row_of_node doc starting rows n node.0 is.resolved node.1 in
       let owner = owner_at doc n row.0 (record { node = node.0; at = node.1; reads = row.2 }) in
-      let k : Kept = record { listed = owner.0; node = n } in
-      let stands : IsKeptNode doc.packages rows marks k = record { row = row.0; at = row.1; marked = is.reached.whole n reached; owner = owner.1 } in
+      let k : Kept = record { rank = rank_of owner.0; owner = row.0.owner; node = n } in
+      let of : listed doc.packages k ≡ owner.0 = listed_is doc.packages k owner.0 owner.1 in
+      let stands : IsKeptNode doc.packages rows marks k = record {
+        row = row.0;
+        at = row.1;
+        marked = is.reached.whole n reached;
+        owner = refl;
+        stands = subst (λ (p : Package). slice_get doc.packages row.0.owner ≡ Some p) (sym of) owner.1;
+        ranked = ap rank_of (sym of);
+      } in
       let place = there kept k (is.lists.whole k stands) in
       (place.0, k, place.1, refl, stands)
 
   -- kept packages have one node for an id
-  pub same_node : (k l : Kept) → IsKeptNode doc.packages rows marks k → IsKeptNode doc.packages rows marks l → k.listed.id ≡ l.listed.id → k.node ≡ l.node
-  same_node k l a b same = apart (node_ids doc) k.node l.node l.listed.id is.resolved.nodes (subst (λ (t : List ℕ). IsAt doc k.node t) same (kept_id k a).0) (kept_id l b).0
+  pub same_node : (k l : Kept) → IsKeptNode doc.packages rows marks k → IsKeptNode doc.packages rows marks l → (listed doc.packages k).id ≡ (listed doc.packages l).id → k.node ≡ l.node
+  same_node k l a b same = apart (node_ids doc) k.node l.node (listed doc.packages l).id is.resolved.nodes (subst (λ (t : List ℕ). IsAt doc k.node t) same (kept_id k a).0) (kept_id l b).0
 
   -- the kept packages are the crates
-  pub are_crates : Lists package_cmp (IsCrate doc) (map (λ (k : Kept). k.listed) kept)
+  pub are_crates : Lists package_cmp (IsCrate doc) (map (listed doc.packages) kept)
   are_crates = record {
-    ascending = ascends_map kept_cmp package_cmp (λ (k : Kept). k.listed) (IsKeptNode doc.packages rows marks) kept mirrors is.lists.sound is.lists.ascending;
+    ascending = ascends_map kept_cmp package_cmp (listed doc.packages) (IsKeptNode doc.packages rows marks) kept mirrors is.lists.sound is.lists.ascending;
     whole = λ p stands.
         let number = reached_number doc starting rows p.id is.resolved stands.reached in
         let k = kept_at number.0 number.2 in
-        let listed = there doc.packages p stands.stands in
-        let id : k.1.listed.id ≡ p.id = one_there (node_ids doc) number.0 k.1.listed.id p.id (subst (λ (n : ℕ). IsAt doc n k.1.listed.id) k.3 (kept_id k.1 k.4).0) number.1 in
-        let place : k.4.row.owner ≡ listed.0 = apart (map (λ (q : Package). q.id) doc.packages) k.4.row.owner listed.0 p.id is.resolved.packages
-        (subst (λ (t : List ℕ). slice_get (map (λ (q : Package). q.id) doc.packages) k.4.row.owner ≡ Some t) id (map_at (λ (q : Package). q.id) doc.packages k.4.row.owner k.1.listed k.4.owner))
-        (map_at (λ (q : Package). q.id) doc.packages listed.0 p listed.1) in
-        let same : k.1.listed ≡ p = one_there doc.packages listed.0 k.1.listed p (subst (λ (n : ℕ). slice_get doc.packages n ≡ Some k.1.listed) place k.4.owner) listed.1 in
-        subst (λ (q : Package). Contains (map (λ (k : Kept). k.listed) kept) q) same (contains_map (λ (k : Kept). k.listed) kept k.1 (from_there kept k.0 k.1 k.2));
+        let at_listed = there doc.packages p stands.stands in
+        let id : (listed doc.packages k.1).id ≡ p.id = one_there (node_ids doc) number.0 (listed doc.packages k.1).id p.id (subst (λ (n : ℕ). IsAt doc n (listed doc.packages k.1).id) k.3 (kept_id k.1 k.4).0) number.1 in
+        let place : k.4.row.owner ≡ at_listed.0 = apart (map (λ (q : Package). q.id) doc.packages) k.4.row.owner at_listed.0 p.id is.resolved.packages
+        (subst (λ (t : List ℕ). slice_get (map (λ (q : Package). q.id) doc.packages) k.4.row.owner ≡ Some t) id (map_at (λ (q : Package). q.id) doc.packages k.4.row.owner (listed doc.packages k.1) k.4.stands))
+        (map_at (λ (q : Package). q.id) doc.packages at_listed.0 p at_listed.1) in
+        let same : (listed doc.packages k.1) ≡ p = one_there doc.packages at_listed.0 (listed doc.packages k.1) p (subst (λ (n : ℕ). slice_get doc.packages n ≡ Some (listed doc.packages k.1)) place k.4.stands) at_listed.1 in
+        subst (λ (q : Package). Contains (map (listed doc.packages) kept) q) same (contains_map (listed doc.packages) kept k.1 (from_there kept k.0 k.1 k.2));
     sound = λ p stands.
-        let from = from_contains_map (λ (k : Kept). k.listed) kept p stands in
+        let from = from_contains_map (listed doc.packages) kept p stands in
         let k = is.lists.sound from.0 from.1 in
-        subst (λ (q : Package). IsCrate doc q) from.2 (record { stands = from_there doc.packages k.row.owner from.0.listed k.owner; reached = (kept_id from.0 k).1 });
+        subst (λ (q : Package). IsCrate doc q) from.2 (record { stands = from_there doc.packages k.row.owner (listed doc.packages from.0) k.stands; reached = (kept_id from.0 k).1 });
   }
     where
-      mirrors : (k l : Kept) → IsKeptNode doc.packages rows marks k → IsKeptNode doc.packages rows marks l → kept_cmp k l ≡ Less → package_cmp k.listed l.listed ≡ Less
-      mirrors k l a b below = then_below (package_cmp k.listed l.listed) (nat_cmp k.node l.node) below
-          (λ tie under. not_below_itself nat_cmp nat_cmp_total k.node l.node (same_node k l a b (ap (λ (p : Package). p.id) (package_cmp-exact k.listed l.listed tie))) under)
+      mirrors : (k l : Kept) → IsKeptNode doc.packages rows marks k → IsKeptNode doc.packages rows marks l → kept_cmp k l ≡ Less → package_cmp (listed doc.packages k) (listed doc.packages l) ≡ Less
+      mirrors k l a b below =
+          subst (λ (r : Rank). rank_cmp r (rank_of (listed doc.packages l)) ≡ Less) a.ranked
+          (subst (λ (r : Rank). rank_cmp k.rank r ≡ Less) b.ranked
+          (then_below (rank_cmp k.rank l.rank) _ below
+          (λ tie under.
+          let ranks : k.rank ≡ l.rank = rank_cmp-exact k.rank l.rank tie in
+          let ids : (listed doc.packages k).id ≡ (listed doc.packages l).id = ap (λ (r : Rank). r.id) (sym a.ranked ∙ (ranks ∙ b.ranked)) in
+          not_below_itself kept_cmp kept_cmp-total k l (one_kept doc.packages rows marks k l a b (same_node k l a b ids)) below)))
 
   pub kept_stands : (place : ℕ) (k : Kept) → slice_get kept place ≡ Some k → IsKeptNode doc.packages rows marks k
   kept_stands place k at = is.lists.sound k (from_there kept place k at)
@@ -124,12 +145,17 @@ module _ (doc : Document) (starting : List ℕ) (rows : List Row) (marks : List 
   pub kept_inside : All (λ k. k.node < length rows) kept
   kept_inside i d inside = let k = kept_stands i (slice_index_or kept i d) (slice_get-get_or kept i d inside) in slice_get_within rows (slice_index_or kept i d).node k.row k.at
 
+  pub owners_kept : All (λ k. k.owner < length doc.packages) kept
+  owners_kept i d inside =
+      let k = kept_stands i (slice_index_or kept i d) (slice_get-get_or kept i d inside) in
+      subst (λ (n : ℕ). n < length doc.packages) (sym k.owner) (slice_get_within doc.packages k.row.owner _ k.stands)
+
   -- no two crates have one id
-  pub ids_apart : (i j : ℕ) (p q : Package) → i < j → slice_get (map (λ (k : Kept). k.listed) kept) i ≡ Some p → slice_get (map (λ (k : Kept). k.listed) kept) j ≡ Some q → p.id ≡ q.id → ⊥
+  pub ids_apart : (i j : ℕ) (p q : Package) → i < j → slice_get (map (listed doc.packages) kept) i ≡ Some p → slice_get (map (listed doc.packages) kept) j ≡ Some q → p.id ≡ q.id → ⊥
   ids_apart i j p q below at at' same =
-      let k = from_map_at (λ (k : Kept). k.listed) kept i p at in
-      let l = from_map_at (λ (k : Kept). k.listed) kept j q at' in
-      let ids : k.0.listed.id ≡ l.0.listed.id = ap (λ (x : Package). x.id) k.2 ∙ (same ∙ sym (ap (λ (x : Package). x.id) l.2)) in
+      let k = from_map_at (listed doc.packages) kept i p at in
+      let l = from_map_at (listed doc.packages) kept j q at' in
+      let ids : (listed doc.packages k.0).id ≡ (listed doc.packages l.0).id = ap (λ (x : Package). x.id) k.2 ∙ (same ∙ sym (ap (λ (x : Package). x.id) l.2)) in
       let one : k.0 ≡ l.0 = one_kept doc.packages rows marks k.0 l.0 (kept_stands i k.0 k.1) (kept_stands j l.0 l.1) (same_node k.0 l.0 (kept_stands i k.0 k.1) (kept_stands j l.0 l.1) ids) in
       not_below_itself kept_cmp kept_cmp-total k.0 l.0 one (ascends_at kept_cmp kept i j k.0 l.0 is.lists.ascending below k.1 l.1)
 
@@ -138,24 +164,24 @@ module _ (doc : Document) (starting : List ℕ) (rows : List Row) (marks : List 
     place_is place k at = inverse.at place k.node (map_at (λ (k : Kept). k.node) kept place k at)
 
     -- the members are those of the metadata
-    pub are_members : (members : List ℕ) → Lists nat_cmp (Contains (map (place_at places) starting)) members → Lists nat_cmp (IsMember doc (map (λ (k : Kept). k.listed) kept)) members
+    pub are_members : (members : List ℕ) → Lists nat_cmp (Contains (map (place_at places) starting)) members → Lists nat_cmp (IsMember doc (map (listed doc.packages) kept)) members
     are_members members lists = record {
       ascending = lists.ascending;
       whole = λ place stands.
-          let k = from_map_at (λ (k : Kept). k.listed) kept place stands.of stands.stands in
-          let listed : Contains doc.members k.0.listed.id = subst (λ (p : Package). Contains doc.members p.id) (sym k.2) stands.listed in
-          let start = member_is doc starting rows k.0.listed.id is.resolved listed in
-          let node : start.0 ≡ k.0.node = apart (node_ids doc) start.0 k.0.node k.0.listed.id is.resolved.nodes start.2 (kept_id k.0 (kept_stands place k.0 k.1)).0 in
+          let k = from_map_at (listed doc.packages) kept place stands.of stands.stands in
+          let of_member : Contains doc.members (listed doc.packages k.0).id = subst (λ (p : Package). Contains doc.members p.id) (sym k.2) stands.listed in
+          let start = member_is doc starting rows (listed doc.packages k.0).id is.resolved of_member in
+          let node : start.0 ≡ k.0.node = apart (node_ids doc) start.0 k.0.node (listed doc.packages k.0).id is.resolved.nodes start.2 (kept_id k.0 (kept_stands place k.0 k.1)).0 in
           lists.whole place (subst (λ (p : ℕ). Contains (map (place_at places) starting) p) (ap (place_at places) node ∙ place_is place k.0 k.1) (contains_map (place_at places) starting start.0 start.1));
       sound = λ place stands.
           let from = from_contains_map (place_at places) starting place (lists.sound place stands) in
           let k = kept_at from.0 (from_start from.0 from.1) in
           let here : k.0 ≡ place = sym (place_is k.0 k.1 k.2) ∙ (ap (place_at places) k.3 ∙ from.2) in
           let start = start_is doc starting rows from.0 is.resolved from.1 in
-          let id : start.0 ≡ k.1.listed.id = one_there (node_ids doc) from.0 start.0 k.1.listed.id start.2 (subst (λ (n : ℕ). IsAt doc n k.1.listed.id) k.3 (kept_id k.1 k.4).0) in
+          let id : start.0 ≡ (listed doc.packages k.1).id = one_there (node_ids doc) from.0 start.0 (listed doc.packages k.1).id start.2 (subst (λ (n : ℕ). IsAt doc n (listed doc.packages k.1).id) k.3 (kept_id k.1 k.4).0) in
           record {
-            of = k.1.listed;
-            stands = map_at (λ (k : Kept). k.listed) kept place k.1 (subst (λ (p : ℕ). slice_get kept p ≡ Some k.1) here k.2);
+            of = (listed doc.packages k.1);
+            stands = map_at (listed doc.packages) kept place k.1 (subst (λ (p : ℕ). slice_get kept p ≡ Some k.1) here k.2);
             listed = subst (λ (t : List ℕ). Contains doc.members t) id start.1;
           };
     }
@@ -205,17 +231,17 @@ module _ (doc : Document) (starting : List ℕ) (rows : List Row) (marks : List 
         edge_again-is x = refl
 
     -- the edges are the needs between crates
-    pub are_edges : (edges : List Edge) → Lists edge_cmp (Contains (edges_from rows places 0 kept)) edges → Lists edge_cmp (IsEdge doc (map (λ (k : Kept). k.listed) kept)) edges
+    pub are_edges : (edges : List Edge) → Lists edge_cmp (Contains (edges_from rows places 0 kept)) edges → Lists edge_cmp (IsEdge doc (map (listed doc.packages) kept)) edges
     are_edges edges lists = record {
       ascending = lists.ascending;
       whole = λ e stands. lists.whole e (there_is e stands);
       sound = λ e stands. is_edge e (edge_from 0 kept e (lists.sound e stands));
     }
       where
-        there_is : (e : Edge) → IsEdge doc (map (λ (k : Kept). k.listed) kept) e → Contains (edges_from rows places 0 kept) e
+        there_is : (e : Edge) → IsEdge doc (map (listed doc.packages) kept) e → Contains (edges_from rows places 0 kept) e
         there_is e stands =
-            let k = from_map_at (λ (k : Kept). k.listed) kept e.parent stands.parent stands.parent_stands in
-            let m = from_map_at (λ (k : Kept). k.listed) kept e.child stands.child stands.child_stands in
+            let k = from_map_at (listed doc.packages) kept e.parent stands.parent stands.parent_stands in
+            let m = from_map_at (listed doc.packages) kept e.child stands.child stands.child_stands in
             let k_at = (kept_id k.0 (kept_stands e.parent k.0 k.1)).0 in
             let m_at = (kept_id m.0 (kept_stands e.child m.0 m.1)).0 in
             let at : IsAt doc k.0.node stands.parent.id = subst (λ (p : Package). IsAt doc k.0.node p.id) k.2 k_at in
@@ -226,7 +252,7 @@ module _ (doc : Document) (starting : List ℕ) (rows : List Row) (marks : List 
             let zero_plus : e.parent ≡ 0 + e.parent = omega arith in
             subst (λ (x : Edge). Contains (edges_from rows places 0 kept) x) (edge_made e (0 + e.parent) link.0 zero_plus child (sym link.2)) (from_edge 0 kept e.parent k.0 link.0 k.1 link.1)
 
-        is_edge : (e : Edge) → EdgeFrom 0 kept e → IsEdge doc (map (λ (k : Kept). k.listed) kept) e
+        is_edge : (e : Edge) → EdgeFrom 0 kept e → IsEdge doc (map (listed doc.packages) kept) e
         is_edge e from =
             let parent : e.parent ≡ from.at = omega (arith, from.parent) in
             let k = kept_stands from.at from.kept_one from.stands in
@@ -236,13 +262,13 @@ module _ (doc : Document) (starting : List ℕ) (rows : List Row) (marks : List 
             let row = linked_row rows from.kept_one.node from.link from.linked in
             let at = row_is doc starting rows from.kept_one.node row.0 is.resolved row.1 in
             let needs = link_needs doc from.kept_one.node row.0 from.link at row.2 in
-            let id : at.node.id ≡ from.kept_one.listed.id = one_there (node_ids doc) from.kept_one.node at.node.id from.kept_one.listed.id (node_at doc from.kept_one.node at.node at.at) (kept_id from.kept_one k).0 in
-            let needed : needs.0 ≡ m.1.listed.id = one_there (node_ids doc) from.link.node needs.0 m.1.listed.id needs.1 (subst (λ (n : ℕ). IsAt doc n m.1.listed.id) m.3 (kept_id m.1 m.4).0) in
+            let id : at.node.id ≡ (listed doc.packages from.kept_one).id = one_there (node_ids doc) from.kept_one.node at.node.id (listed doc.packages from.kept_one).id (node_at doc from.kept_one.node at.node at.at) (kept_id from.kept_one k).0 in
+            let needed : needs.0 ≡ (listed doc.packages m.1).id = one_there (node_ids doc) from.link.node needs.0 (listed doc.packages m.1).id needs.1 (subst (λ (n : ℕ). IsAt doc n (listed doc.packages m.1).id) m.3 (kept_id m.1 m.4).0) in
             let kind : from.link.kind ≡ e.kind = sym (ap (λ (x : Edge). x.kind) from.made) in
             record {
-              parent = from.kept_one.listed;
-              child = m.1.listed;
-              parent_stands = map_at (λ (k : Kept). k.listed) kept e.parent from.kept_one (subst (λ (n : ℕ). slice_get kept n ≡ Some from.kept_one) (sym parent) from.stands);
-              child_stands = map_at (λ (k : Kept). k.listed) kept e.child m.1 (subst (λ (n : ℕ). slice_get kept n ≡ Some m.1) (sym child) m.2);
-              needs = subst (λ (t : List ℕ). Needs doc from.kept_one.listed.id e.kind t) needed (subst (λ (kind : DepKind). Needs doc from.kept_one.listed.id kind needs.0) kind (subst (λ (t : List ℕ). Needs doc t from.link.kind needs.0) id needs.2));
+              parent = (listed doc.packages from.kept_one);
+              child = (listed doc.packages m.1);
+              parent_stands = map_at (listed doc.packages) kept e.parent from.kept_one (subst (λ (n : ℕ). slice_get kept n ≡ Some from.kept_one) (sym parent) from.stands);
+              child_stands = map_at (listed doc.packages) kept e.child m.1 (subst (λ (n : ℕ). slice_get kept n ≡ Some m.1) (sym child) m.2);
+              needs = subst (λ (t : List ℕ). Needs doc (listed doc.packages from.kept_one).id e.kind t) needed (subst (λ (kind : DepKind). Needs doc (listed doc.packages from.kept_one).id kind needs.0) kind (subst (λ (t : List ℕ). Needs doc t from.link.kind needs.0) id needs.2));
             }

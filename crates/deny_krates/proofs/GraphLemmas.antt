@@ -2,6 +2,7 @@
 use Rattle.std.proofs.Common.{◌≡◌, ◌<◌, ◌≤◌, ◌+◌, ◌++◌, ℕ, zero, suc, inl, inr, List, [], ◌∷◌, Bool, true, false, Some, length, map, take, drop, refl, sym, ap, ◌∙◌, subst, arith, add-one, length-append}
 use Rattle.std.specs.Prelude.{◌==◌, ◌≢◌, All, AllPairs, Contains, fold, slice_get, slice_set, slice_index_or, replicate}
 use Rattle.std.specs.List.{AllZip}
+use Rattle.std.specs.Option.{option_map_or}
 use Rattle.std.proofs.lemmas.Bool.{cases_eq, eq-eqb, ne_eqb}
 use Rattle.std.proofs.lemmas.List.{map-append, length-set, get_or-set_same, get_or-set_other}
 use Rattle.std.proofs.lemmas.List.Elements.{All-contains, All-push, Contains-push, Contains-append_left}
@@ -11,12 +12,16 @@ use Rattle.std.proofs.Math.Seq.{drop-cons, take-suc}
 use Rattle.std.specs.declared.cmp.Ordering.{Ordering}
 use Rattle.deny_base.specs.Ascending.{Lists}
 use Rattle.deny_base.specs.declared.edge.Edge.{Edge}
-use Rattle.deny_krates.specs.Graph.{IsKeptNode, arc_of, edge_to, edges_from, id_in, is_last, with_arc, with_dependent}
+use Rattle.deny_krates.specs.Direct.{arc_of, id_in, is_last, with_arc, with_dependent}
+use Rattle.deny_krates.specs.Graph.{IsKeptNode, edge_to, edges_from, features_at, listed, no_package}
+use Rattle.deny_krates.specs.Packages.{rank_of}
 use Rattle.deny_krates.specs.Reach.{is_marked, links_at}
 use Rattle.deny_krates.specs.declared.checked.Row.{Row}
+use Rattle.deny_krates.specs.declared.document.Node.{Node}
 use Rattle.deny_krates.specs.declared.document.Package.{Package}
-use Rattle.deny_krates.specs.declared.graph.Arc.{Arc}
+use Rattle.deny_krates.specs.declared.direct.Arc.{Arc}
 use Rattle.deny_krates.specs.declared.graph.Kept.{Kept}
+use Rattle.deny_krates.specs.declared.graph.Rank.{Rank}
 use Rattle.deny_krates.specs.declared.krate.DirectDependent.{DirectDependent}
 use Rattle.deny_krates.specs.declared.krate.Krate.{Krate}
 
@@ -57,18 +62,25 @@ last_is (e ∷ f ∷ ds) zero place d long is = absurd (omega (arith, long))
 last_is (e ∷ f ∷ ds) (suc n) place d long is = last_is (f ∷ ds) n place d (omega (arith, long)) is
 
 -- marked nodes with their packages, up to a node
-kept_from : Package → ℕ → Kept
-kept_from listed node = record { listed = listed; node = node }
+kept_from : Rank → ℕ → ℕ → Kept
+kept_from rank owner node = record { rank = rank; owner = owner; node = node }
 
-kept_from-is : (k : Kept) → kept_from k.listed k.node ≡ k
+kept_from-is : (k : Kept) → kept_from k.rank k.owner k.node ≡ k
 unfolding kept_from
 kept_from-is k = refl
 
 pub one_kept : (packages : List Package) (rows : List Row) (marks : List Bool) (k l : Kept) → IsKeptNode packages rows marks k → IsKeptNode packages rows marks l → k.node ≡ l.node → k ≡ l
 one_kept packages rows marks k l a b same =
     let row : a.row ≡ b.row = one_there rows l.node a.row b.row (subst (λ (n : ℕ). slice_get rows n ≡ Some a.row) same a.at) b.at in
-    let listed : k.listed ≡ l.listed = one_there packages b.row.owner k.listed l.listed (subst (λ (r : Row). slice_get packages r.owner ≡ Some k.listed) row a.owner) b.owner in
+    let owner : k.owner ≡ l.owner = a.owner ∙ (ap (λ (r : Row). r.owner) row ∙ sym b.owner) in
+    let one : listed packages k ≡ listed packages l = one_there packages b.row.owner (listed packages k) (listed packages l) (subst (λ (r : Row). slice_get packages r.owner ≡ Some (listed packages k)) row a.stands) b.stands in
+    let rank : k.rank ≡ l.rank = a.ranked ∙ (ap rank_of one ∙ sym b.ranked) in
     cc (kept_from-is k, kept_from-is l)
+
+-- the package that a number names
+pub listed_is : (packages : List Package) (k : Kept) (p : Package) → slice_get packages k.owner ≡ Some p → listed packages k ≡ p
+unfolding listed
+listed_is packages k p at = get_or_from_slice_get packages k.owner p no_package at
 
 pub record IsGathered (packages : List Package) (rows : List Row) (marks : List Bool) (kept : List Kept) (upto : ℕ) : Type 0 where
   pub sound : All (IsKeptNode packages rows marks) kept
@@ -188,3 +200,7 @@ lists_of cmp P xs ys lists whole sound = record {
   whole = λ x is. lists.whole x (whole x is);
   sound = λ x is. All-contains P xs x sound (lists.sound x is);
 }
+
+-- the features of the node that a number names
+pub features_are : (nodes : List Node) (n : ℕ) (node : Node) → slice_get nodes n ≡ Some node → features_at nodes n ≡ node.features
+features_are nodes n node at = ap (λ o. option_map_or (λ (m : Node). m.features) o []) at

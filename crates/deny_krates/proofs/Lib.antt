@@ -1,9 +1,14 @@
 pub mod BuildLemmas
 pub mod CheckedLemmas
 pub mod DependentsLemmas
+pub mod DirectLemmas
 pub mod ElementsLemmas
+pub mod FeaturesLemmas
+pub mod FilteredLemmas
+pub mod FolderLemmas
 pub mod GraphIs
 pub mod GraphLemmas
+pub mod IdsLemmas
 pub mod IndexLemmas
 pub mod ListLemmas
 pub mod Loop
@@ -12,4 +17,7 @@ pub mod OrderlyLemmas
 pub mod ReachLemmas
 pub mod ResolvedLemmas
 pub mod Runs
+pub mod SearchLemmas
 pub mod Shorter
+pub mod SourceLemmas
+pub mod VersionsLemmas

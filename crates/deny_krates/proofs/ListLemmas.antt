@@ -1,11 +1,12 @@
 -- Membership and places in lists.
-use Rattle.std.proofs.Common.{◌≡◌, ◌<◌, ℕ, zero, suc, List, [], ◌∷◌, Option, Some, None, Result, Ok, Err, length, map, refl, sym, ap, ◌∙◌, subst, arith}
-use Rattle.std.specs.Prelude.{Contains, option_map, slice_get}
-use Rattle.std.specs.List.{AllByRecursion, AllZip}
+use Rattle.std.proofs.Common.{◌≡◌, ◌<◌, ◌≤◌, ℕ, zero, suc, List, [], ◌∷◌, Option, Some, None, Result, Ok, Err, length, map, refl, sym, ap, ◌∙◌, subst, arith}
+use Rattle.std.specs.Prelude.{Contains, MatchOption, option_copied, option_map, slice_get}
+use Rattle.std.specs.Borrow.{Bor}
+use Rattle.std.specs.List.{AllByRecursion, AllZip, HoldsAt}
 use Rattle.std.specs.List.Sorted.{IsStrictlySortedBy}
 use Rattle.std.specs.declared.cmp.Ordering.{Ordering}
 use Rattle.std.specs.declared.cmp.Ordering.TheVariants.{Less}
-use Rattle.std.proofs.lemmas.Option.{none-some, slice_get-map, slice_get_read, slice_get_within, get_or_from_slice_get}
+use Rattle.std.proofs.lemmas.Option.{none-some, slice_get-map, slice_get_read, slice_get_past, slice_get_within, slice_get-get_or, get_or_from_slice_get}
 use Rattle.deny_krates.specs.Reading.{◌>>=◌}
 use Rattle.deny_krates.specs.declared.fault.MetadataFault.{MetadataFault}
 use Rattle.deny_krates.proofs.GraphLemmas.{one_there}
@@ -38,6 +39,18 @@ from_contains_map f xs y is =
     let at = there (map f xs) y is in
     let from = from_map_at f xs at.0 y at.1 in
     (from.0, from_there xs at.0 from.0 from.1, from.2)
+
+-- what `get` gives
+pub got : {A : Type 0} (xs : List A) (n : ℕ) (r : Option (Bor A)) → MatchOption r (length xs ≤ n) (λ x. (n < length xs) × HoldsAt (λ y. x.now ≡ y) xs n) → option_copied r ≡ slice_get xs n
+got xs n None past = sym (slice_get_past xs n past)
+got xs n (Some x) at = sym (slice_get-get_or xs n x.now at.0 ∙ ap (λ y. Some y) (sym (at.1 x.now)))
+
+pub match_none : {A : Type 0} (P : Type 0) (Q : A → Type 0) (r : Option A) → r ≡ None → P → MatchOption r P Q
+match_none P Q None is holds = holds
+match_none P Q (Some x) is holds = absurd (some-none is)
+  where
+    some-none : Some x ≡ None → ⊥
+    some-none e = absurd (cc)
 
 -- lists that go together
 pub zip_at : {A B : Type 0} (R : A → B → Type 0) (xs : List A) (ys : List B) (k : ℕ) (x : A) → AllZip R xs ys → slice_get xs k ≡ Some x → (y : B) × (slice_get ys k ≡ Some y) × R x y

@@ -6,7 +6,7 @@ use Rattle.std.proofs.Math.ListN.{drop_of_length-le}
 use Rattle.std.proofs.Math.Seq.{drop-cons}
 use Rattle.deny_krates.specs.Reading.{◌>>=◌, Fails, Gives, each, each_passes}
 use Rattle.deny_krates.specs.declared.fault.MetadataFault.{MetadataFault}
-use Rattle.deny_krates.specs.declared.fault.MetadataFault.TheVariants.{Json, NoResolve, Shape, DuplicateId, DanglingId, Version, Memory}
+use Rattle.deny_krates.specs.declared.fault.MetadataFault.TheVariants.{Json, Float, NoResolve, Shape, DuplicateId, DanglingId, Version, Requirement, Source, ManifestPath, Memory}
 
 abbrev pub with_front : {A : Type 0} → List A → Result (List A) MetadataFault → Result (List A) MetadataFault
 with_front xs (Ok ys) = Ok (xs ++ ys)
@@ -30,11 +30,15 @@ front_all xs ms (Err e) = refl
 pub fails_through : {A B : Type 0} (e : MetadataFault) (part : Result A MetadataFault) (whole : Result B MetadataFault)
     → ((f : MetadataFault) → part ≡ Err f → whole ≡ Err f) → Fails e part → Fails e whole
 fails_through Json part whole through fails = through Json fails
+fails_through Float part whole through fails = through Float fails
 fails_through NoResolve part whole through fails = through NoResolve fails
 fails_through (Shape path) part whole through fails = through (Shape path) fails
 fails_through (DuplicateId id) part whole through fails = through (DuplicateId id) fails
 fails_through (DanglingId id) part whole through fails = through (DanglingId id) fails
 fails_through (Version id) part whole through fails = through (Version id) fails
+fails_through (Requirement id) part whole through fails = through (Requirement id) fails
+fails_through (Source id) part whole through fails = through (Source id) fails
+fails_through (ManifestPath id) part whole through fails = through (ManifestPath id) fails
 fails_through Memory part whole through fails = tt
 
 -- a step of a loop that reads: the whole is what was read before what is left, and the next reads to x
@@ -123,3 +127,8 @@ pub if_err_through : {A B C : Type 0} (result : Result A MetadataFault) (part : 
     → ((f : MetadataFault) → part ≡ Err f → whole ≡ Err f) → IfErr result (λ e. Fails e part) → IfErr result (λ e. Fails e whole)
 if_err_through (Ok x) part whole through is = tt
 if_err_through (Err e) part whole through is = fails_through e part whole through is
+
+-- the same of two facts
+pub if_ok_both : {A E : Type 0} (P Q R : A → Type 0) (result : Result A E) → IfOk result P → IfOk result Q → ((x : A) → P x → Q x → R x) → IfOk result R
+if_ok_both P Q R (Ok x) is too follows = follows x is too
+if_ok_both P Q R (Err e) is too follows = tt

@@ -1,4 +1,4 @@
--- Only equal packages tie, and only equal arcs.
+-- Only equal ranks tie, and only equal arcs.
 use Rattle.std.proofs.Common.{◌≡◌, ℕ, List, Option, Some, None, refl, ap}
 use Rattle.std.specs.Cmp.{IsTotalOrder, nat_cmp_total, on_total, then_total}
 use Rattle.std.specs.Cmp.Lexicographic.{slice_cmp, nat_list_cmp_total, options_total}
@@ -10,11 +10,12 @@ use Rattle.std.specs.declared.cmp.Ordering.TheVariants.{Less, Equal, Greater}
 use Rattle.deny_base.specs.Edge.{edge_cmp, kind_cmp, kind_number}
 use Rattle.deny_base.specs.declared.edge.DepKind.{DepKind}
 use Rattle.deny_base.specs.declared.edge.Edge.{Edge}
-use Rattle.deny_krates.specs.Graph.{arc_cmp, kept_cmp}
-use Rattle.deny_krates.specs.Packages.{package_cmp}
-use Rattle.deny_krates.specs.declared.document.Package.{Package}
-use Rattle.deny_krates.specs.declared.graph.Arc.{Arc}
+use Rattle.deny_krates.specs.Direct.{arc_cmp}
+use Rattle.deny_krates.specs.Graph.{kept_cmp}
+use Rattle.deny_krates.specs.Packages.{rank_cmp}
+use Rattle.deny_krates.specs.declared.direct.Arc.{Arc}
 use Rattle.deny_krates.specs.declared.graph.Kept.{Kept}
+use Rattle.deny_krates.specs.declared.graph.Rank.{Rank}
 
 pub then_first : (r s : Ordering) → ordering_then r s ≡ Equal → r ≡ Equal
 then_first Less s e = cc e
@@ -35,45 +36,47 @@ source_cmp-exact None (Some b) e = cc
 source_cmp-exact (Some a) None e = cc
 source_cmp-exact (Some a) (Some b) e = ap (λ x. Some x) (text_cmp-exact a b e)
 
-package_from : List ℕ → List ℕ → Option (List ℕ) → List ℕ → Package
-package_from name version source id = record { name = name; version = version; source = source; id = id }
+rank_from : List ℕ → List ℕ → Option (List ℕ) → List ℕ → Rank
+rank_from name version source id = record { name = name; version = version; source = source; id = id }
 
-package_from-is : (p : Package) → package_from p.name p.version p.source p.id ≡ p
-unfolding package_from
-package_from-is p = refl
+rank_from-is : (r : Rank) → rank_from r.name r.version r.source r.id ≡ r
+unfolding rank_from
+rank_from-is r = refl
 
-pub package_cmp-exact : IsAntisymmetric package_cmp
-package_cmp-exact a b e =
+pub rank_cmp-exact : IsAntisymmetric rank_cmp
+rank_cmp-exact a b e =
     let after_name = then_second (slice_cmp nat_cmp a.name b.name) _ e in
     let after_version = then_second (slice_cmp nat_cmp a.version b.version) _ after_name in
     let name : a.name ≡ b.name = text_cmp-exact a.name b.name (then_first _ _ e) in
     let version : a.version ≡ b.version = text_cmp-exact a.version b.version (then_first _ _ after_name) in
     let source : a.source ≡ b.source = source_cmp-exact a.source b.source (then_first _ _ after_version) in
     let id : a.id ≡ b.id = text_cmp-exact a.id b.id (then_second (option_cmp (slice_cmp nat_cmp) a.source b.source) (slice_cmp nat_cmp a.id b.id) after_version) in
-    cc (package_from-is a, package_from-is b)
+    cc (rank_from-is a, rank_from-is b)
 
-pub package_cmp-total : IsTotalOrder package_cmp
-package_cmp-total =
-    then_total (on_total (λ (p : Package). p.name) nat_list_cmp_total)
-    (then_total (on_total (λ (p : Package). p.version) nat_list_cmp_total)
-    (then_total (on_total (λ (p : Package). p.source) (options_total nat_list_cmp_total))
-    (on_total (λ (p : Package). p.id) nat_list_cmp_total)))
+pub rank_cmp-total : IsTotalOrder rank_cmp
+rank_cmp-total =
+    then_total (on_total (λ (r : Rank). r.name) nat_list_cmp_total)
+    (then_total (on_total (λ (r : Rank). r.version) nat_list_cmp_total)
+    (then_total (on_total (λ (r : Rank). r.source) (options_total nat_list_cmp_total))
+    (on_total (λ (r : Rank). r.id) nat_list_cmp_total)))
 
-kept_from : Package → ℕ → Kept
-kept_from listed node = record { listed = listed; node = node }
+kept_from : Rank → ℕ → ℕ → Kept
+kept_from rank owner node = record { rank = rank; owner = owner; node = node }
 
-kept_from-is : (k : Kept) → kept_from k.listed k.node ≡ k
+kept_from-is : (k : Kept) → kept_from k.rank k.owner k.node ≡ k
 unfolding kept_from
 kept_from-is k = refl
 
 pub kept_cmp-exact : IsAntisymmetric kept_cmp
 kept_cmp-exact a b e =
-    let listed : a.listed ≡ b.listed = package_cmp-exact a.listed b.listed (then_first _ _ e) in
-    let node : a.node ≡ b.node = nat_cmp-IsAntisymmetric a.node b.node (then_second (package_cmp a.listed b.listed) (nat_cmp a.node b.node) e) in
+    let after_rank = then_second (rank_cmp a.rank b.rank) _ e in
+    let rank : a.rank ≡ b.rank = rank_cmp-exact a.rank b.rank (then_first _ _ e) in
+    let owner : a.owner ≡ b.owner = nat_cmp-IsAntisymmetric a.owner b.owner (then_first _ _ after_rank) in
+    let node : a.node ≡ b.node = nat_cmp-IsAntisymmetric a.node b.node (then_second (nat_cmp a.owner b.owner) (nat_cmp a.node b.node) after_rank) in
     cc (kept_from-is a, kept_from-is b)
 
 pub kept_cmp-total : IsTotalOrder kept_cmp
-kept_cmp-total = then_total (on_total (λ (k : Kept). k.listed) package_cmp-total) (on_total (λ (k : Kept). k.node) nat_cmp_total)
+kept_cmp-total = then_total (on_total (λ (k : Kept). k.rank) rank_cmp-total) (then_total (on_total (λ (k : Kept). k.owner) nat_cmp_total) (on_total (λ (k : Kept). k.node) nat_cmp_total))
 
 arc_from : ℕ → List ℕ → DepKind → ℕ → Arc
 arc_from child id kind parent = record { child = child; id = id; kind = kind; parent = parent }

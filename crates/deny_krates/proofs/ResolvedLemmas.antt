@@ -9,14 +9,14 @@ use Rattle.std.proofs.lemmas.List.Elements.{Contains-append_cases, Contains-appe
 use Rattle.std.proofs.lemmas.Slice.Eq.{bytes_eq-Decides}
 use Rattle.deny_base.specs.declared.edge.DepKind.{DepKind}
 use Rattle.deny_model.specs.Text.{same_text}
-use Rattle.deny_krates.specs.Checked.{Numbering, Resolved, distinct, distinct_after, known, links_of, links_to, node_ids, node_numbers, number_in, number_or, package_ids, package_numbers, resolved, resolved_by, row_of, version_reads}
+use Rattle.deny_krates.specs.Checked.{Numbering, Resolved, distinct, distinct_after, known, links_of, links_to, node_ids, node_numbers, number_in, number_or, package_ids, package_numbers, packages_read, resolved, resolved_by, row_of}
 use Rattle.deny_krates.specs.Numbered.{IsResolved}
 use Rattle.deny_krates.specs.Reach.{Reaches, from_start, by_link, links_at}
 use Rattle.deny_krates.specs.Read.{IsReached, is_member, by_need, Needs}
-use Rattle.deny_krates.specs.Reading.{◌>>=◌, each, each_passes}
+use Rattle.deny_krates.specs.Reading.{◌>>=◌, each}
 use Rattle.deny_krates.specs.declared.checked.Link.{Link}
 use Rattle.deny_krates.specs.declared.checked.Row.{Row}
-use Rattle.deny_krates.specs.declared.document.Dependency.{Dependency}
+use Rattle.deny_krates.specs.declared.document.Need.{Need}
 use Rattle.deny_krates.specs.declared.document.Document.{Document}
 use Rattle.deny_krates.specs.declared.document.Node.{Node}
 use Rattle.deny_krates.specs.declared.document.Package.{Package}
@@ -38,14 +38,14 @@ each_zip {A} {B} read (x ∷ xs) ys is =
     subst (λ (zs : List B). AllZip (λ x y. read x ≡ Ok y) (x ∷ xs) zs) (ok_is (first.0 ∷ second.0) ys second.2) (first.1, each_zip read xs second.0 second.1)
 
 -- what a document without fault resolves to
-pub resolved_is : (doc : Document) (r : Resolved) → resolved doc ≡ Ok r → IsResolved doc r.starts r.rows × (each_passes version_reads doc.packages ≡ Ok tt) × (r.document ≡ doc)
+pub resolved_is : (doc : Document) (r : Resolved) → resolved doc ≡ Ok r → IsResolved doc r.starts r.rows × (packages_read doc.packages ≡ Ok tt) × (r.document ≡ doc)
 unfolding resolved resolved_by
 resolved_is doc r is =
     let one = bound (distinct (package_ids doc)) _ r is in
     let two = bound (distinct (node_ids doc)) _ r one.2 in
     let three = bound (each (known (package_numbers doc) (node_numbers doc)) doc.members) _ r two.2 in
     let four = bound (each (row_of (package_numbers doc) (node_numbers doc)) doc.nodes) _ r three.2 in
-    let five = bound (each_passes version_reads doc.packages) _ r four.2 in
+    let five = bound (packages_read doc.packages) _ r four.2 in
     let same = ok_is _ r five.2 in (
       record {
         packages = one.1;
@@ -139,13 +139,13 @@ owner_is packages nodes node r is =
 abbrev link_with : ℕ → DepKind → Link
 link_with node kind = record { node = node; kind = kind }
 
-pub record LinkIs (nodes : Numbering) (deps : List Dependency) (l : Link) : Type 0 where
-  pub dep : Dependency
+pub record LinkIs (nodes : Numbering) (deps : List Need) (l : Link) : Type 0 where
+  pub dep : Need
   pub stands : Contains deps dep
   pub of : Contains dep.kinds l.kind
   pub at : nodes dep.pkg ≡ Some l.node
 
-link_sound : (packages nodes : Numbering) (deps : List Dependency) (links : List Link) (l : Link) → links_of packages nodes deps ≡ Ok links → Contains links l → LinkIs nodes deps l
+link_sound : (packages nodes : Numbering) (deps : List Need) (links : List Link) (l : Link) → links_of packages nodes deps ≡ Ok links → Contains links l → LinkIs nodes deps l
 unfolding links_of
 link_sound packages nodes [] links l is stands = absurd (none-some l (there [] l (subst (λ (ls : List Link). Contains ls l) (sym (ok_is [] links is)) stands)).1)
 link_sound packages nodes (dep ∷ deps) links l is stands =
@@ -174,7 +174,7 @@ pub record IsLinked (nodes : Numbering) (links : List Link) (pkg : List ℕ) (ki
   pub of : link.kind ≡ kind
   pub at : nodes pkg ≡ Some link.node
 
-link_whole : (packages nodes : Numbering) (deps : List Dependency) (links : List Link) (dep : Dependency) (kind : DepKind) → links_of packages nodes deps ≡ Ok links → Contains deps dep → Contains dep.kinds kind → IsLinked nodes links dep.pkg kind
+link_whole : (packages nodes : Numbering) (deps : List Need) (links : List Link) (dep : Need) (kind : DepKind) → links_of packages nodes deps ≡ Ok links → Contains deps dep → Contains dep.kinds kind → IsLinked nodes links dep.pkg kind
 unfolding links_of
 link_whole packages nodes [] links dep kind is stands of = absurd (none-some dep (there [] dep stands).1)
 link_whole packages nodes (first ∷ deps) links dep kind is stands of =
@@ -187,9 +187,9 @@ link_whole packages nodes (first ∷ deps) links dep kind is stands of =
         let same = some_is first dep at in
         record {
           link = link_with n kind;
-          stands = Contains-append_left (links_to n first.kinds) rest (link_with n kind) (contains_map (λ kind. link_with n kind) first.kinds kind (subst (λ (d : Dependency). Contains d.kinds kind) (sym same) of));
+          stands = Contains-append_left (links_to n first.kinds) rest (link_with n kind) (contains_map (λ kind. link_with n kind) first.kinds kind (subst (λ (d : Need). Contains d.kinds kind) (sym same) of));
           of = refl;
-          at = subst (λ (d : Dependency). nodes d.pkg ≡ Some n) same (knows packages nodes first.pkg n knows_it);
+          at = subst (λ (d : Need). nodes d.pkg ≡ Some n) same (knows packages nodes first.pkg n knows_it);
         }
     by_place rest in_rest n knows_it (suc k) at =
         let later = in_rest k at in
@@ -238,7 +238,7 @@ link_needs doc n r l is stands =
     let link = link_sound (package_numbers doc) (node_numbers doc) is.node.deps r.links l (owner_is (package_numbers doc) (node_numbers doc) is.node r is.reads).1 stands in (
       link.dep.pkg,
       number_is (node_ids doc) link.dep.pkg l.node link.at,
-      record { node = is.node; dep = link.dep; stands = from_there doc.nodes n is.node is.at; owner = refl; named = link.stands; is = refl; of = link.of },
+      record { node = is.node; need = link.dep; stands = from_there doc.nodes n is.node is.at; owner = refl; named = link.stands; is = refl; of = link.of },
     )
 
 -- a need of an id is a link of its node
@@ -248,11 +248,11 @@ need_links doc starts rows n id kind needed is at needs =
     let place = there doc.nodes needs.node needs.stands in
     let here : place.0 ≡ n = apart (node_ids doc) place.0 n id is.nodes (subst (λ (t : List ℕ). IsAt doc place.0 t) needs.owner (node_at doc place.0 needs.node place.1)) at in
     let row = row_of_node doc starts rows place.0 needs.node is place.1 in
-    let link = link_whole (package_numbers doc) (node_numbers doc) needs.node.deps row.0.links needs.dep kind (owner_is (package_numbers doc) (node_numbers doc) needs.node row.0 row.2).1 needs.named needs.of in (
+    let link = link_whole (package_numbers doc) (node_numbers doc) needs.node.deps row.0.links needs.need kind (owner_is (package_numbers doc) (node_numbers doc) needs.node row.0 row.2).1 needs.named needs.of in (
       link.link,
       subst (λ (m : ℕ). Contains (links_at rows m) link.link) here (subst (λ (ls : List Link). Contains ls link.link) (sym (links_of_row rows place.0 row.0 row.1)) link.stands),
       link.of,
-      subst (λ (t : List ℕ). IsAt doc link.link.node t) needs.is (number_is (node_ids doc) needs.dep.pkg link.link.node link.at),
+      subst (λ (t : List ℕ). IsAt doc link.link.node t) needs.is (number_is (node_ids doc) needs.need.pkg link.link.node link.at),
     )
 
 -- numbers are reached as ids are

@@ -1,19 +1,25 @@
 -- The faults of metadata, in their order, and the numbers of its nodes where it has none.
-use Rattle.std.specs.Prelude.{◌++◌, ℕ, List, [], ◌∷◌, Option, Some, None, Result, Ok, Err, if◌then◌else◌, map}
+use Rattle.std.specs.Prelude.{◌++◌, ℕ, List, [], ◌∷◌, Option, Some, None, Result, Ok, Err, ◌==◌, if◌then◌else◌, map}
+use Rattle.std.specs.Result.{result_ok}
 use Rattle.std.specs.List.{list_any, position_from}
 use Rattle.deny_base.specs.declared.edge.DepKind.{DepKind}
-use Rattle.semver.specs.Parse.{version_parts}
+use Rattle.semver.specs.Parse.{req_of, version_parts}
 use Rattle.deny_model.specs.Text.{same_text}
 use Rattle.deny_krates.specs.Document.{value_at, document_of}
 use Rattle.deny_krates.specs.Reading.{◌>>=◌, each, each_passes}
+use Rattle.deny_krates.specs.Source.{source_of}
+use Rattle.deny_krates.specs.Versions.{rust_version_of}
 use Rattle.deny_krates.specs.declared.checked.Link.{Link}
 use Rattle.deny_krates.specs.declared.checked.Row.{Row}
-use Rattle.deny_krates.specs.declared.document.Dependency.{Dependency}
+use Rattle.deny_krates.specs.declared.checked.Rule.{Rule}
+use Rattle.deny_krates.specs.declared.checked.Rule.TheVariants.{Versions, Requirements, Sources, ManifestPaths}
+use Rattle.deny_krates.specs.declared.document.Declaration.{Declaration}
 use Rattle.deny_krates.specs.declared.document.Document.{Document}
+use Rattle.deny_krates.specs.declared.document.Need.{Need}
 use Rattle.deny_krates.specs.declared.document.Node.{Node}
 use Rattle.deny_krates.specs.declared.document.Package.{Package}
 use Rattle.deny_krates.specs.declared.fault.MetadataFault.{MetadataFault}
-use Rattle.deny_krates.specs.declared.fault.MetadataFault.TheVariants.{DuplicateId, DanglingId, Version}
+use Rattle.deny_krates.specs.declared.fault.MetadataFault.TheVariants.{DuplicateId, DanglingId, Version, Requirement, Source, ManifestPath}
 
 abbrev pub package_ids : Document → List (List ℕ)
 package_ids doc = map (λ p. p.id) doc.packages
@@ -59,7 +65,7 @@ abbrev pub links_to : ℕ → List DepKind → List Link
 links_to node kinds = map (λ kind. record { node = node; kind = kind }) kinds
 
 -- the links of these dependencies
-unfoldable pub links_of : Numbering → Numbering → List Dependency → Result (List Link) MetadataFault
+unfoldable pub links_of : Numbering → Numbering → List Need → Result (List Link) MetadataFault
 links_of packages nodes [] = Ok []
 links_of packages nodes (dep ∷ deps) = do
   node ← known packages nodes dep.pkg
@@ -73,13 +79,32 @@ row_of packages nodes node = do
   links ← links_of packages nodes node.deps
   Ok (record { owner = owner; links = links })
 
--- the fault of a version that is none
-unfoldable pub version_or : {A E : Type 0} → List ℕ → Result A E → Result (Unit {0}) MetadataFault
-version_or id (Ok parts) = Ok tt
-version_or id (Err e) = Err (Version id)
+-- what has to read, or this fault
+unfoldable pub read_or : {A : Type 0} → MetadataFault → Option A → Result (Unit {0}) MetadataFault
+read_or fault None = Err fault
+read_or fault (Some x) = Ok tt
+
+-- what need not stand, but has to read where it does
+unfoldable pub optional_reads : {A B : Type 0} → MetadataFault → (A → Option B) → Option A → Result (Unit {0}) MetadataFault
+optional_reads fault read None = Ok tt
+optional_reads fault read (Some x) = read_or fault (read x)
 
 unfoldable pub version_reads : Package → Result (Unit {0}) MetadataFault
-version_reads p = version_or p.id (version_parts p.version)
+version_reads p = do
+  _ ← read_or (Version p.id) (result_ok (version_parts p.version))
+  optional_reads (Version p.id) rust_version_of p.rust_version
+
+unfoldable pub requirement_reads : List ℕ → Declaration → Result (Unit {0}) MetadataFault
+requirement_reads id d = read_or (Requirement id) (result_ok (req_of d.req))
+
+unfoldable pub requirements_read : Package → Result (Unit {0}) MetadataFault
+requirements_read p = each_passes (requirement_reads p.id) p.dependencies
+
+unfoldable pub source_reads : Package → Result (Unit {0}) MetadataFault
+source_reads p = optional_reads (Source p.id) source_of p.source
+
+unfoldable pub manifest_path_reads : Package → Result (Unit {0}) MetadataFault
+manifest_path_reads p = if list_any (λ byte. byte == 47) p.manifest_path then Ok tt else Err (ManifestPath p.id)
 
 -- a document without fault, the numbers of its members' nodes, and what each node resolves to
 pub record Resolved : Type 0 where
@@ -87,12 +112,26 @@ pub record Resolved : Type 0 where
   pub starts : List ℕ
   pub rows : List Row
 
--- members and nodes resolve by these numbers, and each version reads
+unfoldable pub keeps : Rule → Package → Result (Unit {0}) MetadataFault
+keeps Versions = version_reads
+keeps Requirements = requirements_read
+keeps Sources = source_reads
+keeps ManifestPaths = manifest_path_reads
+
+-- all packages keep one rule before the next is looked at
+unfoldable pub packages_read : List Package → Result (Unit {0}) MetadataFault
+packages_read packages = do
+  _ ← each_passes (keeps Versions) packages
+  _ ← each_passes (keeps Requirements) packages
+  _ ← each_passes (keeps Sources) packages
+  each_passes (keeps ManifestPaths) packages
+
+-- members and nodes resolve by these numbers, and what the packages write reads
 unfoldable pub resolved_by : Numbering → Numbering → Document → Result Resolved MetadataFault
 resolved_by packages nodes doc = do
   starts ← each (known packages nodes) doc.members
   rows ← each (row_of packages nodes) doc.nodes
-  _ ← each_passes version_reads doc.packages
+  _ ← packages_read doc.packages
   Ok (record { document = doc; starts = starts; rows = rows })
 
 unfoldable pub resolved : Document → Result Resolved MetadataFault

@@ -1,9 +1,9 @@
 -- Readers of a value's members and elements. A path is a member's place in the text: names and
 -- places joined by dots, the root's the empty text.
-use Rattle.std.specs.Prelude.{ℕ, ◌+◌, ◌++◌, List, [], ◌∷◌, Option, Some, None, Result, Ok, Err, is_some, option_and_then, if◌then◌else◌}
+use Rattle.std.specs.Prelude.{ℕ, ◌+◌, ◌++◌, List, [], ◌∷◌, Bool, Option, Some, None, Result, Ok, Err, is_some, option_and_then, if◌then◌else◌}
 use Rattle.std.specs.Fmt.{decimal}
 use Rattle.serde_json.specs.Data.{Data, Items, no_items, item}
-use Rattle.serde_json.specs.Find.{get, as_null, as_str, as_array, as_object}
+use Rattle.serde_json.specs.Find.{get, as_null, as_bool, as_str, as_array, as_object}
 use Rattle.deny_krates.specs.Member.{name_of}
 use Rattle.deny_krates.specs.Reading.{◌>>=◌}
 use Rattle.deny_krates.specs.declared.fault.MetadataFault.{MetadataFault}
@@ -46,6 +46,14 @@ optional_text_of path (Some d) = do
 unfoldable pub optional_text : List ℕ → Member → Data → Result (Option (List ℕ)) MetadataFault
 optional_text path m d = optional_text_of (path_to path m) (given (get (name_of m) d))
 
+-- a flag that may be missing or null, with what it is then
+unfoldable pub flag_given : List ℕ → Bool → Option Data → Result Bool MetadataFault
+flag_given path default None = Ok default
+flag_given path default (Some d) = required path (as_bool d)
+
+unfoldable pub flag_member : List ℕ → Member → Bool → Data → Result Bool MetadataFault
+flag_member path m default d = flag_given (path_to path m) default (given (get (name_of m) d))
+
 unfoldable pub array_member : List ℕ → Member → Data → Result Items MetadataFault
 array_member path m d = required (path_to path m) (option_and_then as_array (get (name_of m) d))
 
@@ -77,3 +85,18 @@ unfoldable pub each_optional : {A : Type 0} → (List ℕ → Data → Result A 
 each_optional read path m d = do
   items ← optional_items (path_to path m) (given (get (name_of m) d))
   elements_from read (path_to path m) 0 items
+
+unfoldable pub texts_at : List ℕ → Data → Result (List (List ℕ)) MetadataFault
+texts_at path d = do
+  items ← required path (as_array d)
+  elements_from text_at path 0 items
+
+unfoldable pub texts_given : List ℕ → Option Data → Result (Option (List (List ℕ))) MetadataFault
+texts_given path None = Ok None
+texts_given path (Some d) = do
+  texts ← texts_at path d
+  Ok (Some texts)
+
+-- an array of texts that may be missing or null
+unfoldable pub optional_texts : List ℕ → Member → Data → Result (Option (List (List ℕ))) MetadataFault
+optional_texts path m d = texts_given (path_to path m) (given (get (name_of m) d))

@@ -1,11 +1,15 @@
 pub mod Checked
 pub mod Crates
 pub mod Dependents
+pub mod Direct
 pub mod Document
 pub mod Elements
+pub mod Filtered
 pub mod Graph
+pub mod Ids
 pub mod Index
 pub mod Kept
+pub mod Listed
 pub mod Member
 pub mod Numbered
 pub mod Orderly
@@ -13,3 +17,5 @@ pub mod Packages
 pub mod Reach
 pub mod Read
 pub mod Reading
+pub mod Source
+pub mod Versions

@@ -1,29 +1,28 @@
 -- The graph of metadata.
-use Rattle.std.specs.Prelude.{◌≡◌, ℕ, ◌+◌, List, [], ◌∷◌, Some, Ok, Contains, slice_get}
+use Rattle.std.specs.Prelude.{◌≡◌, ℕ, List, Some, Ok, Contains, slice_get}
 use Rattle.std.specs.Ordering.{nat_cmp}
-use Rattle.std.specs.Result.{result_unwrap_or}
-use Rattle.semver.specs.Parse.{Parts, version_parts}
 use Rattle.deny_base.specs.Ascending.{Lists}
 use Rattle.deny_base.specs.Edge.{edge_cmp}
 use Rattle.deny_base.specs.declared.edge.DepKind.{DepKind}
 use Rattle.deny_base.specs.declared.edge.Edge.{Edge}
-use Rattle.deny_model.specs.Graph.{Crate, Graph}
+use Rattle.deny_model.specs.Graph.{Graph}
 use Rattle.deny_krates.specs.Checked.{Resolved, checked}
+use Rattle.deny_krates.specs.Listed.{AreCratesAt}
 use Rattle.deny_krates.specs.Packages.{package_cmp}
-use Rattle.deny_krates.specs.declared.document.Dependency.{Dependency}
 use Rattle.deny_krates.specs.declared.document.Document.{Document}
+use Rattle.deny_krates.specs.declared.document.Need.{Need}
 use Rattle.deny_krates.specs.declared.document.Node.{Node}
 use Rattle.deny_krates.specs.declared.document.Package.{Package}
 
 -- the packages that an id leads to directly: those that a node of it names, with the kind
 pub record Needs (doc : Document) (id : List ℕ) (kind : DepKind) (needed : List ℕ) : Type 0 where
   pub node : Node
-  pub dep : Dependency
+  pub need : Need
   pub stands : Contains doc.nodes node
   pub owner : node.id ≡ id
-  pub named : Contains node.deps dep
-  pub is : dep.pkg ≡ needed
-  pub of : Contains dep.kinds kind
+  pub named : Contains node.deps need
+  pub is : need.pkg ≡ needed
+  pub of : Contains need.kinds kind
 
 -- a chain of dependencies of any kind leads from a member
 pub data IsReached (doc : Document) : List ℕ → Type 0 where
@@ -34,17 +33,6 @@ pub data IsReached (doc : Document) : List ℕ → Type 0 where
 pub record IsCrate (doc : Document) (p : Package) : Type 0 where
   pub stands : Contains doc.packages p
   pub reached : IsReached doc p.id
-
--- what a version's text reads to; in metadata without fault each reads
-abbrev pub parts_read : List ℕ → Parts
-parts_read text = result_unwrap_or (version_parts text) (0, 0, 0, [], [])
-
-abbrev pub crate_at : ℕ → Package → Crate
-crate_at place p = record { place = place; name = p.name; version = parts_read p.version; id = p.id }
-
-abbrev pub crates_at : ℕ → List Package → List Crate
-crates_at place [] = []
-crates_at place (p ∷ ps) = crate_at place p ∷ crates_at (place + 1) ps
 
 -- the crate at this place is a member
 pub record IsMember (doc : Document) (crates : List Package) (place : ℕ) : Type 0 where
@@ -65,7 +53,8 @@ pub record IsEdge (doc : Document) (crates : List Package) (e : Edge) : Type 0 w
 pub record IsGraph (doc : Document) (g : Graph) : Type 0 where
   pub packages : List Package
   pub kept : Lists package_cmp (IsCrate doc) packages
-  pub crates : g.crates ≡ crates_at 0 packages
+  pub root : g.root ≡ doc.workspace_root
+  pub crates : AreCratesAt doc 0 packages g.crates
   pub members : Lists nat_cmp (IsMember doc packages) g.members
   pub edges : Lists edge_cmp (IsEdge doc packages) g.edges
 

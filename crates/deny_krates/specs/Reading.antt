@@ -1,7 +1,7 @@
 -- Readers: a value, or the first fault.
 use Rattle.std.specs.Prelude.{◌≡◌, List, [], ◌∷◌, Result, Ok, Err}
 use Rattle.deny_krates.specs.declared.fault.MetadataFault.{MetadataFault}
-use Rattle.deny_krates.specs.declared.fault.MetadataFault.TheVariants.{Json, NoResolve, Shape, DuplicateId, DanglingId, Version, Memory}
+use Rattle.deny_krates.specs.declared.fault.MetadataFault.TheVariants.{Json, Float, NoResolve, Shape, DuplicateId, DanglingId, Version, Requirement, Source, ManifestPath, Memory}
 
 -- the second step, if the first gave a value
 infixl 10 ◌>>=◌
@@ -12,11 +12,15 @@ Err e >>= f = Err e
 -- a fault comes only where the reader answers it; want of memory may come anywhere
 abbrev pub Fails : {A : Type 0} → MetadataFault → Result A MetadataFault → Type 0
 Fails Json read = read ≡ Err Json
+Fails Float read = read ≡ Err Float
 Fails NoResolve read = read ≡ Err NoResolve
 Fails (Shape path) read = read ≡ Err (Shape path)
 Fails (DuplicateId id) read = read ≡ Err (DuplicateId id)
 Fails (DanglingId id) read = read ≡ Err (DanglingId id)
 Fails (Version id) read = read ≡ Err (Version id)
+Fails (Requirement id) read = read ≡ Err (Requirement id)
+Fails (Source id) read = read ≡ Err (Source id)
+Fails (ManifestPath id) read = read ≡ Err (ManifestPath id)
 Fails Memory read = Unit {0}
 
 -- an answer is the reader's

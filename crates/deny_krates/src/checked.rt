@@ -1,15 +1,15 @@
-ghost use Rattle.std.specs.Prelude.{◌≡◌, ◌≤◌, ◌<◌, ◌^◌, ◌++◌, ℕ, List, Ok, Err, Some, OnOk, IsTrue, MatchResult, length, map};
-ghost use Rattle.semver.specs.Parse.{memory_error};
-ghost use Rattle.deny_krates.specs.Checked.{Resolved, resolved, resolved_by, number_or, number_in, known, links_to, links_of, row_of, version_or, version_reads, package_ids, node_ids, distinct};
+ghost use Rattle.std.specs.Prelude.{◌≡◌, ◌≤◌, ◌<◌, ◌^◌, ◌++◌, ℕ, List, Ok, Err, Some, OnOk, MatchResult, length, map};
+ghost use Rattle.deny_krates.specs.Checked.{Resolved, resolved, resolved_by, number_or, number_in, known, links_to, links_of, row_of, version_reads, requirement_reads, source_reads, manifest_path_reads, keeps, packages_read, package_ids, node_ids, distinct};
 ghost use Rattle.deny_krates.specs.Index.{IsIndex, place_in};
 ghost use Rattle.deny_krates.specs.Reading.{Fails, Gives, each, each_passes};
 
-use crate::document::{Dependency, Document, Node, Package};
+use crate::document::{Declaration, Document, Need, Node, Package};
 use crate::fault::MetadataFault;
 use crate::index::index_of;
+use crate::source::source_in;
+use crate::versions::{requirement_in, rust_version_in, version_in};
 use deny_base::{DepKind, List, NoMemory, Text};
-use semver::{Error, Version};
-use std::alloc::{AllocError, Global};
+use std::alloc::Global;
 use std::collections::BTreeMap;
 
 /// A dependency of a kind on a node, by the node's number.
@@ -82,11 +82,7 @@ fn push_links(links: &mut List<Link>, node: u32, kinds: &[DepKind]) -> Result<()
 }
 
 // The links of dependencies, in their order.
-fn links_in(
-    alloc: Global,
-    indexes: &Indexes,
-    deps: &[Dependency],
-) -> Result<List<Link>, MetadataFault>
+fn links_in(alloc: Global, indexes: &Indexes, deps: &[Need]) -> Result<List<Link>, MetadataFault>
     ensures { Gives result (links_of (place_in indexes.now.packages) (place_in indexes.now.nodes) deps.now) }
 {
     let mut links = List::new(alloc);
@@ -118,37 +114,128 @@ fn rows(alloc: Global, indexes: &Indexes, nodes: &[Node]) -> Result<List<Row>, M
     Ok(rows)
 }
 
-// Whether the error is a failed allocation.
-fn is_memory(error: &Error) -> bool
-    ensures { error.now ≡ memory_error → IsTrue result }
-{
-    *error == Error::from(AllocError)
+// What the texts of packages have to be, in the order in which they are checked.
+#[derive(Debug, Clone, Copy, PartialEq, Eq)]
+pub enum Rule {
+    Versions,
+    Requirements,
+    Sources,
+    ManifestPaths,
 }
 
-// That a package's version is one.
-#[tactic(auto, unfolding(crate::specs::Checked::version_reads, crate::specs::Checked::version_or))]
+// The fault of a version that is none.
+fn no_version(listed: &Package) -> Result<(), MetadataFault>
+    ensures { Gives result (Err (MetadataFault.Version listed.now.id)) }
+{
+    Err(MetadataFault::Version(listed.id.clone()?))
+}
+
+// That a package's version is one, and its version of Rust where it writes one.
+#[tactic(auto, unfolding(crate::specs::Checked::version_reads, crate::specs::Checked::read_or, crate::specs::Checked::optional_reads))]
 fn check_version(alloc: Global, listed: &Package) -> Result<(), MetadataFault>
     ensures { Gives result (version_reads listed.now) }
 {
-    match Version::parse(alloc, listed.version.as_str()) {
-        Ok(_) => Ok(()),
-        Err(error) => {
-            if is_memory(&error) {
-                return Err(MetadataFault::Memory);
-            }
-            Err(MetadataFault::Version(listed.id.clone()?))
-        }
+    if version_in(alloc, listed.version.as_str())?.is_none() {
+        return no_version(listed);
+    }
+    match &listed.rust_version {
+        None => Ok(()),
+        Some(text) => match rust_version_in(text.as_str()) {
+            None => no_version(listed),
+            Some(_) => Ok(()),
+        },
     }
 }
 
-// That each package's version is one.
-fn check_versions(alloc: Global, packages: &[Package]) -> Result<(), MetadataFault>
-    ensures { Gives result (each_passes version_reads packages.now) }
+// That a declaration's requirement is one.
+#[tactic(auto, unfolding(crate::specs::Checked::requirement_reads, crate::specs::Checked::read_or))]
+fn check_requirement(
+    alloc: Global,
+    id: &Text,
+    declaration: &Declaration,
+) -> Result<(), MetadataFault>
+    ensures { Gives result (requirement_reads id.now declaration.now) }
 {
-    for listed in packages {
-        check_version(alloc, listed)?;
+    match requirement_in(alloc, declaration.req.as_str())? {
+        None => Err(MetadataFault::Requirement(id.clone()?)),
+        Some(_) => Ok(()),
+    }
+}
+
+// That each requirement that the package of this id declares is one.
+fn check_requirements(
+    alloc: Global,
+    id: &Text,
+    declarations: &[Declaration],
+) -> Result<(), MetadataFault>
+    ensures { Gives result (each_passes (requirement_reads id.now) declarations.now) }
+{
+    for declaration in declarations {
+        check_requirement(alloc, id, declaration)?;
     }
     Ok(())
+}
+
+// That a package's source is one, where it writes one.
+#[tactic(auto, unfolding(crate::specs::Checked::source_reads, crate::specs::Checked::read_or, crate::specs::Checked::optional_reads))]
+fn check_source(alloc: Global, listed: &Package) -> Result<(), MetadataFault>
+    ensures { Gives result (source_reads listed.now) }
+{
+    match &listed.source {
+        None => Ok(()),
+        Some(text) => match source_in(alloc, text.as_str())? {
+            None => Err(MetadataFault::Source(listed.id.clone()?)),
+            Some(_) => Ok(()),
+        },
+    }
+}
+
+// That a package's manifest stands in a folder.
+#[tactic(auto, unfolding(crate::specs::Checked::manifest_path_reads))]
+fn check_manifest_path(listed: &Package) -> Result<(), MetadataFault>
+    ensures { Gives result (manifest_path_reads listed.now) }
+{
+    if listed.manifest_path.as_str().as_bytes().contains(&b'/') {
+        Ok(())
+    } else {
+        Err(MetadataFault::ManifestPath(listed.id.clone()?))
+    }
+}
+
+// That a package is as the rule wants it.
+#[tactic(auto, unfolding(crate::specs::Checked::keeps, crate::specs::Checked::requirements_read))]
+fn check(alloc: Global, listed: &Package, rule: Rule) -> Result<(), MetadataFault>
+    ensures { Gives result (keeps rule listed.now) }
+{
+    match rule {
+        Rule::Versions => check_version(alloc, listed),
+        Rule::Requirements => {
+            check_requirements(alloc, &listed.id, listed.dependencies.as_slice())
+        }
+        Rule::Sources => check_source(alloc, listed),
+        Rule::ManifestPaths => check_manifest_path(listed),
+    }
+}
+
+// That each package is as the rule wants it.
+fn check_each(alloc: Global, packages: &[Package], rule: Rule) -> Result<(), MetadataFault>
+    ensures { Gives result (each_passes (keeps rule) packages.now) }
+{
+    for listed in packages {
+        check(alloc, listed, rule)?;
+    }
+    Ok(())
+}
+
+// That what the packages write reads.
+#[tactic(auto, unfolding(crate::specs::Checked::packages_read))]
+fn check_packages(alloc: Global, packages: &[Package]) -> Result<(), MetadataFault>
+    ensures { Gives result (packages_read packages.now) }
+{
+    check_each(alloc, packages, Rule::Versions)?;
+    check_each(alloc, packages, Rule::Requirements)?;
+    check_each(alloc, packages, Rule::Sources)?;
+    check_each(alloc, packages, Rule::ManifestPaths)
 }
 
 /// The numbers of the nodes of the members, and what each node resolves to.
@@ -169,7 +256,7 @@ fn resolve_by(
 {
     let starts = numbers(alloc, indexes, document.members.as_slice())?;
     let rows = rows(alloc, indexes, document.nodes.as_slice())?;
-    check_versions(alloc, document.packages.as_slice())?;
+    check_packages(alloc, document.packages.as_slice())?;
     Ok(Resolution { starts, rows })
 }
 

@@ -3,7 +3,7 @@ ghost use Rattle.std.specs.Fmt.{decimal};
 ghost use Rattle.serde_json.specs.Data.{Data};
 ghost use Rattle.serde_json.specs.Find.{get};
 ghost use Rattle.serde_json.specs.View.{view, items_view};
-ghost use Rattle.deny_krates.specs.Elements.{part_of, path_to, given, object_at, text_at, text_member, optional_text, optional_text_of, array_member, object_member, elements_from, each_member, each_optional, required};
+ghost use Rattle.deny_krates.specs.Elements.{part_of, path_to, given, object_at, text_at, text_member, optional_text, optional_text_of, optional_texts, texts_at, flag_member, array_member, object_member, elements_from, each_member, each_optional, required};
 ghost use Rattle.deny_krates.specs.Member.{name_of};
 ghost use Rattle.deny_krates.specs.Reading.{Fails, Gives};
 ghost use Rattle.deny_krates.specs.declared.fault.MetadataFault.{MetadataFault};
@@ -129,6 +129,26 @@ pub fn optional_text_in(
     }
 }
 
+/// A flag that may be missing or null, with what it is then.
+#[tactic(auto, unfolding(crate::specs::Elements::flag_member, crate::specs::Elements::flag_given, crate::specs::Elements::required))]
+pub fn flag_in(
+    alloc: Global,
+    path: &str,
+    object: &Value,
+    member: Member,
+    default: bool,
+) -> Result<bool, MetadataFault>
+    ensures { Gives result (flag_member path.now member default (view object.now)) }
+{
+    match given_member(object, member) {
+        Some(value) => match value.as_bool() {
+            Some(flag) => Ok(flag),
+            None => refuse_member(alloc, path, member),
+        },
+        None => Ok(default),
+    }
+}
+
 /// The elements of an array that must stand.
 #[tactic(auto, unfolding(crate::specs::Elements::array_member, crate::specs::Elements::required))]
 pub fn array_of<'v>(
@@ -217,5 +237,35 @@ pub fn each_given<T: Element>(
                 elements(alloc, at.as_str(), items.as_slice())
             }
         },
+    }
+}
+
+/// The texts of the array at `path`, or the first fault in it.
+#[tactic(auto, unfolding(crate::specs::Elements::texts_at, crate::specs::Elements::required))]
+pub fn texts(alloc: Global, path: &str, value: &Value) -> Result<List<Text>, MetadataFault>
+    ensures { Gives result (texts_at path.now (view value.now)) }
+{
+    match value.as_array() {
+        Some(items) => elements(alloc, path, items.as_slice()),
+        None => refuse(alloc, path),
+    }
+}
+
+/// The texts of an array that may be missing or null, or the first fault in it.
+#[tactic(auto, unfolding(crate::specs::Elements::optional_texts, crate::specs::Elements::texts_given))]
+pub fn optional_texts_in(
+    alloc: Global,
+    path: &str,
+    object: &Value,
+    member: Member,
+) -> Result<Option<List<Text>>, MetadataFault>
+    ensures { Gives result (optional_texts path.now member (view object.now)) }
+{
+    match given_member(object, member) {
+        Some(value) => {
+            let at = path_of(alloc, path, member.name())?;
+            Ok(Some(texts(alloc, at.as_str(), value)?))
+        }
+        None => Ok(None),
     }
 }

@@ -6,6 +6,8 @@ use std::alloc::{AllocError, AllocFailed};
 pub enum MetadataFault {
     /// The text is no JSON.
     Json,
+    /// A number is not whole, or not within 64 bits.
+    Float,
     /// The root is an object whose `resolve` is missing or null.
     NoResolve,
     /// A member is missing or of another kind; its path in dots, with the empty text for the root.
@@ -14,8 +16,14 @@ pub enum MetadataFault {
     DuplicateId(Text),
     /// A member, a node or a dependency without a package, or a member or a dependency without a node.
     DanglingId(Text),
-    /// A version that is none, by its package's id.
+    /// A version, or a version of Rust, that is none, by its package's id.
     Version(Text),
+    /// A requirement that is none, by the id of the package that declares it.
+    Requirement(Text),
+    /// A source that is none, by its package's id.
+    Source(Text),
+    /// The path of a manifest without `/`, by its package's id.
+    ManifestPath(Text),
     /// An allocation failed. It can come at any point.
     Memory,
 }

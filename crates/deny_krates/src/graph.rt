@@ -1,29 +1,34 @@
-ghost use Rattle.std.specs.Prelude.{◌≡◌, ◌≢◌, ◌<◌, ◌≤◌, ◌^◌, ℕ, List, Some, IfOk, OnOk, All, AllPairs, Contains, [], ◌++◌, Ok, fold, replicate, length, map, slice_get, slice_index_or};
+ghost use Rattle.std.specs.Prelude.{◌≡◌, ◌≢◌, ◌<◌, ◌≤◌, ◌^◌, ℕ, List, IfOk, OnOk, All, AllPairs, Contains, ◌++◌, length, map, slice_get, slice_index_or};
 ghost use Rattle.std.specs.Cmp.{IsTotalOrder};
-ghost use Rattle.std.specs.List.{AllZip};
 ghost use Rattle.std.specs.FinMap.{IsAntisymmetric};
-ghost use Rattle.deny_krates.specs.declared.graph.Arc.{Arc};
-ghost use Rattle.deny_krates.specs.declared.graph.Kept.{Kept};
 ghost use Rattle.std.specs.Ordering.{nat_cmp};
-ghost use Rattle.semver.specs.Identifiers.{parts_of};
-ghost use Rattle.semver.specs.Parse.{version_parts};
 ghost use Rattle.deny_base.specs.Ascending.{Lists};
 ghost use Rattle.deny_base.specs.Edge.{edge_cmp};
-ghost use Rattle.deny_krates.specs.Graph.{kept_cmp, IsKeptNode, IsInverse, place_at, edge_to, edges_from, IsKrateOf, arc_of, arc_cmp, with_dependent, with_arc, is_last};
+ghost use Rattle.deny_krates.specs.Graph.{kept_cmp, IsKeptNode, IsInverse, place_at, edge_to, edges_from};
+ghost use Rattle.deny_krates.specs.Packages.{rank_of};
 ghost use Rattle.deny_krates.specs.Reach.{links_at};
+ghost use Rattle.deny_krates.specs.declared.graph.Kept.{Kept};
 
 use crate::checked::{Link, Row};
 use crate::document::Package;
-use crate::krate::{DirectDependent, Krate};
-use deny_base::{DepKind, Edge, Kid, List, NoMemory, Text, edge_order, put_in_order};
-use semver::Version;
+use deny_base::{Edge, List, NoMemory, Text, edge_order, put_in_order};
 use std::alloc::Global;
 
-/// A package that is a crate of the graph, with the number of its node. They are ordered as the
-/// crates are.
+/// What crates are ordered by: name, version text, source text (none first) and id.
+#[derive(Debug, PartialEq, Eq, PartialOrd, Ord, Drop)]
+pub struct Rank {
+    pub name: Text,
+    pub version: Text,
+    pub source: Option<Text>,
+    pub id: Text,
+}
+
+/// A package that is a crate of the graph: its rank, its number and the number of its node. They
+/// are ordered as the crates are.
 #[derive(Debug, PartialEq, Eq, PartialOrd, Ord, Drop)]
 pub struct Kept {
-    pub listed: Package,
+    pub rank: Rank,
+    pub owner: u32,
     pub node: u32,
 }
 
@@ -46,6 +51,17 @@ pub fn kept_of(
     Ok(kept)
 }
 
+fn rank_in(listed: &Package) -> Result<Rank, NoMemory>
+    ensures { IfOk result (λ rank. rank ≡ rank_of listed.now) }
+{
+    Ok(Rank {
+        name: listed.name.clone()?,
+        version: listed.version.clone()?,
+        source: listed.source.clone()?,
+        id: listed.id.clone()?,
+    })
+}
+
 fn gather(
     alloc: Global,
     packages: &[Package],
@@ -63,7 +79,8 @@ fn gather(
     for (node, row) in rows.iter().enumerate() {
         if marks[node] {
             kept.push(Kept {
-                listed: packages[row.owner as usize].clone()?,
+                rank: rank_in(&packages[row.owner as usize])?,
+                owner: row.owner,
                 node: node as u32,
             })?;
         }
@@ -71,8 +88,7 @@ fn gather(
     Ok(kept)
 }
 
-/// The order of kept packages is by name, version text, source text (none first), id and node, it
-/// is total, and only equal ones tie.
+// The order of kept packages is by rank, number and node, it is total, and only equal ones tie.
 fn kept_order()
     ensures fields { (a b : Kept) → ⟦<Kept as Ord>⟧.cmp a b ≡ kept_cmp a b }
     ensures total { IsTotalOrder kept_cmp }
@@ -193,130 +209,4 @@ fn push_edges(
         })?;
     }
     Ok(())
-}
-
-/// The crates of kept packages, whose versions were read before.
-pub fn krates_of(alloc: Global, kept: &[Kept]) -> Result<List<Krate>, NoMemory>
-    ensures { IfOk result (AllZip IsKrateOf kept.now) }
-{
-    let mut krates = List::new(alloc);
-    for each in kept {
-        krates.push(krate_of(alloc, &each.listed)?)?;
-    }
-    Ok(krates)
-}
-
-fn krate_of(alloc: Global, listed: &Package) -> Result<Krate, NoMemory>
-    ensures name { IfOk result (λ krate. krate.name ≡ listed.now.name) }
-    ensures id { IfOk result (λ krate. krate.id.0 ≡ listed.now.id) }
-    ensures version { IfOk result (λ krate. version_parts listed.now.version ≡ Ok (parts_of krate.version)) }
-    ensures source { IfOk result (λ krate. krate.source_text ≡ listed.now.source) }
-{
-    match Version::parse(alloc, listed.version.as_str()) {
-        Ok(version) => Ok(Krate {
-            name: listed.name.clone()?,
-            id: Kid(listed.id.clone()?),
-            version,
-            source_text: listed.source.clone()?,
-        }),
-        Err(_) => Err(NoMemory),
-    }
-}
-
-/// An edge from its child's side, with the id of its parent.
-#[derive(Debug, PartialEq, Eq, PartialOrd, Ord, Drop)]
-pub struct Arc {
-    pub child: u32,
-    pub id: Text,
-    pub kind: DepKind,
-    pub parent: u32,
-}
-
-/// The edges from their children's sides, ascending by child, parent's id and kind.
-pub fn arcs_of(alloc: Global, krates: &[Krate], edges: &[Edge]) -> Result<List<Arc>, NoMemory>
-    requires { All (λ e. e.parent < length krates.now) edges.now }
-    ensures { IfOk result (λ arcs. Lists arc_cmp (Contains (map (arc_of krates.now) edges.now)) arcs) }
-{
-    let mut arcs = all_arcs(alloc, krates, edges)?;
-    arc_order();
-    put_in_order(&mut arcs)?;
-    Ok(arcs)
-}
-
-fn all_arcs(alloc: Global, krates: &[Krate], edges: &[Edge]) -> Result<List<Arc>, NoMemory>
-    requires { All (λ e. e.parent < length krates.now) edges.now }
-    ensures { IfOk result (λ arcs. arcs ≡ map (arc_of krates.now) edges.now) }
-{
-    let mut arcs = List::new(alloc);
-    for edge in edges {
-        arcs.push(Arc {
-            child: edge.child,
-            id: krates[edge.parent as usize].id.0.clone()?,
-            kind: edge.kind,
-            parent: edge.parent,
-        })?;
-    }
-    Ok(arcs)
-}
-
-/// The order of arcs is by child, id, kind and parent, it is total, and only equal arcs tie.
-fn arc_order()
-    ensures fields { (a b : Arc) → ⟦<Arc as Ord>⟧.cmp a b ≡ arc_cmp a b }
-    ensures total { IsTotalOrder arc_cmp }
-    ensures equal { IsAntisymmetric arc_cmp }
-{
-    edge_order();
-}
-
-/// For each crate its direct dependents, of arcs in their order.
-pub fn direct_of(
-    alloc: Global,
-    arcs: &[Arc],
-    crates: usize,
-) -> Result<List<List<DirectDependent>>, NoMemory>
-    requires { All (λ a. a.child < crates) arcs.now }
-    ensures long { IfOk result (λ direct. length direct ≡ crates) }
-    ensures rows { IfOk result (λ direct. (child : ℕ) → child < crates → slice_index_or direct child [] ≡ fold (with_arc child) [] arcs.now) }
-{
-    let mut direct = empty_rows(alloc, crates)?;
-    for arc in arcs {
-        let row = &mut direct[arc.child as usize];
-        add(
-            row,
-            DirectDependent {
-                place: arc.parent,
-                kind: arc.kind,
-            },
-        )?;
-    }
-    Ok(List::from_vec(direct))
-}
-
-fn empty_rows(alloc: Global, crates: usize) -> Result<Vec<List<DirectDependent>>, NoMemory>
-    ensures { IfOk result (λ rows. rows.items ≡ replicate crates []) }
-{
-    let mut rows = Vec::new(alloc);
-    'rows: while rows.as_slice().len() < crates {
-        rows.push(List::new(alloc))?;
-    }
-    Ok(rows)
-}
-
-// Puts a dependent at the end, if it is not there already.
-fn add(row: &mut List<DirectDependent>, direct: DirectDependent) -> Result<(), NoMemory>
-    ensures { OnOk result (row.new ≡ with_dependent row.old direct) }
-{
-    if ends_with(row.as_slice(), direct.place) {
-        return Ok(());
-    }
-    row.push(direct)
-}
-
-fn ends_with(row: &[DirectDependent], place: u32) -> bool
-    ensures { result ≡ is_last row.now place }
-{
-    match row.last() {
-        Some(last) => last.place == place,
-        None => false,
-    }
 }

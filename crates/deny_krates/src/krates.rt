@@ -1,23 +1,31 @@
-ghost use Rattle.std.specs.Prelude.{Bool, List, ℕ, Ok, ◌≡◌, ◌≤◌, ◌<◌, ◌^◌, ◌-◌, ◌≢◌, true, false, length, take, drop, filter, IfOk, IfErr};
+ghost use Rattle.std.specs.Prelude.{Bool, List, ℕ, Ok, Some, None, ◌↔◌, IsTrue, All, Contains, MatchOption, option_copied, option_map, ◌≡◌, ◌≤◌, ◌<◌, ◌^◌, ◌-◌, ◌≢◌, true, false, length, take, drop, filter, IfOk, IfErr};
 ghost use Rattle.std.specs.Cmp.Lexicographic.{slice_cmp};
-ghost use Rattle.std.specs.List.Sorted.{IsPartitionPoint, IsSortedByKey};
+ghost use Rattle.std.specs.List.Sorted.{IsPartitionPoint, IsSortedByKey, IsStrictlySortedBy};
 ghost use Rattle.std.specs.Ordering.{nat_cmp, is_lt, is_le};
 ghost use Rattle.deny_model.specs.Groups.{has_name};
-ghost use Rattle.deny_krates.specs.Crates.{crates_from, graph_of};
+ghost use Rattle.deny_krates.specs.Crates.{crate_view, crates_from, graph_of};
 ghost use Rattle.deny_krates.specs.Numbered.{IsNumbered, IsResolved};
 ghost use Rattle.deny_krates.specs.Orderly.{IsOrderly};
 ghost use Rattle.deny_krates.specs.Checked.{Resolved, checked, resolved};
 ghost use Rattle.deny_krates.specs.Read.{IsGraph, IsGraphOf};
 ghost use Rattle.deny_krates.specs.Reading.{Fails};
-ghost use Rattle.deny_krates.specs.Dependents.{AreDirectDependents};
+ghost use Rattle.deny_krates.specs.Dependents.{AreDirectDependencies, AreDirectDependents};
+ghost use Rattle.deny_krates.specs.Filtered.{AreMarks};
+ghost use Rattle.deny_krates.specs.Ids.{crate_of};
+ghost use Rattle.deny_base.specs.Edge.{edge_cmp};
+ghost use Rattle.deny_model.specs.Graph.{Graph};
 
 use crate::checked::{Row, resolve};
+use crate::crates::krates_of;
+use crate::direct::{dependencies_of, dependents_of};
 use crate::document::{Document, document_in, value_of};
 use crate::fault::MetadataFault;
-use crate::graph::{Kept, arcs_of, direct_of, edges_of, kept_of, krates_of, members_of, places_in};
+use crate::filtered::ways;
+use crate::graph::{Kept, edges_of, kept_of, members_of, places_in};
+use crate::ids::{Entry, ids_of, place_of};
 use crate::krate::{DirectDependent, Krate};
 use crate::reach::reach;
-use deny_base::{Edge, List, NoMemory};
+use deny_base::{DepKind, Edge, Kid, List, NoMemory, Text, edge_order};
 use std::alloc::Global;
 use std::marker::Model;
 use std::ops::Range;
@@ -27,23 +35,32 @@ use std::ops::Range;
 /// its number in that order.
 #[derive(Drop)]
 pub struct Krates {
+    root: Text,
     krates: List<Krate>,
     members: List<u32>,
     edges: List<Edge>,
-    direct: List<List<DirectDependent>>,
+    dependents: List<List<DirectDependent>>,
+    dependencies: List<List<DirectDependent>>,
+    ids: List<Entry>,
 }
 
 impl Model for Krates {
+    ghost use Rattle.std.specs.Coded.{codes, coded_ℕ, coded_list};
+    ghost use Rattle.std.specs.Cmp.Lexicographic.{slice_cmp};
+    ghost use Rattle.std.specs.FinMap as finite;
+    ghost use Rattle.std.specs.Ordering.{nat_cmp};
     ghost use Rattle.deny_model.specs.Graph.{Graph};
 
     ghost Value = { Graph };
 
+    ghost coded = { Prim.hlevel (codes, finite.code {R = slice_cmp nat_cmp} (coded_list coded_ℕ) (coded_list (coded_list coded_ℕ))) };
+
     ghost use Rattle.deny_krates.specs.Crates.{graph_of};
     ghost use Rattle.deny_krates.specs.Kept.{IsKept};
 
-    ghost view = { λ k. graph_of k.krates k.members k.edges };
+    ghost view = { λ k. graph_of k.root k.krates k.members k.edges };
 
-    ghost invariant = { λ k. IsKept k.krates k.members k.edges k.direct };
+    ghost invariant = { λ k. IsKept k.root k.krates k.members k.edges k.dependents k.dependencies k.ids };
 }
 
 impl Krates {
@@ -96,12 +113,81 @@ impl Krates {
         self.members.as_slice()
     }
 
+    /// The folder of the workspace.
+    pub fn workspace_root(&self) -> &str
+        ensures { result.now ≡ self.now.root }
+    {
+        self.root.as_str()
+    }
+
     /// The crates with a dependency on the crate at `place`, by id, each with its least kind.
     pub fn direct_dependents(&self, place: u32) -> &[DirectDependent]
         requires { place < length self.now.crates }
         ensures { AreDirectDependents self.now place result.now }
     {
-        self.direct.as_slice()[place as usize].as_slice()
+        self.dependents.as_slice()[place as usize].as_slice()
+    }
+
+    /// The crates on which the crate at `place` has a dependency, by id, each with its least kind.
+    pub fn direct_dependencies(&self, place: u32) -> &[DirectDependent]
+        requires { place < length self.now.crates }
+        ensures { AreDirectDependencies self.now place result.now }
+    {
+        self.dependencies.as_slice()[place as usize].as_slice()
+    }
+
+    /// Whether the crate at `parent` has a dependency of this kind on the crate at `child`.
+    pub fn has_edge(&self, parent: u32, child: u32, kind: DepKind) -> bool
+        requires parent { parent < length self.now.crates }
+        requires child { child < length self.now.crates }
+        ensures { IsTrue result ↔ Contains self.now.edges (record { parent = parent; child = child; kind = kind }) }
+    {
+        has(
+            self.edges.as_slice(),
+            &Edge {
+                parent,
+                child,
+                kind,
+            },
+        )
+    }
+
+    /// The place of the crate of an id.
+    pub fn nid_for_kid(&self, kid: &Kid) -> Option<u32>
+        ensures { result ≡ option_map (λ c. c.place) (crate_of self.now kid.now.0) }
+    {
+        place_of(self.ids.as_slice(), kid.0.as_str())
+    }
+
+    /// The crate of an id.
+    pub fn node_for_kid(&self, kid: &Kid) -> Option<&Krate>
+        ensures { MatchOption result (crate_of self.now kid.now.0 ≡ None) (λ k. (place : ℕ) × (crate_of self.now kid.now.0 ≡ Some (crate_view place k.now))) }
+    {
+        let place = place_of(self.ids.as_slice(), kid.0.as_str())?;
+        self.krates.as_slice().get(place as usize)
+    }
+
+    /// The enabled features of the crate of an id, ascending.
+    pub fn get_enabled_features(&self, kid: &Kid) -> Option<&[Text]>
+        ensures { option_copied result ≡ option_map (λ c. c.enabled) (crate_of self.now kid.now.0) }
+    {
+        let krate = self.node_for_kid(kid)?;
+        Some(krate.enabled.as_slice())
+    }
+
+    /// Marks for the crates by their places: whether a member reaches a crate by dependencies of
+    /// other kinds than `kind`. A member reaches itself.
+    pub fn krates_filtered(&self, alloc: Global, kind: DepKind) -> Result<Vec<bool>, NoMemory>
+        ensures { IfOk result (λ marks. AreMarks kind self.now marks.items) }
+    {
+        let marks = filtered(
+            alloc,
+            self.members.as_slice(),
+            self.edges.as_slice(),
+            self.krates.len(),
+            kind,
+        )?;
+        Ok(marks.vec)
     }
 }
 
@@ -156,30 +242,69 @@ fn join(
     let places = places_in(alloc, kept, rows.len())?;
     let members = members_of(alloc, starts, places.as_slice())?;
     let edges = edges_of(alloc, kept, rows, places.as_slice())?;
-    let krates = krates_of(alloc, kept)?;
-    finish(alloc, krates, members, edges)
+    let root = document.workspace_root.clone()?;
+    let krates = krates_of(
+        alloc,
+        document.packages.as_slice(),
+        document.nodes.as_slice(),
+        kept,
+    )?;
+    finish(alloc, root, krates, members, edges)
 }
 
-// A graph with the direct dependents of its crates.
+// A graph with what is kept of its crates' neighbours and ids.
 fn finish(
     alloc: Global,
+    root: Text,
     krates: List<Krate>,
     members: List<u32>,
     edges: List<Edge>,
 ) -> Result<Krates, NoMemory>
     requires few { length krates < 2 ^ 28 }
     requires names { IsSortedByKey (λ k. k.name) (slice_cmp nat_cmp) krates }
-    requires orderly { IsOrderly (graph_of krates members edges) }
-    ensures { IfOk result (λ g. g ≡ graph_of krates members edges) }
+    requires orderly { IsOrderly (graph_of root krates members edges) }
+    requires ascending { IsStrictlySortedBy edge_cmp edges }
+    ensures { IfOk result (λ g. g ≡ graph_of root krates members edges) }
 {
-    let arcs = arcs_of(alloc, krates.as_slice(), edges.as_slice())?;
-    let direct = direct_of(alloc, arcs.as_slice(), krates.len())?;
+    let dependents = dependents_of(alloc, krates.as_slice(), edges.as_slice())?;
+    let dependencies = dependencies_of(alloc, krates.as_slice(), edges.as_slice())?;
+    let ids = ids_of(alloc, krates.as_slice())?;
     Ok(Krates {
+        root,
         krates,
         members,
         edges,
-        direct,
+        dependents,
+        dependencies,
+        ids,
     })
+}
+
+// Whether a list that ascends holds an edge.
+fn has(edges: &[Edge], edge: &Edge) -> bool
+    requires { IsStrictlySortedBy edge_cmp edges.now }
+    ensures { IsTrue result ↔ Contains edges.now edge.now }
+{
+    edge_order();
+    edges.binary_search(edge).is_ok()
+}
+
+// Marks for the crates that a member reaches by edges of other kinds.
+fn filtered(
+    alloc: Global,
+    members: &[u32],
+    edges: &[Edge],
+    crates: usize,
+    kind: DepKind,
+) -> Result<List<bool>, NoMemory>
+    requires few { crates < 2 ^ 28 }
+    requires members { All (λ place. place < crates) members.now }
+    requires parents { All (λ e. e.parent < crates) edges.now }
+    requires children { All (λ e. e.child < crates) edges.now }
+    ensures { IfOk result (λ marks. (g : Graph) → g.members ≡ members.now → g.edges ≡ edges.now → length g.crates ≡ crates → AreMarks kind g marks) }
+{
+    let rows = ways(alloc, edges, crates, kind)?;
+    reach(alloc, rows.as_slice(), members)
 }
 
 // The places of the crates of a name, in a list that is in order of names.

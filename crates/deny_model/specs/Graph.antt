@@ -1,9 +1,43 @@
 -- A dependency graph: crates in order, the members among them, and the edges between them.
-use Rattle.std.specs.Prelude.{ℕ, ◌&&◌, ◌==◌, ◌++◌, Bool, List, filter, codes}
+use Rattle.std.specs.Prelude.{ℕ, ◌&&◌, ◌==◌, ◌++◌, Bool, List, Option, filter, codes}
 use Rattle.std.specs.List.{list_any}
 use Rattle.semver.specs.Identifiers.{parts_text}
-use Rattle.semver.specs.Parse.{Parts}
+use Rattle.semver.specs.Parse.{Held, Parts}
+use Rattle.deny_base.specs.TextMap.{TextFinMap}
+use Rattle.deny_base.specs.declared.edge.DepKind.{DepKind}
 use Rattle.deny_base.specs.declared.edge.Edge.{Edge}
+
+-- the part of a repository that a git source asks for
+pub data GitSpec : Type 0 where
+  Any : GitSpec
+  Branch : GitSpec
+  Tag : GitSpec
+  Rev : GitSpec
+
+-- where a crate comes from; an address is the text of its URL
+pub data Source : Type 0 where
+  -- the registry crates.io, by its sparse index or not
+  CratesIo : Bool → Source
+  Registry : List ℕ → Source
+  Sparse : List ℕ → Source
+  -- an address, and what is asked for, by its name
+  Git : List ℕ → GitSpec → Option (List ℕ) → Source
+
+-- a target of a crate, as its library or its build script
+pub record Target : Type 0 where
+  pub kind : List (List ℕ)
+  pub src_path : List ℕ
+
+-- a dependency as the crate's manifest declares it
+pub record Dependency : Type 0 where
+  pub name : List ℕ
+  pub req : List Held
+  pub kind : DepKind
+  pub rename : Option (List ℕ)
+  pub target : Option (List ℕ)
+  pub path : Option (List ℕ)
+  pub features : List (List ℕ)
+  pub uses_default_features : Bool
 
 -- a crate; its place is its number in graph order
 pub record Crate : Type 0 where
@@ -11,9 +45,24 @@ pub record Crate : Type 0 where
   pub name : List ℕ
   pub version : Parts
   pub id : List ℕ
+  -- none for a crate of this workspace or of a folder
+  pub source : Option Source
+  pub source_text : Option (List ℕ)
+  pub license : Option (List ℕ)
+  pub manifest_path : List ℕ
+  -- the registries that it may be published to; all, where it does not say
+  pub publish : Option (List (List ℕ))
+  pub rust_version : Option Parts
+  -- what each feature enables
+  pub features : TextFinMap (List (List ℕ))
+  pub targets : List Target
+  pub deps : List Dependency
+  -- the enabled features, ascending
+  pub enabled : List (List ℕ)
 
--- members are named by their places
+-- members are named by their places; the root is the folder of the workspace
 pub record Graph : Type 0 where
+  pub root : List ℕ
   pub crates : List Crate
   pub members : List ℕ
   pub edges : List Edge
@@ -29,3 +78,7 @@ leads parent child e = (e.parent == parent) && (e.child == child)
 -- the crates with an edge to the crate at this place
 unfoldable pub dependents : Graph → ℕ → List Crate
 dependents g child = filter (λ parent. list_any (leads parent.place child) g.edges) g.crates
+
+-- the crates to which an edge leads from the crate at this place
+unfoldable pub dependencies : Graph → ℕ → List Crate
+dependencies g parent = filter (λ child. list_any (leads parent child.place) g.edges) g.crates

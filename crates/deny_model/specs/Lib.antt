@@ -1,3 +1,6 @@
+pub mod Counting
+pub mod Crates
+pub mod Facts
 pub mod Graph
 pub mod Groups
 pub mod Keys

@@ -14,6 +14,7 @@ use Rattle.deny_base.specs.declared.code.Code.TheVariants.{Banned, Duplicate}
 use Rattle.deny_base.specs.declared.key.Key.{Key}
 use Rattle.deny_base.specs.declared.level.LintLevel.{LintLevel}
 use Rattle.deny_base.specs.declared.level.LintLevel.TheVariants.{Allow}
+use Rattle.deny_model.specs.Facts.{Facts, AreFacts}
 use Rattle.deny_model.specs.Graph.{Crate, Graph}
 use Rattle.deny_model.specs.Groups.{reduced}
 use Rattle.deny_model.specs.Keys.{banned_key, duplicate_key}
@@ -39,24 +40,28 @@ abbrev pub duplicate_level : Policy → List Crate → LintLevel
 duplicate_level p crates = p.multiple_versions
 
 -- two or more crates of a name stand side by side, at a level that minds it
-pub record IsDuplicateOf (p : Policy) (g : Graph) (name : List ℕ) (key : Key) : Type 0 where
+pub record IsDuplicateOf (p : Policy) (g : Graph) (facts : Facts) (name : List ℕ) (key : Key) : Type 0 where
   pub crates : List Crate
-  pub listed : Lists version_cmp (Contains (reduced g name)) crates
+  pub listed : Lists version_cmp (Contains (reduced g facts name)) crates
   pub several : 2 ≤ length crates
   pub minded : duplicate_level p crates ≢ Allow
   pub is : key ≡ duplicate_key (map (λ c. c.place) crates)
 
-abbrev pub IsDuplicate : Policy → Graph → Key → Type 0
-IsDuplicate p g key = (c : Crate) × Contains g.crates c × IsDuplicateOf p g c.name key
+abbrev pub IsDuplicate : Policy → Graph → Facts → Key → Type 0
+IsDuplicate p g facts key = (c : Crate) × Contains g.crates c × IsDuplicateOf p g facts c.name key
 
--- what stands, code by code
-abbrev pub StandsAs : DiagnosticCode → Policy → Graph → Key → Type 0
-StandsAs (Bans Banned) p g key = Contains (banned_keys p g) key
-StandsAs (Bans Duplicate) p g key = IsDuplicate p g key
+-- what stands, code by code; a ban looks at all crates of the graph, and nothing stands as a code
+-- whose rule is not there yet
+abbrev pub StandsAs : DiagnosticCode → Policy → Graph → Facts → Key → Type 0
+StandsAs (Bans Banned) p g facts key = Contains (banned_keys p g) key
+StandsAs (Bans Duplicate) p g facts key = IsDuplicate p g facts key
+StandsAs code p g facts key = ⊥
 
-abbrev pub Stands : Policy → Graph → Key → Type 0
-Stands p g key = StandsAs key.code p g key
+abbrev pub Stands : Policy → Graph → Facts → Key → Type 0
+Stands p g facts key = StandsAs key.code p g facts key
 
--- the keys of a report: what stands, ascending, each once
-abbrev pub AreKeys : Policy → Graph → List Key → Type 0
-AreKeys p g keys = Lists key_cmp (Stands p g) keys
+-- the keys of a report: what stands by the true facts, ascending, each once
+pub record AreKeys (p : Policy) (g : Graph) (keys : List Key) : Type 0 where
+  pub facts : Facts
+  pub true_facts : AreFacts g facts
+  pub listed : Lists key_cmp (Stands p g facts) keys

@@ -1,6 +1,7 @@
 ghost use Rattle.std.specs.Prelude.{◌≡◌, ℕ, List, Contains};
 ghost use Rattle.deny_base.specs.Ascending.{Lists};
 ghost use Rattle.deny_base.specs.declared.key.Key.{Key};
+ghost use Rattle.deny_model.specs.Facts.{Facts};
 ghost use Rattle.deny_model.specs.Graph.{Crate, Graph};
 ghost use Rattle.deny_model.specs.Groups.{reduced};
 ghost use Rattle.deny_model.specs.Policy.{Policy};
@@ -16,5 +17,7 @@ pub fn one_report()
 /// The crates of a name that may stand side by side have one order: by version, and by id where
 /// versions tie.
 pub fn one_group()
-    ensures { (g : Graph) → (name : List ℕ) → (xs ys : List Crate) → Lists version_cmp (Contains (reduced g name)) xs → Lists version_cmp (Contains (reduced g name)) ys → xs ≡ ys }
+    ensures { (g : Graph) → (facts : Facts) → (name : List ℕ) → (xs ys : List Crate)
+        → Lists version_cmp (Contains (reduced g facts name)) xs
+        → Lists version_cmp (Contains (reduced g facts name)) ys → xs ≡ ys }
 {}

@@ -1,35 +1,49 @@
-use Rattle.std.proofs.Common.{◌<◌, ◌∙◌, ap, sym, ℕ, List, [], length, map, subst}
-use Rattle.std.specs.Prelude.{All, Contains, fold}
-use Rattle.deny_base.specs.Ascending.{Lists}
+use Rattle.std.proofs.Common.{◌<◌, sym, List, length, subst}
+use Rattle.std.specs.Prelude.{All}
 use Rattle.deny_base.specs.declared.edge.Edge.{Edge}
-use Rattle.deny_krates.specs.Graph.{arc_cmp, arc_of, with_arc}
-use Rattle.deny_krates.specs.declared.graph.Arc.{Arc}
+use Rattle.deny_krates.specs.Direct.{AreApart, AreDependencies, AreDependents}
+use Rattle.deny_krates.specs.Ids.{AreIds}
 use Rattle.deny_krates.specs.declared.krate.Krate.{Krate}
-use Rattle.deny_krates.proofs.OrderlyLemmas.{children_inside, parents_inside, rows_kept}
+use Rattle.deny_krates.proofs.OrderlyLemmas.{apart_of, children_inside, parents_inside}
 use Rattle.deny_krates.proofs.krates.finish.Goals as goal
 
-pub arcs_of-requires : goal.arcs_of-requires
-arcs_of-requires c =
-    subst (λ (ks : List Krate). All (λ e. e.parent < length ks) c.as_slice-2.result.now) (sym c.as_slice.ensures)
-    (subst (λ (es : List Edge). All (λ e. e.parent < length c.args.krates) es) (sym c.as_slice-2.ensures) (parents_inside c.args.krates c.args.members c.args.edges c.requires.orderly))
+pub dependents_of-requires-clause-apart : goal.dependents_of-requires-clause-apart
+dependents_of-requires-clause-apart c = subst (λ (ks : List Krate). AreApart ks) (sym c.as_slice.ensures) (apart_of c.args.root c.args.krates c.args.members c.args.edges c.requires.orderly)
 
-pub direct_of-requires : goal.direct_of-requires
-direct_of-requires c =
-    let arcs = c.in_ok-arcs.arcs in
-    let lists = subst (λ (es : List Edge). Lists arc_cmp (Contains (map (arc_of c.args.krates) es)) arcs) c.as_slice-2.ensures
-    (subst (λ (ks : List Krate). Lists arc_cmp (Contains (map (arc_of ks) c.as_slice-2.result.now)) arcs) c.as_slice.ensures c.in_ok-arcs.ensures) in
-    subst (λ (xs : List Arc). All (λ a. a.child < c.len.result) xs) (sym c.as_slice-3.ensures)
-    (subst (λ (n : ℕ). All (λ a. a.child < n) arcs) (sym c.len.ensures) (children_inside c.args.krates c.args.members c.args.edges arcs c.requires.orderly lists))
+pub dependents_of-requires-clause-parents : goal.dependents_of-requires-clause-parents
+dependents_of-requires-clause-parents c =
+    subst (λ (ks : List Krate). All (λ e. e.parent < length ks) c.as_slice-2.result.now) (sym c.as_slice.ensures)
+    (subst (λ (es : List Edge). All (λ e. e.parent < length c.args.krates) es) (sym c.as_slice-2.ensures) (parents_inside c.args.root c.args.krates c.args.members c.args.edges c.requires.orderly))
+
+pub dependents_of-requires-clause-children : goal.dependents_of-requires-clause-children
+dependents_of-requires-clause-children c =
+    subst (λ (ks : List Krate). All (λ e. e.child < length ks) c.as_slice-2.result.now) (sym c.as_slice.ensures)
+    (subst (λ (es : List Edge). All (λ e. e.child < length c.args.krates) es) (sym c.as_slice-2.ensures) (children_inside c.args.root c.args.krates c.args.members c.args.edges c.requires.orderly))
+
+pub dependencies_of-requires-clause-apart : goal.dependencies_of-requires-clause-apart
+dependencies_of-requires-clause-apart c = subst (λ (ks : List Krate). AreApart ks) (sym c.as_slice-3.ensures) (apart_of c.args.root c.args.krates c.args.members c.args.edges c.requires.orderly)
+
+pub dependencies_of-requires-clause-parents : goal.dependencies_of-requires-clause-parents
+dependencies_of-requires-clause-parents c =
+    subst (λ (ks : List Krate). All (λ e. e.parent < length ks) c.as_slice-4.result.now) (sym c.as_slice-3.ensures)
+    (subst (λ (es : List Edge). All (λ e. e.parent < length c.args.krates) es) (sym c.as_slice-4.ensures) (parents_inside c.args.root c.args.krates c.args.members c.args.edges c.requires.orderly))
+
+pub dependencies_of-requires-clause-children : goal.dependencies_of-requires-clause-children
+dependencies_of-requires-clause-children c =
+    subst (λ (ks : List Krate). All (λ e. e.child < length ks) c.as_slice-4.result.now) (sym c.as_slice-3.ensures)
+    (subst (λ (es : List Edge). All (λ e. e.child < length c.args.krates) es) (sym c.as_slice-4.ensures) (children_inside c.args.root c.args.krates c.args.members c.args.edges c.requires.orderly))
 
 pub invariant_of-result : goal.invariant_of-result
-invariant_of-result c =
-    let arcs = c.in_ok-arcs.arcs in
-    let lists = subst (λ (es : List Edge). Lists arc_cmp (Contains (map (arc_of c.args.krates) es)) arcs) c.as_slice-2.ensures
-    (subst (λ (ks : List Krate). Lists arc_cmp (Contains (map (arc_of ks) c.as_slice-2.result.now)) arcs) c.as_slice.ensures c.in_ok-arcs.ensures) in
-    record {
-      few = c.requires.few;
-      names = c.requires.names;
-      orderly = c.requires.orderly;
-      rows = rows_kept c.args.krates c.args.members c.args.edges arcs c.in_ok-direct.direct c.requires.orderly lists (c.in_ok-direct.ensures.long ∙ c.len.ensures)
-          (λ child below. c.in_ok-direct.ensures.rows child (subst (λ (n : ℕ). child < n) (sym c.len.ensures) below) ∙ ap (λ (xs : List Arc). fold (with_arc child) [] xs) c.as_slice-3.ensures);
-    }
+invariant_of-result c = record {
+  few = c.requires.few;
+  names = c.requires.names;
+  orderly = c.requires.orderly;
+  ascending = c.requires.ascending;
+  dependent_rows =
+      subst (λ (ks : List Krate). AreDependents ks c.args.edges c.in_ok-dependents.dependents) c.as_slice.ensures
+      (subst (λ (es : List Edge). AreDependents c.as_slice.result.now es c.in_ok-dependents.dependents) c.as_slice-2.ensures c.in_ok-dependents.ensures) c.args.root c.args.members;
+  dependency_rows =
+      subst (λ (ks : List Krate). AreDependencies ks c.args.edges c.in_ok-dependencies.dependencies) c.as_slice-3.ensures
+      (subst (λ (es : List Edge). AreDependencies c.as_slice-3.result.now es c.in_ok-dependencies.dependencies) c.as_slice-4.ensures c.in_ok-dependencies.ensures) c.args.root c.args.members;
+  ids = subst (λ (ks : List Krate). AreIds ks c.in_ok-ids.ids) c.as_slice-5.ensures c.in_ok-ids.ensures;
+}

@@ -18,4 +18,4 @@ version_cmp-total : IsTotalOrder version_cmp
 version_cmp-total = then_total (on_total (λ (c : Crate). c.version) precedence-total) (on_total (λ (c : Crate). c.id) nat_list_cmp_total)
 
 pub returns : goal.returns
-returns c = λ g name xs ys these those. one_list version_cmp-total xs ys these those
+returns c = λ g facts name xs ys these those. one_list version_cmp-total xs ys these those

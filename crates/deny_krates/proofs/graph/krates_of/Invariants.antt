@@ -1,7 +1,0 @@
-use Rattle.std.proofs.Common.{take}
-use Rattle.std.specs.List.{AllZip}
-use Rattle.deny_krates.specs.Graph.{IsKrateOf}
-use Rattle.deny_krates.proofs.graph.krates_of.Given as goal
-
-abbrev pub invariant-loop-each : goal.invariant-loop-each
-invariant-loop-each l = AllZip IsKrateOf (take l.each-index l.kept) l.krates

@@ -1,0 +1,47 @@
+ghost use Rattle.std.specs.Prelude.{◌≡◌, ◌<◌, ◌≤◌, ◌^◌, ℕ, IfOk, All, [], length};
+ghost use Rattle.deny_krates.specs.Filtered.{AreWays};
+ghost use Rattle.deny_krates.specs.Reach.{links_at};
+
+use crate::checked::{Link, Row};
+use deny_base::{DepKind, Edge, List, NoMemory};
+use std::alloc::Global;
+
+/// For each crate, by its place, the links to the crates that it needs in another way than `kind`.
+pub fn ways(
+    alloc: Global,
+    edges: &[Edge],
+    crates: usize,
+    kind: DepKind,
+) -> Result<List<Row>, NoMemory>
+    requires few { crates < 2 ^ 28 }
+    requires parents { All (λ e. e.parent < crates) edges.now }
+    ensures { IfOk result (AreWays kind edges.now crates) }
+{
+    let mut rows = no_ways(alloc, crates)?;
+    for edge in edges {
+        if edge.kind != kind {
+            let row = &mut rows[edge.parent as usize];
+            row.links.push(Link {
+                node: edge.child,
+                kind: edge.kind,
+            })?;
+        }
+    }
+    Ok(List::from_vec(rows))
+}
+
+fn no_ways(alloc: Global, crates: usize) -> Result<Vec<Row>, NoMemory>
+    requires { crates < 2 ^ 28 }
+    ensures long { IfOk result (λ rows. length rows.items ≡ crates) }
+    ensures empty { IfOk result (λ rows. (place : ℕ) → links_at rows.items place ≡ []) }
+{
+    let mut rows = Vec::new(alloc);
+    'rows: while rows.as_slice().len() < crates {
+        let owner = rows.as_slice().len() as u32;
+        rows.push(Row {
+            owner,
+            links: List::new(alloc),
+        })?;
+    }
+    Ok(rows)
+}
