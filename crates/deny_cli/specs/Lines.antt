@@ -9,6 +9,8 @@ use Rattle.deny_base.specs.declared.check.Which.TheVariants.{Policy, Metadata, R
 use Rattle.deny_base.specs.declared.code.DiagnosticCode.{DiagnosticCode}
 use Rattle.deny_base.specs.declared.level.Severity.{Severity}
 use Rattle.deny_base.specs.declared.level.Severity.TheVariants as severity
+use Rattle.deny_krates.specs.declared.fault.MetadataFault.{MetadataFault}
+use Rattle.deny_krates.specs.declared.fault.MetadataFault.TheVariants.{Json, Float, NoResolve, Shape, DuplicateId, DanglingId, Version, Requirement, Source, ManifestPath, Memory as OutOfMemory}
 use Rattle.deny_gate.specs.declared.report.Finding.{Finding}
 use Rattle.deny_gate.specs.declared.report.GateError.TheVariants as gate
 use Rattle.deny_gate.specs.declared.report.Report.{Report}
@@ -16,7 +18,7 @@ use Rattle.deny_gate.specs.declared.report.Verdict.{Verdict}
 use Rattle.deny_gate.specs.declared.report.Verdict.TheVariants.{Pass, Fail}
 use Rattle.deny_cli.specs.Outcome.{bits_of}
 use Rattle.deny_cli.specs.declared.outcome.Outcome.{Outcome}
-use Rattle.deny_cli.specs.declared.outcome.Outcome.TheVariants.{Done, Usage, Read, Gate, Write, Memory}
+use Rattle.deny_cli.specs.declared.outcome.Outcome.TheVariants.{Done, Usage, Read, Long, Gate, Write, Memory}
 
 abbrev pub line : Data → List ℕ
 line value = compact_text value ++ 10 ∷ []
@@ -74,11 +76,44 @@ stop_word word = member (codes "stop") (string word) no_members
 abbrev pub stop_at_file : List ℕ → Which → Members
 stop_at_file word which = member (codes "file") (string (file_word which)) (stop_word word)
 
+-- the word of a fault of the metadata, and its text; want of memory is none, and never told so
+abbrev pub fault_word : MetadataFault → List ℕ
+fault_word Json = codes "json"
+fault_word Float = codes "float"
+fault_word NoResolve = codes "no-resolve"
+fault_word (Shape path) = codes "shape"
+fault_word (DuplicateId id) = codes "duplicate-id"
+fault_word (DanglingId id) = codes "dangling-id"
+fault_word (Version id) = codes "version"
+fault_word (Requirement id) = codes "requirement"
+fault_word (Source id) = codes "source"
+fault_word (ManifestPath id) = codes "manifest-path"
+fault_word OutOfMemory = codes "memory"
+
+abbrev pub fault_detail : MetadataFault → List ℕ
+fault_detail Json = []
+fault_detail Float = []
+fault_detail NoResolve = []
+fault_detail (Shape path) = path
+fault_detail (DuplicateId id) = id
+fault_detail (DanglingId id) = id
+fault_detail (Version id) = id
+fault_detail (Requirement id) = id
+fault_detail (Source id) = id
+fault_detail (ManifestPath id) = id
+fault_detail OutOfMemory = []
+
+abbrev pub fault_fields : MetadataFault → Members
+fault_fields fault =
+    member (codes "detail") (string (fault_detail fault)) (member (codes "fault") (string (fault_word fault)) (stop_word (codes "metadata")))
+
 abbrev pub stop_fields : Outcome → Members
 stop_fields (Done report) = no_members
 stop_fields (Usage at) = member (codes "at") (number (unsigned at)) (stop_word (codes "usage"))
 stop_fields (Read which) = stop_at_file (codes "read") which
+stop_fields (Long which) = stop_at_file (codes "long") which
 stop_fields (Gate (gate.NotBuilt which)) = stop_at_file (codes "not-built") which
+stop_fields (Gate (gate.Metadata fault)) = fault_fields fault
 stop_fields (Gate gate.Memory) = stop_word (codes "memory")
 stop_fields (Write report) = stop_word (codes "write")
 stop_fields Memory = stop_word (codes "memory")

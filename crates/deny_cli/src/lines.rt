@@ -1,11 +1,12 @@
 ghost use Rattle.std.specs.Prelude.{◌≡◌, IfOk, codes, false};
 ghost use Rattle.serde_json.specs.View.{view};
 ghost use Rattle.serde_json.specs.Written.{has_float};
-ghost use Rattle.deny_cli.specs.Lines.{severity_word, finding_value, verdict_value, line, finding_line, verdict_line, lines, file_word, tells, stop_at_file, stop_fields, stop_line, memory_line};
+ghost use Rattle.deny_cli.specs.Lines.{severity_word, finding_value, verdict_value, line, finding_line, verdict_line, lines, file_word, fault_word, fault_detail, fault_fields, tells, stop_at_file, stop_fields, stop_line, memory_line};
 
 use crate::outcome::{Outcome, bits};
 use deny_base::{NoMemory, Severity, Text, Which};
 use deny_gate::{Finding, GateError, Report, Verdict};
+use deny_krates::MetadataFault;
 use serde_json::{Value, json};
 use std::alloc::{AllocError, Global};
 
@@ -114,6 +115,57 @@ fn stop_at_file(alloc: Global, word: &str, which: Which) -> Result<Value, AllocE
     json!(in alloc; {"fields": {"file": file, "stop": word}, "type": "stop"})
 }
 
+/// The word of a fault of the metadata.
+fn fault_word(fault: &MetadataFault) -> &'static str
+    ensures { result.now ≡ fault_word fault.now }
+{
+    match fault {
+        MetadataFault::Json => "json",
+        MetadataFault::Float => "float",
+        MetadataFault::NoResolve => "no-resolve",
+        MetadataFault::Shape(_) => "shape",
+        MetadataFault::DuplicateId(_) => "duplicate-id",
+        MetadataFault::DanglingId(_) => "dangling-id",
+        MetadataFault::Version(_) => "version",
+        MetadataFault::Requirement(_) => "requirement",
+        MetadataFault::Source(_) => "source",
+        MetadataFault::ManifestPath(_) => "manifest-path",
+        MetadataFault::Memory => "memory",
+    }
+}
+
+/// The text of a fault of the metadata: the path of a member, an id, or nothing.
+fn fault_detail(fault: &MetadataFault) -> &str
+    ensures { result.now ≡ fault_detail fault.now }
+{
+    match fault {
+        MetadataFault::Json
+        | MetadataFault::Float
+        | MetadataFault::NoResolve
+        | MetadataFault::Memory => "",
+        MetadataFault::Shape(path) => path.as_str(),
+        MetadataFault::DuplicateId(id)
+        | MetadataFault::DanglingId(id)
+        | MetadataFault::Version(id)
+        | MetadataFault::Requirement(id)
+        | MetadataFault::Source(id)
+        | MetadataFault::ManifestPath(id) => id.as_str(),
+    }
+}
+
+/// A stop that a fault of the metadata is the cause of, as JSON.
+fn fault_value(alloc: Global, fault: &MetadataFault) -> Result<Value, AllocError>
+    ensures { IfOk result (λ value. view value
+        ≡ tells (codes "stop") (fault_fields fault.now)) }
+{
+    let detail = fault_detail(fault);
+    let word = fault_word(fault);
+    json!(in alloc; {
+        "fields": {"detail": detail, "fault": word, "stop": "metadata"},
+        "type": "stop",
+    })
+}
+
 /// Why a run stopped, as JSON. There is none of want of memory, which has a line of its own, and
 /// none of a run that is done.
 fn stop_value(alloc: Global, outcome: &Outcome) -> Result<Value, AllocError>
@@ -125,7 +177,9 @@ fn stop_value(alloc: Global, outcome: &Outcome) -> Result<Value, AllocError>
             json!(in alloc; {"fields": {"at": *at, "stop": "usage"}, "type": "stop"})
         }
         Outcome::Read(which) => stop_at_file(alloc, "read", *which),
+        Outcome::Long(which) => stop_at_file(alloc, "long", *which),
         Outcome::Gate(GateError::NotBuilt(which)) => stop_at_file(alloc, "not-built", *which),
+        Outcome::Gate(GateError::Metadata(fault)) => fault_value(alloc, fault),
         Outcome::Write(_) => json!(in alloc; {"fields": {"stop": "write"}, "type": "stop"}),
         Outcome::Done(_) | Outcome::Gate(GateError::Memory) | Outcome::Memory => Err(AllocError),
     }

@@ -14,6 +14,8 @@ pub enum Outcome {
     Usage(usize),
     /// Reading this text failed.
     Read(Which),
+    /// This text has 2^28 bytes or more.
+    Long(Which),
     /// The gate gave no report.
     Gate(GateError),
     /// The output took only the first bytes of this report's lines.
@@ -24,8 +26,8 @@ pub enum Outcome {
 
 impl Outcome {
     /// The status that a program ends with: the bits of the verdict where the run is done, and else
-    /// 16 for the words, 17 for reading, 23 for writing, 24 for memory, 25 for a text that is not
-    /// of the plain form.
+    /// 16 for the words, 17 for reading, 18 for a text that is too long, 21 for a fault of the
+    /// metadata, 23 for writing, 24 for memory, 25 for a policy that is not of the plain form.
     pub fn status(&self) -> u8
         ensures { result ≡ status_of self.now }
     {
@@ -33,6 +35,8 @@ impl Outcome {
             Outcome::Done(report) => bits(report.verdict),
             Outcome::Usage(_) => 16,
             Outcome::Read(_) => 17,
+            Outcome::Long(_) => 18,
+            Outcome::Gate(GateError::Metadata(_)) => 21,
             Outcome::Write(_) => 23,
             Outcome::Gate(GateError::Memory) | Outcome::Memory => 24,
             Outcome::Gate(GateError::NotBuilt(_)) => 25,

@@ -1,11 +1,11 @@
-ghost use Rattle.std.specs.Prelude.{◌≡◌, ◌<◌, ◌^◌, length, IfOk, IfErr, if◌then◌else◌};
+ghost use Rattle.std.specs.Prelude.{◌≡◌, IfOk, IfErr, if◌then◌else◌};
 ghost use Rattle.std.specs.List.{list_any};
 ghost use Rattle.deny_base.specs.Count.{Rose};
 ghost use Rattle.deny_base.specs.Disk.{IsLater};
 ghost use Rattle.deny_gate.specs.Report.{has_error};
-ghost use Rattle.deny_base.specs.declared.check.Which.{Which};
-ghost use Rattle.deny_cli.specs.Causes.{ComesBy, StopsBy, StopsAt, IsReportAt, IsReportOn, IsPlainRun, IsRefusedRun, IsReadable, end_stop, IsPolicyStop};
-ghost use Rattle.deny_cli.specs.Outcome.{IfDone, IsUsage, IsDoneOrMemory, IsNotBuiltOrMemory, status_of};
+ghost use Rattle.deny_cli.specs.Causes.{ComesBy, StopsBy, StopsAt, IsReportAt, IsReportOn, IsPlainRun, IsRefusedRun, IsReadable, end_stop};
+ghost use Rattle.deny_cli.specs.Outcome.{IfDone, IsUsage, IsDoneOrMemory, IsStopOrMemory, status_of};
+ghost use Rattle.deny_cli.specs.declared.outcome.Outcome.{Outcome};
 ghost use Rattle.deny_cli.specs.Outputs.{LeavesOut, LeavesErr, PutsLine, WritesReport};
 ghost use Rattle.deny_cli.specs.Words.{texts, IsAccepted};
 
@@ -13,36 +13,17 @@ use crate::lines::{lines, memory_line, stop_line};
 use crate::outcome::{Ended, Outcome};
 use crate::words::{Paths, read_words};
 use deny_base::{NoMemory, Out, OutFault, PackageFiles, ReadEnd, Which, read_whole};
-use deny_gate::{GateError, Inputs, Report, gate};
+use deny_gate::{Inputs, Report, gate};
 use std::alloc::Global;
 
-/// Why a text that was not read to its end stops a run. A long one is not of the plain form.
+/// Why a text that was not read to its end stops a run.
 fn end_stop(which: Which, end: ReadEnd) -> Outcome
     ensures { result ≡ end_stop which end }
 {
     match end {
         ReadEnd::Fault => Outcome::Read(which),
-        ReadEnd::Long => Outcome::Gate(GateError::NotBuilt(which)),
+        ReadEnd::Long => Outcome::Long(which),
         ReadEnd::Memory => Outcome::Memory,
-    }
-}
-
-/// Why long metadata stops a run: the policy is looked at first.
-fn long_metadata_stop<D: PackageFiles>(alloc: Global, policy: Vec<u8>, disk: &mut D) -> Outcome
-    requires { length policy.items < 2 ^ 28 }
-    ensures stop { IsPolicyStop policy.items result }
-    ensures later { IsLater (D.seen disk.old) (D.seen disk.new) }
-{
-    let inputs = Inputs {
-        policy,
-        metadata: Vec::new(alloc),
-    };
-    match gate(alloc, &inputs, disk) {
-        Err(GateError::NotBuilt(Which::Policy)) => Outcome::Gate(GateError::NotBuilt(
-            Which::Policy,
-        )),
-        Err(GateError::Memory) => Outcome::Gate(GateError::Memory),
-        _ => Outcome::Gate(GateError::NotBuilt(Which::Metadata)),
     }
 }
 
@@ -64,7 +45,6 @@ fn report_at<D: PackageFiles>(
     };
     let metadata = match read_whole(alloc, disk, paths.metadata) {
         Ok(metadata) => metadata,
-        Err(ReadEnd::Long) => return Err(long_metadata_stop(alloc, policy, disk)),
         Err(end) => return Err(end_stop(Which::Metadata, end)),
     };
     match gate(alloc, &Inputs { policy, metadata }, disk) {
@@ -144,8 +124,9 @@ fn tell<E: Out>(alloc: Global, outcome: &Outcome, err: &mut E)
 ///
 /// The two texts are read from `disk`. The lines of the report go to `out`, in one piece, and the
 /// one line that tells a stop to `err`; what a failing `err` makes of it changes nothing. The
-/// order of the causes is: words, reading the policy, reading the metadata, their forms (the
-/// policy first), the output. Want of memory can come at any point but the first.
+/// order of the causes is: words, reading the policy, its length, reading the metadata, its length,
+/// what the gate refuses in them (in the policy first), the output. Want of memory can come at any
+/// point but the first.
 pub fn run<D: PackageFiles, W: Out, E: Out>(
     alloc: Global,
     words: &[String],
@@ -157,16 +138,17 @@ pub fn run<D: PackageFiles, W: Out, E: Out>(
     ensures cause { ComesBy (D.seen disk.old) (D.seen disk.new) (texts words.now) result.outcome }
     // Words that are not accepted always end so.
     ensures usage { (¬ IsAccepted (texts words.now)) → IsUsage result.outcome }
-    // Accepted words and plain texts end with a report, where nothing outside fails.
+    // Accepted words, a plain policy and metadata without fault end with a report, where nothing
+    // outside fails.
     ensures completes { IsPlainRun (D.seen disk.old) (texts words.now)
         → IsReadable (D.seen disk.old) (D.seen disk.new) (texts words.now)
         → (¬ Rose (W.faults out.old) (W.faults out.new))
         → IsDoneOrMemory result.outcome }
-    // A text that is not plain is refused, the policy first, where reading does not fail.
-    ensures refuses { (which : Which)
-        → IsRefusedRun (D.seen disk.old) (texts words.now) which
+    // Texts that are too long or that the gate refuses end so, where reading does not fail.
+    ensures refuses { (stop : Outcome)
+        → IsRefusedRun (D.seen disk.old) (texts words.now) stop
         → IsReadable (D.seen disk.old) (D.seen disk.new) (texts words.now)
-        → IsNotBuiltOrMemory which result.outcome }
+        → IsStopOrMemory stop result.outcome }
 
     ensures status { result.status ≡ status_of result.outcome }
     ensures fails { IfDone result.outcome (λ report.

@@ -114,26 +114,24 @@ one-crate ks crates place d placed within =
 abbrev pub stays : Graph → List ℕ → Crate → Bool
 stays g name c = not (is_internal g name c)
 
-pub one-kept : (ks : List Krate) (g : Graph) (name : List ℕ) (place : ℕ) (d : Krate) → crates_from 0 ks ≡ g.crates → place < length ks
-    → list_all (has_name name) (dependents g place) ≡ false → filter (stays g name) (take 1 (drop place g.crates)) ≡ crate_view place (get_or ks place d) ∷ []
-unfolding is_internal
-one-kept ks g name place d placed within e =
+-- the crate at a place under a test
+pub one-kept : (t : Crate → Bool) (ks : List Krate) (place : ℕ) (d : Krate) → place < length ks → t (crate_view place (get_or ks place d)) ≡ true
+    → filter t (take 1 (drop place (crates_from 0 ks))) ≡ crate_view place (get_or ks place d) ∷ []
+one-kept t ks place d within e =
     let c = crate_view place (get_or ks place d) in
-    ap (filter (stays g name)) (one-crate ks g.crates place d placed within)
-    ∙ cond-true (stays g name c) (c ∷ []) [] (ap not e)
+    ap (filter t) (one-crate ks (crates_from 0 ks) place d refl within)
+    ∙ cond-true (t c) (c ∷ []) [] e
 
 some_krate : (ks : List Krate) → 0 < length ks → Krate
 some_krate [] some = absurd (omega arith)
 some_krate (k ∷ ks) some = k
 
-pub one-left_out : (ks : List Krate) (g : Graph) (name : List ℕ) (place : ℕ) → crates_from 0 ks ≡ g.crates → place < length ks
-    → list_all (has_name name) (dependents g place) ≡ true → filter (stays g name) (take 1 (drop place g.crates)) ≡ []
-unfolding is_internal
-one-left_out ks g name place placed within e =
+pub one-left_out : (t : Crate → Bool) (ks : List Krate) (place : ℕ) → place < length ks → ((c : Crate) → c.place ≡ place → t c ≡ false) → filter t (take 1 (drop place (crates_from 0 ks))) ≡ []
+one-left_out t ks place within fails =
     let d = some_krate ks (omega arith) in
     let c = crate_view place (get_or ks place d) in
-    ap (filter (stays g name)) (one-crate ks g.crates place d placed within)
-    ∙ cond-false (stays g name c) (c ∷ []) [] (ap not e)
+    ap (filter t) (one-crate ks (crates_from 0 ks) place d refl within)
+    ∙ cond-false (t c) (c ∷ []) [] (fails c refl)
 
 pub take-nil : {X : Type 0} (n : ℕ) → take {A = X} n [] ≡ []
 take-nil zero = refl

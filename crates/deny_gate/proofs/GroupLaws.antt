@@ -12,6 +12,7 @@ use Rattle.deny_base.specs.Ascending.{Lists}
 use Rattle.deny_base.specs.declared.key.Key.{Key}
 use Rattle.deny_krates.specs.Crates.{crate_view, crates_from}
 use Rattle.deny_krates.specs.declared.krate.Krate.{Krate}
+use Rattle.deny_model.specs.Facts.{Facts}
 use Rattle.deny_model.specs.Graph.{Crate, Graph}
 use Rattle.deny_model.specs.Groups.{has_name, group, reduced}
 use Rattle.deny_model.specs.Rules.{version_cmp}
@@ -36,11 +37,11 @@ unfolding key_of_group
 no_key crates few = cond-true (ltb (length crates) 2) None _ (lt-ltb (length crates) 2 few)
 
 -- fewer than two crates of a name have no key
-pub few_have_none : (g : Graph) (name : List ℕ) (run : List Crate) → run ≡ group g name → length run < 2 → IsKeyOfName g name None
-few_have_none g name run is few =
-    let named : List Crate = group g name in
+pub few_have_none : (g : Graph) (facts : Facts) (name : List ℕ) (run : List Crate) → run ≡ group g facts name → length run < 2 → IsKeyOfName g facts name None
+few_have_none g facts name run is few =
+    let named : List Crate = group g facts name in
     let short : length named < 2 = subst (λ (cs : List Crate). length cs < 2) is few in
-    let left : reduced g name ≡ named = left_of_few (stays g name) named short in
+    let left : reduced g facts name ≡ named = left_of_few (stays g name) named short in
     record {
       crates = named;
       listed = record {
@@ -52,9 +53,9 @@ few_have_none g name run is few =
     }
 
 -- of several crates of a name those are left that are not there for the name's sake alone
-pub left_of_several : (g : Graph) (name : List ℕ) (run : List Crate) → run ≡ group g name → 2 ≤ length run → filter (stays g name) run ≡ reduced g name
-left_of_several g name run is several =
-    let named : List Crate = group g name in
+pub left_of_several : (g : Graph) (facts : Facts) (name : List ℕ) (run : List Crate) → run ≡ group g facts name → 2 ≤ length run → filter (stays g name) run ≡ reduced g facts name
+left_of_several g facts name run is several =
+    let named : List Crate = group g facts name in
     ap (filter (stays g name)) is
     ∙ sym (cond-false (eqb (length named) 1) named (filter (stays g name) named) (ne_eqb (length named) 1 (λ e. omega (arith, ap (λ (cs : List Crate). length cs) is))))
 
@@ -132,21 +133,21 @@ run_named crates name start place end c named up on is =
 
 -- name by name
 
-pub no_duplicates : (g : Graph) → AreDuplicates g [] []
-no_duplicates g = record { whole = λ c key is of. absurd (no_member c is); sound = λ key is. absurd (no_member key is) }
+pub no_duplicates : (g : Graph) (facts : Facts) → AreDuplicates g facts [] []
+no_duplicates g facts = record { whole = λ c key is of. absurd (no_member c is); sound = λ key is. absurd (no_member key is) }
 
-module _ (g : Graph) (one : (name : List ℕ) (xs ys : List Crate) → Lists version_cmp (Contains (reduced g name)) xs → Lists version_cmp (Contains (reduced g name)) ys → xs ≡ ys) where
-  one_key : (name : List ℕ) (k l : Option Key) → IsKeyOfName g name k → IsKeyOfName g name l → k ≡ l
+module _ (g : Graph) (facts : Facts) (one : (name : List ℕ) (xs ys : List Crate) → Lists version_cmp (Contains (reduced g facts name)) xs → Lists version_cmp (Contains (reduced g facts name)) ys → xs ≡ ys) where
+  one_key : (name : List ℕ) (k l : Option Key) → IsKeyOfName g facts name k → IsKeyOfName g facts name l → k ≡ l
   one_key name k l this that = this.is ∙ (ap key_of_group (one name this.crates that.crates this.listed that.listed) ∙ sym that.is)
 
   only : (key : Key) → Contains (option_to_list (Some key)) key
   only key = Contains-first key []
 
-  key_is : (name : List ℕ) (k : Option Key) (key : Key) → IsKeyOfName g name k → Contains (option_to_list k) key → IsKeyOfName g name (Some key)
+  key_is : (name : List ℕ) (k : Option Key) (key : Key) → IsKeyOfName g facts name k → Contains (option_to_list k) key → IsKeyOfName g facts name (Some key)
   key_is name None key is here = absurd (no_member key here)
-  key_is name (Some k) key is here = Contains-cases k [] key here (λ same. subst (λ l. IsKeyOfName g name (Some l)) same is) (λ later. absurd (no_member key later))
+  key_is name (Some k) key is here = Contains-cases k [] key here (λ same. subst (λ l. IsKeyOfName g facts name (Some l)) same is) (λ later. absurd (no_member key later))
 
-  pub after_run : (place next : ℕ) (old new : List Key) → AreDuplicates g (take place g.crates) old → AddsRun g place next old new → AreDuplicates g (take next g.crates) new
+  pub after_run : (place next : ℕ) (old new : List Key) → AreDuplicates g facts (take place g.crates) old → AddsRun g facts place next old new → AreDuplicates g facts (take next g.crates) new
   after_run place next old new so run =
       let more : next ≡ place + (next - place) = omega (arith, run.up) in
       let split : take next g.crates ≡ take place g.crates ++ take (next - place) (drop place g.crates) =
@@ -156,25 +157,25 @@ module _ (g : Graph) (one : (name : List ℕ) (xs ys : List Crate) → Lists ver
             elim (Contains-append_cases (take place g.crates) (take (next - place) (drop place g.crates)) c (subst (λ (cs : List Crate). Contains cs c) split is)) as (λ _. Contains new key) [
               | inl before ↦ subst (λ (ks : List Key). Contains ks key) (sym run.added) (Contains-append_left old (option_to_list run.key) key (so.whole c key before of))
               | inr here ↦
-                  let same : Some key ≡ run.key = one_key run.name (Some key) run.key (subst (λ name. IsKeyOfName g name (Some key)) (run.named c here) of) run.is_key in
+                  let same : Some key ≡ run.key = one_key run.name (Some key) run.key (subst (λ name. IsKeyOfName g facts name (Some key)) (run.named c here) of) run.is_key in
                   subst (λ (ks : List Key). Contains ks key) (sym run.added)
                   (Contains-append_right old (option_to_list run.key) key (subst (λ k. Contains (option_to_list k) key) same (only key)))
             ];
         sound = λ key is.
-            elim (Contains-append_cases old (option_to_list run.key) key (subst (λ (ks : List Key). Contains ks key) run.added is)) as (λ _. (c : Crate) × Contains g.crates c × IsKeyOfName g c.name (Some key)) [
+            elim (Contains-append_cases old (option_to_list run.key) key (subst (λ (ks : List Key). Contains ks key) run.added is)) as (λ _. (c : Crate) × Contains g.crates c × IsKeyOfName g facts c.name (Some key)) [
               | inl before ↦ so.sound key before
-              | inr here ↦ (run.owner, run.stands, subst (λ name. IsKeyOfName g name (Some key)) (sym run.owned) (key_is run.name run.key key run.is_key here))
+              | inr here ↦ (run.owner, run.stands, subst (λ name. IsKeyOfName g facts name (Some key)) (sym run.owned) (key_is run.name run.key key run.is_key here))
             ];
       }
 
-pub all_names : (g : Graph) (place : ℕ) (keys : List Key) → length g.crates ≤ place → AreDuplicates g (take place g.crates) keys → AreDuplicates g g.crates keys
-all_names g place keys past so = subst (λ (cs : List Crate). AreDuplicates g cs keys) (take-past place g.crates past) so
+pub all_names : (g : Graph) (facts : Facts) (place : ℕ) (keys : List Key) → length g.crates ≤ place → AreDuplicates g facts (take place g.crates) keys → AreDuplicates g facts g.crates keys
+all_names g facts place keys past so = subst (λ (cs : List Crate). AreDuplicates g facts cs keys) (take-past place g.crates past) so
 
 -- a step of the search for names: the crate at a place, and the run of its name
-pub adds_run : (ks : List Krate) (g : Graph) (place start end : ℕ) (d : Krate) (key : Option Key) (old new : List Key) → crates_from 0 ks ≡ g.crates → place < length ks
+pub adds_run : (ks : List Krate) (g : Graph) (facts : Facts) (place start end : ℕ) (d : Krate) (key : Option Key) (old new : List Key) → crates_from 0 ks ≡ g.crates → place < length ks
     → start ≤ end → end ≤ length g.crates → take (end - start) (drop start g.crates) ≡ filter (has_name (get_or ks place d).name) g.crates
-    → IsKeyOfName g (get_or ks place d).name key → new ≡ old ++ option_to_list key → AddsRun g place end old new
-adds_run ks g place start end d key old new placed within up fits named is_key added =
+    → IsKeyOfName g facts (get_or ks place d).name key → new ≡ old ++ option_to_list key → AddsRun g facts place end old new
+adds_run ks g facts place start end d key old new placed within up fits named is_key added =
     let name = (get_or ks place d).name in
     let owner = crate_view place (get_or ks place d) in
     let stands = owner_stands ks g.crates place d placed within in

@@ -12,6 +12,7 @@ use Rattle.deny_base.specs.declared.code.DiagnosticCode.{DiagnosticCode}
 use Rattle.deny_base.specs.declared.code.DiagnosticCode.TheVariants.{Bans}
 use Rattle.deny_base.specs.declared.key.Key.{Key}
 use Rattle.deny_base.specs.declared.level.LintLevel.TheVariants.{Allow}
+use Rattle.deny_model.specs.Facts.{Facts, AreFacts}
 use Rattle.deny_model.specs.Graph.{Crate, Graph}
 use Rattle.deny_model.specs.Groups.{has_name}
 use Rattle.deny_model.specs.Keys.{banned_key, duplicate_key}
@@ -40,14 +41,14 @@ are_several crates key e = elim (cases_Bool (ltb (length crates) 2)) as (λ _. (
   | inr several ↦ (ltb-false (length crates) 2 several, same_Some _ _ (e ∙ cond-false (ltb (length crates) 2) None _ several))
 ]
 
-pub none_minded : (p : Policy) (g : Graph) → p.multiple_versions ≡ Allow → HaveDuplicates p g []
-none_minded p g level = record {
+pub none_minded : (p : Policy) (g : Graph) (facts : Facts) → p.multiple_versions ≡ Allow → HaveDuplicates p g facts []
+none_minded p g facts level = record {
   whole = λ key is. absurd (is.2.minded level);
   sound = λ key is. absurd (no_member key is);
 }
 
-pub all_minded : (p : Policy) (g : Graph) (keys : List Key) → p.multiple_versions ≢ Allow → AreDuplicates g g.crates keys → HaveDuplicates p g keys
-all_minded p g keys level are = record {
+pub all_minded : (p : Policy) (g : Graph) (facts : Facts) (keys : List Key) → p.multiple_versions ≢ Allow → AreDuplicates g facts g.crates keys → HaveDuplicates p g facts keys
+all_minded p g facts keys level are = record {
   whole = λ key is.
       let of = is.2 in
       are.whole is.0 key is.1 (record { crates = of.crates; listed = of.listed; is = ap Some of.is ∙ sym (several_have of.crates of.several) });
@@ -107,27 +108,32 @@ banned_code g p key is =
     let made = Contains-from_map (λ (spec : Spec). banned_key by.from.place spec.range) (filter (λ spec. matches spec by.from) p.deny) key by.of in
     ap (λ (k : Key). k.code) (sym made.is)
 
-duplicate_code : (p : Policy) (g : Graph) (key : Key) → IsDuplicate p g key → key.code ≡ Bans Duplicate
+duplicate_code : (p : Policy) (g : Graph) (facts : Facts) (key : Key) → IsDuplicate p g facts key → key.code ≡ Bans Duplicate
 unfolding duplicate_key
-duplicate_code p g key is = ap (λ (k : Key). k.code) is.2.is
+duplicate_code p g facts key is = ap (λ (k : Key). k.code) is.2.is
 
-stands_as : (p : Policy) (g : Graph) (key : Key) (code : DiagnosticCode) → key.code ≡ code → StandsAs code p g key → Stands p g key
-stands_as p g key code e stands = subst (λ c. StandsAs c p g key) (sym e) stands
+stands_as : (p : Policy) (g : Graph) (facts : Facts) (key : Key) (code : DiagnosticCode) → key.code ≡ code → StandsAs code p g facts key → Stands p g facts key
+stands_as p g facts key code e stands = subst (λ c. StandsAs c p g facts key) (sym e) stands
 
-module _ (p : PlainPolicy) (g : Graph) (found : List Key) (have : HaveDuplicates (policy_view p) g found) where
-  stand : (key : Key) → Contains (found ++ flat_map (entry_keys g) (map spec_view p.deny)) key → Stands (policy_view p) g key
-  stand key is = elim (Contains-append_cases found (flat_map (entry_keys g) (map spec_view p.deny)) key is) as (λ _. Stands (policy_view p) g key) [
-    | inl duplicate ↦ let stands = have.sound key duplicate in stands_as (policy_view p) g key (Bans Duplicate) (duplicate_code (policy_view p) g key stands) stands
-    | inr ban ↦ let stands = are_banned p g key ban in stands_as (policy_view p) g key (Bans Banned) (banned_code g (policy_view p) key stands) stands
+module _ (p : PlainPolicy) (g : Graph) (facts : Facts) (found : List Key) (have : HaveDuplicates (policy_view p) g facts found) where
+  stand : (key : Key) → Contains (found ++ flat_map (entry_keys g) (map spec_view p.deny)) key → Stands (policy_view p) g facts key
+  stand key is = elim (Contains-append_cases found (flat_map (entry_keys g) (map spec_view p.deny)) key is) as (λ _. Stands (policy_view p) g facts key) [
+    | inl duplicate ↦ let stands = have.sound key duplicate in stands_as (policy_view p) g facts key (Bans Duplicate) (duplicate_code (policy_view p) g facts key stands) stands
+    | inr ban ↦ let stands = are_banned p g key ban in stands_as (policy_view p) g facts key (Bans Banned) (banned_code g (policy_view p) key stands) stands
   ]
 
-  found_as : (key : Key) (code : DiagnosticCode) → StandsAs code (policy_view p) g key → Contains (found ++ flat_map (entry_keys g) (map spec_view p.deny)) key
+  found_as : (key : Key) (code : DiagnosticCode) → StandsAs code (policy_view p) g facts key → Contains (found ++ flat_map (entry_keys g) (map spec_view p.deny)) key
   found_as key (Bans Banned) stands = Contains-append_right found (flat_map (entry_keys g) (map spec_view p.deny)) key (banned_are p g key stands)
   found_as key (Bans Duplicate) stands = Contains-append_left found (flat_map (entry_keys g) (map spec_view p.deny)) key (have.whole key stands)
+  found_as key code stands = absurd stands
 
-  pub are_keys : (old keys : List Key) → old ≡ found ++ flat_map (entry_keys g) (map spec_view p.deny) → Lists key_cmp (Contains old) keys → AreKeys (policy_view p) g keys
-  are_keys old keys is listed = record {
-    ascending = listed.ascending;
-    whole = λ key stands. listed.whole key (subst (λ (ks : List Key). Contains ks key) (sym is) (found_as key key.code stands));
-    sound = λ key member. stand key (subst (λ (ks : List Key). Contains ks key) is (listed.sound key member));
+  pub are_keys : AreFacts g facts → (old keys : List Key) → old ≡ found ++ flat_map (entry_keys g) (map spec_view p.deny) → Lists key_cmp (Contains old) keys → AreKeys (policy_view p) g keys
+  are_keys true_facts old keys is listed = record {
+    facts = facts;
+    true_facts = true_facts;
+    listed = record {
+      ascending = listed.ascending;
+      whole = λ key stands. listed.whole key (subst (λ (ks : List Key). Contains ks key) (sym is) (found_as key key.code stands));
+      sound = λ key member. stand key (subst (λ (ks : List Key). Contains ks key) is (listed.sound key member));
+    };
   }

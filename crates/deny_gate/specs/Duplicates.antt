@@ -6,6 +6,7 @@ use Rattle.deny_base.specs.Ascending.{Lists}
 use Rattle.deny_base.specs.declared.key.Key.{Key}
 use Rattle.deny_krates.specs.declared.krate.DirectDependent.{DirectDependent}
 use Rattle.deny_krates.specs.declared.krate.Krate.{Krate}
+use Rattle.deny_model.specs.Facts.{Facts}
 use Rattle.deny_model.specs.Graph.{Crate, Graph}
 use Rattle.deny_model.specs.Groups.{reduced}
 use Rattle.deny_model.specs.Keys.{duplicate_key}
@@ -24,19 +25,19 @@ all_bear krates name ds = list_all (λ d. bears krates name d.place) ds
 unfoldable pub key_of_group : List Crate → Option Key
 key_of_group crates = if nat_lt (length crates) 2 then None else Some (duplicate_key (map (λ c. c.place) crates))
 
--- this is the key of the crates of a name, where several are left after those that are there for
--- the name's sake alone
-pub record IsKeyOfName (g : Graph) (name : List ℕ) (key : Option Key) : Type 0 where
+-- this is the key of the crates of a name that count, where several are left after those that are
+-- there for the name's sake alone
+pub record IsKeyOfName (g : Graph) (facts : Facts) (name : List ℕ) (key : Option Key) : Type 0 where
   pub crates : List Crate
-  pub listed : Lists version_cmp (Contains (reduced g name)) crates
+  pub listed : Lists version_cmp (Contains (reduced g facts name)) crates
   pub is : key ≡ key_of_group crates
 
 -- the keys of several crates of a name come to stand after those before, and the crates from one
 -- place to the next all bear that name
-pub record AddsRun (g : Graph) (place next : ℕ) (old new : List Key) : Type 0 where
+pub record AddsRun (g : Graph) (facts : Facts) (place next : ℕ) (old new : List Key) : Type 0 where
   pub name : List ℕ
   pub key : Option Key
-  pub is_key : IsKeyOfName g name key
+  pub is_key : IsKeyOfName g facts name key
   pub added : new ≡ old ++ option_to_list key
   pub up : place < next
   pub within : next ≤ length g.crates
@@ -46,6 +47,6 @@ pub record AddsRun (g : Graph) (place next : ℕ) (old new : List Key) : Type 0 
   pub named : (c : Crate) → Contains (take (next - place) (drop place g.crates)) c → c.name ≡ name
 
 -- the keys of crates that stand side by side, for the names of these crates
-pub record AreDuplicates (g : Graph) (crates : List Crate) (keys : List Key) : Type 0 where
-  pub whole : (c : Crate) (key : Key) → Contains crates c → IsKeyOfName g c.name (Some key) → Contains keys key
-  pub sound : (key : Key) → Contains keys key → (c : Crate) × Contains g.crates c × IsKeyOfName g c.name (Some key)
+pub record AreDuplicates (g : Graph) (facts : Facts) (crates : List Crate) (keys : List Key) : Type 0 where
+  pub whole : (c : Crate) (key : Key) → Contains crates c → IsKeyOfName g facts c.name (Some key) → Contains keys key
+  pub sound : (key : Key) → Contains keys key → (c : Crate) × Contains g.crates c × IsKeyOfName g facts c.name (Some key)

@@ -1,4 +1,5 @@
 pub mod Bans
+pub mod Counted
 pub mod Duplicates
 pub mod Gating
 pub mod Minded

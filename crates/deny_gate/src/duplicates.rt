@@ -6,6 +6,7 @@ ghost use Rattle.deny_model.specs.Graph.{dependents};
 ghost use Rattle.deny_model.specs.Groups.{has_name, is_internal};
 ghost use Rattle.deny_model.specs.Keys.{duplicate_key};
 ghost use Rattle.deny_model.specs.Rules.{version_cmp};
+ghost use Rattle.deny_gate.specs.Counted.{is_counted, facts_of};
 ghost use Rattle.deny_gate.specs.Duplicates.{bears, all_bear, key_of_group, IsKeyOfName, AddsRun, AreDuplicates};
 ghost use Rattle.deny_gate.specs.Standing.{standing_view, same_id};
 
@@ -54,20 +55,19 @@ fn is_internal(krates: &Krates, all: &[Krate], name: &str, place: u32) -> bool
     all_bear(all, name, krates.direct_dependents(place))
 }
 
-/// Adds the crate at a place, unless it is there for its name's sake alone.
+/// Adds the crate at a place, where it counts.
 fn keep<'k>(
-    krates: &Krates,
     all: &'k [Krate],
-    name: &str,
+    marks: &[bool],
     place: u32,
     standing: &mut Vec<Standing<'k>>,
 ) -> Result<(), NoMemory>
-    requires crates { crates_from 0 all.now ≡ krates.now.crates }
+    requires marks { length marks.now ≡ length all.now }
     requires within { place < length all.now }
     ensures { OnOk result (map standing_view standing.new.items
-        ≡ map standing_view standing.old.items ++ filter (λ c. not (is_internal krates.now name.now c)) (take 1 (drop place krates.now.crates))) }
+        ≡ map standing_view standing.old.items ++ filter (is_counted marks.now) (take 1 (drop place (crates_from 0 all.now)))) }
 {
-    if is_internal(krates, all, name, place) {
+    if !marks[place as usize] {
         return Ok(());
     }
     standing.push(Standing {
@@ -77,23 +77,45 @@ fn keep<'k>(
     Ok(())
 }
 
-/// The crates of a run of places that are not there for their name's sake alone.
-fn side_by_side<'k>(
+/// The crates of a run of places that count.
+fn counting<'k>(
     alloc: Global,
-    krates: &Krates,
     all: &'k [Krate],
-    name: &str,
+    marks: &[bool],
     places: Range<u32>,
 ) -> Result<Vec<Standing<'k>>, NoMemory>
-    requires crates { crates_from 0 all.now ≡ krates.now.crates }
+    requires marks { length marks.now ≡ length all.now }
     requires upward { places.start ≤ places.end }
-    requires within { places.end ≤ length krates.now.crates }
+    requires within { places.end ≤ length all.now }
     ensures { IfOk result (λ standing. map standing_view standing.items
-        ≡ filter (λ c. not (is_internal krates.now name.now c)) (take (places.end - places.start) (drop places.start krates.now.crates))) }
+        ≡ filter (is_counted marks.now) (take (places.end - places.start) (drop places.start (crates_from 0 all.now)))) }
 {
     let mut standing = Vec::new(alloc);
     for place in places.start..places.end {
-        keep(krates, all, name, place, &mut standing)?;
+        keep(all, marks, place, &mut standing)?;
+    }
+    Ok(standing)
+}
+
+/// Those of some crates that are not there for their name's sake alone.
+#[tactic(auto, unfolding(deny_model::specs::Groups::is_internal))]
+fn side_by_side<'k>(
+    alloc: Global,
+    krates: &Krates,
+    all: &[Krate],
+    name: &str,
+    counting: &[Standing<'k>],
+) -> Result<Vec<Standing<'k>>, NoMemory>
+    requires crates { crates_from 0 all.now ≡ krates.now.crates }
+    requires within { All (λ c. c.place < length all.now) counting.now }
+    ensures { IfOk result (λ standing. map standing_view standing.items
+        ≡ filter (λ c. not (is_internal krates.now name.now c)) (map standing_view counting.now)) }
+{
+    let mut standing = Vec::new(alloc);
+    for crate_at in counting {
+        if !is_internal(krates, all, name, crate_at.place) {
+            standing.push(*crate_at)?;
+        }
     }
     Ok(standing)
 }
@@ -156,65 +178,76 @@ fn key_of_group(alloc: Global, standing: &[Standing<'_>]) -> Result<Option<Key>,
     Ok(Some(duplicate_key(alloc, places_of(alloc, standing)?)))
 }
 
-/// The key of the crates of a name that stand side by side, by the run of their places. None where
-/// they are not several.
+/// The key of the crates of a name that count and stand side by side, by the run of their places.
+/// None where they are not several.
 fn key_of_run(
     alloc: Global,
     krates: &Krates,
     all: &[Krate],
+    marks: &[bool],
     name: &str,
     places: Range<u32>,
 ) -> Result<Option<Key>, NoMemory>
     requires crates { crates_from 0 all.now ≡ krates.now.crates }
     requires ids { AllPairs (λ c d. c.id ≢ d.id) krates.now.crates }
+    requires marks { length marks.now ≡ length krates.now.crates }
     requires upward { places.start ≤ places.end }
     requires within { places.end ≤ length krates.now.crates }
     requires named { take (places.end - places.start) (drop places.start krates.now.crates) ≡ filter (has_name name.now) krates.now.crates }
-    ensures { IfOk result (IsKeyOfName krates.now name.now) }
+    ensures { IfOk result (IsKeyOfName krates.now (facts_of marks.now) name.now) }
 {
-    if places.end - places.start < 2 {
+    let counting = counting(alloc, all, marks, places)?;
+    if counting.len() < 2 {
         return Ok(None);
     }
-    let mut standing = side_by_side(alloc, krates, all, name, places)?;
+    let mut standing = side_by_side(alloc, krates, all, name, &counting)?;
     put_by_version(&mut standing)?;
     let key = key_of_group(alloc, standing.as_slice())?;
     Ok(key)
 }
 
 /// Adds the key of the crates that bear the name of the crate at `place`, where they are several,
-/// and says where the run of them ends.
+/// and says where the run of this name ends.
 fn add_next(
     alloc: Global,
     krates: &Krates,
     all: &[Krate],
+    marks: &[bool],
     place: usize,
     keys: &mut List<Key>,
 ) -> Result<usize, NoMemory>
     requires crates { crates_from 0 all.now ≡ krates.now.crates }
     requires ids { AllPairs (λ c d. c.id ≢ d.id) krates.now.crates }
+    requires marks { length marks.now ≡ length krates.now.crates }
     requires within { place < length all.now }
-    ensures { IfOk result (λ next. AddsRun krates.now place next keys.old keys.new) }
+    ensures { IfOk result (λ next. AddsRun krates.now (facts_of marks.now) place next keys.old keys.new) }
 {
     let name = all[place].name.as_str();
     let places = krates.places_by_name(name);
     let next = places.end as usize;
-    if let Some(key) = key_of_run(alloc, krates, all, name, places)? {
+    if let Some(key) = key_of_run(alloc, krates, all, marks, name, places)? {
         keys.push(key)?;
     }
     Ok(next)
 }
 
-/// The keys of crates of one name that stand side by side, name by name.
-pub fn duplicates(alloc: Global, krates: &Krates, all: &[Krate]) -> Result<List<Key>, NoMemory>
+/// The keys of crates of one name that count and stand side by side, name by name.
+pub fn duplicates(
+    alloc: Global,
+    krates: &Krates,
+    all: &[Krate],
+    marks: &[bool],
+) -> Result<List<Key>, NoMemory>
     requires crates { crates_from 0 all.now ≡ krates.now.crates }
     requires ids { AllPairs (λ c d. c.id ≢ d.id) krates.now.crates }
-    ensures { IfOk result (AreDuplicates krates.now krates.now.crates) }
+    requires marks { length marks.now ≡ length krates.now.crates }
+    ensures { IfOk result (AreDuplicates krates.now (facts_of marks.now) krates.now.crates) }
 {
     deny_model::one_group();
     let mut keys = List::new(alloc);
     let mut next = 0;
     while next < all.len() {
-        next = add_next(alloc, krates, all, next, &mut keys)?;
+        next = add_next(alloc, krates, all, marks, next, &mut keys)?;
     }
     Ok(keys)
 }

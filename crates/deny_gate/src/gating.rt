@@ -26,8 +26,8 @@ fn plain_policy(alloc: Global, text: &[u8]) -> Result<PlainPolicy, GateError>
     }
 }
 
-/// The graph of metadata, which has to be plain.
-fn plain_graph(alloc: Global, bytes: &[u8]) -> Result<Krates, GateError>
+/// The graph of metadata, which has to be without fault.
+fn read_graph(alloc: Global, bytes: &[u8]) -> Result<Krates, GateError>
     requires { length bytes.now < 2 ^ 28 }
     ensures ok { IfOk result (IsGraphOf bytes.now) }
     ensures err { IfErr result (IsMetadataCause bytes.now) }
@@ -35,7 +35,7 @@ fn plain_graph(alloc: Global, bytes: &[u8]) -> Result<Krates, GateError>
     match Krates::build(alloc, bytes) {
         Ok(krates) => Ok(krates),
         Err(MetadataFault::Memory) => Err(GateError::Memory),
-        Err(_) => Err(GateError::NotBuilt(Which::Metadata)),
+        Err(fault) => Err(GateError::Metadata(fault)),
     }
 }
 
@@ -51,9 +51,9 @@ fn report_on(alloc: Global, policy: &PlainPolicy, krates: &Krates) -> Result<Rep
 
 /// Reads a policy and cargo's metadata, and reports what stands.
 ///
-/// Both texts have to be plain, each under 2^28 bytes: `NotBuilt` of the policy comes exactly where
-/// the policy is not plain, and `NotBuilt` of the metadata exactly where the policy is plain and
-/// the metadata is not. `Memory` can come at any point. Nothing is read from the disk.
+/// Each text has to be under 2^28 bytes. `NotBuilt` comes exactly where the policy is not plain, and
+/// `Metadata` exactly where it is, and this is the first fault of the metadata. `Memory` can come at
+/// any point. Nothing is read from the disk.
 pub fn gate<D: PackageFiles>(
     alloc: Global,
     inputs: &Inputs,
@@ -66,7 +66,7 @@ pub fn gate<D: PackageFiles>(
     ensures disk { IsLater (D.seen disk.old) (D.seen disk.new) }
 {
     let policy = plain_policy(alloc, inputs.policy.as_slice())?;
-    let krates = plain_graph(alloc, inputs.metadata.as_slice())?;
+    let krates = read_graph(alloc, inputs.metadata.as_slice())?;
     let report = report_on(alloc, &policy, &krates)?;
     Ok(report)
 }
@@ -78,7 +78,7 @@ mod tests {
     use deny_base::MemoryDisk;
 
     const NO_CRATES: &[u8] =
-        b"{\"packages\":[],\"workspace_members\":[],\"resolve\":{\"nodes\":[]}}";
+        b"{\"packages\":[],\"workspace_members\":[],\"workspace_root\":\"/\",\"resolve\":{\"nodes\":[]}}";
 
     fn answer(
         rt: &HostRuntime,
@@ -96,7 +96,7 @@ mod tests {
         Ok(gate(rt.alloc(), &inputs, &mut disk))
     }
 
-    /// With ample memory the gate answers a report, or which text is not plain.
+    /// With ample memory the gate answers a report, or why there is none.
     #[test]
     fn answers_with_ample_memory(rt: HostRuntime) -> Result<(), NoMemory> {
         let report = answer(&rt, b"[bans]\ndeny = [\"x\", \"y\"]\n", NO_CRATES)?;
@@ -106,7 +106,7 @@ mod tests {
         let refused = answer(&rt, b"[bans]\nskip = []\n", b"")?;
         assert!(rt; matches!(&refused, Err(GateError::NotBuilt(Which::Policy))));
         let refused = answer(&rt, b"", b"{}")?;
-        assert!(rt; matches!(&refused, Err(GateError::NotBuilt(Which::Metadata))));
+        assert!(rt; matches!(&refused, Err(GateError::Metadata(MetadataFault::NoResolve))));
         Ok(())
     }
 }

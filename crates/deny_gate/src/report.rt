@@ -1,6 +1,7 @@
 ghost use Rattle.std.proofs.Common.{rules};
 
 use deny_base::{Check, Diag, Kid, List, NoMemory, Plain, Which};
+use deny_krates::MetadataFault;
 use std::alloc::AllocError;
 
 /// The texts that the gate reads, as bytes.
@@ -46,10 +47,12 @@ impl Plain for Report {
 }
 
 /// Why the gate gives no report.
-#[derive(Debug, Clone, Copy, PartialEq, Eq)]
+#[derive(Debug, PartialEq, Eq, Drop)]
 pub enum GateError {
-    /// This text is outside the forms that are read so far. The policy is looked at first.
+    /// This text is outside the forms that are read so far: the policy, which is looked at first.
     NotBuilt(Which),
+    /// The metadata has no graph: its first fault, which is never want of memory.
+    Metadata(MetadataFault),
     /// Memory ran out.
     Memory,
 }

@@ -53,7 +53,7 @@ fn kid_of(krates: &Krates, key: &Key) -> Result<Option<Kid>, NoMemory>
             Some(krate) => Ok(Some(krate.id.clone()?)),
             None => Ok(None),
         },
-        DiagnosticCode::Bans(Code::Duplicate) => Ok(None),
+        _ => Ok(None),
     }
 }
 
@@ -61,7 +61,8 @@ fn check_of(code: DiagnosticCode) -> Check
     ensures { result ≡ check_told code }
 {
     match code {
-        DiagnosticCode::Bans(_) => Check::Bans,
+        DiagnosticCode::Deprecated | DiagnosticCode::Bans(_) => Check::Bans,
+        DiagnosticCode::License(_) => Check::Licenses,
     }
 }
 
@@ -71,6 +72,7 @@ fn severity_of(code: DiagnosticCode, policy: &PlainPolicy) -> Severity
     match code {
         DiagnosticCode::Bans(Code::Banned) => Severity::Error,
         DiagnosticCode::Bans(Code::Duplicate) => policy.multiple_versions.severity(),
+        _ => Severity::Bug,
     }
 }
 
@@ -100,6 +102,7 @@ fn message_of(alloc: Global, krates: &Krates, key: &Key) -> Result<Text, NoMemor
             let message = duplicate_message(alloc, key.places.len(), &name)?;
             Ok(message)
         }
+        _ => Ok(Text::new(alloc)),
     }
 }
 
@@ -121,6 +124,8 @@ fn tell(
             severity: severity_of(key.code, policy),
             code: Some(key.code),
             message,
+            labels: List::new(alloc),
+            notes: List::new(alloc),
         },
     };
     Ok(Finding {
