@@ -1,5 +1,5 @@
 -- The reader of whole texts gives what the grammar says of them, and only that.
-use Rattle.std.proofs.Common.{◌≡◌, ℕ, List, None, Result, Ok, Err, sym, ◌∙◌, subst}
+use Rattle.std.proofs.Common.{◌≡◌, ℕ, List, IsUtf8, None, Result, Ok, Err, sym, ◌∙◌, subst}
 use Rattle.std.specs.Result.{IfOk}
 use Rattle.deny_toml.specs.declared.failure.Failure.{Failure}
 use Rattle.deny_toml.specs.declared.failure.Failure.TheVariants.{Grammar}
@@ -10,6 +10,8 @@ use Rattle.deny_toml.specs.Grammar.{IsDocument}
 use Rattle.deny_toml.proofs.StringsSound.{none_some, some_is}
 use Rattle.deny_toml.proofs.LinesComplete.{expressions-complete}
 use Rattle.deny_toml.proofs.LinesSound.{expressions-sound}
+use Rattle.deny_toml.specs.Ranges.{AllStand}
+use Rattle.deny_toml.proofs.RangesLaws.{all_stand}
 
 pub gives_document : (text : List ℕ) (r : Result (List Expression) Failure) → Gives r (expressions text) → IfOk r (λ es. IsDocument text es)
 gives_document text (Ok es) gives = expressions-sound text es gives
@@ -19,6 +21,10 @@ pub gives_only : (text : List ℕ) (r : Result (List Expression) Failure) → Gi
     → IfOk r (λ es. (others : List Expression) → IsDocument text others → others ≡ es)
 gives_only text (Ok es) gives = λ others is. some_is others es (sym (expressions-complete text others is) ∙ gives)
 gives_only text (Err e) gives = tt
+
+pub gives_standing : (text : List ℕ) (r : Result (List Expression) Failure) → IsUtf8 text → Gives r (expressions text) → IfOk r (AllStand text)
+gives_standing text (Ok es) utf8 gives = all_stand text utf8 es (expressions-sound text es gives)
+gives_standing text (Err e) utf8 gives = tt
 
 pub refuses_all : (text : List ℕ) (r : Result (List Expression) Failure) (left : ℕ) → Gives r (expressions text) → r ≡ Err (Grammar left)
     → (es : List Expression) → IsDocument text es → ⊥

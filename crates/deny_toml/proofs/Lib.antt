@@ -24,3 +24,17 @@ pub mod FaultLaws
 pub mod EntryLaws
 pub mod ArrayLaws
 pub mod PathLaws
+pub mod StandingBytes
+pub mod Walk
+pub mod RangesLaws
+pub mod ClashRanges
+pub mod ClashLaws
+pub mod PlacesLaws
+pub mod ClashExamples
+pub mod TreeLaws
+pub mod TreeValues
+pub mod TreeOrderLaws
+pub mod TreeDepthLaws
+pub mod TreeCases
+pub mod TreeRanges
+pub mod ParserLaws

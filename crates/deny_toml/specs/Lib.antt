@@ -9,10 +9,16 @@ pub mod Words
 pub mod Keys
 pub mod Values
 pub mod Lines
+pub mod Clash
+pub mod Places
 pub mod GrammarStrings
 pub mod GrammarWords
 pub mod Grammar
+pub mod Ranges
 pub mod Calls
 pub mod Faults
 pub mod Deserialize
 pub mod TableHelper
+pub mod Tree
+pub mod TreeOrder
+pub mod Parser

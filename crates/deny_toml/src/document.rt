@@ -1,6 +1,7 @@
 ghost use Rattle.std.specs.Prelude.{◌≡◌, ℕ, ◌^◌, ◌<◌, List, length, IfOk, Err};
 ghost use Rattle.deny_toml.specs.declared.expression.Expression.{Expression};
 ghost use Rattle.deny_toml.specs.Grammar.{IsDocument};
+ghost use Rattle.deny_toml.specs.Ranges.{AllStand};
 
 use crate::expression::Expression;
 use crate::failure::Failure;
@@ -13,6 +14,7 @@ pub(crate) fn document<'t>(alloc: Global, text: &'t str) -> Result<List<Expressi
     requires small { length text.now < 2 ^ 28 }
     ensures found { IfOk result (λ es. IsDocument text.now es) }
     ensures only { IfOk result (λ es. (others : List Expression) → IsDocument text.now others → others ≡ es) }
+    ensures stand { IfOk result (AllStand text.now) }
     ensures refused { (left : ℕ) → result ≡ Err (Failure.Grammar left) → (es : List Expression) → IsDocument text.now es → ⊥ }
 {
     expressions(alloc, text)

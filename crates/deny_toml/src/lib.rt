@@ -3,6 +3,7 @@
 #![tactic(auto)]
 
 mod calls;
+mod clash;
 mod cow_str;
 mod dates;
 mod deserialize;
@@ -15,8 +16,10 @@ mod keys;
 mod lexical;
 mod lines;
 mod numbers;
+mod parser;
 mod strings;
 mod table_helper;
+mod tree;
 mod value;
 mod values;
 mod words;
@@ -26,5 +29,6 @@ pub use deserialize::Deserialize;
 pub use error::{ConfigFault, DeserError, FaultKind, TomlError, TomlKind};
 pub use expression::{Assignment, Expression, Header, Written, WrittenContent};
 pub use faults::put_faults_in_order;
+pub use parser::parse;
 pub use table_helper::TableHelper;
 pub use value::{Content, Key, Scalar, Table, Value};

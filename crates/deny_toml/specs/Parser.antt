@@ -1,0 +1,48 @@
+-- What a text is to the reader of TOML.
+use Rattle.std.specs.Prelude.{ℕ, ◌≡◌, List, length, None, Some, ⊤}
+use Rattle.deny_base.specs.declared.span.Span.{Span}
+use Rattle.deny_toml.specs.declared.value.Value.{Value}
+use Rattle.deny_toml.specs.declared.error.TomlKind.{TomlKind}
+use Rattle.deny_toml.specs.declared.error.TomlKind.TheVariants as kind
+use Rattle.deny_toml.specs.declared.error.TomlError.{TomlError}
+use Rattle.deny_toml.specs.declared.error.TomlError.TheVariants as error
+use Rattle.deny_toml.specs.declared.expression.Expression.{Expression}
+use Rattle.deny_toml.specs.Grammar.{IsDocument}
+use Rattle.deny_toml.specs.Ranges.{IsRange}
+use Rattle.deny_toml.specs.Clash.{clash}
+use Rattle.deny_toml.specs.Tree.{tree}
+
+-- The text writes these headers and assignments, and no others.
+pub record IsDocumentOf (text : List ℕ) (es : List Expression) : Type 0 where
+  pub written : IsDocument text es
+  pub only : (others : List Expression) → IsDocument text others → others ≡ es
+
+-- the range of the whole text
+abbrev pub whole : List ℕ → Span
+whole text = record { start = 0; end = length text }
+
+-- What the text writes does not clash, and this is its tree.
+abbrev pub IsTreeOf : List ℕ → Value → Type 0
+IsTreeOf text value = (es : List Expression) × IsDocumentOf text es × (clash es ≡ None) × (value ≡ tree (whole text) es)
+
+-- The first key that clashes in what the text writes has this range.
+abbrev pub ClashesAt : List ℕ → Span → Type 0
+ClashesAt text span = (es : List Expression) × IsDocumentOf text es × (clash es ≡ Some span)
+
+-- The text is not in the grammar.
+abbrev pub IsOutside : List ℕ → Type 0
+IsOutside text = (es : List Expression) → IsDocument text es → ⊥
+
+abbrev pub IsFaultOf : List ℕ → TomlKind → Span → Type 0
+IsFaultOf text kind.Grammar span = IsOutside text
+IsFaultOf text kind.Clash span = ClashesAt text span
+
+-- Why a text has no tree. Want of memory says nothing of the text.
+abbrev pub IsCauseOf : List ℕ → TomlError → Type 0
+IsCauseOf text (error.Fault kind span) = IsFaultOf text kind span
+IsCauseOf text error.Memory = ⊤
+
+-- The range of a fault is one of the text.
+abbrev pub IsPlaced : List ℕ → TomlError → Type 0
+IsPlaced text (error.Fault kind span) = IsRange text span
+IsPlaced text error.Memory = ⊤

@@ -1,0 +1,270 @@
+//! The first clash of a document: a segment of a header or of a key that may not stand at its place.
+ghost use Rattle.std.specs.Prelude.{◌≡◌, ℕ, ◌+◌, ◌==◌, ◌&&◌, List, [], map, option_map, Option, Some, None, Result, OnOk, IfOk, if◌then◌else◌};
+ghost use Rattle.std.specs.Str.{bytes_eq};
+ghost use Rattle.deny_toml.specs.Clash.{Segment, stand, walk, walk_header, walk_key, clash_in, first_of, member_line, clash_after, clash};
+ghost use Rattle.deny_toml.specs.Places.{Tells, Takes, TakesKey, Finds, standing_at, standing_after, admits};
+ghost use Rattle.deny_toml.specs.Expression.{assigned_path, assigned_value};
+
+use crate::expression::{Assignment, Expression, Header, Written, WrittenContent};
+use crate::value::Key;
+use deny_base::{List, NoMemory, Span};
+use std::alloc::Global;
+use std::collections::BTreeMap;
+
+/// What a segment does at its place, which is a name in a table.
+#[derive(Clone, Copy)]
+enum Role {
+    /// A header goes on from it.
+    HeaderPasses,
+    /// `[table]` ends with it.
+    HeaderNames,
+    /// `[[array]]` ends with it.
+    ArrayNames,
+    /// A key goes on from it.
+    KeyPasses,
+    /// A key ends with it.
+    KeySets,
+}
+
+impl Role {
+    /// Whether a segment with this role may stand at a place.
+    fn may_stand(self, there: Option<Standing>) -> bool
+        ensures { result ≡ admits self (option_map (λ s. s.role) there) }
+    {
+        let Some(standing) = there else {
+            return true;
+        };
+        match standing.role {
+            Role::HeaderPasses => !matches!(self, Role::ArrayNames | Role::KeySets),
+            Role::HeaderNames => matches!(self, Role::HeaderPasses),
+            Role::ArrayNames => matches!(self, Role::HeaderPasses | Role::ArrayNames),
+            Role::KeyPasses => matches!(self, Role::HeaderPasses | Role::KeyPasses),
+            Role::KeySets => false,
+        }
+    }
+}
+
+/// What stands at a place.
+#[derive(Clone, Copy)]
+struct Standing {
+    /// The role that decides what it is: the last that is not `HeaderPasses`, if there is one.
+    role: Role,
+    /// The number of the segment that made the table, or the last table of the array.
+    table: u64,
+}
+
+impl Standing {
+    /// What stands at a place where this stood, after a segment of this number more.
+    fn after(there: Option<Standing>, role: Role, number: u64) -> Standing
+        ensures { result ≡ standing_after there role number }
+    {
+        match there {
+            None => Standing {
+                role,
+                table: number,
+            },
+            Some(standing) => match role {
+                Role::HeaderPasses => standing,
+                Role::ArrayNames => Standing {
+                    role,
+                    table: number,
+                },
+                Role::HeaderNames | Role::KeyPasses | Role::KeySets => Standing {
+                    role,
+                    table: standing.table,
+                },
+            },
+        }
+    }
+}
+
+/// A name in a table, which is known by the number of the segment that made it, from 1 on. The
+/// root table has the number 0.
+#[derive(Clone, Copy, PartialEq, Eq, PartialOrd, Ord)]
+struct Place<'n> {
+    table: u64,
+    name: &'n str,
+}
+
+const ROOT: u64 = 0;
+
+/// What stands at each place, after so many segments.
+#[derive(Drop)]
+struct Places<'n> {
+    standing: BTreeMap<Place<'n>, Standing>,
+    segments: u64,
+}
+
+/// Why a document is not found to be free of clashes.
+#[derive(Drop)]
+enum Refusal {
+    Clash(Span),
+    Memory,
+}
+
+impl From<NoMemory> for Refusal {
+    ghost use Rattle.std.specs.Prelude.{◌≡◌};
+    ghost use Rattle.deny_toml.specs.declared.clash.Refusal.TheVariants.{Memory};
+
+    ghost from_gives = { λ _ e. e ≡ Memory };
+
+    fn from(_error: NoMemory) -> Refusal {
+        Refusal::Memory
+    }
+}
+
+impl<'n> Places<'n> {
+    fn new(alloc: Global) -> Places<'n>
+        ensures { Tells result [] }
+    {
+        Places {
+            standing: BTreeMap::new(alloc),
+            segments: 0,
+        }
+    }
+
+    fn at(&self, place: Place<'n>) -> Option<Standing>
+        ensures { result ≡ standing_at self.now place.entry.table place.entry.name.now }
+    {
+        self.standing.get(&place).copied()
+    }
+
+    fn put(&mut self, place: Place<'n>, standing: Standing) -> Result<(), NoMemory>
+        ensures count { OnOk result (self.new.segments ≡ self.old.segments) }
+        ensures each { OnOk result ((table : ℕ) (name : List ℕ) → standing_at self.new table name ≡ (if (place.entry.table == table) && bytes_eq place.entry.name.now name then Some standing else standing_at self.old table name)) }
+    {
+        self.standing.insert(place, standing)?;
+        Ok(())
+    }
+
+    /// Gives a segment its place in a table. The answer is the number of the table there.
+    fn take(&mut self, table: u64, key: &'n Key<'_>, role: Role) -> Result<u64, Refusal>
+        ensures { (before : List Segment) → Tells self.old before → Takes result self.new (stand before table role key.now) }
+    {
+        let place = Place {
+            table,
+            name: key.name.as_str(),
+        };
+        let there = self.at(place);
+        if !role.may_stand(there) {
+            return Err(Refusal::Clash(key.span));
+        }
+        // More segments than a number counts are more than memory holds.
+        let number = self.segments.checked_add(1).ok_or(NoMemory)?;
+        let standing = Standing::after(there, role, number);
+        self.put(place, standing)?;
+        self.segments = number;
+        Ok(standing.table)
+    }
+
+    /// Gives the segments of a path their places from a table on. The last one has a role of its
+    /// own. The answer is the number of the table that the path leads to.
+    fn take_path(
+        &mut self,
+        from: u64,
+        path: &'n [Key<'_>],
+        passing: Role,
+        last: Role,
+    ) -> Result<u64, Refusal>
+        ensures { (before : List Segment) → Tells self.old before → Takes result self.new (walk before from passing last path.now) }
+    {
+        let mut table = from;
+        for (part, key) in path.iter().enumerate() {
+            let role = if part + 1 == path.len() {
+                last
+            } else {
+                passing
+            };
+            table = self.take(table, key, role)?;
+        }
+        Ok(table)
+    }
+
+    /// Gives the segments of a header their places. The answer is the number of its table.
+    fn take_header(&mut self, header: &'n Header<'_>) -> Result<u64, Refusal>
+        ensures { (before : List Segment) → Tells self.old before → Takes result self.new (walk_header before header.now) }
+    {
+        let last = if header.is_array {
+            Role::ArrayNames
+        } else {
+            Role::HeaderNames
+        };
+        self.take_path(ROOT, header.path.as_slice(), Role::HeaderPasses, last)
+    }
+}
+
+/// Gives the segments of a key their places in a table, and looks for clashes in its value.
+#[cycle(clashes)]
+fn take_key<'n>(
+    alloc: Global,
+    places: &mut Places<'n>,
+    table: u64,
+    key: &'n Assignment<'_>,
+) -> Result<(), Refusal>
+    ensures { (before : List Segment) → Tells places.old before → TakesKey result places.new (walk_key before table (assigned_path key.now)) (clash_in (assigned_value key.now)) }
+{
+    places.take_path(table, key.path.as_slice(), Role::KeyPasses, Role::KeySets)?;
+    check_value(alloc, &key.value)
+}
+
+/// Looks for clashes in the inline tables of a value.
+#[cycle(clashes)]
+fn check_value(alloc: Global, value: &Written<'_>) -> Result<(), Refusal>
+    ensures { Finds result (clash_in value.now) }
+{
+    match &value.content {
+        WrittenContent::Scalar(_) => Ok(()),
+        WrittenContent::Array(elements) => check_elements(alloc, elements.as_slice()),
+        WrittenContent::InlineTable(members) => check_members(alloc, members.as_slice()),
+    }
+}
+
+#[cycle(clashes)]
+fn check_elements(alloc: Global, elements: &[Written<'_>]) -> Result<(), Refusal>
+    ensures { Finds result (first_of (map clash_in elements.now)) }
+{
+    for element in elements {
+        check_value(alloc, element)?;
+    }
+    Ok(())
+}
+
+/// Looks for clashes in an inline table, whose keys meet no others.
+#[cycle(clashes)]
+fn check_members(alloc: Global, members: &[Assignment<'_>]) -> Result<(), Refusal>
+    ensures { Finds result (clash_after [] 0 (map member_line members.now)) }
+{
+    let mut places = Places::new(alloc);
+    for member in members {
+        take_key(alloc, &mut places, ROOT, member)?;
+    }
+    Ok(())
+}
+
+fn check_expressions(alloc: Global, expressions: &[Expression<'_>]) -> Result<(), Refusal>
+    ensures { Finds result (clash expressions.now) }
+{
+    let mut places = Places::new(alloc);
+    let mut table = ROOT;
+    for expression in expressions {
+        match expression {
+            Expression::Header(header) => table = places.take_header(header)?,
+            Expression::Assignment(key) => take_key(alloc, &mut places, table, key)?,
+        }
+    }
+    Ok(())
+}
+
+/// The span of the first segment that clashes, if there is one.
+pub(crate) fn first_clash(
+    alloc: Global,
+    expressions: &List<Expression<'_>>,
+) -> Result<Option<Span>, NoMemory>
+    ensures exact { IfOk result (λ found. found ≡ clash expressions.now) }
+{
+    match check_expressions(alloc, expressions.as_slice()) {
+        Ok(()) => Ok(None),
+        Err(Refusal::Clash(span)) => Ok(Some(span)),
+        Err(Refusal::Memory) => Err(NoMemory),
+    }
+}

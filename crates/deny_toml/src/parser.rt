@@ -1,0 +1,92 @@
+//! The reader of whole texts.
+ghost use Rattle.std.specs.Prelude.{◌≡◌, ◌^◌, ◌<◌, ◌≤◌, length, IfOk, IfErr};
+ghost use Rattle.std.specs.Str.{IsCharBoundary};
+ghost use Rattle.deny_toml.specs.Ranges.{IsRange, StandsIn};
+ghost use Rattle.deny_toml.specs.TreeOrder.{IsOrderly};
+ghost use Rattle.deny_toml.specs.Parser.{IsDocumentOf, IsTreeOf, IsCauseOf, IsPlaced};
+ghost use Rattle.deny_toml.specs.Parser as spec;
+
+use crate::clash::first_clash;
+use crate::document::document;
+use crate::error::{TomlError, TomlKind};
+use crate::expression::Expression;
+use crate::failure::Failure;
+use crate::tree::{names_of_trees_ascend, tree};
+use crate::value::Value;
+use deny_base::{List, Span};
+use std::alloc::Global;
+
+/// The tree of a text.
+///
+/// A text outside the grammar, or in which arrays, inline tables or keys go past their limits, is a
+/// `Grammar` fault where the reading stops. Else the first key that defines what stands already is
+/// a `Clash`. The tree borrows what stands in the text as it is.
+pub fn parse<'t>(alloc: Global, text: &'t str) -> Result<Value<'t>, TomlError>
+    requires small { length text.now < 2 ^ 28 }
+    ensures tree { IfOk result (IsTreeOf text.now) }
+    ensures cause { IfErr result (IsCauseOf text.now) }
+    ensures stands { IfOk result (StandsIn text.now) }
+    ensures ordered { IfOk result IsOrderly }
+    ensures placed { IfErr result (IsPlaced text.now) }
+{
+    let expressions = expressions(alloc, text)?;
+    if let Some(span) = first_clash(alloc, &expressions)? {
+        return Err(TomlError::Fault {
+            kind: TomlKind::Clash,
+            span,
+        });
+    }
+    names_of_trees_ascend();
+    Ok(tree(alloc, whole(text), expressions)?)
+}
+
+/// The headers and assignments of a text.
+fn expressions<'t>(alloc: Global, text: &'t str) -> Result<List<Expression<'t>>, TomlError>
+    requires small { length text.now < 2 ^ 28 }
+    ensures document { IfOk result (IsDocumentOf text.now) }
+    ensures cause { IfErr result (IsCauseOf text.now) }
+    ensures placed { IfErr result (IsPlaced text.now) }
+{
+    match document(alloc, text) {
+        Ok(expressions) => Ok(expressions),
+        Err(Failure::Grammar(left)) => Err(TomlError::Fault {
+            kind: TomlKind::Grammar,
+            span: stop(text, left),
+        }),
+        Err(Failure::Memory) => Err(TomlError::Memory),
+    }
+}
+
+/// The place before the last `left` bytes.
+fn stop(text: &str, left: usize) -> Span
+    requires small { length text.now < 2 ^ 28 }
+    ensures { IsRange text.now result }
+{
+    let place = boundary(text, text.len().saturating_sub(left)) as u32;
+    Span {
+        start: place,
+        end: place,
+    }
+}
+
+/// The place, or the start of the text where it is no place between characters.
+fn boundary(text: &str, place: usize) -> usize
+    ensures { IsCharBoundary text.now result }
+{
+    if text.is_char_boundary(place) {
+        place
+    } else {
+        0
+    }
+}
+
+/// The range of the whole text.
+fn whole(text: &str) -> Span
+    requires small { length text.now < 2 ^ 28 }
+    ensures { result ≡ spec.whole text.now }
+{
+    Span {
+        start: 0,
+        end: text.len() as u32,
+    }
+}
