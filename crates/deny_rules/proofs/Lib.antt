@@ -1,0 +1,5 @@
+pub mod Agreement
+pub mod Dependencies
+pub mod DistancesLemmas
+pub mod Kept
+pub mod Rows

@@ -1,0 +1,33 @@
+-- The crates of one name that may stand side by side.
+use Rattle.std.specs.Prelude.{ℕ, ◌==◌, ◌&&◌, ◌||◌, Bool, not, List, filter, length, if◌then◌else◌}
+use Rattle.std.specs.List.{list_any}
+use Rattle.deny_rules.specs.Facts.{Facts}
+use Rattle.deny_model.specs.Graph.{Crate, Graph}
+use Rattle.deny_model.specs.Groups.{has_name, is_internal}
+use Rattle.deny_rules.specs.Match.{matches}
+use Rattle.deny_rules.specs.Policy.{Policy}
+
+-- a skip speaks of the crate
+unfoldable pub is_marked : Policy → Crate → Bool
+is_marked p c = list_any (λ s. matches s.spec c) p.skip
+
+-- the crate lies in a skipped tree
+unfoldable pub is_rooted : Policy → Facts → Crate → Bool
+is_rooted p facts c = list_any (λ t. facts.in_tree t c) p.skip_tree
+
+unfoldable pub is_in_group : Policy → Facts → List ℕ → Crate → Bool
+is_in_group p facts name c = has_name name c && (facts.counts c && (is_marked p c || not (is_rooted p facts c)))
+
+-- the crates of a name that count, without those of skipped trees that no skip speaks of
+abbrev pub group : Policy → Graph → Facts → List ℕ → List Crate
+group p g facts name = filter (is_in_group p facts name) g.crates
+
+-- a group of several loses the crates that are there for the name's sake alone
+unfoldable pub reduced : Policy → Graph → Facts → List ℕ → List Crate
+reduced p g facts name =
+    if length (group p g facts name) == 1 then group p g facts name
+    else filter (λ c. not (is_internal g name c)) (group p g facts name)
+
+-- those of a reduced group that no skip speaks of
+abbrev pub unmarked : Policy → Graph → Facts → List ℕ → List Crate
+unmarked p g facts name = filter (λ c. not (is_marked p c)) (reduced p g facts name)

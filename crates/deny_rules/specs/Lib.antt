@@ -1,0 +1,14 @@
+pub mod Bans
+pub mod Distances
+pub mod Duplicates
+pub mod Facts
+pub mod Groups
+pub mod Hits
+pub mod Keys
+pub mod Match
+pub mod Policy
+pub mod Roots
+pub mod Rules
+pub mod Skips
+pub mod Told
+pub mod Wrappers

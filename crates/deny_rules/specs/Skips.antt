@@ -1,0 +1,46 @@
+-- What is told of skips and skipped trees.
+use Rattle.std.specs.Prelude.{◌&&◌, ◌||◌, ℕ, Bool, not, List, filter, map, length, nat_le}
+use Rattle.std.specs.List.{flat_map, list_any}
+use Rattle.deny_base.specs.declared.code.Code.TheVariants.{Skipped, SkippedByRoot, UnmatchedSkip, UnnecessarySkip, UnmatchedSkipRoot, UnusedWrapper}
+use Rattle.deny_base.specs.declared.key.Key.{Key}
+use Rattle.deny_rules.specs.Facts.{Facts}
+use Rattle.deny_model.specs.Graph.{Crate, Graph}
+use Rattle.deny_rules.specs.Groups.{is_marked, reduced}
+use Rattle.deny_rules.specs.Keys.{crate_key, unused_key}
+use Rattle.deny_rules.specs.Match.{matches}
+use Rattle.deny_rules.specs.Policy.{Entry, Policy, Root}
+
+-- a counting crate is skipped by each skip that speaks of it
+unfoldable pub is_skipped : Facts → Crate → Entry → Bool
+is_skipped facts c s = facts.counts c && matches s.spec c
+
+unfoldable pub skipped_keys_of : Policy → Facts → Crate → List Key
+skipped_keys_of p facts c = map (λ s. crate_key Skipped c.place s.spec.range) (filter (is_skipped facts c) p.skip)
+
+-- a counting crate that no skip speaks of is skipped by each entry in whose tree it lies
+unfoldable pub is_skipped_by_root : Policy → Facts → Crate → Root → Bool
+is_skipped_by_root p facts c t = facts.counts c && (not (is_marked p c) && facts.in_tree t c)
+
+unfoldable pub skipped_by_root_keys_of : Policy → Facts → Crate → List Key
+skipped_by_root_keys_of p facts c = map (λ t. crate_key SkippedByRoot c.place t.spec.range) (filter (is_skipped_by_root p facts c) p.skip_tree)
+
+-- a skip is hit by a counting crate that it speaks of
+unfoldable pub is_hit_skip : Graph → Facts → Entry → Bool
+is_hit_skip g facts s = list_any (λ c. is_skipped facts c s) g.crates
+
+unfoldable pub unmatched_skip_keys : Policy → Graph → Facts → List Key
+unmatched_skip_keys p g facts = map (λ s. unused_key UnmatchedSkip s.spec.range) (filter (λ s. not (is_hit_skip g facts s)) p.skip)
+
+-- a skip that is hit is needless where at most one crate of its name may stand
+unfoldable pub is_needless : Policy → Graph → Facts → Entry → Bool
+is_needless p g facts s = is_hit_skip g facts s && nat_le (length (reduced p g facts s.spec.name)) 1
+
+unfoldable pub unnecessary_skip_keys : Policy → Graph → Facts → List Key
+unnecessary_skip_keys p g facts = map (λ s. unused_key UnnecessarySkip s.spec.range) (filter (is_needless p g facts) p.skip)
+
+-- a skipped tree has a root where the entry speaks of a crate, counting or not
+unfoldable pub has_root : Graph → Root → Bool
+has_root g t = list_any (λ c. matches t.spec c) g.crates
+
+unfoldable pub unmatched_skip_root_keys : Policy → Graph → List Key
+unmatched_skip_root_keys p g = map (λ t. unused_key UnmatchedSkipRoot t.spec.range) (filter (λ t. not (has_root g t)) p.skip_tree)
