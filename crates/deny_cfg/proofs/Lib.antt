@@ -1,0 +1,3 @@
+pub mod TableLaws
+pub mod ChecksumLaws
+pub mod SpecLaws

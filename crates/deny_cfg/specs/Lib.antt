@@ -1,0 +1,16 @@
+pub mod PolicyKey
+pub mod Table
+pub mod Words
+pub mod Requirement
+pub mod Spec
+pub mod Entry
+pub mod Bans
+pub mod Features
+pub mod Checksum
+pub mod RustVersion
+pub mod Build
+pub mod Workspace
+pub mod StdReplacements
+pub mod Config
+pub mod Apart
+pub mod SpecView

@@ -1,0 +1,116 @@
+-- What is read from a table, key by key, and its faults. A table is described by its keys: each has a name, and says
+-- which faults there are where it holds a value or is left out.
+use Rattle.std.specs.Prelude.{◌≡◌, ◌≢◌, ⊤, ℕ, Bool, true, ◌&&◌, not, List, [], ◌∷◌, ◌++◌, map, Option, None, Some}
+use Rattle.std.specs.Cmp.Lexicographic.{pointwise}
+use Rattle.std.specs.Prelude.{nat_eq}
+use Rattle.deny_base.specs.declared.span.Span.{Span}
+use Rattle.deny_toml.specs.declared.error.ConfigFault.{ConfigFault}
+use Rattle.deny_toml.specs.declared.value.Key.{Key}
+use Rattle.deny_toml.specs.declared.value.Value.{Value}
+use Rattle.deny_toml.specs.declared.value.Table.{Table}
+use Rattle.deny_toml.specs.Value.{span_in, entries_in}
+use Rattle.deny_toml.specs.Calls.{table_in, value_at, without}
+use Rattle.deny_toml.specs.Faults.{wrong_kind, in_order}
+use Rattle.deny_toml.specs.TableHelper.{required_faults, optional_faults, unknown}
+use Rattle.deny_toml.specs.declared.table_helper.TableHelper.{TableHelper}
+use Rattle.deny_cfg.specs.declared.policy_key.PolicyKey.{PolicyKey}
+use Rattle.deny_cfg.specs.PolicyKey.{name_of}
+
+abbrev pub Entries : Type 0
+Entries = List (Key × Value)
+
+-- a key of a table: its name, and its faults where the table stands at this place and holds this at the key
+pub record Field : Type 0 where
+  pub name : List ℕ
+  pub faults : Span → Option Value → List ConfigFault
+
+-- a key that may be left out
+abbrev pub optional : PolicyKey → (Value → List ConfigFault) → Field
+optional key faults_of = record { name = name_of key; faults = λ place v. optional_faults faults_of (name_of key) v }
+
+-- a key that has to be there
+abbrev pub required : PolicyKey → (Value → List ConfigFault) → Field
+required key faults_of = record { name = name_of key; faults = λ place v. required_faults faults_of place (name_of key) v }
+
+-- what a table holds at a key
+abbrev pub at_key : PolicyKey → Entries → Option Value
+at_key key entries = value_at (name_of key) entries
+
+-- the faults of these keys
+abbrev pub faults_of_fields : List Field → Span → Entries → List ConfigFault
+faults_of_fields [] place entries = []
+faults_of_fields (f ∷ fs) place entries = f.faults place (value_at f.name entries) ++ faults_of_fields fs place entries
+
+-- what is left of a table without these keys
+abbrev pub left : List Field → Entries → Entries
+left [] entries = entries
+left (f ∷ fs) entries = left fs (without f.name entries)
+
+-- the faults of a value that is to be a table of these keys: those of each key, and each other key, which is unknown
+abbrev pub faults_in_table : (Entries → List Field) → Span → Option Table → List ConfigFault
+faults_in_table fields place None = wrong_kind place
+faults_in_table fields place (Some t) =
+    in_order (faults_of_fields (fields (entries_in t)) place (entries_in t) ++ map unknown (left (fields (entries_in t)) (entries_in t)))
+
+abbrev pub faults_of_table : (Entries → List Field) → Value → List ConfigFault
+faults_of_table fields v = faults_in_table fields (span_in v) (table_in v)
+
+-- what is read from a table
+abbrev pub ReadsIn : {T : Type 0} → (Entries → T → Type 0) → Option Table → T → Type 0
+ReadsIn Reads None x = ⊥
+ReadsIn Reads (Some t) x = Reads (entries_in t) x
+
+abbrev pub ReadsTable : {T : Type 0} → (Entries → T → Type 0) → Value → T → Type 0
+ReadsTable Reads v x = ReadsIn Reads (table_in v) x
+
+-- what is read from a key that may be left out: nothing, or what its value says
+abbrev pub ReadsOptional : {T : Type 0} → (Value → T → Type 0) → Option Value → Option T → Type 0
+ReadsOptional Reads None read = read ≡ None
+ReadsOptional Reads (Some v) None = ⊥
+ReadsOptional Reads (Some v) (Some x) = Reads v x
+
+-- the same where something stands for a key that is left out
+abbrev pub ReadsOr : {T : Type 0} → T → (Value → T → Type 0) → Option Value → T → Type 0
+ReadsOr default Reads None x = x ≡ default
+ReadsOr default Reads (Some v) x = Reads v x
+
+-- what is read from a key that has to be there
+abbrev pub ReadsRequired : {T : Type 0} → (Value → T → Type 0) → Option Value → T → Type 0
+ReadsRequired Reads None x = ⊥
+ReadsRequired Reads (Some v) x = Reads v x
+
+-- something was read
+abbrev pub Gives : {T : Type 0} → (T → Type 0) → Option T → Type 0
+Gives Reads None = ⊥
+Gives Reads (Some x) = Reads x
+
+-- whether a name is none of these keys, and whether no two of these keys have one name
+abbrev pub is_other : List ℕ → List Field → Bool
+is_other name [] = true
+is_other name (f ∷ fs) = not (pointwise nat_eq name f.name) && is_other name fs
+
+abbrev pub are_apart : List Field → Bool
+are_apart [] = true
+are_apart (f ∷ fs) = is_other f.name fs && are_apart fs
+
+-- how far the reading of a table has come: the keys that are left, and the faults so far
+pub record State : Type 0 where
+  pub place : Span
+  pub entries : Entries
+  pub faults : List ConfigFault
+
+abbrev pub state_of : TableHelper → State
+state_of h = record { place = h.span; entries = h.entries; faults = h.faults }
+
+-- a key was read
+abbrev pub after : Field → State → State
+after f s = record { place = s.place; entries = without f.name s.entries; faults = s.faults ++ f.faults s.place (value_at f.name s.entries) }
+
+-- these keys were read, one after another
+abbrev pub after_all : List Field → State → State
+after_all [] s = s
+after_all (f ∷ fs) s = after_all fs (after f s)
+
+-- What a step that read a key says of it: where the key has no fault, this holds of what the table held at the key.
+pub record ReadAt (f : Field) (s : State) (P : Option Value → Type 0) : Type 0 where
+  pub says : f.faults s.place (value_at f.name s.entries) ≡ [] → P (value_at f.name s.entries)

@@ -1,0 +1,81 @@
+ghost use Rattle.deny_cfg.specs.Apart.{build-apart};
+ghost use Rattle.deny_cfg.specs.Build.{build_fields, ReadsBuild, faults_of_build};
+ghost use Rattle.deny_cfg.specs.Table.{ReadsTable};
+
+use crate::bans::cfg::bypass::Bypass;
+use crate::keyed::{Keyed, read_table};
+use crate::level::level_or;
+use crate::package_spec::PackageSpec;
+use crate::policy_key::PolicyKey;
+use crate::table;
+use deny_base::{LintLevel, List, NoMemory, Spanned, Text};
+use deny_toml::{DeserError, Deserialize, TableHelper, Value};
+use std::alloc::Global;
+
+/// How build scripts and the files of packages are minded.
+#[derive(Debug, Drop)]
+pub struct BuildConfig {
+    /// The crates that may have a build script; without it, all may.
+    pub allow_build_scripts: Option<List<PackageSpec>>,
+    pub executables: LintLevel,
+    pub interpreted: LintLevel,
+    /// The extensions of files that count as scripts.
+    pub script_extensions: Option<List<Spanned<Text>>>,
+    pub bypass: Option<List<Bypass>>,
+    pub enable_builtin_globs: bool,
+    pub include_dependencies: bool,
+    pub include_workspace: bool,
+    pub include_archives: bool,
+}
+
+impl Keyed for BuildConfig {
+    ghost fields = { build_fields };
+
+    ghost reads_in = { ReadsBuild };
+
+    fn read_keys(
+        _alloc: Global,
+        helper: &mut TableHelper<'_>,
+    ) -> Result<Option<BuildConfig>, NoMemory> {
+        let allow_build_scripts = table::optional(helper, PolicyKey::AllowBuildScripts)?;
+        let executables = level_or(helper, PolicyKey::Executables, LintLevel::Deny)?;
+        let interpreted = level_or(helper, PolicyKey::Interpreted, LintLevel::Allow)?;
+        let script_extensions = table::optional(helper, PolicyKey::ScriptExtensions)?;
+        let bypass = table::optional(helper, PolicyKey::Bypass)?;
+        let enable_builtin_globs = table::optional_or(
+            helper,
+            PolicyKey::EnableBuiltinGlobs,
+            false,
+        )?;
+        let include_dependencies = table::optional_or(
+            helper,
+            PolicyKey::IncludeDependencies,
+            false,
+        )?;
+        let include_workspace = table::optional_or(helper, PolicyKey::IncludeWorkspace, false)?;
+        let include_archives = table::optional_or(helper, PolicyKey::IncludeArchives, false)?;
+        Ok(Some(BuildConfig {
+            allow_build_scripts,
+            executables,
+            interpreted,
+            script_extensions,
+            bypass,
+            enable_builtin_globs,
+            include_dependencies,
+            include_workspace,
+            include_archives,
+        }))
+    }
+
+    ghost apart = { build-apart };
+}
+
+impl Deserialize for BuildConfig {
+    ghost reads = { ReadsTable ReadsBuild };
+
+    ghost faults_of = { faults_of_build };
+
+    fn deserialize(alloc: Global, value: &mut Value<'_>) -> Result<BuildConfig, DeserError> {
+        read_table(alloc, value)
+    }
+}

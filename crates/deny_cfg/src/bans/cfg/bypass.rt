@@ -1,0 +1,116 @@
+ghost use Rattle.deny_cfg.specs.Apart.{bypass_path-apart, bypass_entry-apart};
+ghost use Rattle.deny_cfg.specs.Build.{bypass_path_fields, ReadsBypassPath, faults_of_bypass_path, bypass_fields, ReadsBypassKeys, faults_of_bypass, ReadsBypass};
+ghost use Rattle.deny_cfg.specs.Table.{Gives, ReadsTable};
+
+use crate::bans::cfg::checksum::Checksum;
+use crate::extension::{Extension, read_entry};
+use crate::keyed::{Keyed, read_table};
+use crate::package_spec::PackageSpec;
+use crate::policy_key::PolicyKey;
+use crate::table;
+use deny_base::{List, NoMemory, Spanned, Text};
+use deny_toml::{DeserError, Deserialize, TableHelper, Value};
+use std::alloc::Global;
+
+/// A file of a package that may be executable.
+#[derive(Debug, Drop)]
+pub struct BypassPath {
+    /// Its path, relative to the package's folder.
+    pub path: Spanned<Text>,
+    /// What the file has to be, if it is not to be anything.
+    pub checksum: Option<Spanned<Checksum>>,
+}
+
+impl Keyed for BypassPath {
+    ghost fields = { bypass_path_fields };
+
+    ghost reads_in = { ReadsBypassPath };
+
+    fn read_keys(
+        _alloc: Global,
+        helper: &mut TableHelper<'_>,
+    ) -> Result<Option<BypassPath>, NoMemory> {
+        let path = table::required(helper, PolicyKey::Path)?;
+        let checksum = table::optional(helper, PolicyKey::Checksum)?;
+        match path {
+            Some(path) => Ok(Some(BypassPath { path, checksum })),
+            None => Ok(None),
+        }
+    }
+
+    ghost apart = { bypass_path-apart };
+}
+
+impl Deserialize for BypassPath {
+    ghost reads = { ReadsTable ReadsBypassPath };
+
+    ghost faults_of = { faults_of_bypass_path };
+
+    fn deserialize(alloc: Global, value: &mut Value<'_>) -> Result<BypassPath, DeserError> {
+        read_table(alloc, value)
+    }
+}
+
+/// What the build check allows a crate.
+#[derive(Debug, Drop)]
+pub struct Bypass {
+    pub spec: PackageSpec,
+    pub build_script: Option<Spanned<Checksum>>,
+    /// The features without which the build script is not run.
+    pub required_features: List<Spanned<Text>>,
+    pub allow_globs: Option<List<Spanned<Text>>>,
+    pub allow: List<BypassPath>,
+}
+
+/// What an entry of `bypass` says besides its spec.
+#[derive(Debug, Drop)]
+pub struct BypassKeys {
+    pub build_script: Option<Spanned<Checksum>>,
+    pub required_features: List<Spanned<Text>>,
+    pub allow_globs: Option<List<Spanned<Text>>>,
+    pub allow: List<BypassPath>,
+}
+
+impl Extension for BypassKeys {
+    ghost fields = { bypass_fields };
+
+    ghost reads_in = { λ entries said. Gives (ReadsBypassKeys entries) said };
+
+    fn read_keys(
+        alloc: Global,
+        helper: &mut TableHelper<'_>,
+    ) -> Result<Option<BypassKeys>, NoMemory> {
+        let build_script = table::optional(helper, PolicyKey::BuildScript)?;
+        let required_features = table::optional_list(alloc, helper, PolicyKey::RequiredFeatures)?;
+        let allow_globs = table::optional(helper, PolicyKey::AllowGlobs)?;
+        let allow = table::optional_list(alloc, helper, PolicyKey::Allow)?;
+        Ok(Some(BypassKeys {
+            build_script,
+            required_features,
+            allow_globs,
+            allow,
+        }))
+    }
+
+    ghost apart = { bypass_entry-apart };
+}
+
+/// A table of a spec and of the other keys.
+impl Deserialize for Bypass {
+    ghost reads = { ReadsBypass };
+
+    ghost faults_of = { faults_of_bypass };
+
+    fn deserialize(alloc: Global, value: &mut Value<'_>) -> Result<Bypass, DeserError> {
+        match read_entry::<BypassKeys>(alloc, value)? {
+            (spec, Some(keys)) => Ok(Bypass {
+                spec,
+                build_script: keys.build_script,
+                required_features: keys.required_features,
+                allow_globs: keys.allow_globs,
+                allow: keys.allow,
+            }),
+            (_, None) => unreachable!(),
+        }
+    }
+}

@@ -1,0 +1,140 @@
+ghost use Rattle.std.specs.Prelude.{[]};
+ghost use Rattle.deny_cfg.specs.Apart.{bans-apart};
+ghost use Rattle.deny_cfg.specs.Config.{bans_fields, ReadsConfig, faults_of_config};
+ghost use Rattle.deny_cfg.specs.Table.{ReadsTable};
+
+use crate::bans::cfg::build::BuildConfig;
+use crate::bans::cfg::features::CrateFeatures;
+use crate::bans::cfg::highlight::GraphHighlight;
+use crate::bans::cfg::std_replacements::StdReplacementConfig;
+use crate::bans::cfg::workspace::WorkspaceDepsConfig;
+use crate::bans::cfg::{CrateAllow, CrateBan, CrateSkip, TreeSkip};
+use crate::keyed::{Keyed, read_table};
+use crate::level::{level_or, optional_level};
+use crate::package_spec::PackageSpec;
+use crate::policy_key::PolicyKey;
+use crate::table;
+use deny_base::{LintLevel, List, NoMemory, Spanned};
+use deny_toml::{DeserError, Deserialize, TableHelper, Value};
+use std::alloc::Global;
+
+/// What `[bans]` says, as it is written.
+#[derive(Debug, Drop)]
+pub struct Config {
+    /// The level of crates that stand in several versions.
+    pub multiple_versions: LintLevel,
+    pub multiple_versions_include_dev: bool,
+    pub highlight: GraphHighlight,
+    pub deny: List<CrateBan>,
+    /// The crates that alone are allowed; where there are none, all are.
+    pub allow: List<CrateAllow>,
+    pub allow_workspace: bool,
+    pub external_default_features: Option<Spanned<LintLevel>>,
+    pub workspace_default_features: Option<Spanned<LintLevel>>,
+    pub features: List<CrateFeatures>,
+    /// The crates that do not count among several versions.
+    pub skip: List<CrateSkip>,
+    /// The crates whose trees do not.
+    pub skip_tree: List<TreeSkip>,
+    pub wildcards: LintLevel,
+    pub allow_wildcard_paths: bool,
+    pub allow_build_scripts: Option<Spanned<List<PackageSpec>>>,
+    pub build: Option<BuildConfig>,
+    pub workspace_dependencies: Option<WorkspaceDepsConfig>,
+    pub std_replacements: Option<StdReplacementConfig>,
+}
+
+impl Config {
+    /// What holds where a policy says nothing of bans.
+    pub fn new(alloc: Global) -> Config
+        ensures { ReadsConfig [] result }
+    {
+        Config {
+            multiple_versions: LintLevel::Warn,
+            multiple_versions_include_dev: false,
+            highlight: GraphHighlight::All,
+            deny: List::new(alloc),
+            allow: List::new(alloc),
+            allow_workspace: false,
+            external_default_features: None,
+            workspace_default_features: None,
+            features: List::new(alloc),
+            skip: List::new(alloc),
+            skip_tree: List::new(alloc),
+            wildcards: LintLevel::Allow,
+            allow_wildcard_paths: false,
+            allow_build_scripts: None,
+            build: None,
+            workspace_dependencies: None,
+            std_replacements: None,
+        }
+    }
+}
+
+impl Keyed for Config {
+    ghost fields = { bans_fields };
+
+    ghost reads_in = { ReadsConfig };
+
+    fn read_keys(alloc: Global, helper: &mut TableHelper<'_>) -> Result<Option<Config>, NoMemory> {
+        let multiple_versions = level_or(helper, PolicyKey::MultipleVersions, LintLevel::Warn)?;
+        let multiple_versions_include_dev = table::optional_or(
+            helper,
+            PolicyKey::MultipleVersionsIncludeDev,
+            false,
+        )?;
+        let highlight = table::optional_or(helper, PolicyKey::Highlight, GraphHighlight::All)?;
+        let deny = table::optional_list(alloc, helper, PolicyKey::Deny)?;
+        let allow = table::optional_list(alloc, helper, PolicyKey::Allow)?;
+        let allow_workspace = table::optional_or(helper, PolicyKey::AllowWorkspace, false)?;
+        let external_default_features = optional_level(helper, PolicyKey::ExternalDefaultFeatures)?;
+        let workspace_default_features = optional_level(
+            helper,
+            PolicyKey::WorkspaceDefaultFeatures,
+        )?;
+        let features = table::optional_list(alloc, helper, PolicyKey::Features)?;
+        let skip = table::optional_list(alloc, helper, PolicyKey::Skip)?;
+        let skip_tree = table::optional_list(alloc, helper, PolicyKey::SkipTree)?;
+        let wildcards = level_or(helper, PolicyKey::Wildcards, LintLevel::Allow)?;
+        let allow_wildcard_paths = table::optional_or(
+            helper,
+            PolicyKey::AllowWildcardPaths,
+            false,
+        )?;
+        let allow_build_scripts = table::optional(helper, PolicyKey::AllowBuildScripts)?;
+        let build = table::optional(helper, PolicyKey::Build)?;
+        let workspace_dependencies = table::optional(helper, PolicyKey::WorkspaceDependencies)?;
+        let std_replacements = table::optional(helper, PolicyKey::StdReplacements)?;
+        Ok(Some(Config {
+            multiple_versions,
+            multiple_versions_include_dev,
+            highlight,
+            deny,
+            allow,
+            allow_workspace,
+            external_default_features,
+            workspace_default_features,
+            features,
+            skip,
+            skip_tree,
+            wildcards,
+            allow_wildcard_paths,
+            allow_build_scripts,
+            build,
+            workspace_dependencies,
+            std_replacements,
+        }))
+    }
+
+    ghost apart = { bans-apart };
+}
+
+impl Deserialize for Config {
+    ghost reads = { ReadsTable ReadsConfig };
+
+    ghost faults_of = { faults_of_config };
+
+    fn deserialize(alloc: Global, value: &mut Value<'_>) -> Result<Config, DeserError> {
+        read_table(alloc, value)
+    }
+}

@@ -1,0 +1,64 @@
+ghost use Rattle.std.specs.Prelude.{◌≡◌, ◌⊎◌, ◌↔◌, IsTrue};
+ghost use Rattle.deny_cfg.specs.Words.{faults_as, highlight_of, ReadsAs};
+
+use deny_toml::{DeserError, Deserialize, Value};
+use std::alloc::Global;
+
+/// What is shown of the crates of a duplicate.
+#[derive(Debug, Clone, Copy, PartialEq, Eq, Default)]
+pub enum GraphHighlight {
+    /// The path with the fewest edges.
+    SimplestPath,
+    /// The path to the crate of the lowest version.
+    LowestVersion,
+    /// Both.
+    #[default]
+    All,
+}
+
+impl GraphHighlight {
+    /// Whether the path with the fewest edges is shown.
+    pub fn simplest(self) -> bool
+        ensures { IsTrue result ↔ ((self ≡ GraphHighlight.SimplestPath) ⊎ (self ≡ GraphHighlight.All)) }
+    {
+        matches!(self, GraphHighlight::SimplestPath | GraphHighlight::All)
+    }
+
+    /// Whether the path to the lowest version is shown.
+    pub fn lowest_version(self) -> bool
+        ensures { IsTrue result ↔ ((self ≡ GraphHighlight.LowestVersion) ⊎ (self ≡ GraphHighlight.All)) }
+    {
+        matches!(self, GraphHighlight::LowestVersion | GraphHighlight::All)
+    }
+}
+
+impl Deserialize for GraphHighlight {
+    ghost reads = { ReadsAs highlight_of };
+
+    ghost faults_of = { faults_as highlight_of };
+
+    fn deserialize(alloc: Global, value: &mut Value<'_>) -> Result<GraphHighlight, DeserError> {
+        let Some(text) = value.as_str() else {
+            return Err(DeserError::wrong_kind(alloc, value.span));
+        };
+        match highlight_of(text) {
+            Some(highlight) => Ok(highlight),
+            None => Err(DeserError::unreadable(alloc, value.span)),
+        }
+    }
+}
+
+#[tactic(auto, unfolding(crate::specs::Words::highlight_of))]
+fn highlight_of(text: &str) -> Option<GraphHighlight>
+    ensures { result ≡ highlight_of text.now }
+{
+    if text == "simplest-path" {
+        Some(GraphHighlight::SimplestPath)
+    } else if text == "lowest-version" {
+        Some(GraphHighlight::LowestVersion)
+    } else if text == "all" {
+        Some(GraphHighlight::All)
+    } else {
+        None
+    }
+}

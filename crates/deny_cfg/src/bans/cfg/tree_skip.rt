@@ -1,0 +1,71 @@
+ghost use Rattle.std.specs.Prelude.{◌≡◌};
+ghost use Rattle.deny_cfg.specs.Apart.{tree_skip-apart, tree_skip_entry-apart};
+ghost use Rattle.deny_cfg.specs.Bans.{tree_skip_fields, ReadsTreeSkip};
+ghost use Rattle.deny_cfg.specs.Entry.{ReadsSome};
+ghost use Rattle.deny_cfg.specs.Table.{ReadsTable, faults_of_table};
+
+use crate::extension::Extension;
+use crate::keyed::{Keyed, read_table};
+use crate::policy_key::PolicyKey;
+use crate::reason::Reason;
+use crate::table;
+use deny_base::NoMemory;
+use deny_toml::{DeserError, Deserialize, TableHelper, Value};
+use std::alloc::Global;
+
+/// What an entry of `skip-tree` says besides its spec.
+#[derive(Debug, Drop)]
+pub struct TreeSkipExtended {
+    /// How far below the crate others are skipped; without it, at any depth.
+    pub depth: Option<u32>,
+    pub reason: Option<Reason>,
+}
+
+impl Keyed for TreeSkipExtended {
+    ghost fields = { tree_skip_fields };
+
+    ghost reads_in = { ReadsTreeSkip };
+
+    fn read_keys(
+        _alloc: Global,
+        helper: &mut TableHelper<'_>,
+    ) -> Result<Option<TreeSkipExtended>, NoMemory> {
+        let depth = table::optional(helper, PolicyKey::Depth)?;
+        let reason = table::optional(helper, PolicyKey::Reason)?;
+        Ok(Some(TreeSkipExtended { depth, reason }))
+    }
+
+    ghost apart = { tree_skip-apart };
+}
+
+impl Extension for TreeSkipExtended {
+    ghost fields = { tree_skip_fields };
+
+    ghost reads_in = { ReadsSome tree_skip_fields ReadsTreeSkip };
+
+    fn read_keys(
+        alloc: Global,
+        helper: &mut TableHelper<'_>,
+    ) -> Result<Option<TreeSkipExtended>, NoMemory> {
+        match <TreeSkipExtended as Keyed>::read_keys(alloc, helper)? {
+            Some(skip) => if skip.depth.is_none() && skip.reason.is_none() {
+                Ok(None)
+            } else {
+                Ok(Some(skip))
+            },
+            None => Ok(None),
+        }
+    }
+
+    ghost apart = { tree_skip_entry-apart };
+}
+
+impl Deserialize for TreeSkipExtended {
+    ghost reads = { ReadsTable ReadsTreeSkip };
+
+    ghost faults_of = { faults_of_table (λ entries. tree_skip_fields) };
+
+    fn deserialize(alloc: Global, value: &mut Value<'_>) -> Result<TreeSkipExtended, DeserError> {
+        read_table(alloc, value)
+    }
+}
