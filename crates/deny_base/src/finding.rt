@@ -23,11 +23,26 @@ impl Plain for Diagnostic {
     ghost clone_is_equal = { Prim.search rules };
 }
 
-/// A diagnostic with the key that orders it.
+/// A crate in the graph that a finding shows, or one of its features.
+#[derive(Debug, Clone, PartialEq, Eq, Drop)]
+pub struct GraphNode {
+    pub kid: Kid,
+    pub feature: Option<Text>,
+}
+
+impl Plain for GraphNode {
+    ghost clone_is_equal = { Prim.search rules };
+}
+
+/// A diagnostic with the key that orders it, and what is shown of the graph with it.
 #[derive(Debug, Clone, PartialEq, Eq, Drop)]
 pub struct Diag {
     pub key: Key,
     pub diag: Diagnostic,
+    /// The crates and features that are shown; where there are none, the crate of the finding.
+    pub graph_nodes: List<GraphNode>,
+    /// Whether features are shown too, however deep.
+    pub with_features: bool,
 }
 
 impl Plain for Diag {
@@ -43,16 +58,5 @@ pub struct Pack {
 }
 
 impl Plain for Pack {
-    ghost clone_is_equal = { Prim.search rules };
-}
-
-/// A crate in the graph that a finding shows, or one of its features.
-#[derive(Debug, Clone, PartialEq, Eq, Drop)]
-pub struct GraphNode {
-    pub kid: Kid,
-    pub feature: Option<Text>,
-}
-
-impl Plain for GraphNode {
     ghost clone_is_equal = { Prim.search rules };
 }
