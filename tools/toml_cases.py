@@ -4,7 +4,8 @@ each text is, by a reading of TOML 1.0.0 that knows nothing of the crates.
 
 An answer is the tree in JSON, or `grammar`, or `clash START..END` with the range of the first key that clashes.
 A value of the tree has its `span` in bytes and, under the name of its kind, what it holds; of a float or a date
-that is its text, of a table the list of its entries in byte order of their keys.
+that is its text, of a table the list of its entries in byte order of their keys. A string is `text` on one line
+and `multiline` between three delimiters.
 
 The reading goes by regular expressions over the rules of the grammar to a list of headers and assignments, and
 from there to a tree of places, each of which knows how it came about. What a text is, tree, outside the grammar
@@ -47,6 +48,7 @@ NEWLINE = rb"\r?\n"
 COMMENT = rb"#[\t\x20-\x7e" + HIGH + rb"]*"
 LINE_END = re.compile(rb"[ \t]*(?:" + COMMENT + rb")?(?:" + NEWLINE + rb"|\Z)")
 BLANK_LINE = re.compile(rb"[ \t]*(?:" + COMMENT + rb")?(?:" + NEWLINE + rb"|\Z)")
+EMPTY_LINES = re.compile(rb"\n+")
 BETWEEN = re.compile(rb"(?:[ \t]|(?:" + COMMENT + rb")?" + NEWLINE + rb")*")
 
 BARE = re.compile(rb"[A-Za-z0-9_-]+")
@@ -129,7 +131,7 @@ class Reader:
         self.match(SPACES)
 
     def string(self, long):
-        """A string: its text and the range between its delimiters."""
+        """A string: its kind, its text and the range between its delimiters."""
         patterns = [(BASIC, True), (LITERAL, False)]
         if long:
             patterns = [(LONG_BASIC, True), (LONG_LITERAL, False)] + patterns
@@ -141,7 +143,7 @@ class Reader:
                     text = found[1].decode("utf-8")
                     if delimiter:
                         text = re.sub(r"\A\r?\n", "", text)
-                    return (unescaped(text) if escapes else text), found.span(1)
+                    return "multiline" if delimiter else "text", unescaped(text) if escapes else text, found.span(1)
         return None
 
     def segment(self):
@@ -151,7 +153,7 @@ class Reader:
         string = self.string(long=False)
         if string is None:
             raise Grammar
-        return string
+        return string[1:]
 
     def key(self):
         segments = [self.segment()]
@@ -186,8 +188,10 @@ class Reader:
     def value(self, nesting):
         string = self.string(long=True)
         if string:
-            return "text", string[0], string[1]
+            return string
         start = self.place
+        if nesting == NESTING and self.data[start:start + 1] in (b"[", b"{"):
+            raise Grammar
         if self.byte(b"["):
             held = self.array(nesting + 1)
             return "array", held, (start, self.place)
@@ -197,8 +201,6 @@ class Reader:
         return self.word()
 
     def array(self, nesting):
-        if nesting > NESTING:
-            raise Grammar
         values = []
         while True:
             self.match(BETWEEN)
@@ -211,8 +213,6 @@ class Reader:
                 return values
 
     def inline_table(self, nesting):
-        if nesting > NESTING:
-            raise Grammar
         assignments = []
         self.spaces()
         if self.byte(b"}"):
@@ -247,10 +247,11 @@ class Reader:
     def document(self):
         expressions = []
         while self.place < len(self.data):
-            if self.match(BLANK_LINE):
+            if self.match(EMPTY_LINES) or self.match(BLANK_LINE):
                 continue
             self.spaces()
             expressions.append(self.expression())
+            self.spaces()
             self.want(LINE_END)
         return expressions
 
@@ -408,8 +409,10 @@ def plain(value):
         return float(value["float"].replace("_", ""))
     if "date" in value:
         return moment(value["date"])
+    if "multiline" in value:
+        return value["multiline"].replace("\r\n", "\n")
     if "text" in value:
-        return value["text"].replace("\r\n", "\n")
+        return value["text"]
     return value["integer"] if "integer" in value else value["boolean"]
 
 
@@ -741,7 +744,7 @@ BY_HAND = {
     '"é".a=1\n"é".a=2\n': "clash 14..15",
     "a=[]\n[a.b]\n": "clash 6..7",
     "[a]\nb.c=1\n[[a.b]]\n": "clash 14..15",
-    'a="""\n"""': {"span": [0, 9], "table": [{"key": "a", "span": [0, 1], "value": {"text": "", "span": [5, 6]}}]},
+    'a="""\n"""': {"span": [0, 9], "table": [{"key": "a", "span": [0, 1], "value": {"multiline": "", "span": [5, 6]}}]},
     "a.b={c.d=1}": {"span": [0, 11], "table": [{"key": "a", "span": [0, 1], "value": {"span": [0, 1], "table": [
         {"key": "b", "span": [2, 3], "value": {"span": [4, 11], "table": [
             {"key": "c", "span": [5, 6], "value": {"span": [5, 6], "table": [

@@ -37,4 +37,8 @@ pub mod TreeOrderLaws
 pub mod TreeDepthLaws
 pub mod TreeCases
 pub mod TreeRanges
+pub mod ApartLaws
+pub mod ApartTree
+pub mod ApartGrammar
+pub mod ApartParts
 pub mod ParserLaws

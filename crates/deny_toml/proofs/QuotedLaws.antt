@@ -1,14 +1,17 @@
 -- Whole strings with their places: what the grammar calls a string is read, and what is read is in the grammar.
-use Rattle.std.proofs.Common.{◌≡◌, ℕ, suc, ◌+◌, ◌-◌, ◌<◌, ◌≤◌, true, false, ◌&&◌, ◌==◌, List, [], ◌∷◌, ◌++◌, length, Some, None, option_map, refl, sym, subst, inl, inr, arith, append_assoc, length-append}
+use Rattle.std.proofs.Common.{◌≡◌, ℕ, suc, ◌+◌, ◌-◌, ◌<◌, ◌≤◌, true, false, ◌&&◌, ◌==◌, List, [], ◌∷◌, ◌++◌, length, Some, None, option_map, refl, sym, ap, subst, inl, inr, arith, append_assoc, length-append}
 use Rattle.std.proofs.lemmas.Bool.{cases_Bool, and_parts, false≢true}
 use Rattle.std.proofs.lemmas.Bool.Decides.{nat_tests}
 use Rattle.std.specs.List.{slice_index}
 use Rattle.deny_base.specs.declared.span.Span.{Span}
 use Rattle.deny_base.specs.declared.span.Spanned.{Spanned}
+use Rattle.deny_toml.specs.declared.value.Scalar.{Scalar}
+use Rattle.deny_toml.specs.declared.value.Scalar.TheVariants.{Text, Multiline}
 use Rattle.deny_toml.specs.Value.{span_of}
 use Rattle.deny_toml.specs.Lexical.{Read, first, starts_newline}
-use Rattle.deny_toml.specs.Strings.{content, trim_newline, spanned, one_line, multi_line, quoted, starts_string}
-use Rattle.deny_toml.specs.GrammarStrings.{IsNewline, IsContent, IsOneLine, IsOpening, IsText, is_delimiter}
+use Rattle.deny_toml.specs.Reading.{read_map}
+use Rattle.deny_toml.specs.Strings.{content, trim_newline, spanned, one_line, multi_line, string_of, quoted, starts_string}
+use Rattle.deny_toml.specs.GrammarStrings.{IsNewline, IsContent, IsOneLine, IsOpening, IsMultiLine, IsText, is_delimiter}
 use Rattle.deny_toml.specs.GrammarStrings as grammar
 use Rattle.deny_toml.proofs.StringsComplete.{content-complete}
 use Rattle.deny_toml.proofs.StringsSound.{none_some, read_of, read_same, ContentFront, content_front, content-sound, NewlineFront, newline_front, newline_found}
@@ -29,7 +32,10 @@ text_with value span = record { value = value; span = span }
 abbrev pub OneLine : ℕ → List ℕ → Spanned (List ℕ) → Type 0
 OneLine at cs s = IsOneLine at cs s.value s.span
 
-abbrev pub WholeText : ℕ → List ℕ → Spanned (List ℕ) → Type 0
+abbrev MultiLine : ℕ → List ℕ → Spanned (List ℕ) → Type 0
+MultiLine at cs s = IsMultiLine at cs s.value s.span
+
+abbrev pub WholeText : ℕ → List ℕ → Spanned Scalar → Type 0
 WholeText at cs s = IsText at cs s.value s.span
 
 content_of_one_line : (d : ℕ) (cs vs rest : List ℕ) (n : ℕ) → is_delimiter d ≡ true → IsContent d false 0 cs vs → length cs < n
@@ -93,19 +99,20 @@ multi_line-complete at total d opening cs vs rest is_d is_opening is stop place 
     rw (trimmed, read, span_is _ _ (at + 3) (length opening + length cs) start end)
 
 -- a string is read, where no delimiter follows it
-pub quoted-complete : (at total : ℕ) (cs vs rest : List ℕ) (span : Span) → IsText at cs vs span → is_delimiter (first rest) ≡ false → at + length (cs ++ rest) ≡ total
-    → quoted total (cs ++ rest) ≡ Some (text_with vs span, rest)
+pub quoted-complete : (at total : ℕ) (cs rest : List ℕ) (value : Scalar) (span : Span) → IsText at cs value span → is_delimiter (first rest) ≡ false
+    → at + length (cs ++ rest) ≡ total → quoted total (cs ++ rest) ≡ Some (record { value = value; span = span }, rest)
 unfolding quoted
-quoted-complete at total cs vs rest span (grammar.one_line _ _ _ (grammar.quoted d inner _ is_d is)) stop place =
-    rw (one_line_looks d inner vs rest is_d is stop) (one_line-complete at total cs vs rest span (grammar.quoted d inner vs is_d is) place)
-quoted-complete at total cs vs rest span (grammar.multi_line d opening inner _ is_d is_opening is) stop place =
+quoted-complete at total cs rest value span (grammar.one_line _ vs _ (grammar.quoted d inner _ is_d is)) stop place =
+    rw (one_line_looks d inner vs rest is_d is stop)
+    (ap (read_map (string_of Text)) (one_line-complete at total cs vs rest span (grammar.quoted d inner vs is_d is) place))
+quoted-complete at total cs rest value span (grammar.multi_line _ vs _ (grammar.framed d opening inner _ is_d is_opening is)) stop place =
     let same : (d == d) ≡ true = grind (arith, nat_tests) in
     let other : (first rest == d) ≡ false = grind (arith, nat_tests) in
     let joined : (opening ++ (inner ++ (d ∷ (d ∷ (d ∷ []))))) ++ rest ≡ opening ++ (inner ++ (d ∷ (d ∷ (d ∷ rest)))) =
     rw (append_assoc opening (inner ++ (d ∷ (d ∷ (d ∷ [])))) rest, append_assoc inner (d ∷ (d ∷ (d ∷ []))) rest) in
     let len : length (opening ++ (inner ++ (d ∷ (d ∷ (d ∷ rest))))) ≡ length opening + length inner + 3 + length rest = simp length-append (omega arith) in
     let here = rw joined at place in
-    rw (joined, same) (multi_line-complete at total d opening inner vs rest is_d is_opening is other (omega arith))
+    rw (joined, same) (ap (read_map (string_of Multiline)) (multi_line-complete at total d opening inner vs rest is_d is_opening is other (omega arith)))
 
 one_line_front : (total d : ℕ) (tail vs rest : List ℕ) → is_delimiter d ≡ true → length (d ∷ tail) ≤ total → ContentFront d false 0 rest tail vs
     → Front (OneLine (total - length (d ∷ tail))) rest (d ∷ tail) (text_with vs (record_of (total - length tail) (total - length rest - 1)))
@@ -166,7 +173,7 @@ opening_front opening cs tail (grammar.same_line _ none) = grammar.same_line cs 
 
 multi_line_front : (total d : ℕ) (opening more vs rest : List ℕ) → is_delimiter d ≡ true → IsOpening opening more → length (d ∷ (d ∷ (d ∷ (opening ++ more)))) ≤ total
     → ContentFront d true 0 rest more vs
-    → Front (WholeText (total - length (d ∷ (d ∷ (d ∷ (opening ++ more)))))) rest (d ∷ (d ∷ (d ∷ (opening ++ more))))
+    → Front (MultiLine (total - length (d ∷ (d ∷ (d ∷ (opening ++ more)))))) rest (d ∷ (d ∷ (d ∷ (opening ++ more))))
     (text_with vs (record_of (total - length (opening ++ more)) (total - length rest - 3)))
 multi_line_front total d opening more vs rest is_d is_opening within (content_front cs _ is) =
     let at = total - length (d ∷ (d ∷ (d ∷ (opening ++ (cs ++ (d ∷ (d ∷ (d ∷ rest)))))))) in
@@ -174,49 +181,68 @@ multi_line_front total d opening more vs rest is_d is_opening within (content_fr
     let start : total - length (opening ++ (cs ++ (d ∷ (d ∷ (d ∷ rest))))) ≡ at + 3 = omega arith in
     let end : total - length rest - 3 ≡ at + 3 + (length opening + length cs) = omega arith in
     let whole = d ∷ (d ∷ (d ∷ (opening ++ (cs ++ d ∷ (d ∷ (d ∷ [])))))) in
-    let here : Front (WholeText at) rest (whole ++ rest) (text_with vs (span_of (at + 3) (length opening + length cs))) =
-    front whole (text_with vs (span_of (at + 3) (length opening + length cs))) (grammar.multi_line d opening cs vs is_d (opening_front opening cs (d ∷ (d ∷ (d ∷ rest))) is_opening) is) in
+    let here : Front (MultiLine at) rest (whole ++ rest) (text_with vs (span_of (at + 3) (length opening + length cs))) =
+    front whole (text_with vs (span_of (at + 3) (length opening + length cs))) (grammar.framed d opening cs vs is_d (opening_front opening cs (d ∷ (d ∷ (d ∷ rest))) is_opening) is) in
     let joined : (opening ++ (cs ++ (d ∷ (d ∷ (d ∷ []))))) ++ rest ≡ opening ++ (cs ++ (d ∷ (d ∷ (d ∷ rest)))) =
     rw (append_assoc opening (cs ++ (d ∷ (d ∷ (d ∷ [])))) rest, append_assoc cs (d ∷ (d ∷ (d ∷ []))) rest) in
-    subst (λ t. Front (WholeText at) rest (d ∷ (d ∷ (d ∷ t))) (text_with vs (record_of (total - length (opening ++ (cs ++ (d ∷ (d ∷ (d ∷ rest)))))) (total - length rest - 3)))) joined
-    (subst (λ s. Front (WholeText at) rest (whole ++ rest) (text_with vs s)) (sym (span_is _ _ (at + 3) (length opening + length cs) start end)) here)
+    subst (λ t. Front (MultiLine at) rest (d ∷ (d ∷ (d ∷ t))) (text_with vs (record_of (total - length (opening ++ (cs ++ (d ∷ (d ∷ (d ∷ rest)))))) (total - length rest - 3)))) joined
+    (subst (λ s. Front (MultiLine at) rest (whole ++ rest) (text_with vs s)) (sym (span_is _ _ (at + 3) (length opening + length cs) start end)) here)
 
 multi_line_opened : (total d : ℕ) (tail more vs rest : List ℕ) → is_delimiter d ≡ true → length (d ∷ (d ∷ (d ∷ tail))) ≤ total → Opened tail more
     → ContentFront d true 0 rest more vs
-    → Front (WholeText (total - length (d ∷ (d ∷ (d ∷ tail))))) rest (d ∷ (d ∷ (d ∷ tail))) (text_with vs (record_of (total - length tail) (total - length rest - 3)))
+    → Front (MultiLine (total - length (d ∷ (d ∷ (d ∷ tail))))) rest (d ∷ (d ∷ (d ∷ tail))) (text_with vs (record_of (total - length tail) (total - length rest - 3)))
 multi_line_opened total d tail more vs rest is_d within (opened opening _ is_opening) is = multi_line_front total d opening more vs rest is_d is_opening within is
 
 multi_line_by : (total d : ℕ) (tail rest : List ℕ) (s : Spanned (List ℕ)) (o : Read (List ℕ)) → is_delimiter d ≡ true → length (d ∷ (d ∷ (d ∷ tail))) ≤ total
     → content d true (length (d ∷ (d ∷ (d ∷ tail)))) (trim_newline tail) ≡ o → option_map (spanned total tail 3) o ≡ read_of s rest
-    → Front (WholeText (total - length (d ∷ (d ∷ (d ∷ tail))))) rest (d ∷ (d ∷ (d ∷ tail))) s
+    → Front (MultiLine (total - length (d ∷ (d ∷ (d ∷ tail))))) rest (d ∷ (d ∷ (d ∷ tail))) s
 multi_line_by total d tail rest s None is_d within is e = absurd (none_some (s, rest) e)
 multi_line_by total d tail rest s (Some (vs, r)) is_d within is e =
-    read_same (λ x t. Front (WholeText (total - length (d ∷ (d ∷ (d ∷ tail))))) t (d ∷ (d ∷ (d ∷ tail))) x) (text_with vs (record_of (total - length tail) (total - length r - 3))) s r rest e
+    read_same (λ x t. Front (MultiLine (total - length (d ∷ (d ∷ (d ∷ tail))))) t (d ∷ (d ∷ (d ∷ tail))) x) (text_with vs (record_of (total - length tail) (total - length r - 3))) s r rest e
     (multi_line_opened total d tail (trim_newline tail) vs r is_d within (trim_opened tail) (content-sound d true (length (d ∷ (d ∷ (d ∷ tail)))) (trim_newline tail) vs r is_d is))
 
 multi_line-sound : (total d : ℕ) (tail rest : List ℕ) (s : Spanned (List ℕ)) → is_delimiter d ≡ true → length (d ∷ (d ∷ (d ∷ tail))) ≤ total
-    → multi_line total (d ∷ (d ∷ (d ∷ tail))) ≡ read_of s rest → Front (WholeText (total - length (d ∷ (d ∷ (d ∷ tail))))) rest (d ∷ (d ∷ (d ∷ tail))) s
+    → multi_line total (d ∷ (d ∷ (d ∷ tail))) ≡ read_of s rest → Front (MultiLine (total - length (d ∷ (d ∷ (d ∷ tail))))) rest (d ∷ (d ∷ (d ∷ tail))) s
 unfolding multi_line
 multi_line-sound total d tail rest s is_d within e =
     multi_line_by total d tail rest s (content d true (length (d ∷ (d ∷ (d ∷ tail)))) (trim_newline tail)) is_d within refl e
 
-whole_one_line : (at : ℕ) (rest text : List ℕ) (s : Spanned (List ℕ)) → Front (OneLine at) rest text s → Front (WholeText at) rest text s
-whole_one_line at rest text s (front cs _ is) = front cs s (grammar.one_line cs s.value s.span is)
+-- a string of one of the two kinds, from one that was read
+of_kind : (kind : List ℕ → Scalar) (P : List ℕ → Spanned (List ℕ) → Type 0) (at : ℕ) (text rest : List ℕ) (s : Spanned Scalar) (o : Read (Spanned (List ℕ)))
+    → ((cs : List ℕ) (x : Spanned (List ℕ)) → P cs x → IsText at cs (kind x.value) x.span) → ((r : List ℕ) (x : Spanned (List ℕ)) → o ≡ read_of x r → Front P r text x)
+    → read_map (string_of kind) o ≡ read_of s rest → Front (WholeText at) rest text s
+of_kind kind P at text rest s None whole found e = absurd (none_some (s, rest) e)
+of_kind kind P at text rest s (Some (x, r)) whole found e = read_same (λ y t. Front (WholeText at) t text y) (string_of kind x) s r rest e (wholly text r x (found r x refl))
+  where
+    wholly : (text r : List ℕ) (x : Spanned (List ℕ)) → Front P r text x → Front (WholeText at) r text (string_of kind x)
+    wholly text r x (front cs _ is) = front cs (string_of kind x) (whole cs x is)
 
-three_found : (total d b c : ℕ) (tail rest : List ℕ) (s : Spanned (List ℕ)) → b ≡ d → c ≡ d → is_delimiter d ≡ true → length (d ∷ (b ∷ (c ∷ tail))) ≤ total
-    → multi_line total (d ∷ (b ∷ (c ∷ tail))) ≡ read_of s rest → Front (WholeText (total - length (d ∷ (b ∷ (c ∷ tail))))) rest (d ∷ (b ∷ (c ∷ tail))) s
+multi_line_found : (total d : ℕ) (tail rest : List ℕ) (s : Spanned Scalar) → is_delimiter d ≡ true → length (d ∷ (d ∷ (d ∷ tail))) ≤ total
+    → read_map (string_of Multiline) (multi_line total (d ∷ (d ∷ (d ∷ tail)))) ≡ read_of s rest
+    → Front (WholeText (total - length (d ∷ (d ∷ (d ∷ tail))))) rest (d ∷ (d ∷ (d ∷ tail))) s
+multi_line_found total d tail rest s is_d within e =
+    let at = total - length (d ∷ (d ∷ (d ∷ tail))) in
+    of_kind Multiline (MultiLine at) at (d ∷ (d ∷ (d ∷ tail))) rest s (multi_line total (d ∷ (d ∷ (d ∷ tail)))) (λ cs x is. grammar.multi_line cs x.value x.span is)
+    (λ r x is. multi_line-sound total d tail r x is_d within is) e
+
+three_found : (total d b c : ℕ) (tail rest : List ℕ) (s : Spanned Scalar) → b ≡ d → c ≡ d → is_delimiter d ≡ true → length (d ∷ (b ∷ (c ∷ tail))) ≤ total
+    → read_map (string_of Multiline) (multi_line total (d ∷ (b ∷ (c ∷ tail)))) ≡ read_of s rest → Front (WholeText (total - length (d ∷ (b ∷ (c ∷ tail))))) rest (d ∷ (b ∷ (c ∷ tail))) s
 three_found total d b c tail rest s b_is c_is is_d within e =
     subst (λ x. Front (WholeText (total - length (d ∷ (x ∷ (c ∷ tail))))) rest (d ∷ (x ∷ (c ∷ tail))) s) (sym b_is)
     (subst (λ x. Front (WholeText (total - length (d ∷ (d ∷ (x ∷ tail))))) rest (d ∷ (d ∷ (x ∷ tail))) s) (sym c_is)
-    (multi_line-sound total d tail rest s is_d within
-    (subst (λ x. multi_line total (d ∷ (d ∷ (x ∷ tail))) ≡ read_of s rest) c_is (subst (λ x. multi_line total (d ∷ (x ∷ (c ∷ tail))) ≡ read_of s rest) b_is e))))
+    (multi_line_found total d tail rest s is_d within
+    (subst (λ x. read_map (string_of Multiline) (multi_line total (d ∷ (d ∷ (x ∷ tail)))) ≡ read_of s rest) c_is
+    (subst (λ x. read_map (string_of Multiline) (multi_line total (d ∷ (x ∷ (c ∷ tail)))) ≡ read_of s rest) b_is e))))
 
-one_found : (total d : ℕ) (tail rest : List ℕ) (s : Spanned (List ℕ)) → is_delimiter d ≡ true → length (d ∷ tail) ≤ total → one_line total (d ∷ tail) ≡ read_of s rest
-    → Front (WholeText (total - length (d ∷ tail))) rest (d ∷ tail) s
-one_found total d tail rest s is_d within e = whole_one_line (total - length (d ∷ tail)) rest (d ∷ tail) s (one_line-sound total (d ∷ tail) rest s is_d within e)
+one_found : (total d : ℕ) (tail rest : List ℕ) (s : Spanned Scalar) → is_delimiter d ≡ true → length (d ∷ tail) ≤ total
+    → read_map (string_of Text) (one_line total (d ∷ tail)) ≡ read_of s rest → Front (WholeText (total - length (d ∷ tail))) rest (d ∷ tail) s
+one_found total d tail rest s is_d within e =
+    let at = total - length (d ∷ tail) in
+    of_kind Text (OneLine at) at (d ∷ tail) rest s (one_line total (d ∷ tail)) (λ cs x is. grammar.one_line cs x.value x.span is)
+    (λ r x is. one_line-sound total (d ∷ tail) r x is_d within is) e
 
 -- what is read as a string
-pub quoted-sound : (total : ℕ) (text rest : List ℕ) (s : Spanned (List ℕ)) → starts_string text ≡ true → length text ≤ total → quoted total text ≡ read_of s rest
+pub quoted-sound : (total : ℕ) (text rest : List ℕ) (s : Spanned Scalar) → starts_string text ≡ true → length text ≤ total → quoted total text ≡ read_of s rest
     → Front (WholeText (total - length text)) rest text s
 unfolding quoted
 quoted-sound total [] rest s starts within e = absurd (false≢true starts)

@@ -1,14 +1,15 @@
 -- The range of a part of a key and of a value: where it lies, and what stands in it.
-use Rattle.std.proofs.Common.{◌≡◌, ℕ, ◌+◌, ◌-◌, ◌<◌, ◌⊎◌, Bool, true, false, ◌==◌, ◌||◌, ◌&&◌, slice_index, List, [], ◌∷◌, ◌++◌, length, get_or, IsUtf8, IfSome, refl, sym, ap, subst, ◌∙◌, inl, inr, arith, append_assoc, length-append}
-use Rattle.std.proofs.lemmas.Bool.{and_parts, false≢true}
+use Rattle.std.proofs.Common.{◌≡◌, ℕ, ◌+◌, ◌-◌, ◌<◌, ◌≤◌, ◌⊎◌, Bool, true, false, ◌==◌, ◌||◌, ◌&&◌, slice_index, List, [], ◌∷◌, ◌++◌, length, encode_utf8, Some, get_or, IsUtf8, IfSome, refl, sym, ap, subst, ◌∙◌, inl, inr, arith, append_assoc, length-append}
+use Rattle.std.proofs.lemmas.Bool.{cases_Bool, and_parts, false≢true}
 use Rattle.std.proofs.lemmas.Bool.Decides.{nat_tests}
 use Rattle.std.proofs.lemmas.List.Folds.{list_all-append}
+use Rattle.std.proofs.lemmas.Str.{length-encode, len_utf8_ascii, len_utf8_bounds}
 use Rattle.std.specs.List.{list_all}
 use Rattle.std.specs.Str.{IsCharBoundary}
 use Rattle.deny_base.specs.declared.span.Span.{Span}
 use Rattle.deny_toml.specs.declared.value.Key.{Key}
 use Rattle.deny_toml.specs.declared.value.Scalar.{Scalar}
-use Rattle.deny_toml.specs.declared.value.Scalar.TheVariants.{Text, Integer, Float, Boolean, Date}
+use Rattle.deny_toml.specs.declared.value.Scalar.TheVariants.{Integer, Float, Boolean, Date}
 use Rattle.deny_toml.specs.declared.expression.Written.{Written}
 use Rattle.deny_toml.specs.declared.expression.WrittenContent.{WrittenContent}
 use Rattle.deny_toml.specs.declared.expression.WrittenContent.TheViews.{roll-WrittenContent}
@@ -18,15 +19,15 @@ use Rattle.deny_toml.specs.declared.expression.Assignment.{Assignment}
 use Rattle.deny_toml.specs.declared.expression.Expression.{Expression}
 use Rattle.deny_toml.specs.Value.{span_of}
 use Rattle.deny_toml.specs.Expression.{written_with}
-use Rattle.deny_toml.specs.Lexical.{first, is_bare, is_word, starts_newline}
-use Rattle.deny_toml.specs.Strings.{trim_newline}
-use Rattle.deny_toml.specs.GrammarStrings.{IsContent, is_delimiter, IsOpening, IsOneLine, IsText}
+use Rattle.deny_toml.specs.Lexical.{first, is_plain, is_bare, is_word, starts_newline}
+use Rattle.deny_toml.specs.Strings.{letter_escape, trim_newline}
+use Rattle.deny_toml.specs.GrammarStrings.{IsEscape, IsContent, is_delimiter, IsOpening, IsOneLine, IsMultiLine, IsText}
 use Rattle.deny_toml.specs.GrammarStrings as strings
 use Rattle.deny_toml.specs.GrammarWords.{IsScalar}
 use Rattle.deny_toml.specs.GrammarWords as words
 use Rattle.deny_toml.specs.Grammar.{IsPart, IsValue, IsElements, IsMembers, IsDocument}
 use Rattle.deny_toml.specs.Grammar as grammar
-use Rattle.deny_toml.specs.Ranges.{IsRange, bytes_in, no_backslash, IsWithoutEscapes, KeyStands, ScalarStands, Stands, WrittenLayer, written_layer, written_scalar, WrittenStands, AllOf, AllStand}
+use Rattle.deny_toml.specs.Ranges.{IsRange, bytes_in, no_backslash, IsWithoutEscapes, KeyStands, OneLineStands, ScalarStands, Stands, WrittenLayer, written_layer, written_scalar, WrittenStands, AllOf, AllStand}
 use Rattle.deny_toml.proofs.ScalarsShape.{Shape, one_word, two_words, scalar_shape}
 use Rattle.deny_toml.proofs.ValuesComplete.{value_first}
 use Rattle.deny_toml.proofs.StandingBytes.{HasAt, stands_whole, stands_front, stands_rest, stands_byte, stands_bytes, boundary_before, boundary_after, range_between}
@@ -58,9 +59,8 @@ one_line_range text utf8 at cs vs span here (strings.quoted d inner _ is_d is) =
     range_between text (at + 1) (length inner) (boundary_after text at (at + 1) d (inner ++ d ∷ []) utf8 here (delimiter_ascii d is_d) refl)
     (boundary_before text (at + 1 + length inner) d [] (stands_rest text (at + 1) inner (d ∷ []) (inside text at d inner here)) (delimiter_ascii d is_d))
 
-text_range : (text : List ℕ) → IsUtf8 text → (at : ℕ) (cs vs : List ℕ) (span : Span) → HasAt text at cs → IsText at cs vs span → IsRange text span
-text_range text utf8 at cs vs span here (strings.one_line _ _ _ is) = one_line_range text utf8 at cs vs span here is
-text_range text utf8 at cs vs span here (strings.multi_line d opening inner _ is_d is_opening is) =
+multi_line_range : (text : List ℕ) → IsUtf8 text → (at : ℕ) (cs vs : List ℕ) (span : Span) → HasAt text at cs → IsMultiLine at cs vs span → IsRange text span
+multi_line_range text utf8 at cs vs span here (strings.framed d opening inner _ is_d is_opening is) =
     let closing = d ∷ (d ∷ (d ∷ [])) in
     let third = stands_rest text at (d ∷ (d ∷ [])) (d ∷ (opening ++ (inner ++ closing))) here in
     let start = stands_rest text (at + 2) (d ∷ []) (opening ++ (inner ++ closing)) third in
@@ -69,6 +69,10 @@ text_range text utf8 at cs vs span here (strings.multi_line d opening inner _ is
     let last = boundary_before text (at + 2 + 1 + length opening + length inner) d (d ∷ (d ∷ [])) end (delimiter_ascii d is_d) in
     range_between text (at + 3) (length opening + length inner) (boundary_after text (at + 2) (at + 3) d (opening ++ (inner ++ closing)) utf8 third (delimiter_ascii d is_d) (omega arith))
     (subst (IsCharBoundary text) {y = (at + 3) + (length opening + length inner)} (omega arith) last)
+
+text_range : (text : List ℕ) → IsUtf8 text → (at : ℕ) (cs : List ℕ) (v : Scalar) (span : Span) → HasAt text at cs → IsText at cs v span → IsRange text span
+text_range text utf8 at cs v span here (strings.one_line _ vs _ is) = one_line_range text utf8 at cs vs span here is
+text_range text utf8 at cs v span here (strings.multi_line _ vs _ is) = multi_line_range text utf8 at cs vs span here is
 
 part_range : (text : List ℕ) → IsUtf8 text → (at : ℕ) (cs : List ℕ) (part : Key) → HasAt text at cs → IsPart at cs part → IsRange text part.span
 part_range text utf8 at cs part here (grammar.bare c cs' all) = run_range text is_bare utf8 (λ b e. grind (arith, nat_tests)) at c cs' here all
@@ -169,17 +173,42 @@ content_same d multi before cs vs (strings.escape _ c escaped cs' vs' is_quote i
 content_same d multi before cs vs (strings.cut _ spaces end blank cs' vs' on is_quote are_spaces is_end is_blank ink more) none =
     absurd (backslash_escapes d (spaces ++ (end ++ (blank ++ cs'))) is_quote none)
 
--- a string on one line begins with no line end
-one_line_trim : (d before : ℕ) (cs vs : List ℕ) → IsContent d false before cs vs → trim_newline cs ≡ cs
-one_line_trim d before cs vs (strings.end _) = refl
-one_line_trim d before cs vs (strings.plain _ c cs' vs' is more) =
-    let no_feed : (c == 10) ≡ false = grind (arith, nat_tests) in
-    let no_return : (c == 13) ≡ false = grind (arith, nat_tests) in
-    rw (no_feed, no_return) refl
-one_line_trim d before cs vs (strings.newline _ cs' vs' on more) = absurd (false≢true on)
-one_line_trim d before cs vs (strings.quotes _ cs' vs' on room more) = absurd (false≢true on)
-one_line_trim d before cs vs (strings.escape _ c escaped cs' vs' is_quote is more) = refl
-one_line_trim d before cs vs (strings.cut _ spaces end blank cs' vs' on is_quote are_spaces is_end is_blank ink more) = absurd (false≢true on)
+-- a letter stands for a character of one byte
+letter_byte : (b c : ℕ) → letter_escape b ≡ Some c → c < 128
+letter_byte b c means = grind (arith, nat_tests)
+
+-- an escape writes fewer bytes than it has with its backslash
+escape_shortens : (escaped : List ℕ) (c : ℕ) → IsEscape escaped c → length (encode_utf8 c) < 1 + length escaped
+escape_shortens escaped c (strings.letter b _ means) = omega (arith, length-encode c, len_utf8_ascii c (letter_byte b c means))
+escape_shortens escaped c (strings.short digits len writes) = omega (arith, len, length-encode c, (len_utf8_bounds c).1)
+escape_shortens escaped c (strings.long digits len writes) = omega (arith, len, length-encode c, (len_utf8_bounds c).1)
+
+-- A string on one line is no longer than what it is written with.
+content_within : (d before : ℕ) (cs vs : List ℕ) → IsContent d false before cs vs → length vs ≤ length cs
+content_within d before cs vs (strings.end _) = omega arith
+content_within d before cs vs (strings.plain _ c cs' vs' is more) = omega (arith, content_within d 0 cs' vs' more)
+content_within d before cs vs (strings.newline _ cs' vs' on more) = absurd (false≢true on)
+content_within d before cs vs (strings.quotes _ cs' vs' on room more) = absurd (false≢true on)
+content_within d before cs vs (strings.escape _ c escaped cs' vs' is_quote is more) =
+    omega (arith, escape_shortens escaped c is, content_within d 0 cs' vs' more, length-append (encode_utf8 c) vs', length-append escaped cs')
+content_within d before cs vs (strings.cut _ spaces end blank cs' vs' on is_quote are_spaces is_end is_blank ink more) = absurd (false≢true on)
+
+-- where it is as long, no escape stands in it
+content_whole : (d before : ℕ) (cs vs : List ℕ) → is_delimiter d ≡ true → IsContent d false before cs vs → length vs ≡ length cs → NoEscape d cs
+content_whole d before cs vs is_d (strings.end _) len = inl refl
+content_whole d before cs vs is_d (strings.plain _ c cs' vs' is more) len = plain_before d c cs' is_d is (content_whole d 0 cs' vs' is_d more (omega arith))
+  where
+    plain_before : (d c : ℕ) (cs : List ℕ) → is_delimiter d ≡ true → is_plain d false c ≡ true → NoEscape d cs → NoEscape d (c ∷ cs)
+    plain_before d c cs is_d is (inr e) = inr e
+    plain_before d c cs is_d is (inl all) = elim (cases_Bool (no_backslash c)) [
+      | inl none ↦ inl (rw none all)
+      | inr slash ↦ inr (grind (arith, nat_tests))
+    ]
+content_whole d before cs vs is_d (strings.newline _ cs' vs' on more) len = absurd (false≢true on)
+content_whole d before cs vs is_d (strings.quotes _ cs' vs' on room more) len = absurd (false≢true on)
+content_whole d before cs vs is_d (strings.escape _ c escaped cs' vs' is_quote is more) len =
+    absurd (omega (arith, escape_shortens escaped c is, content_within d 0 cs' vs' more, length-append (encode_utf8 c) vs', length-append escaped cs'))
+content_whole d before cs vs is_d (strings.cut _ spaces end blank cs' vs' on is_quote are_spaces is_end is_blank ink more) len = absurd (false≢true on)
 
 no_trim : (cs : List ℕ) → starts_newline cs ≡ false → trim_newline cs ≡ cs
 no_trim cs none =
@@ -232,12 +261,25 @@ multi_line_same text at d opening cs vs here is_opening is none =
     after_opening d [] cs none = none
     after_opening d (c ∷ opening) cs none = after_opening d opening cs (no_escape_after d c (opening ++ cs) none)
 
-text_stands : (text : List ℕ) (at : ℕ) (cs vs : List ℕ) (span : Span) → HasAt text at cs → IsText at cs vs span → ScalarStands text span (Text vs)
-text_stands text at cs vs span here (strings.one_line _ _ _ (strings.quoted d inner _ is_d is)) =
-    λ none. let same = one_line_same text at d inner vs here is none in
-    let stands = stands_bytes text (at + 1) inner (stands_front text (at + 1) inner (d ∷ []) (inside text at d inner here)) in
-    same ∙ stands ∙ sym (one_line_trim d 0 inner vs is) ∙ ap trim_newline (sym stands)
-text_stands text at cs vs span here (strings.multi_line d opening inner _ is_d is_opening is) = multi_line_same text at d opening inner vs here is_opening is
+-- where a content has no escapes, its range has none
+escapes_of : (text : List ℕ) (start d : ℕ) (cs : List ℕ) → bytes_in text (span_of (start + 1) (length cs)) ≡ cs → get_or text start 0 ≡ d → NoEscape d cs
+    → IsWithoutEscapes text (span_of (start + 1) (length cs))
+escapes_of text start d cs stands byte (inl all) = inl (subst (λ bs. list_all no_backslash bs ≡ true) (sym stands) all)
+escapes_of text start d cs stands byte (inr e) = inr (subst (λ n. get_or text n 0 ≡ 39) {x = start} {y = (start + 1) - 1} (omega arith) (byte ∙ e))
+
+one_line_stands : (text : List ℕ) (at d : ℕ) (cs vs : List ℕ) → is_delimiter d ≡ true → HasAt text at (d ∷ (cs ++ d ∷ [])) → IsContent d false 0 cs vs
+    → OneLineStands text (span_of (at + 1) (length cs)) vs
+one_line_stands text at d cs vs is_d here is =
+    let stands = stands_bytes text (at + 1) cs (stands_front text (at + 1) cs (d ∷ []) (inside text at d cs here)) in
+    record {
+      same = one_line_same text at d cs vs here is;
+      without_escapes = λ len. escapes_of text at d cs stands (stands_byte text at d (cs ++ d ∷ []) here) (content_whole d 0 cs vs is_d is (omega arith));
+    }
+
+text_stands : (text : List ℕ) (at : ℕ) (cs : List ℕ) (v : Scalar) (span : Span) → HasAt text at cs → IsText at cs v span → ScalarStands text span v
+text_stands text at cs v span here (strings.one_line _ vs _ (strings.quoted d inner _ is_d is)) = one_line_stands text at d inner vs is_d here is
+text_stands text at cs v span here (strings.multi_line _ vs _ (strings.framed d opening inner _ is_d is_opening is)) =
+    multi_line_same text at d opening inner vs here is_opening is
 
 word_stands : (text : List ℕ) (range : Span) (cs : List ℕ) (v : Scalar) → cs ≡ bytes_in text range → IsScalar cs v → ScalarStands text range v
 word_stands text range cs v e words.true_ = subst (λ bs. IsScalar bs (Boolean true)) e words.true_
@@ -254,9 +296,9 @@ made_stands text span what layer same placed written =
     (subst (λ l. Stands text span (written_scalar l)) (sym (written_layer-is span what layer same)) (record { placed = placed; written = written }))
 
 value_stands : (text : List ℕ) → IsUtf8 text → AtValues text (WrittenStands text)
-value_stands text utf8 depth at cs w here (grammar.text _ _ _ bytes span is) =
-    made_stands text span (content.Scalar (Text bytes)) (WrittenContent-F.Scalar (Text bytes)) (content.rolls-Scalar (Text bytes)) (text_range text utf8 at cs bytes span here is)
-    (text_stands text at cs bytes span here is)
+value_stands text utf8 depth at cs w here (grammar.text _ _ _ v span is) =
+    made_stands text span (content.Scalar v) (WrittenContent-F.Scalar v) (content.rolls-Scalar v) (text_range text utf8 at cs v span here is)
+    (text_stands text at cs v span here is)
 value_stands text utf8 depth at cs w here (grammar.word _ _ _ v is) =
     made_stands text (span_of at (length cs)) (content.Scalar v) (WrittenContent-F.Scalar v) (content.rolls-Scalar v) (word_range text utf8 depth at cs v here is)
     (word_stands text (span_of at (length cs)) cs v (sym (stands_bytes text at cs here)) is)

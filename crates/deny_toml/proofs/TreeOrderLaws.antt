@@ -34,7 +34,7 @@ use Rattle.deny_toml.specs.Expression.{assigned_value, written_with}
 use Rattle.deny_toml.proofs.TreeLaws.{names_ascend}
 use Rattle.deny_toml.proofs.TreeValues.{value_is, scalar_in, elements_in, members_in}
 
-layer_is : (span : Span) (k : Content) → layer_in (value_with span k) ≡ out-Content k
+pub layer_is : (span : Span) (k : Content) → layer_in (value_with span k) ≡ out-Content k
 layer_is span k = search (rules, the_lemmas)
 
 scalar_layer : (s : Scalar) → out-Content (content.Scalar s) ≡ Content-F.Scalar s
@@ -46,7 +46,7 @@ array_layer vs = search (rules, the_lemmas)
 table_layer : (t : Table) → out-Content (content.Table t) ≡ Content-F.Table t
 table_layer t = search (rules, the_lemmas)
 
-entries_are : (es : List (Key × Value)) → entries_in (table_with es) ≡ es
+pub entries_are : (es : List (Key × Value)) → entries_in (table_with es) ≡ es
 entries_are es = search (rules, the_lemmas)
 
 content_value : (span : Span) (k : Content) → IsOrderlyLayer (out-Content k) → IsOrderly (value_with span k)

@@ -6,7 +6,6 @@ use Rattle.std.specs.List.{list_all, slice_index}
 use Rattle.deny_base.specs.declared.span.Span.{Span}
 use Rattle.deny_toml.specs.declared.value.Key.{Key}
 use Rattle.deny_toml.specs.declared.value.Scalar.{Scalar}
-use Rattle.deny_toml.specs.declared.value.Scalar.TheVariants.{Text}
 use Rattle.deny_toml.specs.declared.expression.Written.{Written}
 use Rattle.deny_toml.specs.declared.expression.WrittenContent.TheVariants as written
 use Rattle.deny_toml.specs.declared.expression.Assignment.{Assignment}
@@ -90,7 +89,7 @@ begins c = (is_delimiter c || is_word c) || (c == 91 || c == 123)
 
 pub value_first : (depth at : ℕ) (cs rest : List ℕ) (w : Written) → IsValue depth at cs w → begins (first (cs ++ rest)) ≡ true
 value_first depth at cs rest w (grammar.text _ _ _ _ _ (strings.one_line _ _ _ (strings.quoted d inner _ is_d is))) = rw is_d refl
-value_first depth at cs rest w (grammar.text _ _ _ _ _ (strings.multi_line d opening inner _ is_d is_opening is)) = rw is_d refl
+value_first depth at cs rest w (grammar.text _ _ _ _ _ (strings.multi_line _ _ _ (strings.framed d opening inner _ is_d is_opening is))) = rw is_d refl
 value_first depth at cs rest w (grammar.word _ _ _ v is) = let here = word_first cs rest v (word_of cs v is) in grind (arith, nat_tests)
 value_first depth at cs rest w (grammar.array _ _ cs' vs is) = refl
 value_first depth at cs rest w (grammar.inline_table _ _ spaces cs' ms are_spaces is) = refl
@@ -171,15 +170,15 @@ range_is at total cs rest place =
     let lens = length-append cs rest in
     span_is _ _ at (length cs) (omega arith) (omega arith)
 
-scalar_text : (at total : ℕ) (cs rest bytes : List ℕ) (span : Span) → IsText at cs bytes span → Follows rest → at + length (cs ++ rest) ≡ total
-    → scalar total (cs ++ rest) ≡ Some (written_with span (written.Scalar (Text bytes)), rest)
+scalar_text : (at total : ℕ) (cs rest : List ℕ) (v : Scalar) (span : Span) → IsText at cs v span → Follows rest → at + length (cs ++ rest) ≡ total
+    → scalar total (cs ++ rest) ≡ Some (written_with span (written.Scalar v), rest)
 unfolding scalar
-scalar_text at total cs rest bytes span is follows place =
-    rw (text_starts at cs rest bytes span is, quoted-complete at total cs bytes rest span is follows.no_quote place)
+scalar_text at total cs rest v span is follows place =
+    rw (text_starts at cs rest v span is, quoted-complete at total cs rest v span is follows.no_quote place)
   where
-    text_starts : (at : ℕ) (cs rest bytes : List ℕ) (span : Span) → IsText at cs bytes span → starts_string (cs ++ rest) ≡ true
-    text_starts at cs rest bytes span (strings.one_line _ _ _ (strings.quoted d inner _ is_d is)) = is_d
-    text_starts at cs rest bytes span (strings.multi_line d opening inner _ is_d is_opening is) = is_d
+    text_starts : (at : ℕ) (cs rest : List ℕ) (v : Scalar) (span : Span) → IsText at cs v span → starts_string (cs ++ rest) ≡ true
+    text_starts at cs rest v span (strings.one_line _ _ _ (strings.quoted d inner _ is_d is)) = is_d
+    text_starts at cs rest v span (strings.multi_line _ _ _ (strings.framed d opening inner _ is_d is_opening is)) = is_d
 
 scalar_word : (at total : ℕ) (cs rest : List ℕ) (v : Scalar) → IsScalar cs v → Follows rest → is_delimiter (first (cs ++ rest)) ≡ false → at + length (cs ++ rest) ≡ total
     → scalar total (cs ++ rest) ≡ Some (written_with (span_of at (length cs)) (written.Scalar v), rest)
@@ -187,9 +186,9 @@ unfolding scalar
 scalar_word at total cs rest v is follows no_string place =
     rw (no_string, unquoted-complete cs rest v (word_of cs v is) follows.no_word follows.apart) (ap (λ s. Some (written_with s (written.Scalar v), rest)) (range_is at total cs rest place))
 
-text_first : (at : ℕ) (cs rest bytes : List ℕ) (span : Span) → IsText at cs bytes span → is_delimiter (first (cs ++ rest)) ≡ true
-text_first at cs rest bytes span (strings.one_line _ _ _ (strings.quoted d inner _ is_d is)) = is_d
-text_first at cs rest bytes span (strings.multi_line d opening inner _ is_d is_opening is) = is_d
+text_first : (at : ℕ) (cs rest : List ℕ) (v : Scalar) (span : Span) → IsText at cs v span → is_delimiter (first (cs ++ rest)) ≡ true
+text_first at cs rest v span (strings.one_line _ _ _ (strings.quoted d inner _ is_d is)) = is_d
+text_first at cs rest v span (strings.multi_line _ _ _ (strings.framed d opening inner _ is_d is_opening is)) = is_d
 
 -- what begins a key
 abbrev pub begins_key : ℕ → Bool
@@ -211,7 +210,7 @@ key_no_space c e = grind (arith, nat_tests)
 key_no_brace : (c : ℕ) → begins_key c ≡ true → (c == 125) ≡ false
 key_no_brace c e = grind (arith, nat_tests)
 
-some_bytes : (depth at : ℕ) (cs : List ℕ) (w : Written) → IsValue depth at cs w → 0 < length cs
+pub some_bytes : (depth at : ℕ) (cs : List ℕ) (w : Written) → IsValue depth at cs w → 0 < length cs
 some_bytes depth at [] w is = absurd (false≢true (value_first depth at [] [] w is))
 some_bytes depth at (c ∷ cs) w is = omega arith
 
@@ -225,9 +224,9 @@ mutual
   -- a value is read, where nothing follows that it could be mixed up with
   pub value-complete : (depth at total : ℕ) (cs rest : List ℕ) (w : Written) → IsValue depth at cs w → Follows rest → at + length (cs ++ rest) ≡ total
       → value depth total (cs ++ rest) ≡ Some (w, rest)
-  value-complete depth at total cs rest w (grammar.text _ _ _ bytes span is) follows place =
-      let start = text_first at cs rest bytes span is in
-      laws.value_scalar depth total (cs ++ rest) (grind (arith, nat_tests)) (grind (arith, nat_tests)) ∙ scalar_text at total cs rest bytes span is follows place
+  value-complete depth at total cs rest w (grammar.text _ _ _ v span is) follows place =
+      let start = text_first at cs rest v span is in
+      laws.value_scalar depth total (cs ++ rest) (grind (arith, nat_tests)) (grind (arith, nat_tests)) ∙ scalar_text at total cs rest v span is follows place
   value-complete depth at total cs rest w (grammar.word _ _ _ v is) follows place =
       let start = word_first cs rest v (word_of cs v is) in
       laws.value_scalar depth total (cs ++ rest) (grind (arith, nat_tests)) (grind (arith, nat_tests)) ∙ scalar_word at total cs rest v is follows (grind (arith, nat_tests)) place

@@ -28,14 +28,14 @@ use Rattle.deny_toml.proofs.ValuesComplete.{begins, value_first, range_is}
 use Rattle.deny_toml.proofs.ValuesLaws as laws
 
 -- a scalar
-text_found : (depth total : ℕ) (text rest : List ℕ) (w : Written) (o : Read (Spanned (List ℕ))) → starts_string text ≡ true → length text ≤ total → quoted total text ≡ o
+text_found : (depth total : ℕ) (text rest : List ℕ) (w : Written) (o : Read (Spanned Scalar)) → starts_string text ≡ true → length text ≤ total → quoted total text ≡ o
     → read_map quoted_value o ≡ read_of w rest → Front (IsValue depth (total - length text)) rest text w
 text_found depth total text rest w None starts within is e = absurd (none_some (w, rest) e)
 text_found depth total text rest w (Some (s, r)) starts within is e =
     read_same (λ x t. Front (IsValue depth (total - length text)) t text x) (quoted_value s) w r rest e
     (text_front depth (total - length text) r text s (quoted-sound total text r s starts within is))
   where
-    text_front : (depth at : ℕ) (r text : List ℕ) (s : Spanned (List ℕ)) → Front (WholeText at) r text s → Front (IsValue depth at) r text (quoted_value s)
+    text_front : (depth at : ℕ) (r text : List ℕ) (s : Spanned Scalar) → Front (WholeText at) r text s → Front (IsValue depth at) r text (quoted_value s)
     text_front depth at r text s (front cs _ is) = front cs (quoted_value s) (grammar.text depth at cs s.value s.span is)
 
 word_front : (depth total : ℕ) (text rest : List ℕ) (v : Scalar) → length text ≤ total → Front IsWord rest text v

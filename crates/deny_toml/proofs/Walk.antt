@@ -3,7 +3,6 @@ use Rattle.std.proofs.Common.{◌≡◌, ℕ, ◌+◌, List, [], ◌∷◌, ◌+
 use Rattle.std.proofs.lemmas.List.Elements.{All-nil, All-cons, All-append}
 use Rattle.std.specs.Prelude.{All}
 use Rattle.deny_toml.specs.declared.value.Key.{Key}
-use Rattle.deny_toml.specs.declared.value.Scalar.TheVariants.{Text}
 use Rattle.deny_toml.specs.declared.expression.Written.{Written}
 use Rattle.deny_toml.specs.declared.expression.WrittenContent.TheViews.{roll-WrittenContent, out-WrittenContent, out-roll-WrittenContent, out-roll-Written, out-roll-Assignment}
 use Rattle.deny_toml.specs.declared.expression.WrittenContent.{WrittenContent}
@@ -60,8 +59,8 @@ key_parts text K parts left at cs path here (grammar.dotted left' _ cs' spaces m
 mutual
   value_parts : (text : List ℕ) (K : Key → Type 0) (V : Written → Type 0) → AtParts text K → AtValues text V
       → (depth at : ℕ) (cs : List ℕ) (w : Written) → HasAt text at cs → IsValue depth at cs w → AllOfWritten K V w
-  value_parts text K V parts values depth at cs w here (grammar.text _ _ _ bytes span is) =
-      all_written K V span (content.Scalar (Text bytes)) (WrittenContent-F.Scalar (Text bytes)) (content.rolls-Scalar (Text bytes)) (values depth at cs w here (grammar.text depth at cs bytes span is)) (ranges.no_parts (Text bytes))
+  value_parts text K V parts values depth at cs w here (grammar.text _ _ _ v span is) =
+      all_written K V span (content.Scalar v) (WrittenContent-F.Scalar v) (content.rolls-Scalar v) (values depth at cs w here (grammar.text depth at cs v span is)) (ranges.no_parts v)
   value_parts text K V parts values depth at cs w here (grammar.word _ _ _ v is) =
       all_written K V (span_of at (length cs)) (content.Scalar v) (WrittenContent-F.Scalar v) (content.rolls-Scalar v) (values depth at cs w here (grammar.word depth at cs v is)) (ranges.no_parts v)
   value_parts text K V parts values depth at cs w here (grammar.array depth' _ cs' ws is) =

@@ -1,6 +1,7 @@
 -- What a value is, and what stands below it.
-use Rattle.std.specs.Prelude.{ℕ, ◌+◌, ◌*◌, ◌-◌, ℤ, Bool, ◌&&◌, ◌==◌, not, List, [], ◌∷◌, Option, None, Some, nat_le, ◌≤◌, ⊤, option_map, option_and_then, find, length, slice_get, if◌then◌else◌}
+use Rattle.std.specs.Prelude.{ℕ, ◌+◌, ◌*◌, ◌-◌, ℤ, Bool, ◌&&◌, ◌==◌, false, not, List, [], ◌∷◌, Option, None, Some, nat_le, ◌≤◌, ⊤, option_map, option_and_then, find, length, slice_get, if◌then◌else◌}
 use Rattle.std.specs.List.{slice_split}
+use Rattle.std.specs.Option.{option_map_or}
 use Rattle.std.specs.Cmp.Lexicographic.{pointwise}
 use Rattle.std.specs.Prelude.{nat_eq}
 use Rattle.deny_toml.specs.declared.value.Key.{Key}
@@ -10,7 +11,7 @@ use Rattle.deny_toml.specs.declared.value.Content.{Content, out-Content}
 use Rattle.deny_toml.specs.declared.value.Content.TheOpen.{Content-F}
 use Rattle.deny_toml.specs.declared.value.Scalar.{Scalar}
 use Rattle.deny_toml.specs.declared.value.Scalar.TheVariants as scalar
-use Rattle.deny_toml.specs.Value.{content_in, entries_in}
+use Rattle.deny_toml.specs.Value.{span_in, content_in, entries_in}
 
 -- one level of what a value is
 abbrev pub Layer : Type 0
@@ -34,7 +35,13 @@ scalar_of _ = None
 
 abbrev pub text_of : Scalar → Option (List ℕ)
 text_of (scalar.Text bytes) = Some bytes
+text_of (scalar.Multiline bytes) = Some bytes
 text_of _ = None
+
+-- the text of a string on one line
+abbrev pub one_line_of : Scalar → Option (List ℕ)
+one_line_of (scalar.Text bytes) = Some bytes
+one_line_of _ = None
 
 abbrev pub integer_of : Scalar → Option ℤ
 integer_of (scalar.Integer n) = Some n
@@ -58,6 +65,14 @@ integer_in v = option_and_then integer_of (scalar_of (layer_in v))
 
 abbrev pub bool_in : Value → Option Bool
 bool_in v = option_and_then bool_of (scalar_of (layer_in v))
+
+-- the text, where the value is a string on one line
+abbrev pub one_line_in : Value → Option (List ℕ)
+one_line_in v = option_and_then one_line_of (scalar_of (layer_in v))
+
+-- A string on one line is as long as its range: each of its bytes stands for itself.
+abbrev pub is_verbatim : Value → Bool
+is_verbatim v = option_map_or (λ text. (span_in v).start + length text == (span_in v).end) (one_line_in v) false
 
 -- the first entry of a name
 abbrev pub has_name : List ℕ → Key × Value → Bool

@@ -4,7 +4,6 @@ use Rattle.std.specs.List.{list_all}
 use Rattle.deny_base.specs.declared.span.Span.{Span}
 use Rattle.deny_toml.specs.declared.value.Key.{Key}
 use Rattle.deny_toml.specs.declared.value.Scalar.{Scalar}
-use Rattle.deny_toml.specs.declared.value.Scalar.TheVariants.{Text}
 use Rattle.deny_toml.specs.declared.expression.Written.{Written}
 use Rattle.deny_toml.specs.declared.expression.WrittenContent.TheVariants as written
 use Rattle.deny_toml.specs.declared.expression.Assignment.{Assignment}
@@ -33,7 +32,7 @@ pub data IsKey : ℕ → ℕ → List ℕ → List Key → Type 0 where
 mutual
   -- a value at a place, with arrays and inline tables at most so deep
   pub data IsValue : ℕ → ℕ → List ℕ → Written → Type 0 where
-    text : (depth at : ℕ) (cs value : List ℕ) (span : Span) → IsText at cs value span → IsValue depth at cs (written_with span (written.Scalar (Text value)))
+    text : (depth at : ℕ) (cs : List ℕ) (value : Scalar) (span : Span) → IsText at cs value span → IsValue depth at cs (written_with span (written.Scalar value))
     word : (depth at : ℕ) (cs : List ℕ) (value : Scalar) → IsScalar cs value → IsValue depth at cs (written_with (span_of at (length cs)) (written.Scalar value))
     array : (depth at : ℕ) (cs : List ℕ) (elements : List Written) → IsElements depth (at + 1) cs elements
         → IsValue (suc depth) at (91 ∷ cs) (written_with (span_of at (length (91 ∷ cs))) (written.Array elements))

@@ -3,6 +3,8 @@ use Rattle.std.specs.Prelude.{ℕ, ◌+◌, ◌<◌, ◌≡◌, Bool, true, fals
 use Rattle.std.specs.List.{list_all}
 use Rattle.std.specs.Str.Parse.{digits_value}
 use Rattle.deny_base.specs.declared.span.Span.{Span}
+use Rattle.deny_toml.specs.declared.value.Scalar.{Scalar}
+use Rattle.deny_toml.specs.declared.value.Scalar.TheVariants.{Text, Multiline}
 use Rattle.deny_toml.specs.Value.{span_of}
 use Rattle.deny_toml.specs.Lexical.{is_space, is_comment_byte, is_plain, first, starts_newline}
 use Rattle.deny_toml.specs.Strings.{letter_escape, writes_scalar}
@@ -66,9 +68,13 @@ pub data IsOpening : List ℕ → List ℕ → Type 0 where
   same_line : (cs : List ℕ) → starts_newline cs ≡ false → IsOpening [] cs
   next_line : (end cs : List ℕ) → IsNewline end → IsOpening end cs
 
--- a string at a place
-pub data IsText (at : ℕ) : List ℕ → List ℕ → Span → Type 0 where
-  one_line : (cs vs : List ℕ) (span : Span) → IsOneLine at cs vs span → IsText at cs vs span
-  multi_line : (delimiter : ℕ) (opening cs vs : List ℕ) → is_delimiter delimiter ≡ true → IsOpening opening cs → IsContent delimiter true 0 cs vs
-      → IsText at (delimiter ∷ (delimiter ∷ (delimiter ∷ (opening ++ (cs ++ delimiter ∷ (delimiter ∷ (delimiter ∷ []))))))) vs
+-- a string on several lines at a place, the bytes that it stands for, and the range between its delimiters
+pub data IsMultiLine (at : ℕ) : List ℕ → List ℕ → Span → Type 0 where
+  framed : (delimiter : ℕ) (opening cs vs : List ℕ) → is_delimiter delimiter ≡ true → IsOpening opening cs → IsContent delimiter true 0 cs vs
+      → IsMultiLine at (delimiter ∷ (delimiter ∷ (delimiter ∷ (opening ++ (cs ++ delimiter ∷ (delimiter ∷ (delimiter ∷ []))))))) vs
       (span_of (at + 3) (length opening + length cs))
+
+-- a string at a place, of one of the two kinds
+pub data IsText (at : ℕ) : List ℕ → Scalar → Span → Type 0 where
+  one_line : (cs vs : List ℕ) (span : Span) → IsOneLine at cs vs span → IsText at cs (Text vs) span
+  multi_line : (cs vs : List ℕ) (span : Span) → IsMultiLine at cs vs span → IsText at cs (Multiline vs) span

@@ -21,4 +21,5 @@ pub mod Deserialize
 pub mod TableHelper
 pub mod Tree
 pub mod TreeOrder
+pub mod Apart
 pub mod Parser

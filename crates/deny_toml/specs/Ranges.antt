@@ -1,5 +1,5 @@
 -- What holds of the range of each key and value that a text writes.
-use Rattle.std.specs.Prelude.{ℕ, Bool, ◌-◌, ◌≤◌, ◌≡◌, ◌⊎◌, ◌==◌, not, true, List, [], ◌∷◌, length, take, drop, slice_index, All, Option, Some, None, IfSome}
+use Rattle.std.specs.Prelude.{ℕ, Bool, ◌+◌, ◌-◌, ◌≤◌, ◌≡◌, ◌⊎◌, ◌==◌, not, true, List, [], ◌∷◌, length, take, drop, slice_index, All, Option, Some, None, IfSome}
 use Rattle.std.specs.List.{list_all}
 use Rattle.std.specs.Str.{IsCharBoundary}
 use Rattle.deny_base.specs.declared.span.Span.{Span}
@@ -45,9 +45,16 @@ pub record KeyStands (text : List ℕ) (key : Key) : Type 0 where
   pub placed : IsRange text key.span
   pub named : IsWithoutEscapes text key.span → key.name ≡ bytes_in text key.span
 
--- A string without escapes is the bytes of its range, but for a line end right at their front. The bytes of any other scalar write it.
+-- A string on one line without escapes is the bytes of its range, and one with escapes is not as long as its range.
+pub record OneLineStands (text : List ℕ) (range : Span) (bytes : List ℕ) : Type 0 where
+  pub same : IsWithoutEscapes text range → bytes ≡ bytes_in text range
+  pub without_escapes : range.start + length bytes ≡ range.end → IsWithoutEscapes text range
+
+-- A string on several lines without escapes is the bytes of its range, but for a line end right at their front. The bytes of any
+-- other scalar write it.
 abbrev pub ScalarStands : List ℕ → Span → Scalar → Type 0
-ScalarStands text range (scalar.Text bytes) = IsWithoutEscapes text range → bytes ≡ trim_newline (bytes_in text range)
+ScalarStands text range (scalar.Text bytes) = OneLineStands text range bytes
+ScalarStands text range (scalar.Multiline bytes) = IsWithoutEscapes text range → bytes ≡ trim_newline (bytes_in text range)
 ScalarStands text range s = IsScalar (bytes_in text range) s
 
 -- The range of a value is one of the text, and a scalar stands there.

@@ -4,6 +4,8 @@ use Rattle.std.specs.List.{prefix_len, list_all}
 use Rattle.std.specs.Char.{is_digit}
 use Rattle.std.specs.Str.Parse.{digits_value}
 use Rattle.deny_base.specs.declared.span.Spanned.{Spanned}
+use Rattle.deny_toml.specs.declared.value.Scalar.{Scalar}
+use Rattle.deny_toml.specs.declared.value.Scalar.TheVariants.{Text, Multiline}
 use Rattle.deny_toml.specs.Lexical.{Read, line_feed, carriage_return, tab, quote, apostrophe, backslash, first, is_plain, starts_newline, skip_spaces, skip_lines}
 use Rattle.std.specs.Borrow.{Bor}
 use Rattle.std.specs.declared.alloc.Global.{Global}
@@ -105,10 +107,15 @@ one_line total text = option_map (spanned total (drop 1 text) 1) (content (first
 unfoldable pub multi_line : ℕ → List ℕ → Read (Spanned (List ℕ))
 multi_line total text = option_map (spanned total (drop 3 text) 3) (content (first text) true (length text) (trim_newline (drop 3 text)))
 
+-- a string of one of the two kinds, where it was read
+abbrev pub string_of : (List ℕ → Scalar) → Spanned (List ℕ) → Spanned Scalar
+string_of kind s = record { value = kind s.value; span = s.span }
+
 -- a string, at its delimiter
-unfoldable pub quoted : ℕ → List ℕ → Read (Spanned (List ℕ))
+unfoldable pub quoted : ℕ → List ℕ → Read (Spanned Scalar)
 quoted total text =
-    if slice_index text 1 == first text && slice_index text 2 == first text then multi_line total text else one_line total text
+    if slice_index text 1 == first text && slice_index text 2 == first text then read_map (string_of Multiline) (multi_line total text)
+    else read_map (string_of Text) (one_line total text)
 
 -- the text begins with the delimiter of a string
 abbrev pub starts_string : List ℕ → Bool

@@ -4,7 +4,7 @@ use Rattle.std.specs.Borrow.{Bor}
 use Rattle.deny_toml.specs.declared.failure.Failure.{Failure}
 use Rattle.deny_base.specs.declared.span.Spanned.{Spanned}
 use Rattle.deny_toml.specs.declared.value.Key.{Key}
-use Rattle.deny_toml.specs.declared.value.Scalar.TheVariants.{Text}
+use Rattle.deny_toml.specs.declared.value.Scalar.{Scalar}
 use Rattle.deny_toml.specs.declared.expression.Written.{Written}
 use Rattle.deny_toml.specs.declared.expression.Assignment.{Assignment}
 use Rattle.deny_toml.specs.declared.expression.WrittenContent.{WrittenContent}
@@ -16,8 +16,8 @@ use Rattle.deny_toml.specs.Strings.{quoted, starts_string}
 use Rattle.deny_toml.specs.Words.{unquoted}
 use Rattle.deny_toml.specs.Keys.{key}
 
-abbrev pub quoted_value : Spanned (List ℕ) → Written
-quoted_value s = written_with s.span (written.Scalar (Text s.value))
+abbrev pub quoted_value : Spanned Scalar → Written
+quoted_value s = written_with s.span (written.Scalar s.value)
 
 -- what stands from `text` to the rest
 abbrev pub written_from : ℕ → List ℕ → List ℕ → WrittenContent → Written

@@ -11,7 +11,7 @@ ghost use Rattle.deny_toml.specs.Deserialize.{faults_of_kind};
 use crate::cow_str::CowStr;
 use crate::error::DeserError;
 use crate::value::{Content, Key, Scalar, Table, Value};
-use deny_base::Text;
+use deny_base::{Span, Text};
 use std::alloc::Global;
 use std::mem;
 
@@ -41,8 +41,19 @@ impl<'t> Value<'t> {
         ensures { option_map (λ text. text.now) result ≡ text_in self.now }
     {
         match &self.content {
-            Content::Scalar(Scalar::Text(text)) => Some(text.as_str()),
+            Content::Scalar(Scalar::Text(text) | Scalar::Multiline(text)) => Some(text.as_str()),
             _ => None,
+        }
+    }
+
+    /// Whether this value is a string on one line in which each byte stands for itself: no escape
+    /// stands there. Its text is then the bytes of its range.
+    pub fn is_verbatim(&self) -> bool
+        ensures { result ≡ spec.is_verbatim self.now }
+    {
+        match &self.content {
+            Content::Scalar(Scalar::Text(text)) => is_so_long(self.span, text.as_str().len()),
+            _ => false,
         }
     }
 
@@ -116,7 +127,7 @@ impl<'t> Value<'t> {
         ensures stays { text_in self.old ≡ None → self.new ≡ self.old }
     {
         match &mut self.content {
-            Content::Scalar(Scalar::Text(text)) => {
+            Content::Scalar(Scalar::Text(text) | Scalar::Multiline(text)) => {
                 let text = mem::replace(text, CowStr::borrowed(""));
                 Ok(text.into_text(alloc)?)
             }
@@ -148,6 +159,13 @@ impl<'t> Key<'t> {
     {
         self.name.as_str().as_bytes() == name
     }
+}
+
+/// Whether a range is so long.
+fn is_so_long(span: Span, len: usize) -> bool
+    ensures { result ≡ (span.start + len == span.end) }
+{
+    u128::from(span.start) + len as u128 == u128::from(span.end)
 }
 
 /// The place of the first entry of that name.

@@ -3,6 +3,7 @@ ghost use Rattle.std.specs.Prelude.{◌≡◌, ◌^◌, ◌<◌, ◌≤◌, leng
 ghost use Rattle.std.specs.Str.{IsCharBoundary};
 ghost use Rattle.deny_toml.specs.Ranges.{IsRange, StandsIn};
 ghost use Rattle.deny_toml.specs.TreeOrder.{IsOrderly};
+ghost use Rattle.deny_toml.specs.Apart.{AreApart};
 ghost use Rattle.deny_toml.specs.Parser.{IsDocumentOf, IsTreeOf, IsCauseOf, IsPlaced};
 ghost use Rattle.deny_toml.specs.Parser as spec;
 
@@ -20,13 +21,15 @@ use std::alloc::Global;
 ///
 /// A text outside the grammar, or in which arrays, inline tables or keys go past their limits, is a
 /// `Grammar` fault where the reading stops. Else the first key that defines what stands already is
-/// a `Clash`. The tree borrows what stands in the text as it is.
+/// a `Clash`. The tree borrows what stands in the text as it is, and no two scalars of it begin at one
+/// place.
 pub fn parse<'t>(alloc: Global, text: &'t str) -> Result<Value<'t>, TomlError>
     requires small { length text.now < 2 ^ 28 }
     ensures tree { IfOk result (IsTreeOf text.now) }
     ensures cause { IfErr result (IsCauseOf text.now) }
     ensures stands { IfOk result (StandsIn text.now) }
     ensures ordered { IfOk result IsOrderly }
+    ensures apart { IfOk result AreApart }
     ensures placed { IfErr result (IsPlaced text.now) }
 {
     let expressions = expressions(alloc, text)?;

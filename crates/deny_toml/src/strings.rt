@@ -11,6 +11,7 @@ use crate::failure::Failure;
 use crate::lexical::{
     Class, byte_at, first, place, run_len, skip, skip_blank, skip_spaces, split_run, starts_newline,
 };
+use crate::value::Scalar;
 use deny_base::{Span, Spanned};
 use std::alloc::Global;
 
@@ -29,7 +30,7 @@ pub(crate) fn quoted<'t>(
     alloc: Global,
     total: usize,
     text: &'t str,
-) -> Result<(Spanned<CowStr<'t>>, &'t str), Failure>
+) -> Result<(Spanned<Scalar<'t>>, &'t str), Failure>
     requires here { spec.starts_string text.now ≡ true }
     requires within { length text.now ≤ total }
     requires small { total < 2 ^ 28 }
@@ -38,9 +39,13 @@ pub(crate) fn quoted<'t>(
 {
     let delimiter = first(text);
     if byte_at(text.as_bytes(), 1) == delimiter && byte_at(text.as_bytes(), 2) == delimiter {
-        multi_line(alloc, total, text)
+        let (Spanned { value, span }, rest) = multi_line(alloc, total, text)?;
+        let value = Scalar::Multiline(value);
+        Ok((Spanned { value, span }, rest))
     } else {
-        one_line(alloc, total, text)
+        let (Spanned { value, span }, rest) = one_line(alloc, total, text)?;
+        let value = Scalar::Text(value);
+        Ok((Spanned { value, span }, rest))
     }
 }
 

@@ -12,7 +12,10 @@ pub struct Key<'t> {
 /// A value that contains no others.
 #[derive(Drop)]
 pub enum Scalar<'t> {
+    /// A string on one line.
     Text(CowStr<'t>),
+    /// A string between three delimiters, which may go on over several lines.
+    Multiline(CowStr<'t>),
     Integer(i64),
     /// A float, as it is written.
     Float(CowStr<'t>),

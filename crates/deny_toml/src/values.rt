@@ -8,7 +8,6 @@ use crate::failure::Failure;
 use crate::keys::key;
 use crate::lexical::{between, first, skip, skip_blank, skip_spaces};
 use crate::strings::{quoted, starts_string};
-use crate::value::Scalar;
 use crate::words::unquoted;
 use deny_base::List;
 use std::alloc::Global;
@@ -70,7 +69,7 @@ fn scalar<'t>(alloc: Global, total: usize, text: &'t str) -> Result<(Written<'t>
 {
     if starts_string(text) {
         let (string, rest) = quoted(alloc, total, text)?;
-        let content = WrittenContent::Scalar(Scalar::Text(string.value));
+        let content = WrittenContent::Scalar(string.value);
         Ok((
             Written {
                 span: string.span,

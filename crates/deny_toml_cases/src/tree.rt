@@ -49,6 +49,7 @@ fn entry_tree(alloc: Global, key: &Key, value: Value) -> Result<Value, AllocErro
 fn scalar_tree(alloc: Global, scalar: &Scalar, span: Value) -> Result<Value, AllocError> {
     match scalar {
         Scalar::Text(text) => json!(in alloc; { "span": span, "text": text.as_str() }),
+        Scalar::Multiline(text) => json!(in alloc; { "multiline": text.as_str(), "span": span }),
         Scalar::Integer(number) => json!(in alloc; { "integer": *number, "span": span }),
         Scalar::Float(text) => json!(in alloc; { "float": text.as_str(), "span": span }),
         Scalar::Boolean(is_true) => json!(in alloc; { "boolean": *is_true, "span": span }),

@@ -1,4 +1,5 @@
 use Rattle.deny_toml.proofs.ParserLaws.{clash_range, tree_stands}
+use Rattle.deny_toml.proofs.ApartGrammar.{tree_apart}
 use Rattle.deny_toml.proofs.parser.parse.Goals as goal
 
 pub returns-in-Some-clause-placed : goal.returns-in-Some-clause-placed
@@ -7,3 +8,6 @@ returns-in-Some-clause-placed c =
 
 pub returns-clause-stands : goal.returns-clause-stands
 returns-clause-stands c = tree_stands c.args.text.now _ _ _ c.utf8.text c.in_ok-expressions.ensures.document c.whole.ensures c.in_ok-tree.ensures.exact
+
+pub returns-clause-apart : goal.returns-clause-apart
+returns-clause-apart c = tree_apart c.args.text.now _ _ _ c.in_ok-expressions.ensures.document c.in_ok-tree.ensures.exact
