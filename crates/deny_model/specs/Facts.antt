@@ -1,12 +1,16 @@
--- What a report rests on besides its policy and its graph: of each crate what chains decide.
-use Rattle.std.specs.Prelude.{◌↔◌, Bool, false, IsTrue, Contains}
+-- What the rules ask of chains, as tests: a report rests on these facts, and they are true.
+use Rattle.std.specs.Prelude.{Bool, IsTrue, Contains, ◌↔◌}
 use Rattle.deny_model.specs.Counting.{Counts}
 use Rattle.deny_model.specs.Graph.{Crate, Graph}
+use Rattle.deny_model.specs.Policy.{Policy, Root}
+use Rattle.deny_model.specs.Roots.{IsInTree}
 
 pub record Facts : Type 0 where
-  -- whether a crate counts
+  -- which crates count
   pub counts : Crate → Bool
+  -- which crates lie in an entry's tree
+  pub in_tree : Root → Crate → Bool
 
--- they are true of the crates of a graph
-pub record AreFacts (g : Graph) (facts : Facts) : Type 0 where
-  pub counts : (c : Crate) → Contains g.crates c → IsTrue (facts.counts c) ↔ Counts false g c
+pub record AreFacts (p : Policy) (g : Graph) (facts : Facts) : Type 0 where
+  pub counts : (c : Crate) → Contains g.crates c → IsTrue (facts.counts c) ↔ Counts p.include_dev g c
+  pub in_tree : (t : Root) → Contains p.skip_tree t → (c : Crate) → Contains g.crates c → IsTrue (facts.in_tree t c) ↔ IsInTree g t c

@@ -6,6 +6,7 @@ use Rattle.semver.specs.Parse.{Held, Parts}
 use Rattle.deny_base.specs.TextMap.{TextFinMap}
 use Rattle.deny_base.specs.declared.edge.DepKind.{DepKind}
 use Rattle.deny_base.specs.declared.edge.Edge.{Edge}
+use Rattle.deny_base.specs.declared.span.Kid.{Kid}
 
 -- the part of a repository that a git source asks for
 pub data GitSpec : Type 0 where
@@ -70,6 +71,10 @@ pub record Graph : Type 0 where
 -- how a crate is shown: `name = version`
 abbrev pub crate_text : Crate → List ℕ
 crate_text c = c.name ++ (codes " = " ++ parts_text c.version)
+
+-- what names a crate
+abbrev pub kid_of : Crate → Kid
+kid_of c = record { 0 = c.id }
 
 -- whether an edge leads from one place to another
 unfoldable pub leads : ℕ → ℕ → Edge → Bool

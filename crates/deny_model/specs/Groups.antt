@@ -1,19 +1,33 @@
--- The crates of one name that count.
-use Rattle.std.specs.Prelude.{ℕ, ◌==◌, ◌&&◌, Bool, not, List, filter, length, if◌then◌else◌}
-use Rattle.std.specs.List.{list_all}
+-- The crates of one name that may stand side by side.
+use Rattle.std.specs.Prelude.{ℕ, ◌==◌, ◌&&◌, ◌||◌, Bool, not, List, filter, length, if◌then◌else◌}
+use Rattle.std.specs.List.{list_all, list_any}
 use Rattle.deny_model.specs.Facts.{Facts}
 use Rattle.deny_model.specs.Graph.{Crate, Graph, dependents}
+use Rattle.deny_model.specs.Match.{matches}
+use Rattle.deny_model.specs.Policy.{Policy}
 use Rattle.deny_model.specs.Text.{same_text}
 
 unfoldable pub has_name : List ℕ → Crate → Bool
 has_name name c = same_text c.name name
 
--- whether a crate bears a name, and counts
-unfoldable pub is_in_group : Facts → List ℕ → Crate → Bool
-is_in_group facts name c = has_name name c && facts.counts c
+-- a skip speaks of the crate
+unfoldable pub is_marked : Policy → Crate → Bool
+is_marked p c = list_any (λ s. matches s.spec c) p.skip
 
-abbrev pub group : Graph → Facts → List ℕ → List Crate
-group g facts name = filter (is_in_group facts name) g.crates
+-- the crate lies in a skipped tree
+unfoldable pub is_rooted : Policy → Facts → Crate → Bool
+is_rooted p facts c = list_any (λ t. facts.in_tree t c) p.skip_tree
+
+-- whether a crate counts, and is not left out for a tree that it lies in
+unfoldable pub may_stand : Policy → Facts → Crate → Bool
+may_stand p facts c = facts.counts c && (is_marked p c || not (is_rooted p facts c))
+
+unfoldable pub is_in_group : Policy → Facts → List ℕ → Crate → Bool
+is_in_group p facts name c = has_name name c && may_stand p facts c
+
+-- the crates of a name that count, without those of skipped trees that no skip speaks of
+abbrev pub group : Policy → Graph → Facts → List ℕ → List Crate
+group p g facts name = filter (is_in_group p facts name) g.crates
 
 -- whether every direct dependent of a crate bears the name, be it by dev edges: it is there for that
 -- name's sake alone
@@ -21,7 +35,11 @@ unfoldable pub is_internal : Graph → List ℕ → Crate → Bool
 is_internal g name c = list_all (has_name name) (dependents g c.place)
 
 -- a group of several loses the crates that are there for the name's sake alone
-abbrev pub reduced : Graph → Facts → List ℕ → List Crate
-reduced g facts name =
-    if length (group g facts name) == 1 then group g facts name
-    else filter (λ c. not (is_internal g name c)) (group g facts name)
+unfoldable pub reduced : Policy → Graph → Facts → List ℕ → List Crate
+reduced p g facts name =
+    if length (group p g facts name) == 1 then group p g facts name
+    else filter (λ c. not (is_internal g name c)) (group p g facts name)
+
+-- those of a reduced group that no skip speaks of
+abbrev pub unmarked : Policy → Graph → Facts → List ℕ → List Crate
+unmarked p g facts name = filter (λ c. not (is_marked p c)) (reduced p g facts name)

@@ -1,5 +1,5 @@
 -- Which crates an entry speaks of.
-use Rattle.std.specs.Prelude.{◌&&◌, Bool, true, List, Option, Some, None}
+use Rattle.std.specs.Prelude.{◌&&◌, ℕ, Bool, true, List, Option, Some, None}
 use Rattle.semver.specs.EvalViews.{matches_views}
 use Rattle.semver.specs.Parse.{Held, Parts}
 use Rattle.deny_model.specs.Graph.{Crate}
@@ -11,6 +11,9 @@ abbrev pub meets : Option (List Held) → Parts → Bool
 meets None version = true
 meets (Some requirement) version = matches_views requirement version
 
--- the names are equal, and the version meets the requirement
+-- whether an entry speaks of crates of this name and version: the names are equal, and the version meets the requirement
+abbrev pub speaks_of : Spec → List ℕ → Parts → Bool
+speaks_of spec name version = same_text spec.name name && meets spec.requirement version
+
 unfoldable pub matches : Spec → Crate → Bool
-matches spec c = same_text spec.name c.name && meets spec.requirement c.version
+matches spec c = speaks_of spec c.name c.version

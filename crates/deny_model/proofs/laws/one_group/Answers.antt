@@ -4,7 +4,7 @@ use Rattle.semver.specs.OrderLaws.{pre_total}
 use Rattle.semver.specs.Parse.{Parts}
 use Rattle.deny_base.proofs.AscendingLemmas.{one_list}
 use Rattle.deny_model.specs.Graph.{Crate}
-use Rattle.deny_model.specs.Rules.{precedence, version_cmp}
+use Rattle.deny_model.specs.VersionOrder.{precedence, version_cmp}
 use Rattle.deny_model.proofs.laws.one_group.Goals as goal
 
 precedence-total : IsTotalOrder precedence
@@ -18,4 +18,4 @@ version_cmp-total : IsTotalOrder version_cmp
 version_cmp-total = then_total (on_total (λ (c : Crate). c.version) precedence-total) (on_total (λ (c : Crate). c.id) nat_list_cmp_total)
 
 pub returns : goal.returns
-returns c = λ g facts name xs ys these those. one_list version_cmp-total xs ys these those
+returns c = λ p g facts name xs ys these those. one_list version_cmp-total xs ys these those

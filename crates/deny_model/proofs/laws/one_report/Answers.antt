@@ -1,15 +1,24 @@
+use Rattle.std.proofs.Common.{List}
 use Rattle.deny_base.specs.Ascending.{Lists}
 use Rattle.deny_base.specs.KeyOrder.{key_cmp}
+use Rattle.deny_base.specs.declared.key.Key.{Key}
 use Rattle.deny_base.proofs.AscendingLemmas.{one_list}
-use Rattle.deny_model.specs.Rules.{Stands}
-use Rattle.deny_model.proofs.FactsLemmas.{stands_by_other}
+use Rattle.deny_model.specs.Graph.{Graph}
+use Rattle.deny_model.specs.Policy.{Policy}
+use Rattle.deny_model.specs.Rules.{AreKeys, Stands}
+use Rattle.deny_model.proofs.Agreement.{TwoFacts, stands_alike}
 use Rattle.deny_model.proofs.laws.one_report.Goals as goal
 
-pub returns : goal.returns
-returns c = λ p g xs ys these those.
-    let here : Lists key_cmp (Stands p g these.facts) ys = record {
+-- the second list is one of what stands by the first list's facts, too
+by_these : (p : Policy) (g : Graph) (xs ys : List Key) (these : AreKeys p g xs) → AreKeys p g ys → Lists key_cmp (Stands p g these.facts) ys
+by_these p g xs ys these those =
+    let here : TwoFacts p g these.facts those.facts = record { left = these.true_facts; right = those.true_facts } in
+    let back : TwoFacts p g those.facts these.facts = record { left = those.true_facts; right = these.true_facts } in
+    record {
       ascending = those.listed.ascending;
-      whole = λ key stands. those.listed.whole key (stands_by_other g these.facts those.facts these.true_facts those.true_facts p key.code key stands);
-      sound = λ key is. stands_by_other g those.facts these.facts those.true_facts these.true_facts p key.code key (those.listed.sound key is);
-    } in
-    one_list c.key_order.ensures.total xs ys these.listed here
+      whole = λ key stands. those.listed.whole key (stands_alike p g these.facts those.facts key here stands);
+      sound = λ key listed. stands_alike p g those.facts these.facts key back (those.listed.sound key listed);
+    }
+
+pub returns : goal.returns
+returns c = λ p g xs ys these those. one_list c.key_order.ensures.total xs ys these.listed (by_these p g xs ys these those)
