@@ -3,11 +3,11 @@ use Rattle.std.proofs.lemmas.Str.Ascii.{IsAscii-nil, IsAscii-cons}
 use Rattle.std.specs.Str.{IsAscii}
 use Rattle.hex.specs.Hex.{lower_digits, encode_lower, IsBytes}
 use Rattle.hex.proofs.HexLemmas.{length-encode_with, decode_sized-encode_lower}
-use Rattle.std.proofs.Common.{lit<, drop, ◌≡◌, ℕ, zero, suc, ◌+◌, ◌*◌, Bool, true, false, not, List, [], ◌∷◌, length, Option, None, Some, refl, sym, ap, subst, arith, eq-eqb, eqb, ◌∙◌, inl, inr, cond}
+use Rattle.std.proofs.Common.{lit<, drop, ◌≡◌, ℕ, zero, suc, ◌+◌, ◌*◌, false, not, List, [], ◌∷◌, length, Option, None, Some, refl, sym, ap, subst, arith, eq-eqb, ◌∙◌, inl, inr}
 use Rattle.std.proofs.lemmas.Bool.Decides.{eqb_tells}
 use Rattle.std.specs.Prelude.{find, is_some, unwrap_or, Result, Ok, Err, if◌then◌else◌, OnOk}
 use Rattle.std.specs.Result.{MatchResult, is_err}
-use Rattle.hex.specs.Hex.{◌>>=◌, hex_digit_value, is_hex_digit, digit_or_error, decode_pairs, decode_sized}
+use Rattle.hex.specs.Hex.{◌>>=◌, hex_digit_value, digit_or_error, decode_pairs, decode_sized}
 use Rattle.hex.specs.declared.error.FromHexError.{FromHexError}
 use Rattle.hex.specs.declared.error.FromHexError.TheVariants as hex
 use Rattle.hex.proofs.Pairs.{decode_sized-pairs}

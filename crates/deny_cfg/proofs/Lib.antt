@@ -1,3 +1,17 @@
+pub mod ToldLaws
+pub mod LawfulLaws
+pub mod LabelValid
+pub mod LabelConfig
+pub mod LabelLaws
+pub mod LabelReads
+pub mod PolicyLaws
+pub mod FirstPlacesLaws
+pub mod ClashLaws
 pub mod TableLaws
 pub mod ChecksumLaws
 pub mod SpecLaws
+pub mod AlikeLaws
+pub mod ReadsLaws
+pub mod ConfigLaws
+pub mod ViewLaws
+pub mod OnePolicyLaws

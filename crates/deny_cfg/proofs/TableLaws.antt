@@ -1,6 +1,6 @@
 -- Keys that are read one after another, and what each of them says of the whole table.
 use Rattle.std.proofs.lemmas.Bool.Decides.{nat_tests}
-use Rattle.std.proofs.Common.{zero, suc, nat_lt, length, take, drop, arith, ◌≡◌, ◌≢◌, ℕ, Bool, true, false, ◌&&◌, not, List, [], ◌∷◌, ◌++◌, map, Option, None, Some, refl, sym, ap, subst, eqb-true, append-nil, ◌∙◌}
+use Rattle.std.proofs.Common.{zero, suc, nat_lt, length, take, drop, arith, ◌≡◌, ℕ, Bool, true, false, ◌&&◌, not, List, [], ◌∷◌, ◌++◌, map, Option, None, Some, refl, sym, ap, subst, eqb-true, append-nil, ◌∙◌}
 use Rattle.std.proofs.lemmas.List.{append_assoc}
 use Rattle.std.specs.Prelude.{nat_eq, find, option_map, is_some, ◌||◌}
 use Rattle.std.specs.List.{list_any}

@@ -2,8 +2,6 @@
 use Rattle.std.specs.Prelude.{Bool, ◌&&◌, is_none, List, [], ◌∷◌, Option}
 use Rattle.deny_toml.specs.declared.error.ConfigFault.{ConfigFault}
 use Rattle.deny_toml.specs.declared.value.Value.{Value}
-use Rattle.deny_toml.specs.Calls.{array_in, integer_in}
-use Rattle.deny_toml.specs.Deserialize.{faults_of_array, ReadsArray}
 use Rattle.deny_cfg.specs.declared.policy_key.PolicyKey.TheVariants as key
 use Rattle.deny_cfg.specs.declared.reason.Reason.{Reason}
 use Rattle.deny_cfg.specs.declared.bans.cfg.ban.CrateBanExtended.{CrateBanExtended}

@@ -1,5 +1,5 @@
 -- The table `bans`.
-use Rattle.std.specs.Prelude.{List, [], ◌∷◌, false, Option}
+use Rattle.std.specs.Prelude.{List, [], ◌∷◌, false}
 use Rattle.deny_base.specs.declared.level.LintLevel.TheVariants as level
 use Rattle.deny_toml.specs.declared.error.ConfigFault.{ConfigFault}
 use Rattle.deny_toml.specs.declared.value.Value.{Value}
@@ -8,7 +8,6 @@ use Rattle.deny_cfg.specs.declared.bans.cfg.config.Config.{Config}
 use Rattle.deny_cfg.specs.declared.bans.cfg.highlight.GraphHighlight.TheVariants as highlight
 use Rattle.deny_cfg.specs.Bans.{faults_of_reasoned, ReadsReasoned, faults_of_ban, ReadsBanEntry, faults_of_tree_skip, ReadsTreeSkipEntry}
 use Rattle.deny_cfg.specs.Build.{faults_of_build, ReadsBuild}
-use Rattle.deny_cfg.specs.Entry.{entry_fields}
 use Rattle.deny_cfg.specs.Features.{faults_of_features, ReadsCrateFeatures}
 use Rattle.deny_cfg.specs.Spec.{faults_of_spec, ReadsSpec}
 use Rattle.deny_cfg.specs.StdReplacements.{faults_of_std, ReadsStd}

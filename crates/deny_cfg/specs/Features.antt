@@ -1,5 +1,5 @@
 -- Entries of `features`.
-use Rattle.std.specs.Prelude.{List, [], ◌∷◌, false, Option}
+use Rattle.std.specs.Prelude.{List, [], ◌∷◌, false}
 use Rattle.deny_base.specs.declared.span.Spanned.{Spanned}
 use Rattle.deny_toml.specs.declared.error.ConfigFault.{ConfigFault}
 use Rattle.deny_toml.specs.declared.value.Value.{Value}
@@ -8,7 +8,7 @@ use Rattle.deny_cfg.specs.declared.bans.cfg.features.CrateFeatures.{CrateFeature
 use Rattle.deny_cfg.specs.declared.bans.cfg.features.FeatureLists.{FeatureLists}
 use Rattle.deny_cfg.specs.Entry.{ReadsEntryKeys, entry_fields}
 use Rattle.deny_cfg.specs.Bans.{ReadsReason}
-use Rattle.deny_cfg.specs.Table.{Entries, Field, Gives, optional, at_key, ReadsOptional, ReadsOr, ReadsTable, faults_of_table}
+use Rattle.deny_cfg.specs.Table.{Entries, Field, optional, at_key, ReadsOptional, ReadsOr, ReadsTable, faults_of_table}
 use Rattle.deny_cfg.specs.Words.{faults_of_bool, ReadsBool, faults_of_any_text, faults_of_texts, ReadsTexts, ReadsSpanned}
 
 -- what stands for a value that is left out has the range 0..0

@@ -1,11 +1,11 @@
 -- Specs: a name, and maybe a requirement on versions, as a policy writes them.
-use Rattle.std.specs.Prelude.{◌≡◌, ℕ, ◌+◌, ◌==◌, ◌&&◌, not, List, [], ◌∷◌, length, Option, None, Some, is_some, if◌then◌else◌}
+use Rattle.std.specs.Prelude.{◌≡◌, ℕ, ◌==◌, ◌&&◌, not, List, [], ◌∷◌, length, Option, None, Some, is_some, if◌then◌else◌}
 use Rattle.std.specs.List.{position_or_len, before_first, after_first}
 use Rattle.deny_base.specs.declared.span.Span.{Span}
 use Rattle.deny_toml.specs.declared.error.ConfigFault.{ConfigFault}
 use Rattle.deny_toml.specs.declared.value.Value.{Value}
 use Rattle.deny_toml.specs.Value.{span_in, span_of}
-use Rattle.deny_toml.specs.Calls.{text_in}
+use Rattle.deny_toml.specs.Calls.{is_verbatim, text_in}
 use Rattle.deny_cfg.specs.declared.package_spec.PackageSpec.{PackageSpec}
 use Rattle.deny_cfg.specs.declared.policy_key.PolicyKey.TheVariants as key
 use Rattle.deny_cfg.specs.Requirement.{is_readable, requirement_text}
@@ -41,10 +41,10 @@ checked parts = if not (length parts.0 == 0) && is_readable parts.1 then Some pa
 unfoldable pub spec_in : List ℕ → Option (List ℕ × Option (List ℕ))
 spec_in text = checked (parts_or (divided text) text)
 
--- The range of the name: its own bytes where the string is as long as its text, so that each byte stands for itself;
+-- The range of the name: its own bytes where the string is on one line and has no escape, so that each byte stands for itself;
 -- else the range of the string.
-abbrev pub name_span : Span → List ℕ → List ℕ → Span
-name_span span text name = if span.start + length text == span.end then span_of span.start (length name) else span
+abbrev pub name_span : Value → List ℕ → Span
+name_span v name = if is_verbatim v then span_of (span_in v).start (length name) else span_in v
 
 -- the name and the text of the requirement
 abbrev pub parts_in : PackageSpec → List ℕ × Option (List ℕ)
@@ -54,12 +54,12 @@ abbrev pub named : List ℕ → Option (List ℕ) → Option (List ℕ × Option
 named name req_text = if length name == 0 then None else Some (name, req_text)
 
 -- what a text says as a spec
-abbrev pub ReadsSpecOf : Option (List ℕ) → Span → PackageSpec → Type 0
-ReadsSpecOf None span spec = ⊥
-ReadsSpecOf (Some text) span spec = (spec_in text ≡ Some (parts_in spec)) × (spec.name.span ≡ name_span span text spec.name.value)
+abbrev pub ReadsSpecOf : Option (List ℕ) → Value → PackageSpec → Type 0
+ReadsSpecOf None v spec = ⊥
+ReadsSpecOf (Some text) v spec = (spec_in text ≡ Some (parts_in spec)) × (spec.name.span ≡ name_span v spec.name.value)
 
 abbrev pub ReadsSpecText : Value → PackageSpec → Type 0
-ReadsSpecText v spec = ReadsSpecOf (text_in v) (span_in v) spec
+ReadsSpecText v spec = ReadsSpecOf (text_in v) v spec
 
 -- the keys of a spec: `crate` where the table has it, else `name` and maybe `version`
 abbrev pub crate_fields : List Field

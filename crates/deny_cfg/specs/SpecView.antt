@@ -1,5 +1,5 @@
 -- What the rules see of a spec, and when two specs are equal.
-use Rattle.std.specs.Prelude.{◌&&◌, ℕ, List, Bool, option_map}
+use Rattle.std.specs.Prelude.{◌&&◌, Bool, option_map}
 use Rattle.std.specs.Option.{option_eq}
 use Rattle.deny_model.specs.Policy.{Spec}
 use Rattle.deny_model.specs.Text.{same_text}
@@ -7,7 +7,7 @@ use Rattle.deny_cfg.specs.declared.package_spec.PackageSpec.{PackageSpec}
 use Rattle.deny_cfg.specs.Requirement.{held_in}
 
 abbrev pub spec_view : PackageSpec → Spec
-spec_view spec = record { name = spec.name.value; requirement = option_map held_in spec.version_req; range = spec.name.span }
+spec_view spec = record { name = spec.name.value; requirement = option_map held_in spec.version_req; written = spec.req_text; range = spec.name.span }
 
 -- the names are equal, and both specs lack a requirement or have written the same
 abbrev pub same_spec : PackageSpec → PackageSpec → Bool

@@ -1,5 +1,5 @@
 -- The table `std-replacements`.
-use Rattle.std.specs.Prelude.{List, [], ◌∷◌, Option}
+use Rattle.std.specs.Prelude.{List, [], ◌∷◌}
 use Rattle.semver.specs.Identifiers.{parts_of}
 use Rattle.semver.specs.declared.Version.{Version}
 use Rattle.deny_base.specs.declared.level.LintLevel.TheVariants as level

@@ -3,6 +3,7 @@ ghost use Rattle.std.specs.Prelude.{◌≡◌, ◌≤◌, ◌+◌, ℕ, true, []
 ghost use Rattle.deny_toml.specs.Faults.{Reports};
 ghost use Rattle.std.specs.List.{list_any};
 ghost use Rattle.deny_toml.specs.Calls.{has_name, text_in};
+ghost use Rattle.deny_toml.specs.Value.{span_of};
 ghost use Rattle.deny_cfg.specs.PolicyKey.{name_of};
 ghost use Rattle.deny_cfg.specs.Requirement.{IsReadIn, requirement_text};
 ghost use Rattle.deny_cfg.specs.Spec as spec;
@@ -33,26 +34,36 @@ fn divided(text: &str) -> Option<(&str, &str)>
     }
 }
 
-/// The range of a name at the front of a string that stands at `span`.
-fn name_span(span: Span, text: &str, name: &str) -> Span
-    requires front { length name.now ≤ length text.now }
-    ensures { result ≡ name_span span text.now name.now }
+/// The range of a name at the front of a range.
+fn front_of(span: Span, name: &str) -> Span
+    requires short { span.start + length name.now ≤ span.end }
+    ensures { result ≡ span_of span.start (length name.now) }
 {
-    if u128::from(span.start) + text.len() as u128 == u128::from(span.end) {
-        Span {
-            start: span.start,
-            end: span.start + name.len() as u32,
-        }
-    } else {
-        span
+    Span {
+        start: span.start,
+        end: span.start + name.len() as u32,
     }
 }
 
-/// The spec that a text writes, as the string of that text at `span`. None where it writes none.
+/// The range of a name at the front of the text of a string.
+fn name_span(value: &Value<'_>, text: &str, name: &str) -> Span
+    requires string { text_in value.now ≡ Some text.now }
+    requires front { length name.now ≤ length text.now }
+    ensures { result ≡ name_span value.now name.now }
+{
+    if value.is_verbatim() {
+        front_of(value.span, name)
+    } else {
+        value.span
+    }
+}
+
+/// The spec that the text of a string writes. None where it writes none.
 #[tactic(auto, unfolding(crate::specs::Spec::spec_in))]
-fn spec_in(alloc: Global, text: &str, span: Span) -> Result<Option<PackageSpec>, NoMemory>
+fn spec_in(alloc: Global, value: &Value<'_>, text: &str) -> Result<Option<PackageSpec>, NoMemory>
+    requires string { text_in value.now ≡ Some text.now }
     ensures spec { IfOk result (λ read. option_map parts_in read ≡ spec_in text.now) }
-    ensures place { IfOk result (λ read. IfSome read (λ made. made.name.span ≡ name_span span text.now made.name.value)) }
+    ensures place { IfOk result (λ read. IfSome read (λ made. made.name.span ≡ name_span value.now made.name.value)) }
 {
     match divided(text) {
         Some((name, requirement)) => {
@@ -60,25 +71,26 @@ fn spec_in(alloc: Global, text: &str, span: Span) -> Result<Option<PackageSpec>,
                 return Ok(None);
             };
             let written = Text::from_str(alloc, requirement)?;
-            named(alloc, text, span, name, Some(read), Some(written))
+            named(alloc, value, text, name, Some(read), Some(written))
         }
-        None => named(alloc, text, span, text, None, None),
+        None => named(alloc, value, text, text, None, None),
     }
 }
 
 /// The spec of this name and requirement. None where the name is empty.
 fn named(
     alloc: Global,
+    value: &Value<'_>,
     text: &str,
-    span: Span,
     name: &str,
     version_req: Option<VersionReq>,
     req_text: Option<Text>,
 ) -> Result<Option<PackageSpec>, NoMemory>
+    requires string { text_in value.now ≡ Some text.now }
     requires front { length name.now ≤ length text.now }
     requires read { IsReadIn req_text version_req }
     ensures named { IfOk result (λ made. option_map parts_in made ≡ spec.named name.now req_text) }
-    ensures place { IfOk result (λ all. IfSome all (λ made. made.name.span ≡ name_span span text.now made.name.value)) }
+    ensures place { IfOk result (λ all. IfSome all (λ made. made.name.span ≡ name_span value.now made.name.value)) }
 {
     if name.is_empty() {
         return Ok(None);
@@ -86,7 +98,7 @@ fn named(
     Ok(Some(PackageSpec {
         name: Spanned {
             value: Text::from_str(alloc, name)?,
-            span: name_span(span, text, name),
+            span: name_span(value, text, name),
         },
         version_req,
         req_text,
@@ -107,7 +119,7 @@ impl Deserialize for SpecText {
         let Some(text) = value.as_str() else {
             return Err(DeserError::wrong_kind(alloc, span));
         };
-        match spec_in(alloc, text, span)? {
+        match spec_in(alloc, value, text)? {
             Some(spec) => Ok(SpecText(spec)),
             None => Err(DeserError::unreadable(alloc, span)),
         }
@@ -255,7 +267,7 @@ pub(crate) fn read_spec_text(
     let Some(text) = value.as_str() else {
         return Ok(None);
     };
-    match spec_in(alloc, text, value.span)? {
+    match spec_in(alloc, value, text)? {
         Some(spec) => Ok(Some(spec)),
         None => Err(DeserError::unreadable(alloc, value.span)),
     }
@@ -280,17 +292,35 @@ mod tests {
     use super::*;
     use deny_toml::{Content, CowStr, Scalar};
 
-    /// The spec of a string that stands from 16 to `end`.
-    fn spec_of(alloc: Global, text: &'static str, end: u32) -> Result<PackageSpec, DeserError> {
+    fn spec_of_string(
+        alloc: Global,
+        string: Scalar<'static>,
+        end: u32,
+    ) -> Result<PackageSpec, DeserError> {
         let mut value = Value {
             span: Span { start: 16, end },
-            content: Content::Scalar(Scalar::Text(CowStr::borrowed(text))),
+            content: Content::Scalar(string),
         };
         PackageSpec::deserialize(alloc, &mut value)
     }
 
+    /// The spec of a string on one line that stands from 16 to `end`.
+    fn spec_of(alloc: Global, text: &'static str, end: u32) -> Result<PackageSpec, DeserError> {
+        spec_of_string(alloc, Scalar::Text(CowStr::borrowed(text)), end)
+    }
+
     fn is_named(spec: &PackageSpec, name: &str, start: u32, end: u32) -> bool {
         spec.name.value.as_str() == name && spec.name.span == Span { start, end }
+    }
+
+    #[test]
+    fn a_name_on_several_lines_has_the_range_of_its_string(
+        rt: HostRuntime,
+    ) -> Result<(), DeserError> {
+        let text = Scalar::Multiline(CowStr::borrowed("x@1"));
+        let spec = spec_of_string(rt.alloc(), text, 19)?;
+        assert!(rt; is_named(&spec, "x", 16, 19));
+        Ok(())
     }
 
     #[test]

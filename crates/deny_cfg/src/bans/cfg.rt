@@ -12,6 +12,7 @@ mod features;
 mod highlight;
 mod std_replacements;
 mod tree_skip;
+mod valid;
 mod workspace;
 
 pub use ban::CrateBanExtended;
@@ -23,6 +24,7 @@ pub use features::{CrateFeatures, FeatureLists};
 pub use highlight::GraphHighlight;
 pub use std_replacements::StdReplacementConfig;
 pub use tree_skip::TreeSkipExtended;
+pub use valid::{Features, KrateBan, ValidConfig, ValidKrateFeatures};
 pub use workspace::WorkspaceDepsConfig;
 
 pub type CrateBan = PackageSpecOrExtended<CrateBanExtended>;
@@ -32,5 +34,7 @@ pub type CrateAllow = PackageSpecOrExtended<Reason>;
 pub type CrateSkip = PackageSpecOrExtended<Reason>;
 
 pub type TreeSkip = PackageSpecOrExtended<TreeSkipExtended>;
+
+pub type ValidTreeSkip = PackageSpecOrExtended<TreeSkipExtended>;
 
 pub type SpecAndReason = PackageSpecOrExtended<Reason>;

@@ -1,7 +1,6 @@
-use Rattle.std.proofs.Common.{◌≡◌, [], List, sym, ◌∙◌, subst, rules}
+use Rattle.std.proofs.Common.{sym, ◌∙◌, subst, rules}
 use Rattle.deny_toml.specs.TableHelper.{table_faults}
-use Rattle.deny_toml.specs.declared.error.ConfigFault.{ConfigFault}
-use Rattle.deny_cfg.specs.Table.{Field, Entries, Gives, faults_of_fields, faults_of_table, state_of}
+use Rattle.deny_cfg.specs.Table.{Gives, faults_of_table, state_of}
 use Rattle.deny_cfg.proofs.TableLaws.{all_faults, no_field_faults, read_in, reports_same}
 use Rattle.deny_cfg.proofs.keyed.read_table.Goals as goal
 

@@ -1,4 +1,4 @@
-use Rattle.std.proofs.Common.{take, drop, refl, sym, subst, Option}
+use Rattle.std.proofs.Common.{take, refl, sym, subst, Option}
 use Rattle.deny_toml.specs.declared.value.Value.{Value}
 use Rattle.deny_cfg.specs.PolicyKey.{name_of}
 use Rattle.deny_cfg.specs.Requirement.{requirement_text}

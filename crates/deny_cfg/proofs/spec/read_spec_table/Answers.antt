@@ -1,6 +1,6 @@
-use Rattle.std.proofs.Common.{◌≡◌, [], ◌∙◌, sym, subst, rules, refl}
+use Rattle.std.proofs.Common.{◌∙◌, sym, subst, rules}
 use Rattle.deny_toml.specs.TableHelper.{table_faults}
-use Rattle.deny_cfg.specs.Table.{Gives, State, after_all, faults_of_fields, faults_of_table, state_of}
+use Rattle.deny_cfg.specs.Table.{Gives, faults_of_table, state_of}
 use Rattle.deny_cfg.specs.Spec.{spec_fields, ReadsSpecKeys}
 use Rattle.deny_cfg.specs.Apart.{spec-apart}
 use Rattle.deny_cfg.proofs.TableLaws.{all_faults, no_field_faults, read_in, reports_same}

@@ -1,4 +1,5 @@
-ghost use Rattle.std.specs.Prelude.{◌≡◌, ◌⊎◌, ◌↔◌, IsTrue};
+ghost use Rattle.std.specs.Prelude.{◌≡◌};
+ghost use Rattle.deny_cfg.specs.PolicyView.{shows_lowest, shows_simplest};
 ghost use Rattle.deny_cfg.specs.Words.{faults_as, highlight_of, ReadsAs};
 
 use deny_toml::{DeserError, Deserialize, Value};
@@ -19,14 +20,14 @@ pub enum GraphHighlight {
 impl GraphHighlight {
     /// Whether the path with the fewest edges is shown.
     pub fn simplest(self) -> bool
-        ensures { IsTrue result ↔ ((self ≡ GraphHighlight.SimplestPath) ⊎ (self ≡ GraphHighlight.All)) }
+        ensures { result ≡ shows_simplest self }
     {
         matches!(self, GraphHighlight::SimplestPath | GraphHighlight::All)
     }
 
     /// Whether the path to the lowest version is shown.
     pub fn lowest_version(self) -> bool
-        ensures { IsTrue result ↔ ((self ≡ GraphHighlight.LowestVersion) ⊎ (self ≡ GraphHighlight.All)) }
+        ensures { result ≡ shows_lowest self }
     {
         matches!(self, GraphHighlight::LowestVersion | GraphHighlight::All)
     }

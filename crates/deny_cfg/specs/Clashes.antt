@@ -1,0 +1,141 @@
+-- Which entries of a policy contradict each other, and what is told of it.
+use Rattle.std.specs.Prelude.{◌&&◌, ◌==◌, ◌++◌, ◌≡◌, ℕ, Bool, false, not, List, [], ◌∷◌, Option, None, Some, filter, find, length, map, filter_map, option_map, option_and_then, codes, Contains, if◌then◌else◌}
+use Rattle.std.specs.Fmt.{decimal}
+use Rattle.std.specs.List.{flat_map}
+use Rattle.std.specs.Option.{option_map_or}
+use Rattle.std.specs.Ordering.{nat_cmp, on, then_cmp}
+use Rattle.std.specs.declared.cmp.Ordering.{Ordering}
+use Rattle.deny_base.specs.Ascending.{Lists}
+use Rattle.deny_base.specs.KeyOrder.{span_cmp}
+use Rattle.deny_base.specs.declared.finding.Diagnostic.{Diagnostic}
+use Rattle.deny_base.specs.declared.label.Label.{Label}
+use Rattle.deny_base.specs.declared.label.LabelStyle.{LabelStyle}
+use Rattle.deny_base.specs.declared.label.LabelStyle.TheVariants.{Primary, Secondary}
+use Rattle.deny_base.specs.declared.level.Severity.TheVariants.{Error}
+use Rattle.deny_base.specs.declared.span.Span.{Span}
+use Rattle.deny_base.specs.declared.span.Spanned.{Spanned}
+use Rattle.deny_cfg.specs.SpecView.{same_spec}
+use Rattle.deny_cfg.specs.declared.bans.cfg.ban.CrateBanExtended.{CrateBanExtended}
+use Rattle.deny_cfg.specs.declared.bans.cfg.config.Config.{Config}
+use Rattle.deny_cfg.specs.declared.bans.cfg.features.CrateFeatures.{CrateFeatures}
+use Rattle.deny_cfg.specs.declared.clash.Clash.{Clash}
+use Rattle.deny_cfg.specs.declared.clash.ClashKind.{ClashKind}
+use Rattle.deny_cfg.specs.declared.clash.ClashKind.TheVariants as clash
+use Rattle.deny_cfg.specs.declared.package_spec.PackageSpec.{PackageSpec}
+use Rattle.deny_cfg.specs.declared.spec_or_extended.PackageSpecOrExtended.{PackageSpecOrExtended}
+use Rattle.deny_model.specs.Policy.{Words}
+use Rattle.deny_model.specs.Text.{same_text}
+
+abbrev pub no_span : Span
+no_span = record { start = 0; end = 0 }
+
+-- what the entry says of several versions
+abbrev pub flag_of : PackageSpecOrExtended CrateBanExtended → Option (Spanned Bool)
+flag_of e = option_and_then (λ said. said.deny_multiple_versions) e.inner
+
+-- an entry of `deny` bans, unless it denies several versions alone
+unfoldable pub is_ban : PackageSpecOrExtended CrateBanExtended → Bool
+is_ban e = not (option_map_or (λ flag. flag.value) (flag_of e) false)
+
+abbrev pub two_places : ClashKind → Span → Span → Clash
+two_places kind first second = record { kind = kind; first = first; second = second; third = no_span; wrappers = 0 }
+
+-- an entry that denies several versions alone names no wrappers
+abbrev pub wrappers_clash_by : Option (Spanned Bool) → Option (Spanned (List Words)) → Option Clash
+wrappers_clash_by (Some flag) (Some wrappers) =
+    if flag.value && not (length wrappers.value == 0)
+    then Some (record { kind = clash.WrappersOfMultiple; first = wrappers.span; second = flag.span; third = no_span; wrappers = length wrappers.value })
+    else None
+wrappers_clash_by _ _ = None
+
+unfoldable pub wrappers_clash : PackageSpecOrExtended CrateBanExtended → Option Clash
+wrappers_clash e = wrappers_clash_by (flag_of e) (option_and_then (λ said. said.wrappers) e.inner)
+
+-- a spec, and the first equal one of some entries
+unfoldable pub clash_with : ClashKind → List PackageSpec → PackageSpec → Option Clash
+clash_with kind others spec = option_map (λ other. two_places kind spec.name.span other.name.span) (find (same_spec spec) others)
+
+abbrev pub specs_of : {T : Type 0} → List (PackageSpecOrExtended T) → List PackageSpec
+specs_of entries = map (λ e. e.spec) entries
+
+unfoldable pub banned_specs : Config → List PackageSpec
+banned_specs config = specs_of (filter is_ban config.deny)
+
+-- an allowed feature, and the first equal denied one of the same entry
+abbrev pub feature_at : Span → Words → Span → Clash
+feature_at name allowed denied = record { kind = clash.FeatureTwice; first = name; second = allowed.span; third = denied; wrappers = 0 }
+
+unfoldable pub feature_clash : CrateFeatures → Words → Option Clash
+feature_clash entry allowed = option_map
+    (λ denied. feature_at entry.spec.name.span allowed denied.span)
+    (find (λ denied. same_text allowed.value denied.value) entry.deny)
+
+unfoldable pub feature_clashes : CrateFeatures → List Clash
+feature_clashes entry = filter_map (feature_clash entry) entry.allow.value
+
+unfoldable pub clashes_in : Config → List Clash
+clashes_in config = filter_map wrappers_clash config.deny
+    ++ (filter_map (clash_with clash.DenyAndAllow (specs_of config.allow)) (banned_specs config)
+    ++ (filter_map (clash_with clash.DenyAndSkip (specs_of config.skip)) (banned_specs config)
+    ++ (filter_map (clash_with clash.AllowAndSkip (specs_of config.skip)) (specs_of config.allow)
+    ++ flat_map feature_clashes config.features)))
+
+unfoldable pub kind_number : ClashKind → ℕ
+kind_number clash.WrappersOfMultiple = 0
+kind_number clash.DenyAndAllow = 1
+kind_number clash.DenyAndSkip = 2
+kind_number clash.AllowAndSkip = 3
+kind_number clash.FeatureTwice = 4
+
+abbrev pub kind_cmp : ClashKind → ClashKind → Ordering
+kind_cmp = on kind_number nat_cmp
+
+-- by kind, then by the ranges of the labels
+abbrev pub clash_cmp : Clash → Clash → Ordering
+clash_cmp = then_cmp (on (λ c. c.kind) kind_cmp)
+    (then_cmp (on (λ c. c.first) span_cmp) (then_cmp (on (λ c. c.second) span_cmp) (then_cmp (on (λ c. c.third) span_cmp) (on (λ c. c.wrappers) nat_cmp))))
+
+abbrev pub clash_message : ClashKind → List ℕ
+clash_message clash.WrappersOfMultiple = codes "a crate ban was specified with both `wrappers` and `deny-multiple-versions` = true"
+clash_message clash.DenyAndAllow = codes "a crate was specified in both `allow` and `deny`"
+clash_message clash.DenyAndSkip = codes "a crate was specified in both `skip` and `deny`"
+clash_message clash.AllowAndSkip = codes "a crate was specified in both `skip` and `allow`"
+clash_message clash.FeatureTwice = codes "a crate feature was specified as both allowed and denied"
+
+abbrev pub label_of : LabelStyle → ℕ → Span → List ℕ → Label
+label_of style file span message = record { style = style; file_id = file; span = span; message = message }
+
+abbrev pub marks : ℕ → Clash → List ℕ → List ℕ → List Label
+marks file c first second = label_of Secondary file c.first first ∷ label_of Secondary file c.second second ∷ []
+
+abbrev pub wrapper_labels : ℕ → Clash → List Label
+wrapper_labels file c = marks file c (codes "has " ++ (decimal c.wrappers ++ codes " `wrappers`")) (codes "has `deny-multiple-versions` set to true")
+
+abbrev pub feature_labels : ℕ → Clash → List Label
+feature_labels file c =
+    label_of Primary file c.first (codes "crate ban entry")
+    ∷ label_of Secondary file c.second (codes "marked as `allow`")
+    ∷ label_of Secondary file c.third (codes "marked as `deny`")
+    ∷ []
+
+abbrev pub clash_labels : ClashKind → ℕ → Clash → List Label
+clash_labels clash.WrappersOfMultiple file c = wrapper_labels file c
+clash_labels clash.DenyAndAllow file c = marks file c (codes "marked as `deny`") (codes "marked as `allow`")
+clash_labels clash.DenyAndSkip file c = marks file c (codes "marked as `deny`") (codes "marked as `skip`")
+clash_labels clash.AllowAndSkip file c = marks file c (codes "marked as `allow`") (codes "marked as `skip`")
+clash_labels clash.FeatureTwice file c = feature_labels file c
+
+unfoldable pub clash_told : ℕ → Clash → Diagnostic
+clash_told file c = record {
+  severity = Error;
+  code = None;
+  message = clash_message c.kind;
+  labels = clash_labels c.kind file c;
+  notes = [];
+}
+
+-- these diagnostics tell what clashes, in order, each once
+pub record AreClashes (config : Config) (file : ℕ) (told : List Diagnostic) : Type 0 where
+  pub clashes : List Clash
+  pub listed : Lists clash_cmp (Contains (clashes_in config)) clashes
+  pub is : told ≡ map (clash_told file) clashes

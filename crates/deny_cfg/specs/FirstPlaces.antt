@@ -1,0 +1,48 @@
+-- Places of things that are compared by what they say: of equal ones the first.
+use Rattle.std.specs.Prelude.{◌≡◌, ◌&&◌, ℕ, Bool, List, Option, None, Some, cond}
+use Rattle.std.specs.BTreeMap as tree
+use Rattle.std.specs.Cmp.Lexicographic.{slice_cmp}
+use Rattle.std.specs.Map.{lookup}
+use Rattle.std.specs.Option.{option_cmp, option_eq, option_or}
+use Rattle.std.specs.Ordering.{nat_cmp, on, then_cmp}
+use Rattle.std.specs.declared.cmp.Ordering.{Ordering}
+use Rattle.deny_base.specs.declared.span.Span.{Span}
+use Rattle.deny_cfg.specs.declared.first_places.FirstPlaces.{FirstPlaces}
+use Rattle.deny_cfg.specs.declared.first_places.Wording.{Wording}
+use Rattle.deny_cfg.specs.declared.package_spec.PackageSpec.{PackageSpec}
+use Rattle.deny_cfg.specs.declared.reason.Reason.{Reason}
+use Rattle.deny_cfg.specs.declared.spec_or_extended.PackageSpecOrExtended.{PackageSpecOrExtended}
+use Rattle.deny_model.specs.Policy.{Words}
+use Rattle.deny_model.specs.Text.{same_text}
+
+abbrev pub same_wording : Wording → Wording → Bool
+same_wording a b = same_text a.name b.name && option_eq same_text a.requirement b.requirement
+
+abbrev pub wording_cmp : Wording → Wording → Ordering
+wording_cmp = then_cmp (on (λ w. w.name) (slice_cmp nat_cmp)) (on (λ w. w.requirement) (option_cmp (slice_cmp nat_cmp)))
+
+-- what a spec says
+abbrev pub spec_wording : PackageSpec → Wording
+spec_wording spec = record { name = spec.name.value; requirement = spec.req_text }
+
+-- a word says itself
+abbrev pub plain_wording : List ℕ → Wording
+plain_wording text = record { name = text; requirement = None }
+
+abbrev pub entry_place : PackageSpecOrExtended Reason → Wording × Span
+entry_place e = (spec_wording e.spec, e.spec.name.span)
+
+abbrev pub word_place : Words → Wording × Span
+word_place word = (plain_wording word.value, word.span)
+
+-- the place that is found of what says this
+abbrev pub place_in : FirstPlaces → Wording → Option Span
+place_in found wording = tree.get wording_cmp found.places wording
+
+-- what was found before stays, and only what was not comes to have this place
+pub record Gains (wording : Wording) (place : Span) (old new : FirstPlaces) : Type 0 where
+  pub at : (asked : Wording) → place_in new asked ≡ option_or (place_in old asked) (cond (same_wording asked wording) (Some place) None)
+
+-- the first of these places that says the same is found
+pub record FindsFirst (places : List (Wording × Span)) (found : FirstPlaces) : Type 0 where
+  pub at : (asked : Wording) → place_in found asked ≡ lookup (same_wording asked) places

@@ -1,0 +1,110 @@
+-- The ranges of a policy's text that labels point at.
+use Rattle.std.specs.Prelude.{ℕ, ◌≢◌, List, [], ◌∷◌, ◌++◌, All, AllPairs, map, Option, None, Some}
+use Rattle.std.specs.List.{flat_map}
+use Rattle.deny_base.specs.declared.finding.Diagnostic.{Diagnostic}
+use Rattle.deny_base.specs.declared.span.Span.{Span}
+use Rattle.deny_base.specs.declared.span.Spanned.{Spanned}
+use Rattle.deny_toml.specs.Ranges.{IsRange}
+use Rattle.deny_cfg.specs.declared.bans.cfg.ban.CrateBanExtended.{CrateBanExtended}
+use Rattle.deny_cfg.specs.declared.bans.cfg.config.Config.{Config}
+use Rattle.deny_cfg.specs.declared.bans.cfg.features.CrateFeatures.{CrateFeatures}
+use Rattle.deny_cfg.specs.declared.bans.cfg.std_replacements.StdReplacementConfig.{StdReplacementConfig}
+use Rattle.deny_cfg.specs.declared.bans.cfg.tree_skip.TreeSkipExtended.{TreeSkipExtended}
+use Rattle.deny_cfg.specs.declared.bans.cfg.valid.KrateBan.{KrateBan}
+use Rattle.deny_cfg.specs.declared.bans.cfg.valid.ValidConfig.{ValidConfig}
+use Rattle.deny_cfg.specs.declared.bans.cfg.valid.ValidKrateFeatures.{ValidKrateFeatures}
+use Rattle.deny_cfg.specs.declared.package_spec.PackageSpec.{PackageSpec}
+use Rattle.deny_cfg.specs.declared.reason.Reason.{Reason}
+use Rattle.deny_cfg.specs.declared.spec_or_extended.PackageSpecOrExtended.{PackageSpecOrExtended}
+use Rattle.deny_model.specs.Policy.{Words}
+
+abbrev pub of_some : {A : Type 0} → (A → List Span) → Option A → List Span
+of_some ranges None = []
+of_some ranges (Some x) = ranges x
+
+abbrev pub joined : List (List Span) → List Span
+joined lists = flat_map (λ ranges. ranges) lists
+
+abbrev pub own_range : {T : Type 0} → Spanned T → List Span
+own_range x = x.span ∷ []
+
+abbrev pub word_ranges : List Words → List Span
+word_ranges words = flat_map own_range words
+
+abbrev pub spec_range : PackageSpec → List Span
+spec_range spec = own_range spec.name
+
+abbrev pub reason_range : Reason → List Span
+reason_range reason = own_range reason.0
+
+-- an entry: the range of its name, and those of what it says besides
+abbrev pub with_spec : {T : Type 0} → (T → List Span) → PackageSpecOrExtended T → List Span
+with_spec ranges e = spec_range e.spec ++ of_some ranges e.inner
+
+abbrev pub ban_ranges : KrateBan → List Span
+ban_ranges ban = joined (of_some word_ranges ban.wrappers ∷ of_some reason_range ban.reason ∷ of_some own_range ban.use_instead ∷ [])
+
+abbrev pub root_ranges : TreeSkipExtended → List Span
+root_ranges skip = of_some reason_range skip.reason
+
+abbrev pub feature_ranges : ValidKrateFeatures → List Span
+feature_ranges f = spec_range f.spec ++ joined (word_ranges f.features.allow.value ∷ word_ranges f.features.deny ∷ of_some reason_range f.reason ∷ [])
+
+abbrev pub std_ranges : StdReplacementConfig → List Span
+std_ranges std = flat_map (with_spec reason_range) std.ignore
+
+-- of each name, word, reason and level that the rules tell of: the ranges that tell entries apart are among them
+unfoldable pub word_labels : ValidConfig → List Span
+word_labels cfg = joined (
+    (flat_map (with_spec ban_ranges) cfg.denied ++ flat_map spec_range cfg.denied_multiple_versions)
+    ∷ flat_map (with_spec reason_range) cfg.allowed
+    ∷ of_some own_range cfg.external_default_features
+    ∷ of_some own_range cfg.workspace_default_features
+    ∷ flat_map feature_ranges cfg.features
+    ∷ flat_map (with_spec reason_range) cfg.skipped
+    ∷ flat_map (with_spec root_ranges) cfg.tree_skipped
+    ∷ of_some std_ranges cfg.std_replacements
+    ∷ []
+    )
+
+-- the same of a configuration as it is written, where an entry of `deny` may have a flag
+abbrev pub crate_ban_ranges : CrateBanExtended → List Span
+crate_ban_ranges said = joined (
+    of_some (λ wrappers. word_ranges wrappers.value) said.wrappers
+    ∷ of_some own_range said.deny_multiple_versions
+    ∷ of_some reason_range said.reason
+    ∷ of_some own_range said.use_instead
+    ∷ []
+    )
+
+abbrev pub crate_feature_ranges : CrateFeatures → List Span
+crate_feature_ranges f = spec_range f.spec ++ joined (word_ranges f.allow.value ∷ word_ranges f.deny ∷ of_some reason_range f.reason ∷ [])
+
+unfoldable pub config_labels : Config → List Span
+config_labels config = joined (
+    flat_map (with_spec crate_ban_ranges) config.deny
+    ∷ flat_map (with_spec reason_range) config.allow
+    ∷ of_some own_range config.external_default_features
+    ∷ of_some own_range config.workspace_default_features
+    ∷ flat_map crate_feature_ranges config.features
+    ∷ flat_map (with_spec reason_range) config.skip
+    ∷ flat_map (with_spec root_ranges) config.skip_tree
+    ∷ of_some std_ranges config.std_replacements
+    ∷ []
+    )
+
+-- These ranges lie in the text, and no two of them begin at one place.
+pub record AreLabels (text : List ℕ) (spans : List Span) : Type 0 where
+  pub placed : All (IsRange text) spans
+  pub apart : AllPairs (λ one other. one.start ≢ other.start) spans
+
+-- of the list of wrappers of an entry of `deny`
+abbrev pub wrapper_list : PackageSpecOrExtended CrateBanExtended → List Span
+wrapper_list e = of_some (λ said. of_some own_range said.wrappers) e.inner
+
+unfoldable pub list_ranges : Config → List Span
+list_ranges config = flat_map wrapper_list config.deny
+
+-- of the labels of what is told
+abbrev pub told_ranges : List Diagnostic → List Span
+told_ranges told = flat_map (λ d. map (λ label. label.span) d.labels) told

@@ -1,0 +1,136 @@
+-- What a text says as a policy: its faults, what clashes in it, and the policy where there is neither.
+use Rattle.std.specs.Prelude.{◌≡◌, ◌≢◌, ◌++◌, ◌⊎◌, ◌||◌, ⊤, ℕ, All, Bool, false, List, [], ◌∷◌, Option, None, Some, codes, is_some, IsUtf8}
+use Rattle.std.specs.List.{list_any}
+use Rattle.std.specs.List.Sorted.{IsStrictlySortedBy}
+use Rattle.std.specs.Option.{option_map_or}
+use Rattle.deny_base.specs.declared.files.File.{File}
+use Rattle.deny_base.specs.declared.finding.Diagnostic.{Diagnostic}
+use Rattle.deny_base.specs.declared.span.Span.{Span}
+use Rattle.deny_toml.specs.Calls.{below_name}
+use Rattle.deny_toml.specs.Faults.{fault_at, fault_cmp}
+use Rattle.deny_toml.specs.Parser.{IsFaultOf, IsTreeOf}
+use Rattle.deny_toml.specs.Ranges.{IsRange}
+use Rattle.deny_toml.specs.TableHelper.{optional_faults}
+use Rattle.deny_toml.specs.declared.error.ConfigFault.{ConfigFault}
+use Rattle.deny_toml.specs.declared.error.FaultKind.{FaultKind}
+use Rattle.deny_toml.specs.declared.error.FaultKind.TheVariants as kind
+use Rattle.deny_toml.specs.declared.error.TomlKind.{TomlKind}
+use Rattle.deny_toml.specs.declared.error.TomlKind.TheVariants as toml
+use Rattle.deny_toml.specs.declared.value.Value.{Value}
+use Rattle.deny_cfg.specs.Clashes.{AreClashes, clashes_in, no_span}
+use Rattle.deny_cfg.specs.Config.{ReadsConfig, faults_of_config}
+use Rattle.deny_cfg.specs.LabelRanges.{told_ranges}
+use Rattle.deny_cfg.specs.PolicyKey.{name_of}
+use Rattle.deny_cfg.specs.Table.{ReadsTable}
+use Rattle.deny_cfg.specs.Valid.{IsValidOf}
+use Rattle.deny_cfg.specs.declared.bans.cfg.config.Config.{Config}
+use Rattle.deny_cfg.specs.declared.policy.Policy.{Policy}
+use Rattle.deny_cfg.specs.declared.policy.PolicyError.{PolicyError}
+use Rattle.deny_cfg.specs.declared.policy.PolicyError.TheVariants as error
+use Rattle.deny_cfg.specs.declared.policy_key.PolicyKey.{PolicyKey}
+use Rattle.deny_cfg.specs.declared.policy_key.PolicyKey.TheVariants as key
+
+abbrev pub bans_name : List ℕ
+bans_name = codes "bans"
+
+-- the faults of a tree as a policy: those of its table `bans`; other keys of the root pass unread
+unfoldable pub faults_of_tree : Value → List ConfigFault
+faults_of_tree v = optional_faults faults_of_config bans_name (below_name bans_name v)
+
+abbrev pub kind_of : TomlKind → FaultKind
+kind_of toml.Grammar = kind.Grammar
+kind_of toml.Clash = kind.Clash
+
+-- These are the faults of a text as a policy. One that is not UTF-8 has no other, nor has one that is no TOML.
+pub data AreFaults (text : List ℕ) : List ConfigFault → Type 0 where
+  not_utf8 : ¬ IsUtf8 text → AreFaults text (fault_at kind.NotUtf8 [] no_span ∷ [])
+  no_toml : (of : TomlKind) (span : Span) → IsUtf8 text → IsFaultOf text of span → IsRange text span → AreFaults text (fault_at (kind_of of) [] span ∷ [])
+  of_tree : (v : Value) → IsUtf8 text → IsTreeOf text v → AreFaults text (faults_of_tree v)
+
+-- The faults of a text, of which there are some, in ascending order, each once.
+pub record ListsFaults (text : List ℕ) (faults : List ConfigFault) : Type 0 where
+  pub are : AreFaults text faults
+  pub some : faults ≢ []
+  pub ascending : IsStrictlySortedBy fault_cmp faults
+
+-- what is read from the table `bans`; without it all its defaults hold
+abbrev pub ReadsBans : Option Value → Config → Type 0
+ReadsBans None config = ReadsConfig [] config
+ReadsBans (Some v) config = ReadsTable ReadsConfig v config
+
+-- The text is TOML, its tree has no fault, and its table `bans` says this.
+pub record Says (text : List ℕ) (config : Config) : Type 0 where
+  pub utf8 : IsUtf8 text
+  pub tree : Value
+  pub is_tree : IsTreeOf text tree
+  pub faultless : faults_of_tree tree ≡ []
+  pub reads : ReadsBans (below_name bans_name tree) config
+
+-- the keys of `bans` whose rules are not there yet
+abbrev pub not_built : List PolicyKey
+not_built =
+    key.Features
+    ∷ key.ExternalDefaultFeatures
+    ∷ key.WorkspaceDefaultFeatures
+    ∷ key.Wildcards
+    ∷ key.AllowWildcardPaths
+    ∷ key.AllowBuildScripts
+    ∷ key.Build
+    ∷ key.WorkspaceDependencies
+    ∷ key.StdReplacements
+    ∷ []
+
+abbrev pub writes_key : Value → PolicyKey → Bool
+writes_key bans k = is_some (below_name (name_of k) bans)
+
+-- a tree writes `licenses`, or in `bans` one of these keys
+unfoldable pub writes_unbuilt : Value → Bool
+writes_unbuilt v = is_some (below_name (codes "licenses") v) || option_map_or (λ bans. list_any (writes_key bans) not_built) (below_name bans_name v) false
+
+-- the same, and whether the text writes a key whose rule is not there yet
+pub record SaysOf (text : List ℕ) (config : Config) (unbuilt : Bool) : Type 0 where
+  pub says : Says text config
+  pub unbuilt_is : unbuilt ≡ writes_unbuilt says.tree
+
+-- The policy of a text: it is TOML without faults and without clashes, and this is what it says.
+pub record IsPolicyOf (text : List ℕ) (file : ℕ) (policy : Policy) : Type 0 where
+  pub config : Config
+  pub says : SaysOf text config policy.not_built
+  pub no_clash : clashes_in config ≡ []
+  pub valid : IsValidOf config file policy.bans
+  pub no_warning : policy.warnings ≡ []
+
+-- What clashes in a text without faults. All labels lie in the text.
+pub record TellsClashes (text : List ℕ) (file : ℕ) (told : List Diagnostic) : Type 0 where
+  pub config : Config
+  pub says : Says text config
+  pub some : told ≢ []
+  pub are : AreClashes config file told
+  pub placed : All (IsRange text) (told_ranges told)
+
+-- Why a text has no policy. Want of memory says nothing of the text.
+abbrev pub IsNoPolicy : List ℕ → ℕ → PolicyError → Type 0
+IsNoPolicy text file (error.Config faults) = ListsFaults text faults
+IsNoPolicy text file (error.Invalid told) = TellsClashes text file told
+IsNoPolicy text file error.Memory = ⊤
+
+-- faults like these, or want of memory
+abbrev pub IsConfig : (List ConfigFault → Type 0) → PolicyError → Type 0
+IsConfig P (error.Config faults) = P faults
+IsConfig P (error.Invalid told) = ⊥
+IsConfig P error.Memory = ⊤
+
+-- the policy's text is a file of this name
+abbrev pub policy_file : List ℕ → File
+policy_file text = record { path = codes "deny.toml"; source = text }
+
+-- A text that is UTF-8 is put behind the other files.
+pub record Keeps (text : List ℕ) (old new : List File) : Type 0 where
+  pub utf8 : IsUtf8 text → new ≡ old ++ policy_file text ∷ []
+  pub other : ¬ IsUtf8 text → new ≡ old
+
+-- also where the text then has no policy; where memory is wanting, the files may be as they were
+abbrev pub KeepsOnError : PolicyError → List ℕ → List File → List File → Type 0
+KeepsOnError (error.Config faults) text old new = Keeps text old new
+KeepsOnError (error.Invalid told) text old new = Keeps text old new
+KeepsOnError error.Memory text old new = Keeps text old new ⊎ (new ≡ old)

@@ -1,0 +1,65 @@
+-- What the rules see of a configuration.
+use Rattle.std.specs.Prelude.{ℕ, ◌+◌, Bool, true, false, List, [], ◌∷◌, map, Option, None, Some, option_map, option_and_then}
+use Rattle.deny_model.specs.Policy.{Ban, Entry, Policy, Root, Words}
+use Rattle.deny_cfg.specs.SpecView.{spec_view}
+use Rattle.deny_cfg.specs.declared.bans.cfg.highlight.GraphHighlight.{GraphHighlight}
+use Rattle.deny_cfg.specs.declared.bans.cfg.highlight.GraphHighlight.TheVariants as highlight
+use Rattle.deny_cfg.specs.declared.bans.cfg.tree_skip.TreeSkipExtended.{TreeSkipExtended}
+use Rattle.deny_cfg.specs.declared.bans.cfg.valid.KrateBan.{KrateBan}
+use Rattle.deny_cfg.specs.declared.bans.cfg.valid.ValidConfig.{ValidConfig}
+use Rattle.deny_cfg.specs.declared.reason.Reason.{Reason}
+use Rattle.deny_cfg.specs.declared.spec_or_extended.PackageSpecOrExtended.{PackageSpecOrExtended}
+
+abbrev pub words_or_none : Option (List Words) → List Words
+words_or_none None = []
+words_or_none (Some words) = words
+
+abbrev pub reason_words : Reason → Words
+reason_words reason = reason.0
+
+abbrev pub ban_view : PackageSpecOrExtended KrateBan → Ban
+ban_view e = record {
+  spec = spec_view e.spec;
+  wrappers = words_or_none (option_and_then (λ ban. ban.wrappers) e.inner);
+  reason = option_map reason_words (option_and_then (λ ban. ban.reason) e.inner);
+  use_instead = option_and_then (λ ban. ban.use_instead) e.inner;
+}
+
+abbrev pub entry_view : PackageSpecOrExtended Reason → Entry
+entry_view e = record { spec = spec_view e.spec; reason = option_map reason_words e.inner }
+
+abbrev pub root_view : ℕ → PackageSpecOrExtended TreeSkipExtended → Root
+root_view number e = record {
+  number = number;
+  spec = spec_view e.spec;
+  depth = option_and_then (λ skip. skip.depth) e.inner;
+  reason = option_map reason_words (option_and_then (λ skip. skip.reason) e.inner);
+}
+
+abbrev pub roots_from : ℕ → List (PackageSpecOrExtended TreeSkipExtended) → List Root
+roots_from number [] = []
+roots_from number (e ∷ es) = root_view number e ∷ roots_from (number + 1) es
+
+abbrev pub shows_simplest : GraphHighlight → Bool
+shows_simplest highlight.SimplestPath = true
+shows_simplest highlight.LowestVersion = false
+shows_simplest highlight.All = true
+
+abbrev pub shows_lowest : GraphHighlight → Bool
+shows_lowest highlight.SimplestPath = false
+shows_lowest highlight.LowestVersion = true
+shows_lowest highlight.All = true
+
+abbrev pub policy_view : ValidConfig → Policy
+policy_view cfg = record {
+  multiple_versions = cfg.multiple_versions;
+  include_dev = cfg.multiple_versions_include_dev;
+  simplest = shows_simplest cfg.highlight;
+  lowest = shows_lowest cfg.highlight;
+  deny = map ban_view cfg.denied;
+  deny_multiple = map spec_view cfg.denied_multiple_versions;
+  allow = map entry_view cfg.allowed;
+  allow_workspace = cfg.allow_workspace;
+  skip = map entry_view cfg.skipped;
+  skip_tree = roots_from 0 cfg.tree_skipped;
+}

@@ -1,0 +1,189 @@
+//! What `[bans]` says once it is known to hold no clash.
+ghost use Rattle.std.specs.Prelude.{◌≡◌, IfOk, filter, map};
+ghost use Rattle.deny_cfg.specs.Clashes.{AreClashes, is_ban};
+ghost use Rattle.deny_cfg.specs.Valid.{IsValidOf, ban_of, features_of, is_multiple, krate_ban};
+
+use crate::bans::cfg::ban::CrateBanExtended;
+use crate::bans::cfg::config::Config;
+use crate::bans::cfg::features::CrateFeatures;
+use crate::bans::cfg::highlight::GraphHighlight;
+use crate::bans::cfg::std_replacements::StdReplacementConfig;
+use crate::bans::cfg::workspace::WorkspaceDepsConfig;
+use crate::bans::cfg::{CrateBan, SpecAndReason, ValidTreeSkip};
+use crate::clash_told::tell_clashes;
+use crate::clashes::{clashes_of, is_ban};
+use crate::package_spec::PackageSpec;
+use crate::reason::Reason;
+use crate::spec_or_extended::PackageSpecOrExtended;
+use crate::validate::{UnvalidatedConfig, ValidationContext};
+use deny_base::{FileId, LintLevel, List, NoMemory, Spanned, Text};
+use std::alloc::Global;
+
+/// What an entry that bans crates says besides its spec.
+#[derive(Debug, Drop)]
+pub struct KrateBan {
+    /// The crates that may depend on the banned one; an empty list is as none.
+    pub wrappers: Option<List<Spanned<Text>>>,
+    pub reason: Option<Reason>,
+    /// What to use in its place: a crate, or an address.
+    pub use_instead: Option<Spanned<Text>>,
+}
+
+/// Which features of a crate may be enabled.
+#[derive(Debug, Drop)]
+pub struct Features {
+    /// The features that may be enabled; where there are none, all may.
+    pub allow: Spanned<List<Spanned<Text>>>,
+    /// The features that may not.
+    pub deny: List<Spanned<Text>>,
+    /// Whether exactly those of `allow` are to be enabled.
+    pub exact: Spanned<bool>,
+}
+
+/// An entry of `features`.
+#[derive(Debug, Drop)]
+pub struct ValidKrateFeatures {
+    pub spec: PackageSpec,
+    pub features: Features,
+    pub reason: Option<Reason>,
+}
+
+/// What `[bans]` says, without clashes. Ranges are those of the file `file_id`.
+#[derive(Debug, Drop)]
+pub struct ValidConfig {
+    pub file_id: FileId,
+    /// The level of crates that stand in several versions.
+    pub multiple_versions: LintLevel,
+    pub multiple_versions_include_dev: bool,
+    pub highlight: GraphHighlight,
+    /// The entries of `deny` that ban crates.
+    pub denied: List<PackageSpecOrExtended<KrateBan>>,
+    /// The entries of `deny` that deny several versions alone.
+    pub denied_multiple_versions: List<PackageSpec>,
+    /// The crates that alone are allowed; where there are none, all are.
+    pub allowed: List<SpecAndReason>,
+    pub allow_workspace: bool,
+    pub external_default_features: Option<Spanned<LintLevel>>,
+    pub workspace_default_features: Option<Spanned<LintLevel>>,
+    pub features: List<ValidKrateFeatures>,
+    /// The crates that do not count among several versions.
+    pub skipped: List<SpecAndReason>,
+    /// The crates whose trees do not.
+    pub tree_skipped: List<ValidTreeSkip>,
+    pub wildcards: LintLevel,
+    pub allow_wildcard_paths: bool,
+    pub workspace_dependencies: Option<WorkspaceDepsConfig>,
+    pub std_replacements: Option<StdReplacementConfig>,
+}
+
+/// What an entry that bans says, without its flag.
+fn krate_ban(said: CrateBanExtended) -> KrateBan
+    ensures { result ≡ krate_ban said }
+{
+    KrateBan {
+        wrappers: said.wrappers.map(|wrappers| wrappers.value),
+        reason: said.reason,
+        use_instead: said.use_instead,
+    }
+}
+
+fn ban_of(entry: CrateBan) -> PackageSpecOrExtended<KrateBan>
+    ensures { result ≡ ban_of entry }
+{
+    PackageSpecOrExtended {
+        spec: entry.spec,
+        inner: entry.inner.map(krate_ban),
+    }
+}
+
+/// Divides the entries of `deny` into those that ban, and those that deny several versions alone.
+fn divided(
+    alloc: Global,
+    deny: List<CrateBan>,
+) -> Result<(List<PackageSpecOrExtended<KrateBan>>, List<PackageSpec>), NoMemory>
+    ensures bans { IfOk result (λ parts. parts.0 ≡ map ban_of (filter is_ban deny)) }
+    ensures others { IfOk result (λ parts. parts.1 ≡ map (λ e. e.spec) (filter is_multiple deny)) }
+{
+    let mut bans = List::new(alloc);
+    let mut others = List::new(alloc);
+    'deny: for entry in deny.vec {
+        if is_ban(&entry) {
+            bans.push(ban_of(entry))?;
+        } else {
+            others.push(entry.spec)?;
+        }
+    }
+    Ok((bans, others))
+}
+
+fn features_of(entry: CrateFeatures) -> ValidKrateFeatures
+    ensures { result ≡ features_of entry }
+{
+    ValidKrateFeatures {
+        spec: entry.spec,
+        features: Features {
+            allow: entry.allow,
+            deny: entry.deny,
+            exact: entry.exact,
+        },
+        reason: entry.reason,
+    }
+}
+
+fn all_features(
+    alloc: Global,
+    entries: List<CrateFeatures>,
+) -> Result<List<ValidKrateFeatures>, NoMemory>
+    ensures { IfOk result (λ all. all ≡ map features_of entries) }
+{
+    let mut all = List::new(alloc);
+    'entries: for entry in entries.vec {
+        all.push(features_of(entry))?;
+    }
+    Ok(all)
+}
+
+fn valid_of(alloc: Global, file_id: FileId, config: Config) -> Result<ValidConfig, NoMemory>
+    ensures { IfOk result (IsValidOf config file_id) }
+{
+    let (denied, denied_multiple_versions) = divided(alloc, config.deny)?;
+    Ok(ValidConfig {
+        file_id,
+        multiple_versions: config.multiple_versions,
+        multiple_versions_include_dev: config.multiple_versions_include_dev,
+        highlight: config.highlight,
+        denied,
+        denied_multiple_versions,
+        allowed: config.allow,
+        allow_workspace: config.allow_workspace,
+        external_default_features: config.external_default_features,
+        workspace_default_features: config.workspace_default_features,
+        features: all_features(alloc, config.features)?,
+        skipped: config.skip,
+        tree_skipped: config.skip_tree,
+        wildcards: config.wildcards,
+        allow_wildcard_paths: config.allow_wildcard_paths,
+        workspace_dependencies: config.workspace_dependencies,
+        std_replacements: config.std_replacements,
+    })
+}
+
+impl UnvalidatedConfig for Config {
+    type ValidCfg = ValidConfig;
+
+    ghost is_valid_of = { IsValidOf };
+
+    ghost are_clashes = { AreClashes };
+
+    fn validate(self, ctx: ValidationContext<'_>) -> Result<ValidConfig, NoMemory> {
+        let ValidationContext {
+            alloc,
+            cfg_id,
+            files: _,
+            diagnostics,
+        } = ctx;
+        let clashes = clashes_of(alloc, &self)?;
+        tell_clashes(alloc, cfg_id, clashes.as_slice(), diagnostics)?;
+        valid_of(alloc, cfg_id, self)
+    }
+}

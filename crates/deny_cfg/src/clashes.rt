@@ -1,0 +1,231 @@
+//! Which entries of a policy clash.
+ghost use Rattle.std.specs.Prelude.{◌≡◌, ◌++◌, [], Contains, IfOk, None, OnOk, Some, if◌then◌else◌, filter, filter_map, option_map};
+ghost use Rattle.std.specs.List.{cons_option, flat_map};
+ghost use Rattle.deny_base.specs.Ascending.{Lists};
+ghost use Rattle.deny_cfg.specs.Clashes.{clash_cmp, clash_with, clashes_in, feature_clashes, is_ban, specs_of, two_places, wrappers_clash, wrappers_clash_by};
+ghost use Rattle.deny_cfg.specs.Clashes as spec;
+ghost use Rattle.deny_cfg.specs.FirstPlaces.{place_in, plain_wording, spec_wording};
+
+use crate::bans::cfg::{Config, CrateBan, CrateBanExtended, CrateFeatures, SpecAndReason};
+use crate::clash::{Clash, ClashKind, clash_order};
+use crate::first_places::{FirstPlaces, Wording};
+use crate::package_spec::PackageSpec;
+use deny_base::{List, NoMemory, Span, Spanned, Text, put_in_order};
+use std::alloc::Global;
+
+/// Whether an entry of `deny` bans, and does not deny several versions alone.
+#[tactic(auto, unfolding(crate::specs::Clashes::is_ban))]
+pub fn is_ban(entry: &CrateBan) -> bool
+    ensures { result ≡ is_ban entry.now }
+{
+    match &entry.inner {
+        Some(said) => match &said.deny_multiple_versions {
+            Some(flag) => !flag.value,
+            None => true,
+        },
+        None => true,
+    }
+}
+
+/// The clash of wrappers with the flag that their entry denies several versions alone.
+fn flag_clash(flag: &Spanned<bool>, wrappers: &Spanned<List<Spanned<Text>>>) -> Option<Clash>
+    ensures { result ≡ wrappers_clash_by (Some flag.now) (Some wrappers.now) }
+{
+    let count = wrappers.value.len();
+    if !flag.value || count == 0 {
+        return None;
+    }
+    Some(Clash {
+        kind: ClashKind::WrappersOfMultiple,
+        first: wrappers.span,
+        second: flag.span,
+        third: Span { start: 0, end: 0 },
+        wrappers: count as u64,
+    })
+}
+
+fn clash_within(said: &CrateBanExtended) -> Option<Clash>
+    ensures { result ≡ wrappers_clash_by said.now.deny_multiple_versions said.now.wrappers }
+{
+    match &said.deny_multiple_versions {
+        Some(flag) => match &said.wrappers {
+            Some(wrappers) => flag_clash(flag, wrappers),
+            None => None,
+        },
+        None => None,
+    }
+}
+
+/// The clash of an entry that denies several versions alone, and yet names wrappers.
+#[tactic(auto, unfolding(crate::specs::Clashes::wrappers_clash))]
+fn wrappers_clash(entry: &CrateBan) -> Option<Clash>
+    ensures { result ≡ wrappers_clash entry.now }
+{
+    match &entry.inner {
+        Some(said) => clash_within(said),
+        None => None,
+    }
+}
+
+/// Puts a clash behind the others, if there is one.
+fn put_clash(clash: Option<Clash>, clashes: &mut List<Clash>) -> Result<(), NoMemory>
+    ensures { OnOk result (clashes.new ≡ clashes.old ++ cons_option clash []) }
+{
+    match clash {
+        Some(clash) => clashes.push(clash),
+        None => Ok(()),
+    }
+}
+
+fn put_wrappers_clashes(deny: &[CrateBan], clashes: &mut List<Clash>) -> Result<(), NoMemory>
+    ensures { OnOk result (clashes.new ≡ clashes.old ++ filter_map wrappers_clash deny.now) }
+{
+    for entry in deny {
+        put_clash(wrappers_clash(entry), clashes)?;
+    }
+    Ok(())
+}
+
+/// The clash of a spec with the first equal one of others.
+fn clash_with(
+    kind: ClashKind,
+    others: &FirstPlaces,
+    spec: &PackageSpec,
+) -> Result<Option<Clash>, NoMemory>
+    ensures { IfOk result (λ clash. clash ≡ option_map (two_places kind spec.now.name.span) (place_in others.now (spec_wording spec.now))) }
+{
+    match others.find(&Wording::of_spec(spec)?) {
+        Some(place) => Ok(Some(Clash::of(kind, spec.name.span, place))),
+        None => Ok(None),
+    }
+}
+
+/// The clash of an entry of `deny`, if it bans, with the first equal one of others.
+fn ban_clash(
+    kind: ClashKind,
+    others: &FirstPlaces,
+    entry: &CrateBan,
+) -> Result<Option<Clash>, NoMemory>
+    ensures { IfOk result (λ clash. clash ≡ (if is_ban entry.now then option_map (two_places kind entry.now.spec.name.span) (place_in others.now (spec_wording entry.now.spec)) else None)) }
+{
+    if is_ban(entry) {
+        clash_with(kind, others, &entry.spec)
+    } else {
+        Ok(None)
+    }
+}
+
+/// The clashes of bans with other entries.
+fn put_ban_clashes(
+    alloc: Global,
+    kind: ClashKind,
+    deny: &[CrateBan],
+    others: &[SpecAndReason],
+    clashes: &mut List<Clash>,
+) -> Result<(), NoMemory>
+    ensures { OnOk result (clashes.new ≡ clashes.old ++ filter_map (clash_with kind (specs_of others.now)) (specs_of (filter is_ban deny.now))) }
+{
+    let others = FirstPlaces::of_specs(alloc, others)?;
+    for entry in deny {
+        put_clash(ban_clash(kind, &others, entry)?, clashes)?;
+    }
+    Ok(())
+}
+
+/// The clashes of entries of `allow` with those of `skip`.
+fn put_allow_clashes(
+    alloc: Global,
+    allow: &[SpecAndReason],
+    skip: &[SpecAndReason],
+    clashes: &mut List<Clash>,
+) -> Result<(), NoMemory>
+    ensures { OnOk result (clashes.new ≡ clashes.old ++ filter_map (clash_with ClashKind.AllowAndSkip (specs_of skip.now)) (specs_of allow.now)) }
+{
+    let skip = FirstPlaces::of_specs(alloc, skip)?;
+    for entry in allow {
+        put_clash(
+            clash_with(ClashKind::AllowAndSkip, &skip, &entry.spec)?,
+            clashes,
+        )?;
+    }
+    Ok(())
+}
+
+/// The clash of an allowed feature with the first equal denied one.
+fn feature_clash(
+    name: Span,
+    denied: &FirstPlaces,
+    allowed: &Spanned<Text>,
+) -> Result<Option<Clash>, NoMemory>
+    ensures { IfOk result (λ clash. clash ≡ option_map (spec.feature_at name allowed.now) (place_in denied.now (plain_wording allowed.now.value))) }
+{
+    match denied.find(&Wording::of_word(&allowed.value)?) {
+        Some(place) => Ok(Some(Clash {
+            kind: ClashKind::FeatureTwice,
+            first: name,
+            second: allowed.span,
+            third: place,
+            wrappers: 0,
+        })),
+        None => Ok(None),
+    }
+}
+
+/// The clashes of the features of an entry.
+#[tactic(auto, unfolding(crate::specs::Clashes::feature_clashes))]
+fn put_feature_clashes(
+    alloc: Global,
+    entry: &CrateFeatures,
+    clashes: &mut List<Clash>,
+) -> Result<(), NoMemory>
+    ensures { OnOk result (clashes.new ≡ clashes.old ++ feature_clashes entry.now) }
+{
+    let denied = FirstPlaces::of_words(alloc, entry.deny.as_slice())?;
+    for allowed in entry.allow.value.as_slice() {
+        put_clash(
+            feature_clash(entry.spec.name.span, &denied, allowed)?,
+            clashes,
+        )?;
+    }
+    Ok(())
+}
+
+fn put_features_clashes(
+    alloc: Global,
+    features: &[CrateFeatures],
+    clashes: &mut List<Clash>,
+) -> Result<(), NoMemory>
+    ensures { OnOk result (clashes.new ≡ clashes.old ++ flat_map feature_clashes features.now) }
+{
+    for entry in features {
+        put_feature_clashes(alloc, entry, clashes)?;
+    }
+    Ok(())
+}
+
+/// What clashes in a configuration, one kind after another.
+#[tactic(auto, unfolding(crate::specs::Clashes::clashes_in, crate::specs::Clashes::banned_specs))]
+fn clashes_in(alloc: Global, config: &Config) -> Result<List<Clash>, NoMemory>
+    ensures { IfOk result (λ clashes. clashes ≡ clashes_in config.now) }
+{
+    let deny = config.deny.as_slice();
+    let allow = config.allow.as_slice();
+    let skip = config.skip.as_slice();
+    let mut clashes = List::new(alloc);
+    put_wrappers_clashes(deny, &mut clashes)?;
+    put_ban_clashes(alloc, ClashKind::DenyAndAllow, deny, allow, &mut clashes)?;
+    put_ban_clashes(alloc, ClashKind::DenyAndSkip, deny, skip, &mut clashes)?;
+    put_allow_clashes(alloc, allow, skip, &mut clashes)?;
+    put_features_clashes(alloc, config.features.as_slice(), &mut clashes)?;
+    Ok(clashes)
+}
+
+/// What clashes in a configuration, in order, each once.
+pub fn clashes_of(alloc: Global, config: &Config) -> Result<List<Clash>, NoMemory>
+    ensures { IfOk result (Lists clash_cmp (Contains (clashes_in config.now))) }
+{
+    let mut clashes = clashes_in(alloc, config)?;
+    clash_order();
+    put_in_order(&mut clashes)?;
+    Ok(clashes)
+}

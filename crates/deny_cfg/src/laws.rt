@@ -1,0 +1,32 @@
+//! A text says one thing as a policy.
+ghost use Rattle.std.specs.Prelude.{◌≡◌, ◌⊎◌, ℕ, List, [], ◌∷◌};
+ghost use Rattle.deny_base.specs.declared.finding.Diagnostic.{Diagnostic};
+ghost use Rattle.deny_base.specs.declared.span.Span.{Span};
+ghost use Rattle.deny_toml.specs.Faults.{fault_at};
+ghost use Rattle.deny_toml.specs.declared.error.ConfigFault.{ConfigFault};
+ghost use Rattle.deny_toml.specs.declared.error.FaultKind.TheVariants.{Grammar};
+ghost use Rattle.deny_cfg.specs.PolicyText.{IsPolicyOf, ListsFaults, TellsClashes};
+ghost use Rattle.deny_cfg.specs.PolicyView.{policy_view};
+ghost use Rattle.deny_cfg.specs.declared.policy.Policy.{Policy};
+
+/// Two policies of one text look the same to the rules, and agree on whether the text writes a key
+/// whose rule is not there yet.
+pub fn one_policy()
+    ensures { (text : List ℕ) → (file : ℕ) → (a b : Policy) → IsPolicyOf text file a → IsPolicyOf text file b
+        → (policy_view a.bans ≡ policy_view b.bans) × (a.not_built ≡ b.not_built) }
+{}
+
+/// Why a text has no policy is one: its faults, or else what clashes in it. Of a text outside the
+/// grammar the place of the fault is free. A text with faults or clashes has no policy.
+pub fn one_refusal()
+    ensures faults { (text : List ℕ) → (xs ys : List ConfigFault) → ListsFaults text xs → ListsFaults text ys
+        → (xs ≡ ys)
+        ⊎ (((place : Span) × (xs ≡ fault_at Grammar [] place ∷ [])) × ((place : Span) × (ys ≡ fault_at Grammar [] place ∷ []))) }
+    ensures clashes { (text : List ℕ) → (file : ℕ) → (xs ys : List Diagnostic) → TellsClashes text file xs → TellsClashes text file ys → xs ≡ ys }
+    ensures faults_alone { (text : List ℕ) → (file : ℕ) → (faults : List ConfigFault) → (told : List Diagnostic)
+        → ListsFaults text faults → TellsClashes text file told → ⊥ }
+    ensures no_policy_with_faults { (text : List ℕ) → (file : ℕ) → (faults : List ConfigFault) → (policy : Policy)
+        → ListsFaults text faults → IsPolicyOf text file policy → ⊥ }
+    ensures no_policy_with_clashes { (text : List ℕ) → (here there : ℕ) → (told : List Diagnostic) → (policy : Policy)
+        → TellsClashes text here told → IsPolicyOf text there policy → ⊥ }
+{}

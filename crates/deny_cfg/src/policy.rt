@@ -1,0 +1,228 @@
+//! The text of a policy.
+ghost use Rattle.std.specs.Prelude.{◌≡◌, ◌<◌, ◌^◌, ◌∷◌, [], All, IfOk, IfErr, OnOk, length};
+ghost use Rattle.std.specs.List.{list_any};
+ghost use Rattle.std.specs.Option.{option_copied};
+ghost use Rattle.deny_toml.specs.Apart.{AreApart};
+ghost use Rattle.deny_toml.specs.Calls.{below_name};
+ghost use Rattle.deny_toml.specs.Faults.{Reports, fault_at};
+ghost use Rattle.deny_toml.specs.Parser.{IsTreeOf};
+ghost use Rattle.deny_toml.specs.Ranges.{IsRange, StandsIn};
+ghost use Rattle.deny_cfg.specs.LabelRanges.{AreLabels, config_labels, list_ranges, word_labels};
+ghost use Rattle.deny_cfg.specs.Lawful.{IsLawful};
+ghost use Rattle.deny_cfg.specs.PolicyText.{IsConfig, IsNoPolicy, IsPolicyOf, Keeps, KeepsOnError, ListsFaults, ReadsBans, SaysOf, bans_name, faults_of_tree, kind_of, not_built, writes_key, writes_unbuilt};
+
+use crate::bans::cfg::{Config, ValidConfig};
+use crate::policy_key::PolicyKey;
+use crate::validate::{UnvalidatedConfig, ValidationContext};
+use deny_base::{Diagnostic, FileId, Files, List, NoMemory, Span, Text};
+use deny_toml::{
+    ConfigFault, DeserError, FaultKind, TableHelper, TomlError, TomlKind, Value, parse,
+};
+use std::alloc::Global;
+
+/// What a policy says.
+#[derive(Debug, Drop)]
+pub struct Policy {
+    pub bans: ValidConfig,
+    /// Warnings about the policy itself; there are none yet.
+    pub warnings: List<Diagnostic>,
+    /// Whether the policy writes a key whose rule is not there yet.
+    pub not_built: bool,
+}
+
+/// Why a text has no policy.
+#[derive(Debug, Drop)]
+pub enum PolicyError {
+    /// All faults of the text, in ascending order of span, kind and key.
+    Config(List<ConfigFault>),
+    /// What clashes in it, by kind and then by the ranges of the labels.
+    Invalid(List<Diagnostic>),
+    /// The memory did not suffice.
+    Memory,
+}
+
+impl From<NoMemory> for PolicyError {
+    ghost use Rattle.std.specs.Prelude.{◌≡◌};
+    ghost use Rattle.deny_cfg.specs.declared.policy.PolicyError.TheVariants.{Memory};
+
+    ghost from_gives = { λ _ e. e ≡ Memory };
+
+    fn from(_error: NoMemory) -> PolicyError {
+        PolicyError::Memory
+    }
+}
+
+impl PolicyError {
+    /// A text with one fault, which is none of its values.
+    fn of_text(alloc: Global, kind: FaultKind, span: Span) -> PolicyError
+        ensures { IsConfig (λ faults. faults ≡ fault_at kind [] span ∷ []) result }
+    {
+        let mut faults = List::new(alloc);
+        let fault = ConfigFault {
+            span,
+            kind,
+            key: Text::new(alloc),
+        };
+        match faults.push(fault) {
+            Ok(()) => PolicyError::Config(faults),
+            Err(_) => PolicyError::Memory,
+        }
+    }
+}
+
+/// The tree of a text.
+fn tree_of<'t>(alloc: Global, text: &'t str) -> Result<Value<'t>, PolicyError>
+    requires small { length text.now < 2 ^ 28 }
+    ensures tree { IfOk result (IsTreeOf text.now) }
+    ensures stands { IfOk result (StandsIn text.now) }
+    ensures apart { IfOk result AreApart }
+    ensures faults { IfErr result (IsConfig (ListsFaults text.now)) }
+{
+    match parse(alloc, text) {
+        Ok(tree) => Ok(tree),
+        Err(TomlError::Fault { kind, span }) => Err(PolicyError::of_text(
+            alloc,
+            fault_kind(kind),
+            span,
+        )),
+        Err(TomlError::Memory) => Err(PolicyError::Memory),
+    }
+}
+
+fn fault_kind(kind: TomlKind) -> FaultKind
+    ensures { result ≡ kind_of kind }
+{
+    match kind {
+        TomlKind::Grammar => FaultKind::Grammar,
+        TomlKind::Clash => FaultKind::Clash,
+    }
+}
+
+/// What the tree holds at `bans`.
+fn bans_in<'v, 't>(tree: &'v Value<'t>) -> Option<&'v Value<'t>>
+    ensures { option_copied result ≡ below_name bans_name tree.now }
+{
+    match tree.as_table()?.get_key_value("bans") {
+        Some((_, bans)) => Some(bans),
+        None => None,
+    }
+}
+
+/// Whether `bans` has a key whose rule is not there yet.
+fn has_unbuilt(bans: &Value<'_>) -> bool
+    ensures { result ≡ list_any (writes_key bans.now) not_built }
+{
+    bans.has_key(PolicyKey::Features.name())
+        || bans.has_key(PolicyKey::ExternalDefaultFeatures.name())
+        || bans.has_key(PolicyKey::WorkspaceDefaultFeatures.name())
+        || bans.has_key(PolicyKey::Wildcards.name())
+        || bans.has_key(PolicyKey::AllowWildcardPaths.name())
+        || bans.has_key(PolicyKey::AllowBuildScripts.name())
+        || bans.has_key(PolicyKey::Build.name())
+        || bans.has_key(PolicyKey::WorkspaceDependencies.name())
+        || bans.has_key(PolicyKey::StdReplacements.name())
+}
+
+/// Whether a policy writes a key whose rule is not there yet.
+#[tactic(auto, unfolding(crate::specs::PolicyText::writes_unbuilt))]
+fn writes_unbuilt(tree: &Value<'_>) -> bool
+    ensures { result ≡ writes_unbuilt tree.now }
+{
+    if tree.has_key("licenses") {
+        return true;
+    }
+    match bans_in(tree) {
+        Some(bans) => has_unbuilt(bans),
+        None => false,
+    }
+}
+
+/// Reads the table `bans` of a tree.
+#[tactic(auto, unfolding(crate::specs::PolicyText::faults_of_tree))]
+fn read_bans(alloc: Global, tree: &mut Value<'_>) -> Result<Config, DeserError>
+    ensures faultless { IfOk result (λ config. faults_of_tree tree.old ≡ []) }
+    ensures reads { IfOk result (ReadsBans (below_name bans_name tree.old)) }
+    ensures faults { IfErr result (Reports (faults_of_tree tree.old)) }
+{
+    if !tree.has_key("bans") {
+        return Ok(Config::new(alloc));
+    }
+    let mut root = TableHelper::new(alloc, tree)?;
+    root.required("bans")
+}
+
+/// What a text says, before it is known whether that clashes, and whether a rule of it is not there
+/// yet.
+fn config_of(alloc: Global, text: &str) -> Result<(Config, bool), PolicyError>
+    requires small { length text.now < 2 ^ 28 }
+    ensures says { IfOk result (λ read. SaysOf text.now read.0 read.1) }
+    ensures labels { IfOk result (λ read. AreLabels text.now (config_labels read.0)) }
+    ensures lists { IfOk result (λ read. All (IsRange text.now) (list_ranges read.0)) }
+    ensures faults { IfErr result (IsConfig (ListsFaults text.now)) }
+{
+    let mut tree = tree_of(alloc, text)?;
+    let not_built = writes_unbuilt(&tree);
+    match read_bans(alloc, &mut tree) {
+        Ok(config) => Ok((config, not_built)),
+        Err(DeserError::Faults(faults)) => Err(PolicyError::Config(faults)),
+        Err(DeserError::Memory) => Err(PolicyError::Memory),
+    }
+}
+
+/// The policy of a text that stands as the file of that number.
+fn policy_of(
+    alloc: Global,
+    text: &str,
+    file: FileId,
+    files: &mut Files,
+) -> Result<Policy, PolicyError>
+    requires small { length text.now < 2 ^ 28 }
+    requires few { length files.old < 2 ^ 31 }
+    ensures policy { IfOk result (IsPolicyOf text.now file) }
+    ensures labels { IfOk result (λ policy. AreLabels text.now (word_labels policy.bans)) }
+    ensures lawful { IfOk result (λ policy. IsLawful policy.bans) }
+    ensures cause { IfErr result (IsNoPolicy text.now file) }
+    ensures files_stay { files.new ≡ files.old }
+{
+    let (config, not_built) = config_of(alloc, text)?;
+    let mut clashes = List::new(alloc);
+    let bans = config.validate(ValidationContext {
+        alloc,
+        cfg_id: file,
+        files,
+        diagnostics: &mut clashes,
+    })?;
+    if clashes.len() == 0 {
+        Ok(Policy {
+            bans,
+            warnings: List::new(alloc),
+            not_built,
+        })
+    } else {
+        Err(PolicyError::Invalid(clashes))
+    }
+}
+
+/// Reads the policy of a text of under 2^28 bytes, and puts the text behind the other files as
+/// `deny.toml`, if it is UTF-8; there have to be fewer than 2^30 others.
+///
+/// `Config` comes exactly where the text has faults, `Invalid` exactly where it has none and entries
+/// of it clash.
+pub fn read_policy(alloc: Global, bytes: &[u8], files: &mut Files) -> Result<Policy, PolicyError>
+    requires small { length bytes.now < 2 ^ 28 }
+    requires few { length files.old < 2 ^ 30 }
+    ensures policy { IfOk result (IsPolicyOf bytes.now (length files.old)) }
+    ensures labels { IfOk result (λ policy. AreLabels bytes.now (word_labels policy.bans)) }
+    ensures lawful { IfOk result (λ policy. IsLawful policy.bans) }
+    ensures cause { IfErr result (IsNoPolicy bytes.now (length files.old)) }
+    ensures kept { OnOk result (Keeps bytes.now files.old files.new) }
+    ensures kept_too { IfErr result (λ e. KeepsOnError e bytes.now files.old files.new) }
+{
+    match str::from_utf8(bytes) {
+        Ok(text) => {
+            let file = files.add("deny.toml", text)?;
+            policy_of(alloc, text, file, files)
+        }
+        Err(_) => Err(PolicyError::of_text(alloc, FaultKind::NotUtf8, Span { start: 0, end: 0 })),
+    }
+}
