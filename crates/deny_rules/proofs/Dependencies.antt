@@ -1,8 +1,8 @@
 -- The direct dependencies of a crate are what its edges lead to.
-use Rattle.std.proofs.Common.{◌≡◌, ◌<◌, ◌+◌, ℕ, List, [], ◌∷◌, Bool, true, false, Some, length, map, refl, sym, ap, ◌∙◌, subst, inl, inr, arith}
-use Rattle.std.specs.Prelude.{◌==◌, ◌&&◌, ◌||◌, All, Contains, slice_get}
+use Rattle.std.proofs.Common.{◌≡◌, ◌<◌, ℕ, List, [], ◌∷◌, Bool, true, false, Some, length, map, refl, sym, ap, ◌∙◌, subst, inl, inr, arith}
+use Rattle.std.specs.Prelude.{◌||◌, All, Contains, slice_get}
 use Rattle.std.specs.List.{list_any}
-use Rattle.std.proofs.lemmas.Bool.{and_from, eq-eqb}
+use Rattle.std.proofs.lemmas.Bool.{eq-eqb}
 use Rattle.std.proofs.lemmas.List.Elements.{All-contains, All-map, All-weaker, All-contains_itself}
 use Rattle.deny_base.proofs.AscendingLemmas.{Contains-cases}
 use Rattle.deny_base.specs.declared.edge.DepKind.{DepKind}
@@ -28,7 +28,7 @@ any_by p (y ∷ xs) x is passes = elim (Contains-cases y xs x is) as (λ _. (p y
   | inr later ↦ ap (λ b. p y || b) (any_by p xs x later passes) ∙ or_true (p y)
 ]
 
-leads_over : (e : Edge) (parent child : ℕ) → e.parent ≡ parent → child ≡ e.child → leads parent child e ≡ true
+pub leads_over : (e : Edge) (parent child : ℕ) → e.parent ≡ parent → child ≡ e.child → leads parent child e ≡ true
 unfolding leads
 leads_over e parent child from to = rw (eq-eqb e.parent parent from, eq-eqb e.child child (sym to)) refl
 

@@ -1,6 +1,6 @@
 -- Distances that spread from roots along edges, until no edge leads further.
-use Rattle.std.proofs.Common.{◌≡◌, ◌<◌, ◌≤◌, ◌+◌, ◌++◌, ℕ, zero, suc, inl, inr, List, [], ◌∷◌, Bool, true, false, Option, None, Some, length, refl, sym, ap, ◌∙◌, subst, arith, length-append}
-use Rattle.std.specs.Prelude.{All, Contains, cond, fold, is_some, slice_set, slice_index_or, replicate, unwrap_or}
+use Rattle.std.proofs.Common.{◌≡◌, ◌<◌, ◌≤◌, ◌+◌, ◌++◌, ℕ, zero, suc, inl, inr, List, [], ◌∷◌, Option, None, Some, length, refl, sym, ap, ◌∙◌, subst, arith, length-append}
+use Rattle.std.specs.Prelude.{All, Contains, cond, fold, is_some, slice_set, slice_index_or, replicate}
 use Rattle.std.proofs.lemmas.Bool.{cases_eq, cases_lt}
 use Rattle.std.proofs.lemmas.List.{length-replicate, length-set, get_or-set_same, get_or-set_other, get_or_append_left, get_or_default}
 use Rattle.std.proofs.lemmas.List.Elements.{All-contains, All-contains_itself, All-cons, All-head, All-tail, All-weaker, Contains-push, Contains-append_left}
@@ -217,7 +217,7 @@ reaches_all g roots far s (n ∷ ns) to inside known led =
     (reaches_all g roots far (reached far s n) ns to_next rest (All-tail (λ m. m < length g.crates) n ns known) (All-tail (λ m. IsLed g roots m far) n ns led))
 
 -- a chain goes on over one more edge
-chain_more : (edges : List Edge) (a b : ℕ) (n : ℕ) (e : Edge) → Chain edges a b n → Contains edges e → e.parent ≡ b → Chain edges a e.child (suc n)
+pub chain_more : (edges : List Edge) (a b : ℕ) (n : ℕ) (e : Edge) → Chain edges a b n → Contains edges e → e.parent ≡ b → Chain edges a e.child (suc n)
 chain_more edges a b zero e chain known from = (e, known, from ∙ sym chain, refl)
 chain_more edges a b (suc n) e chain known from = (chain.0, chain.1, chain.2, chain_more edges chain.0.child b n e chain.3 known from)
 

@@ -1,33 +1,60 @@
--- The crates of one name that may stand side by side.
-use Rattle.std.specs.Prelude.{ℕ, ◌==◌, ◌&&◌, ◌||◌, Bool, not, List, filter, length, if◌then◌else◌}
-use Rattle.std.specs.List.{list_any}
-use Rattle.deny_rules.specs.Facts.{Facts}
-use Rattle.deny_model.specs.Graph.{Crate, Graph}
-use Rattle.deny_model.specs.Groups.{has_name, is_internal}
-use Rattle.deny_rules.specs.Match.{matches}
-use Rattle.deny_rules.specs.Policy.{Policy}
+-- The reduced groups of names, as the code keeps them: a mark for each crate that is in the one of its name.
+use Rattle.std.specs.Prelude.{◌≡◌, ◌&&◌, ◌||◌, ◌==◌, ◌<◌, ◌≤◌, ◌++◌, ◌-◌, ℕ, Bool, false, not, List, filter, map, length, take, drop, slice_get, slice_index_or}
+use Rattle.std.specs.List.{list_all}
+use Rattle.std.specs.Option.{option_map_or}
+use Rattle.deny_krates.specs.declared.krate.DirectDependent.{DirectDependent}
+use Rattle.deny_krates.specs.declared.krate.Krate.{Krate}
+use Rattle.deny_model.specs.Facts.{Facts}
+use Rattle.deny_model.specs.Graph.{Crate, Graph, dependents}
+use Rattle.deny_model.specs.Groups.{has_name, is_internal, is_marked, may_stand, reduced}
+use Rattle.deny_model.specs.Policy.{Policy}
+use Rattle.deny_model.specs.Text.{same_text}
+use Rattle.deny_rules.specs.declared.groups.Groups.{Groups}
 
--- a skip speaks of the crate
-unfoldable pub is_marked : Policy → Crate → Bool
-is_marked p c = list_any (λ s. matches s.spec c) p.skip
+-- the mark at a place
+abbrev pub on_at : List Bool → ℕ → Bool
+on_at marks place = slice_index_or marks place false
 
--- the crate lies in a skipped tree
-unfoldable pub is_rooted : Policy → Facts → Crate → Bool
-is_rooted p facts c = list_any (λ t. facts.in_tree t c) p.skip_tree
+-- marks come to hold besides at each place where a test is true
+pub record HaveBesides (test : ℕ → Bool) (old new : List Bool) : Type 0 where
+  pub long : length new ≡ length old
+  pub each : (place : ℕ) → place < length old → on_at new place ≡ (on_at old place || test place)
 
-unfoldable pub is_in_group : Policy → Facts → List ℕ → Crate → Bool
-is_in_group p facts name c = has_name name c && (facts.counts c && (is_marked p c || not (is_rooted p facts c)))
+-- marks that a test gives come to be those of it or another
+pub record AddsMarks (crates : List Crate) (other : Crate → Bool) (old new : List Bool) : Type 0 where
+  pub is : (test : Crate → Bool) → old ≡ map test crates → new ≡ map (λ c. test c || other c) crates
 
--- the crates of a name that count, without those of skipped trees that no skip speaks of
-abbrev pub group : Policy → Graph → Facts → List ℕ → List Crate
-group p g facts name = filter (is_in_group p facts name) g.crates
+-- whether a crate counts, and a skip speaks of it or no tree has it, by marks at its place
+unfoldable pub may_stand_at : List Bool → List Bool → List Bool → ℕ → Bool
+may_stand_at counts skipped rooted place = on_at counts place && (on_at skipped place || not (on_at rooted place))
 
--- a group of several loses the crates that are there for the name's sake alone
-unfoldable pub reduced : Policy → Graph → Facts → List ℕ → List Crate
-reduced p g facts name =
-    if length (group p g facts name) == 1 then group p g facts name
-    else filter (λ c. not (is_internal g name c)) (group p g facts name)
+-- whether the crate at a place bears a name
+unfoldable pub bears : List Krate → List ℕ → ℕ → Bool
+bears krates name place = option_map_or (λ k. same_text k.name name) (slice_get krates place) false
 
--- those of a reduced group that no skip speaks of
-abbrev pub unmarked : Policy → Graph → Facts → List ℕ → List Crate
-unmarked p g facts name = filter (λ c. not (is_marked p c)) (reduced p g facts name)
+-- whether all these direct dependents bear a name
+unfoldable pub all_bear : List Krate → List ℕ → List DirectDependent → Bool
+all_bear krates name ds = list_all (λ d. bears krates name d.place) ds
+
+-- a crate stands, and is the only one of its name that does, or has a dependent of another name
+unfoldable pub is_left : Graph → (Crate → Bool) → Crate → Bool
+is_left g stands c = stands c && (length (filter (λ d. has_name c.name d && stands d) g.crates) == 1 || not (is_internal g c.name c))
+
+-- the same at a place, of a name and of whether one crate of it stands
+unfoldable pub is_left_at : Graph → List Bool → List ℕ → Bool → ℕ → Bool
+is_left_at g standing name alone place = on_at standing place && (alone || not (list_all (has_name name) (dependents g place)))
+
+-- marks come to go on from a place to the next
+pub record AddsLeft (g : Graph) (standing : List Bool) (place next : ℕ) (old new : List Bool) : Type 0 where
+  pub added : new ≡ old ++ map (is_left g (λ c. on_at standing c.place)) (take (next - place) (drop place g.crates))
+  pub up : place < next
+  pub within : next ≤ length g.crates
+
+-- which crates a skip speaks of, and which are in the reduced groups of their names
+pub record AreGroups (p : Policy) (g : Graph) (facts : Facts) (groups : Groups) : Type 0 where
+  pub marked : groups.marked ≡ map (is_marked p) g.crates
+  pub reduced : groups.reduced ≡ map (is_left g (may_stand p facts)) g.crates
+
+-- the length of the reduced group of a name, of any policy and facts whose groups these are
+pub record IsReducedLength (g : Graph) (groups : Groups) (name : List ℕ) (size : ℕ) : Type 0 where
+  pub is : (p : Policy) (facts : Facts) → AreGroups p g facts groups → size ≡ length (reduced p g facts name)

@@ -29,21 +29,21 @@ pub fn distances_from(
     Ok(distances)
 }
 
-fn place_at(order: &List<u32>, number: usize) -> u32
+pub(crate) fn place_at(order: &List<u32>, number: usize) -> u32
     requires { number < length order.now }
     ensures { result ≡ slice_index_or order.now number 0 }
 {
     order.as_slice()[number]
 }
 
-fn distance_of(distances: &List<Option<u32>>, place: u32) -> u32
+pub(crate) fn distance_of(distances: &List<Option<u32>>, place: u32) -> u32
     requires { place < length distances.now }
     ensures { result ≡ unwrap_or (distance_at distances.now place) 0 }
 {
     distances.as_slice()[place as usize].unwrap_or(0)
 }
 
-fn reach_roots(
+pub(crate) fn reach_roots(
     distances: &mut List<Option<u32>>,
     order: &mut List<u32>,
     roots: &[u32],
@@ -57,7 +57,7 @@ fn reach_roots(
     Ok(())
 }
 
-fn reach_dependencies(
+pub(crate) fn reach_dependencies(
     distances: &mut List<Option<u32>>,
     order: &mut List<u32>,
     distance: u32,

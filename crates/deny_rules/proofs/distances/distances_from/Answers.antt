@@ -1,11 +1,11 @@
-use Rattle.std.proofs.Common.{◌≡◌, ◌<◌, ◌≤◌, ◌+◌, ◌^◌, ℕ, List, [], Option, None, Some, length, map, sym, ap, ◌∙◌, subst, arith, rules}
-use Rattle.std.specs.Prelude.{All, fold, slice_index_or, unwrap_or}
+use Rattle.std.proofs.Common.{◌≡◌, ◌<◌, ◌+◌, ℕ, List, [], Option, length, map, sym, ap, ◌∙◌, subst, arith, rules}
+use Rattle.std.specs.Prelude.{All, fold, unwrap_or}
 use Rattle.std.proofs.lemmas.List.{length-replicate}
 use Rattle.deny_krates.proofs.Runs.{length-crates_from}
 use Rattle.deny_krates.specs.declared.krate.DirectDependent.{DirectDependent}
-use Rattle.deny_rules.specs.Distances.{distance_at, reached}
+use Rattle.deny_rules.specs.Distances.{reached}
 use Rattle.deny_rules.proofs.Dependencies.{each_is_known, each_is_led_to, each_stands, none_is_missed}
-use Rattle.deny_rules.proofs.DistancesLemmas.{State, IsSpreading, IsWithin, level, next_is, nowhere, nothing, spreading_start, spreading_more, spreading_end, order_fits, within_is}
+use Rattle.deny_rules.proofs.DistancesLemmas.{State, IsSpreading, next_is, nowhere, nothing, spreading_start, spreading_more, spreading_end, order_fits}
 use Rattle.deny_rules.proofs.distances.distances_from.Goals as goal
 
 pub reach_roots-requires : goal.reach_roots-requires

@@ -1,0 +1,185 @@
+-- Edges of a graph, gathered by the crates that they lead to.
+use Rattle.std.proofs.Common.{◌≡◌, ◌⊎◌, ◌<◌, ◌≤◌, ◌+◌, ◌++◌, ℕ, List, [], ◌∷◌, Bool, true, false, Contains, length, take, map, refl, sym, ap, ◌∙◌, subst, inl, inr, arith, add-one}
+use Rattle.std.specs.Prelude.{slice_index_or}
+use Rattle.std.proofs.Math.Seq.{take-suc}
+use Rattle.std.proofs.lemmas.Bool.{false≢true, cases_lt}
+use Rattle.std.proofs.lemmas.List.{map-append, take_all}
+use Rattle.std.proofs.lemmas.List.Elements.{All-contains, Contains-append_left, Contains-append_right, Contains-append_cases}
+use Rattle.deny_base.specs.Ascending.{Adds, Lists}
+use Rattle.deny_base.specs.Edge.{edge_cmp}
+use Rattle.deny_base.specs.declared.edge.DepKind.{DepKind}
+use Rattle.deny_base.specs.declared.edge.DepKind.TheVariants.{Normal, Dev, Build}
+use Rattle.deny_base.specs.declared.edge.Edge.{Edge}
+use Rattle.deny_krates.specs.Crates.{crates_from}
+use Rattle.deny_krates.specs.Dependents.{AreDirectDependents}
+use Rattle.deny_krates.specs.Orderly.{IsOrderly}
+use Rattle.deny_krates.specs.declared.krate.DirectDependent.{DirectDependent}
+use Rattle.deny_krates.specs.declared.krate.Krate.{Krate}
+use Rattle.deny_model.specs.Graph.{Graph}
+use Rattle.deny_rules.specs.Above.{AreAbove}
+use Rattle.deny_rules.specs.DupEdges.{IsAboveOne}
+use Rattle.deny_rules.specs.EdgeLists.{IsBetween, IsEdge, IsTo, IsToMarked}
+use Rattle.deny_rules.proofs.AddsLemmas.{adds_same}
+use Rattle.deny_rules.proofs.Members.{Contains-cases, Contains-first, no_member}
+use Rattle.deny_rules.proofs.TurnedLemmas.{no_dependent_is_missed}
+
+-- what is added first, and what then
+adds_then : {T : Type 0} (P Q : T → Type 0) (old mid new : List T) → Adds P old mid → Adds Q mid new → Adds (λ x. P x ⊎ Q x) old new
+adds_then P Q old mid new first second = record {
+  kept = λ x is. second.kept x (first.kept x is);
+  whole = λ x is. elim is as (λ _. Contains new x) [ inl here ↦ second.kept x (first.whole x here) | inr there ↦ second.whole x there ];
+  sound = λ x is. elim (second.sound x is) as (λ _. Contains old x ⊎ (P x ⊎ Q x)) [
+    | inr there ↦ inr (inr there)
+    | inl before ↦ elim (first.sound x before) as (λ _. Contains old x ⊎ (P x ⊎ Q x)) [ inl old ↦ inl old | inr here ↦ inr (inl here) ]
+  ];
+}
+
+-- ---- the edges from one crate to another: one of each kind at most
+
+abbrev edge_of : ℕ → ℕ → DepKind → Edge
+edge_of parent child kind = record { parent = parent; child = child; kind = kind }
+
+edge_is : (e : Edge) (parent child : ℕ) (kind : DepKind) → e.parent ≡ parent → e.child ≡ child → e.kind ≡ kind → e ≡ edge_of parent child kind
+edge_is e parent child kind from to of = ap (λ n. edge_of n e.child e.kind) from ∙ (ap (λ n. edge_of parent n e.kind) to ∙ ap (edge_of parent child) of)
+
+by_kind : (kind : DepKind) → (kind ≡ Normal) ⊎ ((kind ≡ Dev) ⊎ (kind ≡ Build))
+by_kind Normal = inl refl
+by_kind Dev = inr (inl refl)
+by_kind Build = inr (inr refl)
+
+module _ (g : Graph) (parent child : ℕ) where
+  between : (kind : DepKind) (e : Edge) → IsEdge g (edge_of parent child kind) e → IsBetween g parent child e
+  between kind e is = record { stands = is.stands; from = ap (λ (d : Edge). d.parent) is.is; to = ap (λ (d : Edge). d.child) is.is }
+
+  of_kind : (kind : DepKind) (e : Edge) → IsBetween g parent child e → e.kind ≡ kind → IsEdge g (edge_of parent child kind) e
+  of_kind kind e is of = record { stands = is.stands; is = edge_is e parent child kind is.from is.to of }
+
+  abbrev OfKind : DepKind → Edge → Type 0
+  OfKind kind e = IsEdge g (edge_of parent child kind) e
+
+  pub adds_between : (old one two new : List Edge) → Adds (IsEdge g (edge_of parent child Normal)) old one → Adds (IsEdge g (edge_of parent child Dev)) one two → Adds (IsEdge g (edge_of parent child Build)) two new
+      → Adds (IsBetween g parent child) old new
+  adds_between old one two new normal dev build =
+      adds_same (λ e. OfKind Normal e ⊎ (OfKind Dev e ⊎ OfKind Build e)) (IsBetween g parent child) old new
+      (adds_then (OfKind Normal) (λ e. OfKind Dev e ⊎ OfKind Build e) old one new normal (adds_then (OfKind Dev) (OfKind Build) one two new dev build))
+      (λ e is. elim is as (λ _. IsBetween g parent child e) [
+        | inl n ↦ between Normal e n
+        | inr rest ↦ elim rest as (λ _. IsBetween g parent child e) [ inl d ↦ between Dev e d | inr b ↦ between Build e b ]
+      ])
+      (λ e is. elim (by_kind e.kind) as (λ _. OfKind Normal e ⊎ (OfKind Dev e ⊎ OfKind Build e)) [
+        | inl n ↦ inl (of_kind Normal e is n)
+        | inr rest ↦ elim rest as (λ _. OfKind Normal e ⊎ (OfKind Dev e ⊎ OfKind Build e)) [ inl d ↦ inr (inl (of_kind Dev e is d)) | inr b ↦ inr (inr (of_kind Build e is b)) ]
+      ])
+
+-- ---- the edges to a crate, from one of its direct dependents after another
+
+pub record IsFromOne (g : Graph) (child : ℕ) (parents : List ℕ) (e : Edge) : Type 0 where
+  pub stands : Contains g.edges e
+  pub to : e.child ≡ child
+  pub from : Contains parents e.parent
+
+abbrev pub FromFirst : Graph → ℕ → List DirectDependent → ℕ → Edge → Type 0
+FromFirst g child ds i = IsFromOne g child (map (λ d. d.place) (take i ds))
+
+pub from_none : (g : Graph) (child : ℕ) (ds : List DirectDependent) (edges : List Edge) → Adds (FromFirst g child ds 0) edges edges
+from_none g child ds edges = record {
+  kept = λ e is. is;
+  whole = λ e is. absurd (no_member e.parent is.from);
+  sound = λ e is. inl is;
+}
+
+from_push : (g : Graph) (child parent : ℕ) (parents : List ℕ) (old mid new : List Edge) → Adds (IsFromOne g child parents) old mid → Adds (IsBetween g parent child) mid new → Adds (IsFromOne g child (parents ++ parent ∷ [])) old new
+from_push g child parent parents old mid new before here =
+    adds_same (λ e. IsFromOne g child parents e ⊎ IsBetween g parent child e) (IsFromOne g child (parents ++ parent ∷ [])) old new
+    (adds_then (IsFromOne g child parents) (IsBetween g parent child) old mid new before here)
+    (λ e is. elim is as (λ _. IsFromOne g child (parents ++ parent ∷ []) e) [
+      | inl of ↦ record { stands = of.stands; to = of.to; from = Contains-append_left parents (parent ∷ []) e.parent of.from }
+      | inr of ↦ record { stands = of.stands; to = of.to; from = subst (Contains (parents ++ parent ∷ [])) (sym of.from) (Contains-append_right parents (parent ∷ []) parent (Contains-first parent [])) }
+    ])
+    (λ e is. elim (Contains-append_cases parents (parent ∷ []) e.parent is.from) as (λ _. IsFromOne g child parents e ⊎ IsBetween g parent child e) [
+      | inl before ↦ inl record { stands = is.stands; to = is.to; from = before }
+      | inr last ↦ inr record { stands = is.stands; to = is.to; from = Contains-cases parent [] e.parent last sym (λ none. absurd (no_member e.parent none)) }
+    ])
+
+pub from_more : (g : Graph) (child : ℕ) (ds : List DirectDependent) (i : ℕ) (d : DirectDependent) (old mid new : List Edge) → i < length ds → d ≡ slice_index_or ds i d
+    → Adds (FromFirst g child ds i) old mid → Adds (IsBetween g d.place child) mid new → Adds (FromFirst g child ds (i + 1)) old new
+from_more g child ds i d old mid new inside is before here =
+    let more : map (λ (x : DirectDependent). x.place) (take (i + 1) ds) ≡ map (λ (x : DirectDependent). x.place) (take i ds) ++ d.place ∷ [] =
+    rw (add-one, take-suc ds i d inside, ← is) (map-append (λ (x : DirectDependent). x.place) (take i ds) (d ∷ [])) in
+    subst (λ (ps : List ℕ). Adds (IsFromOne g child ps) old new) (sym more) (from_push g child d.place (map (λ x. x.place) (take i ds)) old mid new before here)
+
+pub from_all : (g : Graph) (krates : List Krate) (child : ℕ) (ds : List DirectDependent) (i : ℕ) (old new : List Edge) → crates_from 0 krates ≡ g.crates → IsOrderly g → AreDirectDependents g child ds → length ds ≤ i
+    → Adds (FromFirst g child ds i) old new → Adds (IsTo g child) old new
+from_all g krates child ds i old new crates orderly are past adds =
+    adds_same (FromFirst g child ds i) (IsTo g child) old new adds
+    (λ e is. record { stands = is.stands; to = is.to })
+    (λ e is. record {
+      stands = is.stands;
+      to = is.to;
+      from = subst (λ (xs : List DirectDependent). Contains (map (λ d. d.place) xs) e.parent) (sym (take_all i ds past)) (no_dependent_is_missed g krates child ds crates orderly are e is.stands is.to);
+    })
+
+-- ---- the edges to crates that are marked, crate by crate
+
+pub record IsToMarkedBelow (g : Graph) (marks : List Bool) (end : ℕ) (e : Edge) : Type 0 where
+  pub is : IsToMarked g marks e
+  pub below : e.child < end
+
+pub below_none : (g : Graph) (marks : List Bool) (edges : List Edge) → Adds (IsToMarkedBelow g marks 0) edges edges
+below_none g marks edges = record {
+  kept = λ e is. is;
+  whole = λ e is. absurd (omega (arith, is.below));
+  sound = λ e is. inl is;
+}
+
+pub below_marked : (g : Graph) (marks : List Bool) (place : ℕ) (old mid new : List Edge) → slice_index_or marks place false ≡ true → Adds (IsToMarkedBelow g marks place) old mid → Adds (IsTo g place) mid new
+    → Adds (IsToMarkedBelow g marks (place + 1)) old new
+below_marked g marks place old mid new marked before here =
+    adds_same (λ e. IsToMarkedBelow g marks place e ⊎ IsTo g place e) (IsToMarkedBelow g marks (place + 1)) old new
+    (adds_then (IsToMarkedBelow g marks place) (IsTo g place) old mid new before here)
+    (λ e is. elim is as (λ _. IsToMarkedBelow g marks (place + 1) e) [
+      | inl of ↦ record { is = of.is; below = omega (arith, of.below) }
+      | inr of ↦ record { is = record { stands = of.stands; marked = ap (λ n. slice_index_or marks n false) of.to ∙ marked }; below = omega (arith, of.to) }
+    ])
+    (λ e is. elim (cases_lt e.child place) as (λ _. IsToMarkedBelow g marks place e ⊎ IsTo g place e) [
+      | inl below ↦ inl record { is = is.is; below = below }
+      | inr past ↦ inr record { stands = is.is.stands; to = omega (arith, is.below, past) }
+    ])
+
+pub below_unmarked : (g : Graph) (marks : List Bool) (place : ℕ) (old new : List Edge) → slice_index_or marks place false ≡ false → Adds (IsToMarkedBelow g marks place) old new → Adds (IsToMarkedBelow g marks (place + 1)) old new
+below_unmarked g marks place old new unmarked adds =
+    adds_same (IsToMarkedBelow g marks place) (IsToMarkedBelow g marks (place + 1)) old new adds
+    (λ e is. record { is = is.is; below = omega (arith, is.below) })
+    (λ e is. elim (cases_lt e.child place) as (λ _. IsToMarkedBelow g marks place e) [
+      | inl below ↦ record { is = is.is; below = below }
+      | inr past ↦
+          let here : e.child ≡ place = omega (arith, is.below, past) in
+          absurd (false≢true (sym unmarked ∙ (ap (λ n. slice_index_or marks n false) (sym here) ∙ is.is.marked)))
+    ])
+
+pub below_all : (g : Graph) (marks : List Bool) (end : ℕ) (old new : List Edge) → IsOrderly g → length g.crates ≤ end → Adds (IsToMarkedBelow g marks end) old new → Adds (IsToMarked g marks) old new
+below_all g marks end old new orderly past adds =
+    adds_same (IsToMarkedBelow g marks end) (IsToMarked g marks) old new adds
+    (λ e is. is.is)
+    (λ e is. record { is = is; below = omega (arith, past, All-contains (λ d. d.child < length g.crates) g.edges e orderly.children is.stands) })
+
+-- ---- put in order, these are the edges above the crates that the marks are of
+
+pub edges_listed : (g : Graph) (places : List ℕ) (marks : List Bool) (old new : List Edge) → IsOrderly g → AreAbove g places marks → Adds (IsToMarked g marks) [] old → Lists edge_cmp (Contains old) new
+    → Lists edge_cmp (IsAboveOne g places) new
+edges_listed g places marks old new orderly above adds listed = record {
+  ascending = listed.ascending;
+  whole = λ e is.
+      let inside = child_stands e is.above.stands in
+      let marked = (above.each e.child inside).1 record { place = is.place; is_one = is.is_one; leads = is.above.leads } in
+      listed.whole e (adds.whole e record { stands = is.above.stands; marked = marked });
+  sound = λ e is. elim (adds.sound e (listed.sound e is)) as (λ _. IsAboveOne g places e) [
+    | inl none ↦ absurd (no_member e none)
+    | inr to ↦
+        let leads = (above.each e.child (child_stands e to.stands)).0 to.marked in
+        record { place = leads.place; is_one = leads.is_one; above = record { stands = to.stands; leads = leads.leads } }
+  ];
+}
+  where
+    child_stands : (e : Edge) → Contains g.edges e → e.child < length g.crates
+    child_stands e stands = All-contains (λ d. d.child < length g.crates) g.edges e orderly.children stands

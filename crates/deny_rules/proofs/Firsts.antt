@@ -1,0 +1,140 @@
+-- What is found first in a list, through the words that make lists.
+use Rattle.std.proofs.Common.{◌≡◌, List, [], ◌∷◌, Bool, true, false, Option, None, Some, refl, sym, ap, ◌∙◌, inl, inr, suc, arith}
+use Rattle.std.specs.Prelude.{◌&&◌, ◌||◌, Contains, cond, filter, filter_map, find, is_some, length, map, nat_lt, option_map, option_and_then, slice_get}
+use Rattle.std.specs.List.{cons_option, flat_map, list_any}
+use Rattle.std.specs.Option.{option_map_or, option_or}
+use Rattle.std.proofs.lemmas.Bool.{cases_Bool, lt-ltb}
+use Rattle.std.proofs.lemmas.List.Folds.{find-append}
+use Rattle.deny_base.proofs.AscendingLemmas.{Contains-first, Contains-rest}
+use Rattle.deny_model.proofs.Kept.{AgreeOn}
+
+pub and_turned : (a b : Bool) → (a && b) ≡ (b && a)
+and_turned true true = refl
+and_turned true false = refl
+and_turned false true = refl
+and_turned false false = refl
+
+pub filter-filter : {X : Type 0} (p q : X → Bool) (xs : List X) → filter p (filter q xs) ≡ filter (λ x. p x && q x) xs
+filter-filter p q [] = refl
+filter-filter p q (x ∷ xs) =
+    let rest : filter p (filter q xs) ≡ filter (λ x. p x && q x) xs = filter-filter p q xs in
+    elim (cases_Bool (q x)) as (λ _. filter p (filter q (x ∷ xs)) ≡ filter (λ x. p x && q x) (x ∷ xs)) [
+      | inl e ↦ rw (e, and_turned (p x) true, rest) refl
+      | inr e ↦ rw (e, and_turned (p x) false, rest) refl
+    ]
+
+pub filter-map : {X Y : Type 0} (p : Y → Bool) (f : X → Y) (xs : List X) → filter p (map f xs) ≡ map f (filter (λ x. p (f x)) xs)
+filter-map p f [] = refl
+filter-map p f (x ∷ xs) =
+    let rest : filter p (map f xs) ≡ map f (filter (λ x. p (f x)) xs) = filter-map p f xs in
+    elim (cases_Bool (p (f x))) as (λ _. filter p (map f (x ∷ xs)) ≡ map f (filter (λ x. p (f x)) (x ∷ xs))) [
+      | inl e ↦ rw (e, rest) refl
+      | inr e ↦ rw (e, rest) refl
+    ]
+
+pub find-map : {X Y : Type 0} (p : Y → Bool) (f : X → Y) (xs : List X) → find p (map f xs) ≡ option_map f (find (λ x. p (f x)) xs)
+find-map p f [] = refl
+find-map p f (x ∷ xs) = elim (cases_Bool (p (f x))) as (λ _. find p (map f (x ∷ xs)) ≡ option_map f (find (λ x. p (f x)) (x ∷ xs))) [
+  | inl e ↦ rw e refl
+  | inr e ↦ rw (e, find-map p f xs) refl
+]
+
+pub find-filter : {X : Type 0} (p q : X → Bool) (xs : List X) → find p (filter q xs) ≡ find (λ x. p x && q x) xs
+find-filter p q [] = refl
+find-filter p q (x ∷ xs) =
+    let rest : find p (filter q xs) ≡ find (λ x. p x && q x) xs = find-filter p q xs in
+    elim (cases_Bool (q x)) as (λ _. find p (filter q (x ∷ xs)) ≡ find (λ x. p x && q x) (x ∷ xs)) [
+      | inl e ↦ rw (e, and_turned (p x) true, rest) refl
+      | inr e ↦ rw (e, and_turned (p x) false, rest) refl
+    ]
+
+-- the first that is kept is the first that passes
+pub first-filter : {X : Type 0} (p : X → Bool) (xs : List X) → slice_get (filter p xs) 0 ≡ find p xs
+first-filter p [] = refl
+first-filter p (x ∷ xs) = elim (cases_Bool (p x)) as (λ _. slice_get (filter p (x ∷ xs)) 0 ≡ find p (x ∷ xs)) [
+  | inl e ↦ rw e refl
+  | inr e ↦ rw (e, first-filter p xs) refl
+]
+
+-- something is kept where something passes
+pub some-filter : {X : Type 0} (p : X → Bool) (xs : List X) → nat_lt 0 (length (filter p xs)) ≡ list_any p xs
+some-filter p [] = refl
+some-filter p (x ∷ xs) = elim (cases_Bool (p x)) as (λ _. nat_lt 0 (length (filter p (x ∷ xs))) ≡ list_any p (x ∷ xs)) [
+  | inl e ↦ rw e (lt-ltb 0 (suc (length (filter p xs))) (omega arith))
+  | inr e ↦ rw (e, some-filter p xs) refl
+]
+
+find-any : {X : Type 0} (p : X → Bool) (xs : List X) → list_any p xs ≡ is_some (find p xs)
+find-any p [] = refl
+find-any p (x ∷ xs) = elim (cases_Bool (p x)) as (λ _. list_any p (x ∷ xs) ≡ is_some (find p (x ∷ xs))) [
+  | inl e ↦ rw e refl
+  | inr e ↦ rw (e, find-any p xs) refl
+]
+
+some_or : {X : Type 0} (o r : Option X) → is_some o ≡ true → option_or o r ≡ o
+some_or None r is = cc
+some_or (Some x) r is = refl
+
+none_or : {X : Type 0} (o r : Option X) → is_some o ≡ false → option_or o r ≡ r
+none_or None r is = refl
+none_or (Some x) r is = cc
+
+-- the first of joined lists is the first of the first list that has one
+pub find-flat_map : {X Y : Type 0} (p : Y → Bool) (f : X → List Y) (xs : List X)
+    → find p (flat_map f xs) ≡ option_and_then (λ x. find p (f x)) (find (λ x. list_any p (f x)) xs)
+find-flat_map p f [] = refl
+find-flat_map p f (x ∷ xs) = find-append p (f x) (flat_map f xs) ∙ elim (cases_Bool (list_any p (f x))) as (λ _. option_or (find p (f x)) (find p (flat_map f xs)) ≡ option_and_then (λ x. find p (f x)) (find (λ x. list_any p (f x)) (x ∷ xs))) [
+  | inl e ↦ rw e (some_or (find p (f x)) (find p (flat_map f xs)) (sym (find-any p (f x)) ∙ e))
+  | inr e ↦ rw e (none_or (find p (f x)) (find p (flat_map f xs)) (sym (find-any p (f x)) ∙ e) ∙ find-flat_map p f xs)
+]
+
+-- what is tested of what an element gives, where it gives something
+abbrev pub passes : {X Y : Type 0} → (Y → Bool) → (X → Option Y) → X → Bool
+passes p h x = option_map_or p (h x) false
+
+pub find-filter_map : {X Y : Type 0} (p : Y → Bool) (h : X → Option Y) (xs : List X) → find p (filter_map h xs) ≡ option_and_then h (find (passes p h) xs)
+find-filter_map p h [] = refl
+find-filter_map {X} {Y} p h (x ∷ xs) = by_what (h x) refl (find-filter_map p h xs)
+  where
+    by_what : (o : Option Y) → h x ≡ o → find p (filter_map h xs) ≡ option_and_then h (find (passes p h) xs) → find p (cons_option o (filter_map h xs)) ≡ option_and_then h (cond (option_map_or p o false) (Some x) (find (passes p h) xs))
+    by_what None is rest = rest
+    by_what (Some y) is rest = elim (cases_Bool (p y)) as (λ _. find p (y ∷ filter_map h xs) ≡ option_and_then h (cond (p y) (Some x) (find (passes p h) xs))) [
+      | inl e ↦ rw e (sym is)
+      | inr e ↦ rw e rest
+    ]
+
+pub any-filter_map : {X Y : Type 0} (p : Y → Bool) (h : X → Option Y) (xs : List X) → list_any p (filter_map h xs) ≡ list_any (passes p h) xs
+any-filter_map p h [] = refl
+any-filter_map {X} {Y} p h (x ∷ xs) = by_what (h x) (any-filter_map p h xs)
+  where
+    by_what : (o : Option Y) → list_any p (filter_map h xs) ≡ list_any (passes p h) xs → list_any p (cons_option o (filter_map h xs)) ≡ (option_map_or p o false || list_any (passes p h) xs)
+    by_what None rest = rest
+    by_what (Some y) rest = ap (λ b. p y || b) rest
+
+pub filter_map-map : {X Y Z : Type 0} (h : Y → Option Z) (f : X → Y) (xs : List X) → filter_map h (map f xs) ≡ filter_map (λ x. h (f x)) xs
+filter_map-map h f [] = refl
+filter_map-map h f (x ∷ xs) = rw (filter_map-map h f xs) refl
+
+rest_agrees : {X A : Type 0} (f g : X → A) (x : X) (xs : List X) → AgreeOn (x ∷ xs) f g → AgreeOn xs f g
+rest_agrees f g x xs agree = λ y is. agree y (Contains-rest x xs y is)
+
+pub filter_map_on : {X A : Type 0} (f g : X → Option A) (xs : List X) → AgreeOn xs f g → filter_map f xs ≡ filter_map g xs
+filter_map_on f g [] agree = refl
+filter_map_on f g (x ∷ xs) agree = rw (agree x (Contains-first x xs), filter_map_on f g xs (rest_agrees f g x xs agree)) refl
+
+pub find_on : {X : Type 0} (p q : X → Bool) (xs : List X) → AgreeOn xs p q → find p xs ≡ find q xs
+find_on p q [] agree = refl
+find_on p q (x ∷ xs) agree = rw (agree x (Contains-first x xs), find_on p q xs (rest_agrees p q x xs agree)) refl
+
+-- what is made of the first that passes, where the two agree on those that pass
+pub found_on : {X A : Type 0} (f g : X → Option A) (p : X → Bool) (xs : List X) → ((x : X) → Contains xs x → p x ≡ true → f x ≡ g x)
+    → option_and_then f (find p xs) ≡ option_and_then g (find p xs)
+found_on f g p [] agree = refl
+found_on f g p (x ∷ xs) agree = elim (cases_Bool (p x)) as (λ _. option_and_then f (find p (x ∷ xs)) ≡ option_and_then g (find p (x ∷ xs))) [
+  | inl e ↦ rw e (agree x (Contains-first x xs) e)
+  | inr e ↦ rw e (found_on f g p xs (λ y is. agree y (Contains-rest x xs y is)))
+]
+
+pub map-and_then : {X A : Type 0} (f : X → A) (o : Option X) → option_map f o ≡ option_and_then (λ x. Some (f x)) o
+map-and_then f None = refl
+map-and_then f (Some x) = refl

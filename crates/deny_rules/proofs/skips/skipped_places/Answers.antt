@@ -1,0 +1,18 @@
+use Rattle.std.proofs.Common.{◌≡◌, ℕ, List, Bool, IfOk, filter, false, ap, ◌∙◌, subst}
+use Rattle.std.specs.Prelude.{slice_index_or}
+use Rattle.deny_cfg.specs.PolicyView.{entry_view}
+use Rattle.deny_model.specs.Match.{matches}
+use Rattle.deny_model.specs.Skips.{is_skipped}
+use Rattle.deny_rules.proofs.SkipLemmas.{marked-places}
+use Rattle.deny_rules.proofs.skips.skipped_places.Goals as goal
+
+pub returns : goal.returns
+unfolding is_skipped
+returns c =
+    let test = matches (entry_view c.args.skip.now).spec in
+    let counts = c.args.marks.now.counts.items in
+    subst (λ (places : List ℕ). IfOk c.marked_places.result (λ kept. kept ≡ places))
+    (ap (λ (marks : List Bool). filter (λ place. slice_index_or marks place false) c.as_slice.result.now) c.as_slice-2.ensures.value
+    ∙ (ap (filter (λ place. slice_index_or counts place false)) (c.as_slice.ensures ∙ c.in_ok-places.ensures)
+    ∙ marked-places counts test c.args.krates.now.crates))
+    c.marked_places.ensures

@@ -1,0 +1,31 @@
+-- Edges of a graph, by the crates that they lead to.
+use Rattle.std.specs.Prelude.{◌≡◌, ℕ, Bool, true, false, List, Some, slice_get, slice_index_or, Contains}
+use Rattle.deny_base.specs.declared.edge.Edge.{Edge}
+use Rattle.deny_model.specs.Graph.{Graph}
+
+-- the edge is this one, which the graph has
+pub record IsEdge (g : Graph) (edge : Edge) (e : Edge) : Type 0 where
+  pub stands : Contains g.edges e
+  pub is : e ≡ edge
+
+-- the edge leads from one crate to another
+pub record IsBetween (g : Graph) (parent child : ℕ) (e : Edge) : Type 0 where
+  pub stands : Contains g.edges e
+  pub from : e.parent ≡ parent
+  pub to : e.child ≡ child
+
+-- the edge leads to a crate
+pub record IsTo (g : Graph) (child : ℕ) (e : Edge) : Type 0 where
+  pub stands : Contains g.edges e
+  pub to : e.child ≡ child
+
+-- the edge leads to a crate that is marked
+pub record IsToMarked (g : Graph) (marks : List Bool) (e : Edge) : Type 0 where
+  pub stands : Contains g.edges e
+  pub marked : slice_index_or marks e.child false ≡ true
+
+-- the edge of this number leads to a crate that is marked
+pub record IsMarkedNumber (marks : List Bool) (edges : List Edge) (number : ℕ) : Type 0 where
+  pub edge : Edge
+  pub numbered : slice_get edges number ≡ Some edge
+  pub marked : slice_index_or marks edge.child false ≡ true

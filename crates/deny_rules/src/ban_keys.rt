@@ -1,0 +1,27 @@
+//! What stands of bans, their wrappers, and the allow list.
+ghost use Rattle.std.specs.Prelude.{Contains, OnOk};
+ghost use Rattle.deny_base.specs.Ascending.{Adds};
+ghost use Rattle.deny_cfg.specs.PolicyView.{policy_view};
+ghost use Rattle.deny_model.specs.Rules.{ban_keys};
+
+use crate::allowed::add_allowed_keys;
+use crate::banned::add_banned_keys;
+use crate::exempt::exempt_marks;
+use deny_base::{Key, List, NoMemory};
+use deny_cfg::bans::cfg::ValidConfig;
+use deny_krates::Krates;
+use std::alloc::Global;
+
+/// Adds the keys of what stands of bans, their wrappers, and the allow list.
+pub fn add_ban_keys(
+    alloc: Global,
+    cfg: &ValidConfig,
+    krates: &Krates,
+    keys: &mut List<Key>,
+) -> Result<(), NoMemory>
+    ensures { OnOk result (Adds (Contains (ban_keys (policy_view cfg.now) krates.now)) keys.old keys.new) }
+{
+    let exempt = exempt_marks(alloc, cfg, krates)?;
+    add_banned_keys(alloc, cfg, krates, exempt.as_slice(), keys)?;
+    add_allowed_keys(alloc, cfg, krates, exempt.as_slice(), keys)
+}

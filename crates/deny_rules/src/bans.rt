@@ -1,0 +1,3 @@
+//! The check of `[bans]`.
+
+pub use crate::check::check;

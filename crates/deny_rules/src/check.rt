@@ -1,0 +1,75 @@
+//! The bans check.
+ghost use Rattle.std.specs.Prelude.{IfOk};
+ghost use Rattle.deny_base.specs.Ascending.{Lists};
+ghost use Rattle.deny_base.specs.Disk.{Disk, IsLater};
+ghost use Rattle.deny_base.specs.KeyOrder.{key_cmp};
+ghost use Rattle.deny_cfg.specs.PolicyView.{policy_view};
+ghost use Rattle.deny_model.specs.Rules.{Stands};
+ghost use Rattle.deny_rules.specs.Check.{IsCheckOf};
+ghost use Rattle.deny_rules.specs.Marks.{facts_of};
+
+use crate::ban_keys::add_ban_keys;
+use crate::dup_edges::{DupEdges, dup_edges};
+use crate::duplicates::add_duplicate_keys;
+use crate::facts::{Marks, marks_of};
+use crate::hits::hits_of;
+use crate::skips::add_skip_keys;
+use crate::told::tell_all;
+use deny_base::{Hit, Key, List, NoMemory, Pack, PackageFiles, key_order, put_in_order};
+use deny_cfg::bans::cfg::ValidConfig;
+use deny_krates::Krates;
+use std::alloc::Global;
+
+/// What the check looks at.
+#[derive(Clone, Copy)]
+pub struct CheckCtx<'a> {
+    pub cfg: &'a ValidConfig,
+    pub krates: &'a Krates,
+}
+
+/// What the check hands out besides its findings.
+#[derive(Debug, Drop)]
+pub struct BansEnd {
+    /// One for each entry that is hit, by its first crate and then its first dependent.
+    pub hits: List<Hit>,
+    /// One for each duplicate, in the order of their keys.
+    pub dup_edges: List<DupEdges>,
+}
+
+/// The keys of what stands by these facts, ascending, each once.
+fn keys_of(
+    alloc: Global,
+    cfg: &ValidConfig,
+    krates: &Krates,
+    marks: &Marks,
+) -> Result<List<Key>, NoMemory>
+    ensures { IfOk result (λ keys. Lists key_cmp (Stands (policy_view cfg.now) krates.now (facts_of marks.now)) keys) }
+{
+    key_order();
+    let mut keys = List::new(alloc);
+    add_ban_keys(alloc, cfg, krates, &mut keys)?;
+    add_skip_keys(alloc, cfg, krates, marks, &mut keys)?;
+    add_duplicate_keys(alloc, cfg, krates, marks, &mut keys)?;
+    put_in_order(&mut keys)?;
+    Ok(keys)
+}
+
+/// Appends the findings of the crate rules, one a pack, in the order of their keys.
+///
+/// Nothing is read from the disk.
+pub fn check<D: PackageFiles>(
+    alloc: Global,
+    ctx: &CheckCtx<'_>,
+    disk: &mut D,
+    sink: &mut List<Pack>,
+) -> Result<BansEnd, NoMemory>
+    ensures checked { IfOk result (IsCheckOf ctx.now.cfg.now ctx.now.krates.now sink.old sink.new) }
+    ensures disk { IsLater (D.seen disk.old) (D.seen disk.new) }
+{
+    let marks = marks_of(alloc, ctx.cfg, ctx.krates)?;
+    let keys = keys_of(alloc, ctx.cfg, ctx.krates, &marks)?;
+    let hits = hits_of(alloc, ctx.cfg, ctx.krates, &marks)?;
+    let dup_edges = dup_edges(alloc, ctx.cfg, ctx.krates, keys.as_slice())?;
+    tell_all(alloc, ctx.cfg, ctx.krates, keys.as_slice(), sink)?;
+    Ok(BansEnd { hits, dup_edges })
+}
