@@ -1,10 +1,4 @@
-pub mod Bans
-pub mod Counted
-pub mod Duplicates
 pub mod Gating
-pub mod Minded
-pub mod PlainPolicy
-pub mod PolicyReading
-pub mod PolicyView
+pub mod Headline
+pub mod Labels
 pub mod Report
-pub mod Standing

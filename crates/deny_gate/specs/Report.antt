@@ -1,25 +1,42 @@
--- The report on a policy and a graph: one finding for each key that stands, and the verdict.
-use Rattle.std.specs.Prelude.{◌≡◌, Bool, true, false, List, map, if◌then◌else◌}
+-- The report on a policy and a graph: one finding for each key that stands, what is shown of duplicates, and the verdict.
+use Rattle.std.specs.Prelude.{◌≡◌, ◌&&◌, ℕ, Bool, true, false, List, Option, map, filter}
 use Rattle.std.specs.List.{list_any}
+use Rattle.deny_base.specs.declared.check.Check.{Check}
+use Rattle.deny_base.specs.declared.check.Check.TheVariants.{Advisories, Bans, Licenses, Sources}
+use Rattle.deny_base.specs.declared.finding.Diag.{Diag}
+use Rattle.deny_base.specs.declared.finding.Pack.{Pack}
 use Rattle.deny_base.specs.declared.key.Key.{Key}
 use Rattle.deny_base.specs.declared.level.Severity.{Severity}
 use Rattle.deny_base.specs.declared.level.Severity.TheVariants.{Bug, Error, Warning, Note, Help}
+use Rattle.deny_base.specs.declared.span.Kid.{Kid}
 use Rattle.deny_model.specs.Graph.{Graph}
 use Rattle.deny_model.specs.Policy.{Policy}
 use Rattle.deny_model.specs.Rules.{AreKeys}
 use Rattle.deny_model.specs.Told.{check_told, kid_told, diag_told}
+use Rattle.deny_rules.specs.DupEdges.{ShowsEach, is_of_duplicate}
 use Rattle.deny_gate.specs.declared.report.Finding.{Finding}
 use Rattle.deny_gate.specs.declared.report.Report.{Report}
 use Rattle.deny_gate.specs.declared.report.Verdict.{Verdict}
 use Rattle.deny_gate.specs.declared.report.Verdict.TheVariants.{Pass, Fail}
 
+-- the number of the policy among the files
+abbrev pub policy_id : ℕ
+policy_id = 0
+
 -- the finding of a key
 unfoldable pub finding_told : Policy → Graph → Key → Finding
 finding_told p g key = record {
   check = check_told key.code;
-  kid = kid_told key.code g key;
-  diag = diag_told p g key;
+  kid = kid_told key.section g key;
+  diag = diag_told p g policy_id key;
 }
+
+abbrev pub finding_of : Check → Option Kid → Diag → Finding
+finding_of check kid diag = record { check = check; kid = kid; diag = diag }
+
+-- the findings of a pack
+unfoldable pub findings_of : Pack → List Finding
+findings_of pack = map (finding_of pack.check pack.kid) pack.diags
 
 abbrev pub is_error : Severity → Bool
 is_error Error = true
@@ -31,9 +48,26 @@ is_error Help = false
 unfoldable pub has_error : Finding → Bool
 has_error finding = is_error finding.diag.diag.severity
 
--- the bans check, whose bit is 2, fails exactly where a finding has severity error
+abbrev pub same_check : Check → Check → Bool
+same_check Advisories Advisories = true
+same_check Bans Bans = true
+same_check Licenses Licenses = true
+same_check Sources Sources = true
+same_check _ _ = false
+
+-- a check fails by each of its findings that has severity error
+unfoldable pub fails_as : Check → Finding → Bool
+fails_as check finding = has_error finding && same_check finding.check check
+
+-- by whether the bans check fails, whose bit is 2, and the licence check, whose bit is 4
+abbrev pub verdict_by : Bool → Bool → Verdict
+verdict_by false false = Pass
+verdict_by true false = Fail 2
+verdict_by false true = Fail 4
+verdict_by true true = Fail 6
+
 abbrev pub verdict_of : List Finding → Verdict
-verdict_of findings = if list_any has_error findings then Fail 2 else Pass
+verdict_of findings = verdict_by (list_any (fails_as Bans) findings) (list_any (fails_as Licenses) findings)
 
 pub record IsReport (p : Policy) (g : Graph) (report : Report) : Type 0 where
   -- what stands, ascending, each once
@@ -41,4 +75,6 @@ pub record IsReport (p : Policy) (g : Graph) (report : Report) : Type 0 where
   pub listed : AreKeys p g keys
   -- the report tells each of them, in this order, and nothing else
   pub told : report.findings ≡ map (finding_told p g) keys
+  -- and shows what leads to each duplicate
+  pub shown : ShowsEach p g (filter is_of_duplicate keys) report.dup_edges
   pub verdict : report.verdict ≡ verdict_of report.findings

@@ -1,28 +1,41 @@
-ghost use Rattle.std.specs.Prelude.{◌<◌, ◌^◌, length, IfOk, IfErr};
+ghost use Rattle.std.specs.Prelude.{◌≡◌, ◌<◌, ◌^◌, [], ◌∷◌, length, IfOk, IfErr, OnOk};
 ghost use Rattle.deny_base.specs.Disk.{Disk, IsLater};
+ghost use Rattle.deny_cfg.specs.LabelRanges.{AreLabels, word_labels};
+ghost use Rattle.deny_cfg.specs.PolicyText.{policy_file};
+ghost use Rattle.deny_cfg.specs.PolicyView.{policy_view};
 ghost use Rattle.deny_krates.specs.Read.{IsGraphOf};
-ghost use Rattle.deny_gate.specs.Gating.{IsReportOf, IsCause, IsPolicyCause, IsMetadataCause};
-ghost use Rattle.deny_gate.specs.PlainPolicy.{IsPlainPolicy};
-ghost use Rattle.deny_gate.specs.PolicyView.{policy_view};
+ghost use Rattle.deny_gate.specs.Gating.{IsBuilt, IsReportOf, IsCause, IsPolicyCause, IsMetadataCause, IsReportOn, IsTold};
+ghost use Rattle.deny_gate.specs.Headline.{IsHeadlineOf};
+ghost use Rattle.deny_gate.specs.Labels.{AreLabelled, IsLabelledCause};
 ghost use Rattle.deny_gate.specs.Report.{IsReport};
 
-use crate::keys::keys_of;
-use crate::policy::{PlainPolicy, read_policy};
-use crate::report::{GateError, Inputs, Report};
-use crate::tell::{tell_all, verdict_of};
-use deny_base::{NoMemory, PackageFiles, Which};
+use crate::findings::{findings_in, verdict_of};
+use crate::report::{Finding, GateError, Inputs, Report};
+use deny_base::{Files, List, NoMemory, PackageFiles, Which};
+use deny_cfg::bans::cfg::ValidConfig;
+use deny_cfg::{Policy, PolicyError, read_policy};
 use deny_krates::{Krates, MetadataFault};
+use deny_rules::{CheckCtx, DupEdges, bans};
 use std::alloc::Global;
 
-/// The policy of a text, which has to be plain.
-fn plain_policy(alloc: Global, text: &[u8]) -> Result<PlainPolicy, GateError>
-    requires { length text.now < 2 ^ 28 }
-    ensures ok { IfOk result (λ policy. IsPlainPolicy text.now (policy_view policy)) }
+/// The policy of a text, each of whose rules has to be there.
+fn built_policy(alloc: Global, text: &[u8], files: &mut Files) -> Result<Policy, GateError>
+    requires small { length text.now < 2 ^ 28 }
+    requires first { files.old ≡ [] }
+    ensures ok { IfOk result (IsBuilt text.now) }
+    ensures labels { IfOk result (λ policy. AreLabels text.now (word_labels policy.bans)) }
     ensures err { IfErr result (IsPolicyCause text.now) }
+    ensures files { OnOk result (files.new ≡ policy_file text.now ∷ []) }
 {
-    match read_policy(alloc, text)? {
-        Some(policy) => Ok(policy),
-        None => Err(GateError::NotBuilt(Which::Policy)),
+    match read_policy(alloc, text, files) {
+        Ok(policy) => if policy.not_built {
+            Err(GateError::NotBuilt(Which::Policy))
+        } else {
+            Ok(policy)
+        },
+        Err(PolicyError::Config(faults)) => Err(GateError::Config(faults)),
+        Err(PolicyError::Invalid(told)) => Err(GateError::Invalid(told)),
+        Err(PolicyError::Memory) => Err(GateError::Memory),
     }
 }
 
@@ -39,21 +52,72 @@ fn read_graph(alloc: Global, bytes: &[u8]) -> Result<Krates, GateError>
     }
 }
 
-/// The report of a policy on a graph.
-fn report_on(alloc: Global, policy: &PlainPolicy, krates: &Krates) -> Result<Report, NoMemory>
-    ensures { IfOk result (IsReport (policy_view policy.now) krates.now) }
+/// The findings of a configuration on a graph, and what is shown of duplicates.
+fn told<D: PackageFiles>(
+    alloc: Global,
+    cfg: &ValidConfig,
+    krates: &Krates,
+    disk: &mut D,
+) -> Result<(List<Finding>, List<DupEdges>), NoMemory>
+    requires { cfg.now.file_id ≡ 0 }
+    ensures told { IfOk result (λ told. IsTold (policy_view cfg.now) krates.now told.0 told.1) }
+    ensures disk { IsLater (D.seen disk.old) (D.seen disk.new) }
 {
-    let keys = keys_of(alloc, policy, krates, krates.krates())?;
-    let findings = tell_all(alloc, policy, krates, keys.as_slice())?;
+    let mut packs = List::new(alloc);
+    let end = bans::check(alloc, &CheckCtx { cfg, krates }, disk, &mut packs)?;
+    let findings = findings_in(alloc, packs)?;
+    Ok((findings, end.dup_edges))
+}
+
+/// The report of a configuration on a graph.
+fn report_on<D: PackageFiles>(
+    alloc: Global,
+    files: Files,
+    cfg: &ValidConfig,
+    krates: &Krates,
+    disk: &mut D,
+) -> Result<Report, NoMemory>
+    requires { cfg.now.file_id ≡ 0 }
+    ensures report { IfOk result (IsReport (policy_view cfg.now) krates.now) }
+    ensures files { IfOk result (λ report. report.files ≡ files) }
+    ensures disk { IsLater (D.seen disk.old) (D.seen disk.new) }
+{
+    let (findings, dup_edges) = told(alloc, cfg, krates, disk)?;
     let verdict = verdict_of(findings.as_slice());
-    Ok(Report { findings, verdict })
+    Ok(Report {
+        files,
+        findings,
+        dup_edges,
+        verdict,
+    })
+}
+
+/// The report of a configuration on the graph of metadata.
+fn report_of<D: PackageFiles>(
+    alloc: Global,
+    files: Files,
+    cfg: &ValidConfig,
+    metadata: &[u8],
+    disk: &mut D,
+) -> Result<Report, GateError>
+    requires file { cfg.now.file_id ≡ 0 }
+    requires small { length metadata.now < 2 ^ 28 }
+    ensures report { IfOk result (IsReportOn (policy_view cfg.now) metadata.now) }
+    ensures files { IfOk result (λ report. report.files ≡ files) }
+    ensures cause { IfErr result (IsMetadataCause metadata.now) }
+    ensures disk { IsLater (D.seen disk.old) (D.seen disk.new) }
+{
+    let krates = read_graph(alloc, metadata)?;
+    Ok(report_on(alloc, files, cfg, &krates, disk)?)
 }
 
 /// Reads a policy and cargo's metadata, and reports what stands.
 ///
-/// Each text has to be under 2^28 bytes. `NotBuilt` comes exactly where the policy is not plain, and
-/// `Metadata` exactly where it is, and this is the first fault of the metadata. `Memory` can come at
-/// any point. Nothing is read from the disk.
+/// Each text has to be under 2^28 bytes. `Config` comes exactly where the policy's text has faults,
+/// `Invalid` exactly where it has none and entries clash, `NotBuilt` exactly where there is a policy
+/// and it writes a rule that is not there yet, and `Metadata` exactly where none of these stands, and
+/// this is the first fault of the metadata. `Memory` can come at any point. Each label, be it of a
+/// finding or of a clash, lies on character boundaries in its file. Nothing is read from the disk.
 pub fn gate<D: PackageFiles>(
     alloc: Global,
     inputs: &Inputs,
@@ -63,12 +127,14 @@ pub fn gate<D: PackageFiles>(
     requires metadata { length inputs.now.metadata.items < 2 ^ 28 }
     ensures report { IfOk result (IsReportOf inputs.now.policy.items inputs.now.metadata.items) }
     ensures cause { IfErr result (IsCause inputs.now.policy.items inputs.now.metadata.items) }
+    ensures headline { IfOk result (IsHeadlineOf inputs.now.policy.items inputs.now.metadata.items) }
+    ensures labels { IfOk result (λ report. AreLabelled report.files report.findings) }
+    ensures clash_labels { IfErr result (IsLabelledCause inputs.now.policy.items) }
     ensures disk { IsLater (D.seen disk.old) (D.seen disk.new) }
 {
-    let policy = plain_policy(alloc, inputs.policy.as_slice())?;
-    let krates = read_graph(alloc, inputs.metadata.as_slice())?;
-    let report = report_on(alloc, &policy, &krates)?;
-    Ok(report)
+    let mut files = Files::new(alloc);
+    let policy = built_policy(alloc, inputs.policy.as_slice(), &mut files)?;
+    report_of(alloc, files, &policy.bans, inputs.metadata.as_slice(), disk)
 }
 
 #[cfg(test)]
@@ -96,17 +162,41 @@ mod tests {
         Ok(gate(rt.alloc(), &inputs, &mut disk))
     }
 
+    fn passes(rt: &HostRuntime) -> Result<bool, NoMemory> {
+        let report = answer(rt, b"[bans]\ndeny = [\"x\", \"y@1\"]\n", NO_CRATES)?;
+        Ok(
+            matches!(&report, Ok(report) if report.findings.len() == 0 && report.verdict == Verdict::Pass),
+        )
+    }
+
+    fn names_faults(rt: &HostRuntime) -> Result<bool, NoMemory> {
+        let refused = answer(rt, b"[bans]\nclarify = 1\n", NO_CRATES)?;
+        Ok(matches!(&refused, Err(GateError::Config(faults)) if faults.len() == 1))
+    }
+
+    fn names_clashes(rt: &HostRuntime) -> Result<bool, NoMemory> {
+        let refused = answer(rt, b"[bans]\ndeny = [\"x\"]\nskip = [\"x\"]\n", NO_CRATES)?;
+        Ok(matches!(&refused, Err(GateError::Invalid(told)) if told.len() == 1))
+    }
+
+    fn wants_rules(rt: &HostRuntime) -> Result<bool, NoMemory> {
+        let refused = answer(rt, b"[bans]\nfeatures = []\n", b"")?;
+        Ok(matches!(&refused, Err(GateError::NotBuilt(Which::Policy))))
+    }
+
+    fn wants_a_graph(rt: &HostRuntime) -> Result<bool, NoMemory> {
+        let refused = answer(rt, b"", b"{}")?;
+        Ok(matches!(&refused, Err(GateError::Metadata(MetadataFault::NoResolve))))
+    }
+
     /// With ample memory the gate answers a report, or why there is none.
     #[test]
     fn answers_with_ample_memory(rt: HostRuntime) -> Result<(), NoMemory> {
-        let report = answer(&rt, b"[bans]\ndeny = [\"x\", \"y\"]\n", NO_CRATES)?;
-        assert!(rt;
-            matches!(&report, Ok(report) if report.findings.len() == 0 && report.verdict == Verdict::Pass)
-        );
-        let refused = answer(&rt, b"[bans]\nskip = []\n", b"")?;
-        assert!(rt; matches!(&refused, Err(GateError::NotBuilt(Which::Policy))));
-        let refused = answer(&rt, b"", b"{}")?;
-        assert!(rt; matches!(&refused, Err(GateError::Metadata(MetadataFault::NoResolve))));
+        assert!(rt; passes(&rt)?);
+        assert!(rt; names_faults(&rt)?);
+        assert!(rt; names_clashes(&rt)?);
+        assert!(rt; wants_rules(&rt)?);
+        assert!(rt; wants_a_graph(&rt)?);
         Ok(())
     }
 }

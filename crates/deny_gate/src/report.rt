@@ -1,8 +1,9 @@
 ghost use Rattle.std.proofs.Common.{rules};
 
-use deny_base::{Check, Diag, Kid, List, NoMemory, Plain, Which};
+use deny_base::{Check, Diag, Diagnostic, Files, Kid, List, NoMemory, Plain, Which};
 use deny_krates::MetadataFault;
-use std::alloc::AllocError;
+use deny_rules::DupEdges;
+use deny_toml::ConfigFault;
 
 /// The texts that the gate reads, as bytes.
 #[derive(Debug, Drop)]
@@ -24,7 +25,8 @@ impl Plain for Finding {
     ghost clone_is_equal = { Prim.search rules };
 }
 
-/// What a report comes to. `Fail` holds a bit for each check that has an error: 2 for the bans.
+/// What a report comes to. `Fail` holds a bit for each check that has an error: 2 for the bans, 4
+/// for the licences.
 #[derive(Debug, Clone, Copy, PartialEq, Eq)]
 pub enum Verdict {
     Pass,
@@ -35,21 +37,26 @@ impl Plain for Verdict {
     ghost clone_is_equal = { Prim.search rules };
 }
 
-/// What the gate finds: the findings ascend by their keys, and no two have one key.
-#[derive(Debug, Clone, PartialEq, Eq, Drop)]
+/// What the gate finds.
+#[derive(Debug, Drop)]
 pub struct Report {
+    /// The files that labels point into: the policy alone, as `deny.toml`.
+    pub files: Files,
+    /// They ascend by their keys, and no two have one key.
     pub findings: List<Finding>,
+    /// What is shown of each duplicate, in the order of their findings.
+    pub dup_edges: List<DupEdges>,
     pub verdict: Verdict,
 }
 
-impl Plain for Report {
-    ghost clone_is_equal = { Prim.search rules };
-}
-
-/// Why the gate gives no report.
-#[derive(Debug, PartialEq, Eq, Drop)]
+/// Why the gate gives no report: the first of these that stands.
+#[derive(Debug, Drop)]
 pub enum GateError {
-    /// This text is outside the forms that are read so far: the policy, which is looked at first.
+    /// The policy's text has these faults, in order.
+    Config(List<ConfigFault>),
+    /// Entries of the policy clash. Labels lie in the policy's text, which is file 0.
+    Invalid(List<Diagnostic>),
+    /// The policy writes a rule that is not there yet.
     NotBuilt(Which),
     /// The metadata has no graph: its first fault, which is never want of memory.
     Metadata(MetadataFault),
@@ -64,17 +71,6 @@ impl From<NoMemory> for GateError {
     ghost from_gives = { λ _ e. e ≡ Memory };
 
     fn from(_error: NoMemory) -> GateError {
-        GateError::Memory
-    }
-}
-
-impl From<AllocError> for GateError {
-    ghost use Rattle.std.specs.Prelude.{◌≡◌};
-    ghost use Rattle.deny_gate.specs.declared.report.GateError.TheVariants.{Memory};
-
-    ghost from_gives = { λ _ e. e ≡ Memory };
-
-    fn from(_error: AllocError) -> GateError {
         GateError::Memory
     }
 }

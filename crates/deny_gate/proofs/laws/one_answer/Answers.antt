@@ -1,0 +1,26 @@
+use Rattle.deny_gate.proofs.AnswerLaws.{TextLaws, no_cause, one_cause}
+use Rattle.deny_gate.proofs.laws.one_answer.Goals as goal
+
+pub returns-clause-cause : goal.returns-clause-cause
+returns-clause-cause c =
+    let laws : TextLaws = record {
+      policies = c.one_policy.ensures;
+      faults = c.one_refusal.ensures.faults;
+      clashes = c.one_refusal.ensures.clashes;
+      faults_alone = c.one_refusal.ensures.faults_alone;
+      no_policy_with_faults = c.one_refusal.ensures.no_policy_with_faults;
+      no_policy_with_clashes = c.one_refusal.ensures.no_policy_with_clashes;
+    } in
+    λ policy metadata a b m n h k. one_cause laws policy metadata a b m n h k
+
+pub returns-clause-valid : goal.returns-clause-valid
+returns-clause-valid c =
+    let laws : TextLaws = record {
+      policies = c.one_policy.ensures;
+      faults = c.one_refusal.ensures.faults;
+      clashes = c.one_refusal.ensures.clashes;
+      faults_alone = c.one_refusal.ensures.faults_alone;
+      no_policy_with_faults = c.one_refusal.ensures.no_policy_with_faults;
+      no_policy_with_clashes = c.one_refusal.ensures.no_policy_with_clashes;
+    } in
+    λ policy metadata error m there graph h. no_cause laws policy metadata error m there graph h

@@ -1,5 +1,0 @@
-use Rattle.deny_gate.proofs.EntryLaws.{name_is_text}
-use Rattle.deny_gate.proofs.policy.text_of_name.Goals as goal
-
-pub unreachable-requires : goal.unreachable-requires
-unreachable-requires c = c.in-Err.ensures.cases.0 (name_is_text c.args.name.now c.requires)

@@ -1,9 +1,0 @@
-use Rattle.std.proofs.Common.{◌∙◌}
-use Rattle.deny_krates.specs.Crates.{crate_view}
-use Rattle.deny_gate.proofs.PlaceLaws.{got, slice_get-crates}
-use Rattle.deny_gate.proofs.tell.krate_at.Goals as goal
-
-pub returns : goal.returns
-returns c =
-    got (crate_view c.args.place) c.krates.result.now c.args.place c.get.result c.get.ensures.lookup.3
-    ∙ slice_get-crates c.krates.result.now c.args.krates.now.crates c.args.place c.krates.ensures.crates

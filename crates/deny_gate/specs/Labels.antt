@@ -1,0 +1,52 @@
+-- Where labels lie.
+use Rattle.std.specs.Prelude.{◌≡◌, ◌++◌, ◌∷◌, [], ℕ, List, Option, None, Some, All, map, slice_get}
+use Rattle.std.specs.List.{flat_map}
+use Rattle.deny_base.specs.declared.files.File.{File}
+use Rattle.deny_base.specs.declared.finding.Diagnostic.{Diagnostic}
+use Rattle.deny_base.specs.declared.label.Label.{Label}
+use Rattle.deny_base.specs.declared.span.Span.{Span}
+use Rattle.deny_cfg.specs.PolicyText.{policy_file}
+use Rattle.deny_model.specs.Policy.{Ban, Entry, Policy, Root, Words}
+use Rattle.deny_toml.specs.Ranges.{IsRange}
+use Rattle.deny_gate.specs.declared.report.Finding.{Finding}
+use Rattle.deny_gate.specs.declared.report.GateError.{GateError}
+use Rattle.deny_gate.specs.declared.report.GateError.TheVariants.{Invalid}
+
+-- a label marks a range of its file, on character boundaries
+pub record IsPlaced (files : List File) (label : Label) : Type 0 where
+  pub file : File
+  pub there : slice_get files label.file_id ≡ Some file
+  pub range : IsRange file.source label.span
+
+abbrev pub ArePlaced : List File → List Label → Type 0
+ArePlaced files labels = All (IsPlaced files) labels
+
+-- the labels of findings do
+abbrev pub AreLabelled : List File → List Finding → Type 0
+AreLabelled files findings = All (λ f. ArePlaced files f.diag.diag.labels) findings
+
+-- and those of clashes, where the policy's text is the one file
+abbrev pub AreLabelledClashes : List ℕ → List Diagnostic → Type 0
+AreLabelledClashes text told = All (λ d. ArePlaced (policy_file text ∷ []) d.labels) told
+
+abbrev pub IsLabelledCause : List ℕ → GateError → Type 0
+IsLabelledCause text (Invalid told) = AreLabelledClashes text told
+IsLabelledCause text _ = Unit {0}
+
+-- ---- the ranges of a policy that labels mark: each entry's name, and what it names besides
+
+abbrev pub range_of : Option Words → List Span
+range_of None = []
+range_of (Some words) = words.span ∷ []
+
+unfoldable pub ban_ranges : Ban → List Span
+ban_ranges ban = ban.spec.range ∷ (map (λ w. w.span) ban.wrappers ++ (range_of ban.reason ++ range_of ban.use_instead))
+
+unfoldable pub entry_ranges : Entry → List Span
+entry_ranges e = e.spec.range ∷ range_of e.reason
+
+unfoldable pub root_ranges : Root → List Span
+root_ranges t = t.spec.range ∷ range_of t.reason
+
+unfoldable pub ranges_of : Policy → List Span
+ranges_of p = flat_map ban_ranges p.deny ++ (flat_map entry_ranges p.allow ++ (flat_map entry_ranges p.skip ++ flat_map root_ranges p.skip_tree))

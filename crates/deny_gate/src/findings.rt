@@ -1,0 +1,95 @@
+//! What a report tells of each key, and what it comes to.
+ghost use Rattle.std.specs.Prelude.{◌≡◌, ◌++◌, map, IfOk, OnOk};
+ghost use Rattle.std.specs.List.{list_any, flat_map};
+ghost use Rattle.deny_gate.specs.Report.{finding_of, findings_of, has_error, fails_as, is_error, same_check, verdict_by, verdict_of};
+
+use crate::report::{Finding, Verdict};
+use deny_base::{Check, Diag, Kid, List, NoMemory, Pack, Severity};
+use std::alloc::Global;
+
+fn same_kid(kid: &Option<Kid>) -> Result<Option<Kid>, NoMemory>
+    ensures { IfOk result (λ copy. copy ≡ kid.now) }
+{
+    match kid {
+        Some(kid) => Ok(Some(kid.clone()?)),
+        None => Ok(None),
+    }
+}
+
+/// Adds the findings of a check about a crate.
+fn add_diags(
+    check: Check,
+    kid: &Option<Kid>,
+    diags: List<Diag>,
+    findings: &mut List<Finding>,
+) -> Result<(), NoMemory>
+    ensures { OnOk result (findings.new ≡ findings.old ++ map (finding_of check kid.now) diags) }
+{
+    'diags: for diag in diags.vec {
+        let kid = same_kid(kid)?;
+        findings.push(Finding { check, kid, diag })?;
+    }
+    Ok(())
+}
+
+/// Adds the findings of a pack.
+#[tactic(auto, unfolding(crate::specs::Report::findings_of))]
+fn add_pack(pack: Pack, findings: &mut List<Finding>) -> Result<(), NoMemory>
+    ensures { OnOk result (findings.new ≡ findings.old ++ findings_of pack) }
+{
+    let Pack { check, kid, diags } = pack;
+    add_diags(check, &kid, diags, findings)
+}
+
+/// The findings of packs, in their order.
+pub fn findings_in(alloc: Global, packs: List<Pack>) -> Result<List<Finding>, NoMemory>
+    ensures { IfOk result (λ findings. findings ≡ flat_map findings_of packs) }
+{
+    let mut findings = List::new(alloc);
+    'packs: for pack in packs.vec {
+        add_pack(pack, &mut findings)?;
+    }
+    Ok(findings)
+}
+
+/// Whether a finding has severity error.
+#[tactic(auto, unfolding(crate::specs::Report::has_error))]
+fn has_error(finding: &Finding) -> bool
+    ensures { result ≡ has_error finding.now }
+{
+    matches!(finding.diag.diag.severity, Severity::Error)
+}
+
+fn same_check(a: Check, b: Check) -> bool
+    ensures { result ≡ same_check a b }
+{
+    a == b
+}
+
+/// Whether a finding makes a check fail.
+#[tactic(auto, unfolding(crate::specs::Report::fails_as))]
+fn fails_as(check: Check, finding: &Finding) -> bool
+    ensures { result ≡ fails_as check finding.now }
+{
+    has_error(finding) && same_check(finding.check, check)
+}
+
+fn any_fails(check: Check, findings: &[Finding]) -> bool
+    ensures { result ≡ list_any (fails_as check) findings.now }
+{
+    findings.iter().any(|finding| fails_as(check, finding))
+}
+
+/// The verdict on findings: a check fails where one of its findings has severity error.
+pub fn verdict_of(findings: &[Finding]) -> Verdict
+    ensures { result ≡ verdict_of findings.now }
+{
+    let bans = any_fails(Check::Bans, findings);
+    let licenses = any_fails(Check::Licenses, findings);
+    match (bans, licenses) {
+        (false, false) => Verdict::Pass,
+        (true, false) => Verdict::Fail(2),
+        (false, true) => Verdict::Fail(4),
+        (true, true) => Verdict::Fail(6),
+    }
+}

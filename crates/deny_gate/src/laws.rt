@@ -1,0 +1,24 @@
+//! What follows from the words of the gate's contract.
+ghost use Rattle.std.specs.Prelude.{◌≢◌, ℕ, List};
+ghost use Rattle.deny_gate.specs.Gating.{AreOneCause, HasGraph, HasPolicy, IsCause, IsReportOf};
+ghost use Rattle.deny_gate.specs.Headline.{IsHeadlineOf};
+ghost use Rattle.deny_gate.specs.declared.report.GateError.{GateError};
+ghost use Rattle.deny_gate.specs.declared.report.GateError.TheVariants as gate;
+ghost use Rattle.deny_gate.specs.declared.report.Report.{Report};
+
+/// Two texts have one answer, want of memory aside: a policy whose rules are there and a graph have
+/// no cause why there is no report, and other texts have one.
+pub fn one_answer()
+    ensures cause { (policy metadata : List ℕ) → (a b : GateError) → a ≢ gate.Memory → b ≢ gate.Memory
+        → IsCause policy metadata a → IsCause policy metadata b → AreOneCause a b }
+    ensures valid { (policy metadata : List ℕ) → (error : GateError) → error ≢ gate.Memory
+        → HasPolicy policy → HasGraph metadata → IsCause policy metadata error → ⊥ }
+{
+    deny_cfg::one_policy();
+    deny_cfg::one_refusal();
+}
+
+/// The report of two texts keeps the headline.
+pub fn headline()
+    ensures { (policy metadata : List ℕ) → (report : Report) → IsReportOf policy metadata report → IsHeadlineOf policy metadata report }
+{}
