@@ -1,3 +1,5 @@
 pub mod CausesLemmas
+pub mod FloatLemmas
+pub mod QuoteLemmas
 pub mod Rows
 pub mod WordsLemmas

@@ -8,7 +8,10 @@ use Rattle.deny_base.specs.declared.check.Which.TheVariants.{Policy, Metadata, R
 use Rattle.deny_base.specs.declared.disk.Call.TheVariants as call
 use Rattle.deny_base.specs.declared.read.ReadEnd.{ReadEnd}
 use Rattle.deny_base.specs.declared.read.ReadEnd.TheVariants as end
-use Rattle.deny_gate.specs.Gating.{IsReportOf, IsCause, IsPlain, HasGraph}
+use Rattle.deny_cfg.specs.PolicyText.{TellsClashes}
+use Rattle.deny_gate.specs.Gating.{IsReportOf, IsCause, HasPolicy, HasGraph}
+use Rattle.deny_gate.specs.Headline.{IsHeadlineOf}
+use Rattle.deny_gate.specs.Report.{policy_id}
 use Rattle.deny_gate.specs.declared.report.GateError.{GateError}
 use Rattle.deny_gate.specs.declared.report.GateError.TheVariants as gate
 use Rattle.deny_gate.specs.declared.report.Report.{Report}
@@ -46,9 +49,8 @@ pub record IsReportAt (old : Disk) (policy_path metadata_path : List ℕ) (repor
   pub texts : AreTextsAt old policy_path metadata_path policy metadata
   pub is_theirs : IsReportOf policy metadata report
 
--- the gate gives no report on the texts at two paths, by its own cause
-pub record IsStopAt (old : Disk) (policy_path metadata_path : List ℕ) (error : GateError) : Type 0 where
-  pub policy : List ℕ
+-- the gate gives no report on the texts at two paths, of which this is the policy, by its own cause
+pub record IsStopAt (old : Disk) (policy_path metadata_path policy : List ℕ) (error : GateError) : Type 0 where
   pub metadata : List ℕ
   pub texts : AreTextsAt old policy_path metadata_path policy metadata
   pub is_theirs : IsCause policy metadata error
@@ -72,7 +74,8 @@ pub record IsStopOn (old : Disk) (words : List (List ℕ)) (error : GateError) :
   pub policy_path : List ℕ
   pub metadata_path : List ℕ
   pub accepted : IsCheck words policy_path metadata_path
-  pub read : IsStopAt old policy_path metadata_path error
+  pub policy : List ℕ
+  pub read : IsStopAt old policy_path metadata_path policy error
 
 -- the path of a text, in words that are accepted
 abbrev pub path_of : List (List ℕ) → Which → List ℕ
@@ -95,12 +98,12 @@ pub record AreTold (old : Disk) (words : List (List ℕ)) : Type 0 where
   pub files : Files
   pub told : old.files ≡ Some files
 
--- the texts that the words name are short, the policy plain and the metadata without fault
-pub record IsPlainRun (old : Disk) (words : List (List ℕ)) : Type 0 where
+-- the texts that the words name are short, the policy is one whose rules are there, and the metadata has a graph
+pub record IsValidRun (old : Disk) (words : List (List ℕ)) : Type 0 where
   pub named : AreTold old words
   pub policy_short : IsShort (bytes_at named.files (path_of words Policy))
   pub metadata_short : IsShort (bytes_at named.files (path_of words Metadata))
-  pub policy : IsPlain (bytes_at named.files (path_of words Policy))
+  pub policy : HasPolicy (bytes_at named.files (path_of words Policy))
   pub metadata : HasGraph (bytes_at named.files (path_of words Metadata))
 
 -- two texts stop a run so: one is long, or both are short and the gate refuses them
@@ -130,6 +133,21 @@ ComesBy old new words (Gate error) = IsStopOn old words error
 ComesBy old new words (Write report) = IsReportOn old words report
 ComesBy old new words Memory = IsAccepted words
 
+-- the headline, of the report on the texts at the paths that the words name
+pub record IsHeadlineOn (old : Disk) (words : List (List ℕ)) (report : Report) : Type 0 where
+  pub policy_path : List ℕ
+  pub metadata_path : List ℕ
+  pub accepted : IsCheck words policy_path metadata_path
+  pub policy : List ℕ
+  pub metadata : List ℕ
+  pub texts : AreTextsAt old policy_path metadata_path policy metadata
+  pub headline : IsHeadlineOf policy metadata report
+
+-- where entries of the policy clash, this is its text, as it was read
+abbrev pub IsTextOfClashes : Disk → List (List ℕ) → Outcome → List ℕ → Type 0
+IsTextOfClashes old words (Gate (gate.Invalid told)) policy = IsWhole old (path_of words Policy) policy × IsShort policy × TellsClashes policy policy_id told
+IsTextOfClashes old words outcome policy = ⊤
+
 -- the same of a run that stopped before its output was made, which is neither done nor written
 abbrev pub StopsBy : Disk → Disk → List (List ℕ) → Outcome → Type 0
 StopsBy old new words (Done report) = ⊥
@@ -144,11 +162,16 @@ end_stop which end.Fault = Read which
 end_stop which end.Long = Long which
 end_stop which end.Memory = Memory
 
--- why a run over these paths stopped before its output was made
-abbrev pub StopsAt : Disk → Disk → List ℕ → List ℕ → Outcome → Type 0
-StopsAt old new policy metadata (Read Policy) = FailedAt old new call.Read policy
-StopsAt old new policy metadata (Read Metadata) = FailedAt old new call.Read metadata
-StopsAt old new policy metadata (Long which) = IsLongAt old new policy metadata which
-StopsAt old new policy metadata (Gate error) = IsStopAt old policy metadata error
-StopsAt old new policy metadata Memory = ⊤
-StopsAt old new policy metadata _ = ⊥
+-- the gate stops a run so
+abbrev pub IsGateStop : List ℕ → List ℕ → Outcome → Type 0
+IsGateStop policy metadata (Gate error) = IsCause policy metadata error
+IsGateStop policy metadata _ = ⊥
+
+-- why a run over these paths stopped before its output was made; this is the policy's text, where it was read
+abbrev pub StopsAt : Disk → Disk → List ℕ → List ℕ → Outcome → List ℕ → Type 0
+StopsAt old new policy metadata (Read Policy) text = FailedAt old new call.Read policy
+StopsAt old new policy metadata (Read Metadata) text = FailedAt old new call.Read metadata
+StopsAt old new policy metadata (Long which) text = IsLongAt old new policy metadata which
+StopsAt old new policy metadata (Gate error) text = IsStopAt old policy metadata text error
+StopsAt old new policy metadata Memory text = ⊤
+StopsAt old new policy metadata _ text = ⊥

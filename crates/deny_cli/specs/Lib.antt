@@ -1,5 +1,7 @@
 pub mod Causes
+pub mod Diagnostics
 pub mod Lines
 pub mod Outcome
 pub mod Outputs
+pub mod Stops
 pub mod Words

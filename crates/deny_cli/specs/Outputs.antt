@@ -4,7 +4,8 @@ use Rattle.std.specs.Prelude.{◌≡◌, ◌⊎◌, ℕ, List, Option}
 use Rattle.deny_base.specs.Count.{Rose}
 use Rattle.deny_base.specs.Out.{Appends, AppendsFront}
 use Rattle.deny_gate.specs.declared.report.Report.{Report}
-use Rattle.deny_cli.specs.Lines.{lines, stop_line, memory_line}
+use Rattle.deny_cli.specs.Lines.{lines}
+use Rattle.deny_cli.specs.Stops.{stop_line, memory_line}
 use Rattle.deny_cli.specs.declared.outcome.Outcome.{Outcome}
 use Rattle.deny_cli.specs.declared.outcome.Outcome.TheVariants.{Done, Write, Memory}
 
@@ -24,12 +25,12 @@ abbrev pub PutsLine : {W : Type 0} → (W → Option (List ℕ)) → (W → ℕ)
 PutsLine written faults old new line =
     Appends (written old) (written new) line ⊎ FailsWriting written faults old new line
 
--- the standard error: nothing, or one line that tells the stop. Want of memory in the making of
--- that line puts the line of memory in its place.
-abbrev pub LeavesErr : {W : Type 0} → (W → Option (List ℕ)) → (W → ℕ) → W → W → Outcome → Type 0
-LeavesErr written faults old new (Done report) = new ≡ old
-LeavesErr written faults old new outcome =
-    PutsLine written faults old new (stop_line outcome) ⊎ PutsLine written faults old new memory_line
+-- the standard error: nothing, or one line that tells the stop; the labels of clashes lie in this
+-- text of the policy. Want of memory in the making of that line puts the line of memory in its place.
+abbrev pub LeavesErr : {W : Type 0} → (W → Option (List ℕ)) → (W → ℕ) → W → W → Outcome → List ℕ → Type 0
+LeavesErr written faults old new (Done report) policy = new ≡ old
+LeavesErr written faults old new outcome policy =
+    PutsLine written faults old new (stop_line policy outcome) ⊎ PutsLine written faults old new memory_line
 
 -- ---- for a private clause
 

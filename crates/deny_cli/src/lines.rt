@@ -1,46 +1,15 @@
-ghost use Rattle.std.specs.Prelude.{◌≡◌, IfOk, codes, false};
+//! The lines of a report.
+ghost use Rattle.std.specs.Prelude.{◌≡◌, IfOk, false};
 ghost use Rattle.serde_json.specs.View.{view};
 ghost use Rattle.serde_json.specs.Written.{has_float};
-ghost use Rattle.deny_cli.specs.Lines.{severity_word, finding_value, verdict_value, line, finding_line, verdict_line, lines, file_word, fault_word, fault_detail, fault_fields, tells, stop_at_file, stop_fields, stop_line, memory_line};
+ghost use Rattle.deny_cli.specs.Lines.{finding_line, line, lines, verdict_line, verdict_value};
 
-use crate::outcome::{Outcome, bits};
-use deny_base::{NoMemory, Severity, Text, Which};
-use deny_gate::{Finding, GateError, Report, Verdict};
-use deny_krates::MetadataFault;
+use crate::fields::diagnostic_value;
+use crate::outcome::bits;
+use deny_base::{Files, NoMemory, Text};
+use deny_gate::{Finding, Report, Verdict};
 use serde_json::{Value, json};
 use std::alloc::{AllocError, Global};
-
-/// The word of a severity.
-fn severity_word(severity: Severity) -> &'static str
-    ensures { result.now ≡ severity_word severity }
-{
-    match severity {
-        Severity::Bug => "bug",
-        Severity::Error => "error",
-        Severity::Warning => "warning",
-        Severity::Note => "note",
-        Severity::Help => "help",
-    }
-}
-
-/// A finding as JSON.
-fn finding_value(alloc: Global, finding: &Finding) -> Result<Value, AllocError>
-    ensures { IfOk result (λ value. view value ≡ finding_value finding.now) }
-{
-    let diagnostic = &finding.diag.diag;
-    let message = diagnostic.message.as_str();
-    let severity = severity_word(diagnostic.severity);
-    match &diagnostic.code {
-        Some(code) => json!(in alloc; {
-            "fields": {"code": code.name(), "message": message, "severity": severity},
-            "type": "diagnostic",
-        }),
-        None => json!(in alloc; {
-            "fields": {"message": message, "severity": severity},
-            "type": "diagnostic",
-        }),
-    }
-}
 
 /// A verdict as JSON.
 fn verdict_value(alloc: Global, verdict: Verdict) -> Result<Value, AllocError>
@@ -57,7 +26,7 @@ fn verdict_value(alloc: Global, verdict: Verdict) -> Result<Value, AllocError>
 }
 
 /// A value as a line.
-fn line(alloc: Global, value: &Value) -> Result<Text, NoMemory>
+pub fn line(alloc: Global, value: &Value) -> Result<Text, NoMemory>
     requires { has_float (view value.now) ≡ false }
     ensures { IfOk result (λ text. text ≡ line (view value.now)) }
 {
@@ -68,10 +37,10 @@ fn line(alloc: Global, value: &Value) -> Result<Text, NoMemory>
 
 /// The line of a finding.
 #[tactic(auto, unfolding(crate::specs::Lines::finding_line))]
-fn finding_line(alloc: Global, finding: &Finding) -> Result<Text, NoMemory>
-    ensures { IfOk result (λ text. text ≡ finding_line finding.now) }
+fn finding_line(alloc: Global, files: &Files, finding: &Finding) -> Result<Text, NoMemory>
+    ensures { IfOk result (λ text. text ≡ finding_line files.now finding.now) }
 {
-    line(alloc, &finding_value(alloc, finding)?)
+    line(alloc, &diagnostic_value(alloc, files, &finding.diag.diag)?)
 }
 
 /// The line of a verdict.
@@ -89,113 +58,8 @@ pub fn lines(alloc: Global, report: &Report) -> Result<Text, NoMemory>
 {
     let mut text = Text::new(alloc);
     for finding in report.findings.as_slice() {
-        text.push_str(finding_line(alloc, finding)?.as_str())?;
+        text.push_str(finding_line(alloc, &report.files, finding)?.as_str())?;
     }
     text.push_str(verdict_line(alloc, report.verdict)?.as_str())?;
     Ok(text)
-}
-
-/// The word for a text.
-fn file_word(which: Which) -> &'static str
-    ensures { result.now ≡ file_word which }
-{
-    match which {
-        Which::Policy => "policy",
-        Which::Metadata => "metadata",
-        Which::Replacements => "replacements",
-    }
-}
-
-/// A stop that a text is the cause of, as JSON.
-fn stop_at_file(alloc: Global, word: &str, which: Which) -> Result<Value, AllocError>
-    ensures { IfOk result (λ value. view value
-        ≡ tells (codes "stop") (stop_at_file word.now which)) }
-{
-    let file = file_word(which);
-    json!(in alloc; {"fields": {"file": file, "stop": word}, "type": "stop"})
-}
-
-/// The word of a fault of the metadata.
-fn fault_word(fault: &MetadataFault) -> &'static str
-    ensures { result.now ≡ fault_word fault.now }
-{
-    match fault {
-        MetadataFault::Json => "json",
-        MetadataFault::Float => "float",
-        MetadataFault::NoResolve => "no-resolve",
-        MetadataFault::Shape(_) => "shape",
-        MetadataFault::DuplicateId(_) => "duplicate-id",
-        MetadataFault::DanglingId(_) => "dangling-id",
-        MetadataFault::Version(_) => "version",
-        MetadataFault::Requirement(_) => "requirement",
-        MetadataFault::Source(_) => "source",
-        MetadataFault::ManifestPath(_) => "manifest-path",
-        MetadataFault::Memory => "memory",
-    }
-}
-
-/// The text of a fault of the metadata: the path of a member, an id, or nothing.
-fn fault_detail(fault: &MetadataFault) -> &str
-    ensures { result.now ≡ fault_detail fault.now }
-{
-    match fault {
-        MetadataFault::Json
-        | MetadataFault::Float
-        | MetadataFault::NoResolve
-        | MetadataFault::Memory => "",
-        MetadataFault::Shape(path) => path.as_str(),
-        MetadataFault::DuplicateId(id)
-        | MetadataFault::DanglingId(id)
-        | MetadataFault::Version(id)
-        | MetadataFault::Requirement(id)
-        | MetadataFault::Source(id)
-        | MetadataFault::ManifestPath(id) => id.as_str(),
-    }
-}
-
-/// A stop that a fault of the metadata is the cause of, as JSON.
-fn fault_value(alloc: Global, fault: &MetadataFault) -> Result<Value, AllocError>
-    ensures { IfOk result (λ value. view value
-        ≡ tells (codes "stop") (fault_fields fault.now)) }
-{
-    let detail = fault_detail(fault);
-    let word = fault_word(fault);
-    json!(in alloc; {
-        "fields": {"detail": detail, "fault": word, "stop": "metadata"},
-        "type": "stop",
-    })
-}
-
-/// Why a run stopped, as JSON. There is none of want of memory, which has a line of its own, and
-/// none of a run that is done.
-fn stop_value(alloc: Global, outcome: &Outcome) -> Result<Value, AllocError>
-    ensures { IfOk result (λ value. view value
-        ≡ tells (codes "stop") (stop_fields outcome.now)) }
-{
-    match outcome {
-        Outcome::Usage(at) => {
-            json!(in alloc; {"fields": {"at": *at, "stop": "usage"}, "type": "stop"})
-        }
-        Outcome::Read(which) => stop_at_file(alloc, "read", *which),
-        Outcome::Long(which) => stop_at_file(alloc, "long", *which),
-        Outcome::Gate(GateError::NotBuilt(which)) => stop_at_file(alloc, "not-built", *which),
-        Outcome::Gate(GateError::Metadata(fault)) => fault_value(alloc, fault),
-        Outcome::Write(_) => json!(in alloc; {"fields": {"stop": "write"}, "type": "stop"}),
-        Outcome::Done(_) | Outcome::Gate(GateError::Memory) | Outcome::Memory => Err(AllocError),
-    }
-}
-
-/// The line that tells why a run stopped.
-#[tactic(auto, unfolding(crate::specs::Lines::stop_line))]
-pub fn stop_line(alloc: Global, outcome: &Outcome) -> Result<Text, NoMemory>
-    ensures { IfOk result (λ text. text ≡ stop_line outcome.now) }
-{
-    line(alloc, &stop_value(alloc, outcome)?)
-}
-
-/// The line that tells that memory ran out.
-pub fn memory_line() -> &'static str
-    ensures { result.now ≡ memory_line }
-{
-    "{\"fields\":{\"stop\":\"memory\"},\"type\":\"stop\"}\n"
 }

@@ -5,7 +5,7 @@ use deny_base::Which;
 use deny_gate::{GateError, Report, Verdict};
 
 /// What a run comes to.
-#[derive(Debug, PartialEq, Eq, Drop)]
+#[derive(Debug, Drop)]
 pub enum Outcome {
     /// The report was written whole.
     Done(Report),
@@ -26,8 +26,9 @@ pub enum Outcome {
 
 impl Outcome {
     /// The status that a program ends with: the bits of the verdict where the run is done, and else
-    /// 16 for the words, 17 for reading, 18 for a text that is too long, 21 for a fault of the
-    /// metadata, 23 for writing, 24 for memory, 25 for a policy that is not of the plain form.
+    /// 16 for the words, 17 for reading, 18 for a text that is too long, 19 for faults of the policy,
+    /// 20 for entries of it that clash, 21 for a fault of the metadata, 23 for writing, 24 for memory,
+    /// 25 for a policy that writes a rule that is not there yet.
     pub fn status(&self) -> u8
         ensures { result ≡ status_of self.now }
     {
@@ -36,6 +37,8 @@ impl Outcome {
             Outcome::Usage(_) => 16,
             Outcome::Read(_) => 17,
             Outcome::Long(_) => 18,
+            Outcome::Gate(GateError::Config(_)) => 19,
+            Outcome::Gate(GateError::Invalid(_)) => 20,
             Outcome::Gate(GateError::Metadata(_)) => 21,
             Outcome::Write(_) => 23,
             Outcome::Gate(GateError::Memory) | Outcome::Memory => 24,
@@ -55,7 +58,7 @@ pub(crate) fn bits(verdict: Verdict) -> u8
 }
 
 /// What a run comes to, and the status that the program ends with.
-#[derive(Debug, PartialEq, Eq, Drop)]
+#[derive(Debug, Drop)]
 pub struct Ended {
     pub status: u8,
     pub outcome: Outcome,

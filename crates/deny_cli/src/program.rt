@@ -1,20 +1,31 @@
-ghost use Rattle.std.specs.Prelude.{◌≡◌, IfOk, IfErr, if◌then◌else◌};
+ghost use Rattle.std.specs.Prelude.{◌≡◌, ◌<◌, ◌^◌, ℕ, List, length, IfOk, IfErr, if◌then◌else◌};
 ghost use Rattle.std.specs.List.{list_any};
 ghost use Rattle.deny_base.specs.Count.{Rose};
 ghost use Rattle.deny_base.specs.Disk.{IsLater};
+ghost use Rattle.deny_gate.specs.Gating.{IsReportOf};
 ghost use Rattle.deny_gate.specs.Report.{has_error};
-ghost use Rattle.deny_cli.specs.Causes.{ComesBy, StopsBy, StopsAt, IsReportAt, IsReportOn, IsPlainRun, IsRefusedRun, IsReadable, end_stop};
+ghost use Rattle.deny_cli.specs.Causes.{ComesBy, StopsBy, StopsAt, IsHeadlineOn, IsReportAt, IsReportOn, IsValidRun, IsRefusedRun, IsReadable, IsGateStop, IsTextOfClashes, end_stop};
 ghost use Rattle.deny_cli.specs.Outcome.{IfDone, IsUsage, IsDoneOrMemory, IsStopOrMemory, status_of};
 ghost use Rattle.deny_cli.specs.declared.outcome.Outcome.{Outcome};
+ghost use Rattle.deny_cli.specs.Stops.{IsTextOf};
 ghost use Rattle.deny_cli.specs.Outputs.{LeavesOut, LeavesErr, PutsLine, WritesReport};
 ghost use Rattle.deny_cli.specs.Words.{texts, IsAccepted};
 
-use crate::lines::{lines, memory_line, stop_line};
+use crate::lines::lines;
 use crate::outcome::{Ended, Outcome};
+use crate::stops::{memory_line, stop_line};
 use crate::words::{Paths, read_words};
 use deny_base::{NoMemory, Out, OutFault, PackageFiles, ReadEnd, Which, read_whole};
 use deny_gate::{Inputs, Report, gate};
 use std::alloc::Global;
+
+/// What a run comes to, and the policy's text, in which the labels of clashes lie; it is empty where
+/// it was not read, or is not asked for any more.
+#[derive(Drop)]
+struct Ending {
+    outcome: Outcome,
+    policy: Vec<u8>,
+}
 
 /// Why a text that was not read to its end stops a run.
 fn end_stop(which: Which, end: ReadEnd) -> Outcome
@@ -27,30 +38,55 @@ fn end_stop(which: Which, end: ReadEnd) -> Outcome
     }
 }
 
+/// An ending that does not tell of the policy's text.
+fn ends_by(alloc: Global, outcome: Outcome) -> Ending
+    ensures { result.outcome ≡ outcome }
+{
+    Ending {
+        outcome,
+        policy: Vec::new(alloc),
+    }
+}
+
+/// The report on two texts, or why there is none.
+fn report_of<D: PackageFiles>(alloc: Global, inputs: Inputs, disk: &mut D) -> Result<Report, Ending>
+    requires policy { length inputs.policy.items < 2 ^ 28 }
+    requires metadata { length inputs.metadata.items < 2 ^ 28 }
+    ensures report { IfOk result (IsReportOf inputs.policy.items inputs.metadata.items) }
+    ensures stop { IfErr result (λ ending. IsGateStop inputs.policy.items inputs.metadata.items ending.outcome) }
+    ensures policy { IfErr result (λ ending. ending.policy.items ≡ inputs.policy.items) }
+    ensures later { IsLater (D.seen disk.old) (D.seen disk.new) }
+{
+    match gate(alloc, &inputs, disk) {
+        Ok(report) => Ok(report),
+        Err(error) => Err(Ending {
+            outcome: Outcome::Gate(error),
+            policy: inputs.policy,
+        }),
+    }
+}
+
 /// The report on the texts at these paths, or why there is none.
 fn report_at<D: PackageFiles>(
     alloc: Global,
     paths: Paths<'_>,
     disk: &mut D,
-) -> Result<Report, Outcome>
+) -> Result<Report, Ending>
     ensures report { IfOk result
         (IsReportAt (D.seen disk.old) paths.entry.policy.now paths.entry.metadata.now) }
-    ensures stop { IfErr result (StopsAt (D.seen disk.old) (D.seen disk.new)
-        paths.entry.policy.now paths.entry.metadata.now) }
+    ensures stop { IfErr result (λ ending. StopsAt (D.seen disk.old) (D.seen disk.new)
+        paths.entry.policy.now paths.entry.metadata.now ending.outcome ending.policy.items) }
     ensures later { IsLater (D.seen disk.old) (D.seen disk.new) }
 {
     let policy = match read_whole(alloc, disk, paths.policy) {
         Ok(policy) => policy,
-        Err(end) => return Err(end_stop(Which::Policy, end)),
+        Err(end) => return Err(ends_by(alloc, end_stop(Which::Policy, end))),
     };
     let metadata = match read_whole(alloc, disk, paths.metadata) {
         Ok(metadata) => metadata,
-        Err(end) => return Err(end_stop(Which::Metadata, end)),
+        Err(end) => return Err(ends_by(alloc, end_stop(Which::Metadata, end))),
     };
-    match gate(alloc, &Inputs { policy, metadata }, disk) {
-        Ok(report) => Ok(report),
-        Err(error) => Err(Outcome::Gate(error)),
-    }
+    report_of(alloc, Inputs { policy, metadata }, disk)
 }
 
 /// The report on the texts that the words name, or why there is none.
@@ -58,15 +94,17 @@ fn report_on<D: PackageFiles>(
     alloc: Global,
     words: &[String],
     disk: &mut D,
-) -> Result<Report, Outcome>
+) -> Result<Report, Ending>
     ensures report { IfOk result (IsReportOn (D.seen disk.old) (texts words.now)) }
-    ensures stop { IfErr result
-        (StopsBy (D.seen disk.old) (D.seen disk.new) (texts words.now)) }
+    ensures stop { IfErr result (λ ending.
+        StopsBy (D.seen disk.old) (D.seen disk.new) (texts words.now) ending.outcome) }
+    ensures policy { IfErr result (λ ending.
+        IsTextOfClashes (D.seen disk.old) (texts words.now) ending.outcome ending.policy.items) }
     ensures later { IsLater (D.seen disk.old) (D.seen disk.new) }
 {
     match read_words(words) {
         Ok(paths) => report_at(alloc, paths, disk),
-        Err(at) => Err(Outcome::Usage(at)),
+        Err(at) => Err(ends_by(alloc, Outcome::Usage(at))),
     }
 }
 
@@ -84,19 +122,20 @@ fn write_report<W: Out>(alloc: Global, report: Report, out: &mut W) -> Outcome
 }
 
 /// What a run comes to. Nothing is told of a stop yet.
-fn outcome_of<D: PackageFiles, W: Out>(
+fn ending_of<D: PackageFiles, W: Out>(
     alloc: Global,
     words: &[String],
     disk: &mut D,
     out: &mut W,
-) -> Outcome
-    ensures cause { ComesBy (D.seen disk.old) (D.seen disk.new) (texts words.now) result }
-    ensures out { LeavesOut W.written W.faults out.old out.new result }
+) -> Ending
+    ensures cause { ComesBy (D.seen disk.old) (D.seen disk.new) (texts words.now) result.outcome }
+    ensures policy { IsTextOfClashes (D.seen disk.old) (texts words.now) result.outcome result.policy.items }
+    ensures out { LeavesOut W.written W.faults out.old out.new result.outcome }
     ensures later { IsLater (D.seen disk.old) (D.seen disk.new) }
 {
     match report_on(alloc, words, disk) {
-        Ok(report) => write_report(alloc, report, out),
-        Err(stop) => stop,
+        Ok(report) => ends_by(alloc, write_report(alloc, report, out)),
+        Err(ending) => ending,
     }
 }
 
@@ -108,13 +147,14 @@ fn put_line<E: Out>(line: &str, err: &mut E)
 }
 
 /// Tells why a run stopped; a run that is done tells nothing.
-fn tell<E: Out>(alloc: Global, outcome: &Outcome, err: &mut E)
-    ensures { LeavesErr E.written E.faults err.old err.new outcome.now }
+fn tell<E: Out>(alloc: Global, outcome: &Outcome, policy: &[u8], err: &mut E)
+    requires { IsTextOf outcome.now policy.now }
+    ensures { LeavesErr E.written E.faults err.old err.new outcome.now policy.now }
 {
     if let Outcome::Done(_) = outcome {
         return;
     }
-    match stop_line(alloc, outcome) {
+    match stop_line(alloc, outcome, policy) {
         Ok(line) => put_line(line.as_str(), err),
         Err(NoMemory) => put_line(memory_line(), err),
     }
@@ -138,9 +178,9 @@ pub fn run<D: PackageFiles, W: Out, E: Out>(
     ensures cause { ComesBy (D.seen disk.old) (D.seen disk.new) (texts words.now) result.outcome }
     // Words that are not accepted always end so.
     ensures usage { (¬ IsAccepted (texts words.now)) → IsUsage result.outcome }
-    // Accepted words, a plain policy and metadata without fault end with a report, where nothing
-    // outside fails.
-    ensures completes { IsPlainRun (D.seen disk.old) (texts words.now)
+    // Accepted words, a policy whose rules are there and metadata without fault end with a report,
+    // where nothing outside fails.
+    ensures completes { IsValidRun (D.seen disk.old) (texts words.now)
         → IsReadable (D.seen disk.old) (D.seen disk.new) (texts words.now)
         → (¬ Rose (W.faults out.old) (W.faults out.new))
         → IsDoneOrMemory result.outcome }
@@ -150,18 +190,24 @@ pub fn run<D: PackageFiles, W: Out, E: Out>(
         → IsReadable (D.seen disk.old) (D.seen disk.new) (texts words.now)
         → IsStopOrMemory stop result.outcome }
 
+    // What is told at level deny is exactly what violates a rule, and nothing covers.
+    ensures headline { IfDone result.outcome (IsHeadlineOn (D.seen disk.old) (texts words.now)) }
+
     ensures status { result.status ≡ status_of result.outcome }
     ensures fails { IfDone result.outcome (λ report.
         result.status ≡ (if list_any has_error report.findings then 2 else 0)) }
 
     ensures out { LeavesOut W.written W.faults out.old out.new result.outcome }
-    ensures err { LeavesErr E.written E.faults err.old err.new result.outcome }
+    ensures err { (policy : List ℕ) × IsTextOfClashes (D.seen disk.old) (texts words.now) result.outcome policy
+        × LeavesErr E.written E.faults err.old err.new result.outcome policy }
     ensures later { IsLater (D.seen disk.old) (D.seen disk.new) }
 {
-    let outcome = outcome_of(alloc, words, disk, out);
-    tell(alloc, &outcome, err);
+    deny_gate::headline();
+    deny_gate::one_answer();
+    let ending = ending_of(alloc, words, disk, out);
+    tell(alloc, &ending.outcome, ending.policy.as_slice(), err);
     Ended {
-        status: outcome.status(),
-        outcome,
+        status: ending.outcome.status(),
+        outcome: ending.outcome,
     }
 }

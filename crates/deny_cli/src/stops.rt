@@ -1,0 +1,217 @@
+//! The line that tells why a run stopped.
+ghost use Rattle.std.specs.Prelude.{◌≡◌, ◌<◌, ◌^◌, ◌∷◌, [], IfOk, IsUtf8, codes, length, map};
+ghost use Rattle.serde_json.specs.View.{view};
+ghost use Rattle.deny_cfg.specs.PolicyText.{policy_file};
+ghost use Rattle.deny_cli.specs.Diagnostics.{diagnostic_value, tells};
+ghost use Rattle.deny_cli.specs.Stops.{IsTextOf, config_fields, fault_value, fault_detail, fault_fields, fault_word, file_word, invalid_fields, kind_word, memory_line, stop_at_file, stop_fields, stop_line};
+
+use crate::fields::diagnostic_value;
+use crate::lines::line;
+use crate::outcome::Outcome;
+use deny_base::{Diagnostic, Files, List, NoMemory, Text, Which};
+use deny_gate::GateError;
+use deny_krates::MetadataFault;
+use deny_toml::{ConfigFault, FaultKind};
+use serde_json::{Value, json};
+use std::alloc::{AllocError, Global};
+
+/// The word for a text.
+fn file_word(which: Which) -> &'static str
+    ensures { result.now ≡ file_word which }
+{
+    match which {
+        Which::Policy => "policy",
+        Which::Metadata => "metadata",
+        Which::Replacements => "replacements",
+    }
+}
+
+/// A stop that a text is the cause of, as JSON.
+fn stop_at_file(alloc: Global, word: &str, which: Which) -> Result<Value, AllocError>
+    ensures { IfOk result (λ value. view value
+        ≡ tells (codes "stop") (stop_at_file word.now which)) }
+{
+    let file = file_word(which);
+    json!(in alloc; {"fields": {"file": file, "stop": word}, "type": "stop"})
+}
+
+/// The word of a fault of the policy.
+fn kind_word(kind: FaultKind) -> &'static str
+    ensures { result.now ≡ kind_word kind }
+{
+    match kind {
+        FaultKind::NotUtf8 => "not-utf8",
+        FaultKind::Grammar => "grammar",
+        FaultKind::Clash => "clash",
+        FaultKind::Unknown => "unknown",
+        FaultKind::Missing => "missing",
+        FaultKind::WrongKind => "wrong-kind",
+        FaultKind::Unreadable => "unreadable",
+    }
+}
+
+/// A fault of the policy as JSON.
+#[tactic(auto, unfolding(crate::specs::Stops::fault_value))]
+fn fault_value(alloc: Global, fault: &ConfigFault) -> Result<Value, AllocError>
+    ensures { IfOk result (λ value. view value ≡ fault_value fault.now) }
+{
+    let key = fault.key.as_str();
+    let kind = kind_word(fault.kind);
+    json!(in alloc; {
+        "end": fault.span.end,
+        "key": key,
+        "kind": kind,
+        "start": fault.span.start,
+    })
+}
+
+/// Faults of the policy as JSON, in their order.
+fn fault_values(alloc: Global, faults: &[ConfigFault]) -> Result<Vec<Value>, AllocError>
+    ensures { IfOk result (λ values. map view values.items ≡ map fault_value faults.now) }
+{
+    let mut values = Vec::new(alloc);
+    for fault in faults {
+        values.push(fault_value(alloc, fault)?)?;
+    }
+    Ok(values)
+}
+
+/// A stop that faults of the policy are the cause of, as JSON.
+fn config_value(alloc: Global, faults: &List<ConfigFault>) -> Result<Value, AllocError>
+    ensures { IfOk result (λ value. view value ≡ tells (codes "stop") (config_fields faults.now)) }
+{
+    let faults = fault_values(alloc, faults.as_slice())?;
+    json!(in alloc; {"fields": {"faults": faults, "stop": "config"}, "type": "stop"})
+}
+
+/// Diagnostics as JSON, in their order.
+fn diagnostic_values(
+    alloc: Global,
+    files: &Files,
+    told: &[Diagnostic],
+) -> Result<Vec<Value>, AllocError>
+    ensures { IfOk result (λ values. map view values.items ≡ map (diagnostic_value files.now) told.now) }
+{
+    let mut values = Vec::new(alloc);
+    for diagnostic in told {
+        values.push(diagnostic_value(alloc, files, diagnostic)?)?;
+    }
+    Ok(values)
+}
+
+/// The files that the labels of clashes lie in: the policy's text alone.
+fn policy_files(alloc: Global, policy: &[u8]) -> Result<Files, NoMemory>
+    requires text { IsUtf8 policy.now }
+    requires small { length policy.now < 2 ^ 28 }
+    ensures { IfOk result (λ files. files ≡ policy_file policy.now ∷ []) }
+{
+    let mut files = Files::new(alloc);
+    match str::from_utf8(policy) {
+        Ok(text) => {
+            files.add("deny.toml", text)?;
+            Ok(files)
+        }
+        Err(_) => unreachable!(),
+    }
+}
+
+/// A stop that clashes of the policy are the cause of, as JSON.
+fn invalid_value(alloc: Global, policy: &[u8], told: &List<Diagnostic>) -> Result<Value, NoMemory>
+    requires text { IsUtf8 policy.now }
+    requires small { length policy.now < 2 ^ 28 }
+    ensures { IfOk result (λ value. view value
+        ≡ tells (codes "stop") (invalid_fields (policy_file policy.now ∷ []) told.now)) }
+{
+    let files = policy_files(alloc, policy)?;
+    let told = diagnostic_values(alloc, &files, told.as_slice())?;
+    Ok(json!(in alloc; {"fields": {"diagnostics": told, "stop": "invalid"}, "type": "stop"})?)
+}
+
+/// The word of a fault of the metadata.
+fn fault_word(fault: &MetadataFault) -> &'static str
+    ensures { result.now ≡ fault_word fault.now }
+{
+    match fault {
+        MetadataFault::Json => "json",
+        MetadataFault::Float => "float",
+        MetadataFault::NoResolve => "no-resolve",
+        MetadataFault::Shape(_) => "shape",
+        MetadataFault::DuplicateId(_) => "duplicate-id",
+        MetadataFault::DanglingId(_) => "dangling-id",
+        MetadataFault::Version(_) => "version",
+        MetadataFault::Requirement(_) => "requirement",
+        MetadataFault::Source(_) => "source",
+        MetadataFault::ManifestPath(_) => "manifest-path",
+        MetadataFault::Memory => "memory",
+    }
+}
+
+/// The text of a fault of the metadata: the path of a member, an id, or nothing.
+fn fault_detail(fault: &MetadataFault) -> &str
+    ensures { result.now ≡ fault_detail fault.now }
+{
+    match fault {
+        MetadataFault::Json
+        | MetadataFault::Float
+        | MetadataFault::NoResolve
+        | MetadataFault::Memory => "",
+        MetadataFault::Shape(path) => path.as_str(),
+        MetadataFault::DuplicateId(id)
+        | MetadataFault::DanglingId(id)
+        | MetadataFault::Version(id)
+        | MetadataFault::Requirement(id)
+        | MetadataFault::Source(id)
+        | MetadataFault::ManifestPath(id) => id.as_str(),
+    }
+}
+
+/// A stop that a fault of the metadata is the cause of, as JSON.
+fn metadata_value(alloc: Global, fault: &MetadataFault) -> Result<Value, AllocError>
+    ensures { IfOk result (λ value. view value
+        ≡ tells (codes "stop") (fault_fields fault.now)) }
+{
+    let detail = fault_detail(fault);
+    let word = fault_word(fault);
+    json!(in alloc; {
+        "fields": {"detail": detail, "fault": word, "stop": "metadata"},
+        "type": "stop",
+    })
+}
+
+/// Why a run stopped, as JSON. There is none of want of memory, which has a line of its own, and
+/// none of a run that is done.
+fn stop_value(alloc: Global, outcome: &Outcome, policy: &[u8]) -> Result<Value, NoMemory>
+    requires { IsTextOf outcome.now policy.now }
+    ensures { IfOk result (λ value. view value
+        ≡ tells (codes "stop") (stop_fields policy.now outcome.now)) }
+{
+    match outcome {
+        Outcome::Usage(at) => {
+            Ok(json!(in alloc; {"fields": {"at": *at, "stop": "usage"}, "type": "stop"})?)
+        }
+        Outcome::Read(which) => Ok(stop_at_file(alloc, "read", *which)?),
+        Outcome::Long(which) => Ok(stop_at_file(alloc, "long", *which)?),
+        Outcome::Gate(GateError::Config(faults)) => Ok(config_value(alloc, faults)?),
+        Outcome::Gate(GateError::Invalid(told)) => Ok(invalid_value(alloc, policy, told)?),
+        Outcome::Gate(GateError::NotBuilt(which)) => Ok(stop_at_file(alloc, "not-built", *which)?),
+        Outcome::Gate(GateError::Metadata(fault)) => Ok(metadata_value(alloc, fault)?),
+        Outcome::Write(_) => Ok(json!(in alloc; {"fields": {"stop": "write"}, "type": "stop"})?),
+        Outcome::Done(_) | Outcome::Gate(GateError::Memory) | Outcome::Memory => Err(NoMemory),
+    }
+}
+
+/// The line that tells why a run stopped. Where entries of the policy clash, labels lie in its text.
+#[tactic(auto, unfolding(crate::specs::Stops::stop_line))]
+pub fn stop_line(alloc: Global, outcome: &Outcome, policy: &[u8]) -> Result<Text, NoMemory>
+    requires { IsTextOf outcome.now policy.now }
+    ensures { IfOk result (λ text. text ≡ stop_line policy.now outcome.now) }
+{
+    line(alloc, &stop_value(alloc, outcome, policy)?)
+}
+
+/// The line that tells that memory ran out.
+pub fn memory_line() -> &'static str
+    ensures { result.now ≡ memory_line }
+{
+    "{\"fields\":{\"stop\":\"memory\"},\"type\":\"stop\"}\n"
+}
