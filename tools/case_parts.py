@@ -1,0 +1,122 @@
+"""What the cases are made of: metadata, and runs over it."""
+
+import json
+import re
+
+from deny_report import compact
+
+REGISTRY = "registry+https://github.com/rust-lang/crates.io-index"
+
+
+def package(name, version="1.0.0", **more):
+    """A package of the registry, or with `source=None` one of the workspace."""
+    source = more.pop("source", REGISTRY)
+    id_ = "%s %s" % (name, version) if source is None else "%s %s (%s)" % (name, version, source)
+    members = {"id": id_, "manifest_path": "/w/Cargo.toml", "name": name, "source": source, "version": version}
+    return dict(members, **more)
+
+
+APP = package("app", "0.1.0", source=None)
+
+
+def dependency(child, kinds=(None,)):
+    return {"dep_kinds": [{"kind": kind} for kind in kinds], "pkg": child["id"]}
+
+
+def metadata(edges, packages=None, members=(APP,)):
+    """Metadata in which each pair of packages is a normal dependency; or one of the kinds beside
+    the pair."""
+    if packages is None:
+        packages = unique([APP] + [p for edge in edges for p in edge[:2]])
+    deps = {p["id"]: [] for p in packages}
+    for edge in edges:
+        deps[edge[0]["id"]].append(dependency(edge[1], *edge[2:]))
+    return {
+        "packages": packages,
+        "resolve": {"nodes": [{"deps": deps[p["id"]], "id": p["id"]} for p in packages]},
+        "workspace_members": [p["id"] for p in members],
+        "workspace_root": "/w",
+    }
+
+
+def unique(items):
+    kept = {}
+    for item in items:
+        kept.setdefault(id(item), item)
+    return list(kept.values())
+
+
+def graph(text, members="app"):
+    """Metadata of a graph such as `app -> x, app -> x@2.0.0 dev build, y`: crates are 1.0.0 where no version is
+    written, the members 0.1.0, and edges are normal where no kind is. No crate has a source."""
+    made = {}
+
+    def crate(word):
+        name, _, version = word.partition("@")
+        otherwise = "0.1.0" if name in members.split() else "1.0.0"
+        return made.setdefault(word, package(name, version or otherwise, source=None))
+
+    edges, in_order = [], [crate(word) for word in members.split()]
+    for item in filter(None, re.split(r"\s*,\s*", text.strip())):
+        parent, *rest = item.split()
+        crate(parent)
+        if rest:
+            edges.append((crate(parent), crate(rest[1]), rest[2:] or [None]))
+    return lean(metadata(edges, packages=list(made.values()), members=in_order))
+
+
+def lean(value):
+    """Metadata without what may be left out: no source, no dependencies, a normal one's kind."""
+    for package_ in value["packages"]:
+        del package_["source"]
+        package_["manifest_path"] = "/"
+    for node in value["resolve"]["nodes"]:
+        for dependency_ in node["deps"]:
+            if dependency_["dep_kinds"] == [{"kind": None}]:
+                del dependency_["dep_kinds"]
+        if not node["deps"]:
+            del node["deps"]
+    return value
+
+
+X, X2, Y, Z = package("x"), package("x", "2.0.0"), package("y"), package("z")
+ALONE = compact(metadata([]))
+WITH_X = compact(metadata([(APP, X)]))
+TWO_X = compact(metadata([(APP, X), (APP, X2)]))
+CHAIN_X = compact(metadata([(APP, X2), (X2, X)]))
+DENY_X = '[bans]\ndeny = ["x"]\n'
+DENY_SEVERAL = '[bans]\nmultiple-versions = "deny"\n'
+WORDS = ["check", "deny.toml", "metadata.json"]
+
+
+def case(name, policy="", text=ALONE, **more):
+    """A run over a policy and metadata. `by_hand` says what it tells, as `told` of check_cases.py puts it."""
+    text = text if isinstance(text, (str, list)) else compact(text)
+    return dict({"name": name, "words": WORDS, "files": {WORDS[1]: policy, WORDS[2]: text}}, **more)
+
+
+MISSING = object()
+
+
+def put(value, path, new):
+    """A copy of the value with `new` at the path, or nothing there."""
+    value = json.loads(compact(value))
+    inner = value
+    for key in path[:-1]:
+        inner = inner[key]
+    if new is MISSING:
+        del inner[path[-1]]
+    else:
+        inner[path[-1]] = new
+    return value
+
+
+def draws(seed):
+    """Numbers below a limit, always the same ones."""
+    state = [seed]
+
+    def draw(limit):
+        state[0] = (state[0] * 6364136223846793005 + 1442695040888963407) % 2**64
+        return (state[0] >> 33) % limit
+
+    return draw

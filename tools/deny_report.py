@@ -1,0 +1,103 @@
+"""What a run of `check POLICY METADATA` writes, and its status."""
+
+import json
+
+from deny_metadata import Fault, read_metadata
+from deny_policy import Faults, clashes, read_policy
+from deny_rules import findings
+
+LIMIT = 2**28  # a text that is read has fewer bytes than this
+
+
+def compact(value):
+    """Compact JSON, keys in byte order, control characters escaped and nothing else."""
+    return json.dumps(value, ensure_ascii=False, separators=(",", ":"), sort_keys=True)
+
+
+def line(kind, fields):
+    return compact({"fields": fields, "type": kind}) + "\n"
+
+
+def stop_line(stop, **fields):
+    return line("stop", dict(fields, stop=stop))
+
+
+# ---- findings and faults
+
+
+def labelled(text, label):
+    """A label: where its range begins, from 1 and in characters, and its text without quotes at the ends."""
+    start, end = label.span
+    before = text[:start]
+    column = len(before[before.rfind(b"\n") + 1 :].decode()) + 1
+    span = text[start:end].decode().strip('"')
+    return {"column": column, "line": before.count(b"\n") + 1, "message": label.message, "span": span}
+
+
+def with_labels(fields, text, labels):
+    return dict(fields, labels=[labelled(text, label) for label in labels]) if labels else fields
+
+
+def finding_line(finding, text):
+    fields = {"code": finding.code, "message": finding.message, "severity": finding.severity}
+    return line("diagnostic", with_labels(fields, text, finding.labels))
+
+
+def clash_value(diagnostic, text):
+    fields = {"message": diagnostic.message, "severity": "error"}
+    return {"fields": with_labels(fields, text, diagnostic.labels), "type": "diagnostic"}
+
+
+def fault_value(fault):
+    kind, key, (start, end) = fault
+    return {"end": end, "key": key, "kind": kind, "start": start}
+
+
+# ---- runs
+
+
+def report(policy_text, metadata_text):
+    """The lines of the report on two texts and its status, or the line of a stop and its status."""
+    try:
+        policy = read_policy(policy_text)
+    except Faults as found:
+        return stop_line("config", faults=[fault_value(fault) for fault in found.faults]), 19
+    contradictions = clashes(policy)
+    if contradictions:
+        return stop_line("invalid", diagnostics=[clash_value(one, policy_text) for one in contradictions]), 20
+    if not policy.is_built():
+        return stop_line("not-built", file="policy"), 25
+    try:
+        graph = read_metadata(metadata_text)
+    except Fault as fault:
+        return stop_line("metadata", fault=fault.fault, detail=fault.detail), 21
+    found = findings(policy, graph)
+    fails = any(finding.severity == "error" for finding in found)
+    bits = 2 if fails else 0
+    verdict = line("verdict", {"bits": bits, "verdict": "fail" if fails else "pass"})
+    return "".join(finding_line(finding, policy_text) for finding in found) + verdict, bits
+
+
+def usage_place(words):
+    """Where the words break off from `check POLICY METADATA`, or None."""
+    is_path = lambda word: word != "" and not word.startswith("-")
+    tests = [lambda word: word == "check", is_path, is_path]
+    for place, word in enumerate(words):
+        if place >= len(tests) or not tests[place](word):
+            return place
+    return None if len(words) == len(tests) else len(words)
+
+
+def run(words, texts, failing=()):
+    """What is to be told over these files, and the status, as if the outputs took everything."""
+    place = usage_place(words)
+    if place is not None:
+        return stop_line("usage", at=place), 16
+    read = []
+    for file, path in (("policy", words[1]), ("metadata", words[2])):
+        if path not in texts or path in failing:
+            return stop_line("read", file=file), 17
+        read.append(texts[path]())
+        if len(read[-1]) >= LIMIT:
+            return stop_line("long", file=file), 18
+    return report(*read)
