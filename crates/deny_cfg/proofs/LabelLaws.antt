@@ -16,7 +16,7 @@ use Rattle.deny_toml.specs.Value.{entries_in}
 use Rattle.deny_toml.specs.declared.value.Table.{Table}
 use Rattle.deny_toml.specs.declared.value.Value.{Value}
 use Rattle.deny_cfg.specs.LabelRanges.{joined, of_some}
-use Rattle.deny_cfg.specs.Table.{Entries, ReadsIn, ReadsOptional, ReadsOr, ReadsTable}
+use Rattle.deny_cfg.specs.Table.{Entries, ReadsIn, ReadsIfThere, ReadsOr, ReadsTable}
 use Rattle.deny_cfg.specs.Words.{ReadsList}
 
 -- ---- parts of a value that stands in a text
@@ -124,7 +124,7 @@ key_none : (text : List ℕ) (o : Option Value) → WithinKey text o []
 key_none text o = record { lie = λ _. tt; part = part_nothing (starts_of o) }
 
 pub optional_within : {T : Type 0} (text : List ℕ) (f : T → List Span) (Reads : Value → T → Type 0) → ((v : Value) (x : T) → Reads v x → Within text v (f x))
-    → (o : Option Value) (read : Option T) → ReadsOptional Reads o read → WithinKey text o (of_some f read)
+    → (o : Option Value) (read : Option T) → ReadsIfThere Reads o read → WithinKey text o (of_some f read)
 optional_within text f Reads each None read reads = subst (λ r. WithinKey text None (of_some f r)) (sym reads) (key_none text None)
 optional_within text f Reads each (Some v) None reads = absurd reads
 optional_within text f Reads each (Some v) (Some x) reads = key_at text v (f x) (each v x reads)

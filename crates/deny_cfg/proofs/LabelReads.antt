@@ -28,7 +28,7 @@ use Rattle.deny_cfg.specs.Entry.{ReadsEntry, ReadsEntryBy, ReadsEntryKeys, Reads
 use Rattle.deny_cfg.specs.LabelRanges.{of_some, own_range, reason_range, spec_range, word_ranges}
 use Rattle.deny_cfg.specs.PolicyKey.{name_of}
 use Rattle.deny_cfg.specs.Spec.{ReadsSpecBy, ReadsSpecKeys, ReadsSpecOf, ReadsSpecText, crate_fields, divided, divided_at, name_fields, name_in, name_span, or_else, parts_or, spec_fields, spec_in}
-use Rattle.deny_cfg.specs.Table.{Entries, ReadsRequired, at_key, left}
+use Rattle.deny_cfg.specs.Table.{Entries, ReadsThere, at_key, left}
 use Rattle.deny_cfg.specs.Words.{ReadsAs, ReadsBool, ReadsSpanned, ReadsText, ReadsTexts, level_of}
 use Rattle.deny_cfg.specs.declared.package_spec.PackageSpec.{PackageSpec}
 use Rattle.deny_cfg.specs.declared.policy_key.PolicyKey.TheVariants as key
@@ -195,7 +195,7 @@ spec_text_within text v spec reads = by_text (text_in v) refl reads
               (ap (λ (span : Span). span.start ∷ []) reads.1 ∙ (ap (λ n. n ∷ []) (start_by (is_verbatim v) (span_in v) (length name)) ∙ sym (starts_of_text v t is)));
         }
 
-name_key_within : (text : List ℕ) (o : Option Value) (spec : PackageSpec) → ReadsRequired (ReadsSpanned (ReadsAs name_in)) o spec.name → WithinKey text o (spec_range spec)
+name_key_within : (text : List ℕ) (o : Option Value) (spec : PackageSpec) → ReadsThere (ReadsSpanned (ReadsAs name_in)) o spec.name → WithinKey text o (spec_range spec)
 name_key_within text None spec reads = absurd reads
 name_key_within text (Some v) spec reads =
     let word = text_there name_in (text_in v) spec.name.value reads.1 in

@@ -12,7 +12,7 @@ use Rattle.deny_cfg.specs.declared.policy_key.PolicyKey.TheVariants as key
 use Rattle.deny_cfg.specs.Requirement.{held_in, requirement_in, requirement_text}
 use Rattle.deny_cfg.specs.Spec.{ReadsName, ReadsSpecBy, ReadsSpecKeys, ReadsSpecOf, ReadsSpecText, name_in, name_span, parts_in, spec_in}
 use Rattle.deny_cfg.specs.SpecView.{spec_view}
-use Rattle.deny_cfg.specs.Table.{Entries, ReadsIn, ReadsOptional, ReadsOr, ReadsRequired, ReadsTable, at_key}
+use Rattle.deny_cfg.specs.Table.{Entries, ReadsIn, ReadsIfThere, ReadsOr, ReadsThere, ReadsTable, at_key}
 use Rattle.deny_cfg.specs.Words.{ReadsAs, ReadsBool, ReadsCount, ReadsList, ReadsSpanned, ReadsText, ReadsTexts, meaning_in}
 
 -- what is read twice is alike, or the same
@@ -63,7 +63,7 @@ one_texts v xs ys one two =
     sym (each_same xs ys (alike_list (ReadsSpanned ReadsText) (λ x y. y ≡ x) (λ w x y here there. one_spanned ReadsText one_text w y x there here) v xs ys one two))
 
 -- keys of a table
-pub one_optional : {T : Type 0} (Reads : Value → T → Type 0) → ReadsOne Reads → ReadsOne (ReadsOptional Reads)
+pub one_optional : {T : Type 0} (Reads : Value → T → Type 0) → ReadsOne Reads → ReadsOne (ReadsIfThere Reads)
 one_optional Reads same None x y one two = one ∙ sym two
 one_optional Reads same (Some v) None y one two = absurd one
 one_optional Reads same (Some v) (Some x) None one two = absurd two
@@ -79,7 +79,7 @@ one_or default Reads same = alike_or default Reads (λ x y. x ≡ y) refl same
 pub alike_list_or : {T : Type 0} (Reads : Value → T → Type 0) (Alike : T → T → Type 0) → ReadsAlike Reads Alike → ReadsAlike (ReadsOr [] (ReadsList Reads)) (AllZip Alike)
 alike_list_or Reads Alike alike = alike_or [] (ReadsList Reads) (AllZip Alike) tt (alike_list Reads Alike alike)
 
-one_required : {T : Type 0} (Reads : Value → T → Type 0) → ReadsOne Reads → ReadsOne (ReadsRequired Reads)
+one_required : {T : Type 0} (Reads : Value → T → Type 0) → ReadsOne Reads → ReadsOne (ReadsThere Reads)
 one_required Reads same None x y one two = absurd one
 one_required Reads same (Some v) x y one two = same v x y one two
 

@@ -19,7 +19,7 @@ use Rattle.deny_toml.proofs.FaultLaws.{in_order-empty}
 use Rattle.deny_toml.specs.Faults.{under, Reports}
 use Rattle.deny_toml.specs.TableHelper.{optional_faults, table_faults}
 use Rattle.deny_toml.specs.TableHelper as helper
-use Rattle.deny_cfg.specs.Table.{Entries, Field, faults_of_fields, faults_in_table, faults_of_table, ReadsIn, ReadsTable, left, is_other, are_apart, State, after, after_all, ReadAt, ReadsOptional, ReadsOr, optional}
+use Rattle.deny_cfg.specs.Table.{Entries, Field, faults_of_fields, faults_in_table, faults_of_table, ReadsIn, ReadsTable, left, is_other, are_apart, State, after, after_all, ReadAt, ReadsIfThere, ReadsOr, optional}
 use Rattle.deny_cfg.specs.declared.policy_key.PolicyKey.{PolicyKey}
 use Rattle.deny_cfg.specs.PolicyKey.{name_of}
 use Rattle.std.specs.Prelude.{Result, Ok, Err, IfOk, if◌then◌else◌}
@@ -31,22 +31,22 @@ under-none name (f ∷ fs) e = cc e
 
 module _ {T : Type 0} (faults_of : Value → List ConfigFault) (Reads : Value → T → Type 0) (name : List ℕ) where
   -- what the helper says of a key that may be left out is what is read, where its value has no fault
-  pub optional_read : (v : Option Value) (read : Option T) → helper.ReadsOptional faults_of Reads v read → optional_faults faults_of name v ≡ [] → ReadsOptional Reads v read
+  pub optional_read : (v : Option Value) (read : Option T) → helper.ReadsOptional faults_of Reads v read → optional_faults faults_of name v ≡ [] → ReadsIfThere Reads v read
   optional_read None read says none = says
   optional_read (Some v) None says none = says (under-none name (faults_of v) none)
   optional_read (Some v) (Some x) says none = says.1
 
-  pub or_read : (v : Option Value) (default x : T) → ReadsOptional Reads v (Some x) → ReadsOr default Reads v x
+  pub or_read : (v : Option Value) (default x : T) → ReadsIfThere Reads v (Some x) → ReadsOr default Reads v x
   or_read None default x says = cc says
   or_read (Some v) default x says = says
 
-  pub or_default : (v : Option Value) (default : T) → ReadsOptional Reads v None → ReadsOr default Reads v default
+  pub or_default : (v : Option Value) (default : T) → ReadsIfThere Reads v None → ReadsOr default Reads v default
   or_default None default says = refl
   or_default (Some v) default says = absurd says
 
 pub read_result : {T : Type 0} (faults_of : Value → List ConfigFault) (Reads : Value → T → Type 0) (name : List ℕ) (r : Result (Option T) NoMemory) (key : PolicyKey) (s : State)
     → name ≡ name_of key → IfOk r (helper.ReadsOptional faults_of Reads (value_at name s.entries))
-    → IfOk r (λ x. ReadAt (optional key faults_of) s (λ v. ReadsOptional Reads v x))
+    → IfOk r (λ x. ReadAt (optional key faults_of) s (λ v. ReadsIfThere Reads v x))
 read_result faults_of Reads name (Ok x) key s named says =
     let renamed : helper.ReadsOptional faults_of Reads (value_at (name_of key) s.entries) x = subst (λ n. helper.ReadsOptional faults_of Reads (value_at n s.entries) x) named says in
     record { says = λ none. optional_read faults_of Reads (name_of key) (value_at (name_of key) s.entries) x renamed none }
@@ -204,7 +204,7 @@ any_is p f [] = refl
 any_is p f (x ∷ xs) = any_by p f x xs (p x) (any_is p f xs)
 
 pub optional_mapped : {S T : Type 0} (Reads : Value → T → Type 0) (f : S → T) (v : Option Value) (read : Option S)
-    → ReadsOptional (λ w x. Reads w (f x)) v read → ReadsOptional Reads v (option_map f read)
+    → ReadsIfThere (λ w x. Reads w (f x)) v read → ReadsIfThere Reads v (option_map f read)
 optional_mapped Reads f None None reads = refl
 optional_mapped Reads f None (Some x) reads = cc reads
 optional_mapped Reads f (Some v) None reads = reads

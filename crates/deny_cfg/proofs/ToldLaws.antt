@@ -25,7 +25,7 @@ use Rattle.deny_cfg.specs.PolicyText.{ReadsBans, bans_name}
 use Rattle.deny_cfg.specs.PolicyKey.{name_of}
 use Rattle.deny_cfg.specs.Spec.{spec_fields}
 use Rattle.deny_cfg.specs.SpecView.{same_spec}
-use Rattle.deny_cfg.specs.Table.{Entries, Field, ReadsIn, ReadsOptional, ReadsOr, at_key, left}
+use Rattle.deny_cfg.specs.Table.{Entries, Field, ReadsIn, ReadsIfThere, ReadsOr, at_key, left}
 use Rattle.deny_cfg.specs.Words.{ReadsList, ReadsSpanned, ReadsTexts}
 use Rattle.deny_cfg.specs.declared.bans.cfg.ban.CrateBanExtended.{CrateBanExtended}
 use Rattle.deny_cfg.specs.declared.bans.cfg.config.Config.{Config}
@@ -47,7 +47,7 @@ left_stands : (text : List ℕ) (fields : List Field) (entries : Entries) → En
 left_stands text [] entries stand = stand
 left_stands text (f ∷ fs) entries stand = left_stands text fs (without f.name entries) (without_stands text f.name entries stand)
 
-list_lies : (text : List ℕ) (o : Option Value) (wrappers : Option (Spanned (List Words))) → StandsAt text o → ReadsOptional (ReadsSpanned ReadsTexts) o wrappers → Lie text (of_some own_range wrappers)
+list_lies : (text : List ℕ) (o : Option Value) (wrappers : Option (Spanned (List Words))) → StandsAt text o → ReadsIfThere (ReadsSpanned ReadsTexts) o wrappers → Lie text (of_some own_range wrappers)
 list_lies text o None stands reads = tt
 list_lies text None (Some w) stands reads = cc
 list_lies text (Some v) (Some w) stands reads = (subst (IsRange text) (sym reads.0) (stands_itself text v stands).placed, tt)

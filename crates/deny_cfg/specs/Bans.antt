@@ -8,7 +8,7 @@ use Rattle.deny_cfg.specs.declared.bans.cfg.ban.CrateBanExtended.{CrateBanExtend
 use Rattle.deny_cfg.specs.declared.bans.cfg.tree_skip.TreeSkipExtended.{TreeSkipExtended}
 use Rattle.deny_cfg.specs.declared.spec_or_extended.PackageSpecOrExtended.{PackageSpecOrExtended}
 use Rattle.deny_cfg.specs.Entry.{ReadsSome, ReadsEntry, faults_of_entry}
-use Rattle.deny_cfg.specs.Table.{Entries, Field, optional, at_key, ReadsOptional}
+use Rattle.deny_cfg.specs.Table.{Entries, Field, optional, at_key, ReadsIfThere}
 use Rattle.deny_cfg.specs.Words.{faults_of_bool, ReadsBool, faults_of_any_text, ReadsText, faults_of_texts, ReadsTexts, ReadsSpanned, faults_of_count, ReadsCount}
 
 -- a reason
@@ -19,7 +19,7 @@ abbrev pub reason_fields : List Field
 reason_fields = optional key.Reason faults_of_any_text ∷ []
 
 abbrev pub ReadsReasonKey : Entries → Option Reason → Type 0
-ReadsReasonKey entries reason = ReadsOptional ReadsReason (at_key key.Reason entries) reason
+ReadsReasonKey entries reason = ReadsIfThere ReadsReason (at_key key.Reason entries) reason
 
 -- what a table of `deny` says besides its spec
 abbrev pub ban_fields : List Field
@@ -31,10 +31,10 @@ ban_fields =
     ∷ []
 
 pub record ReadsBan (entries : Entries) (ban : CrateBanExtended) : Type 0 where
-  pub wrappers : ReadsOptional (ReadsSpanned ReadsTexts) (at_key key.Wrappers entries) ban.wrappers
-  pub deny_multiple_versions : ReadsOptional (ReadsSpanned ReadsBool) (at_key key.DenyMultipleVersions entries) ban.deny_multiple_versions
-  pub reason : ReadsOptional ReadsReason (at_key key.Reason entries) ban.reason
-  pub use_instead : ReadsOptional (ReadsSpanned ReadsText) (at_key key.UseInstead entries) ban.use_instead
+  pub wrappers : ReadsIfThere (ReadsSpanned ReadsTexts) (at_key key.Wrappers entries) ban.wrappers
+  pub deny_multiple_versions : ReadsIfThere (ReadsSpanned ReadsBool) (at_key key.DenyMultipleVersions entries) ban.deny_multiple_versions
+  pub reason : ReadsIfThere ReadsReason (at_key key.Reason entries) ban.reason
+  pub use_instead : ReadsIfThere (ReadsSpanned ReadsText) (at_key key.UseInstead entries) ban.use_instead
 
 abbrev pub says_nothing : CrateBanExtended → Bool
 says_nothing ban = is_none ban.wrappers && (is_none ban.deny_multiple_versions && (is_none ban.reason && is_none ban.use_instead))
@@ -44,8 +44,8 @@ abbrev pub tree_skip_fields : List Field
 tree_skip_fields = optional key.Depth faults_of_count ∷ optional key.Reason faults_of_any_text ∷ []
 
 pub record ReadsTreeSkip (entries : Entries) (skip : TreeSkipExtended) : Type 0 where
-  pub depth : ReadsOptional ReadsCount (at_key key.Depth entries) skip.depth
-  pub reason : ReadsOptional ReadsReason (at_key key.Reason entries) skip.reason
+  pub depth : ReadsIfThere ReadsCount (at_key key.Depth entries) skip.depth
+  pub reason : ReadsIfThere ReadsReason (at_key key.Reason entries) skip.reason
 
 -- entries of `allow`, `skip` and `ignore`, of `deny`, and of `skip-tree`
 abbrev pub faults_of_reasoned : Value → List ConfigFault

@@ -12,7 +12,7 @@ use Rattle.deny_cfg.specs.declared.bans.cfg.checksum.Checksum.{Checksum}
 use Rattle.deny_cfg.specs.Checksum.{checksum_of}
 use Rattle.deny_cfg.specs.Entry.{ReadsEntryKeys, entry_fields}
 use Rattle.deny_cfg.specs.Spec.{faults_of_spec, ReadsSpec}
-use Rattle.deny_cfg.specs.Table.{Entries, Field, optional, required, at_key, faults_of_table, ReadsOptional, ReadsOr, ReadsRequired, ReadsTable}
+use Rattle.deny_cfg.specs.Table.{Entries, Field, optional, required, at_key, faults_of_table, ReadsIfThere, ReadsOr, ReadsThere, ReadsTable}
 use Rattle.deny_cfg.specs.Words.{faults_as, level_of, ReadsAs, faults_of_bool, ReadsBool, faults_of_any_text, ReadsText, faults_of_texts, ReadsTexts, ReadsSpanned, faults_of_list, ReadsList}
 
 abbrev pub ReadsChecksum : Value → Checksum → Type 0
@@ -23,8 +23,8 @@ abbrev pub bypass_path_fields : List Field
 bypass_path_fields = required key.Path faults_of_any_text ∷ optional key.Checksum (faults_as checksum_of) ∷ []
 
 pub record ReadsBypassPath (entries : Entries) (file : BypassPath) : Type 0 where
-  pub path : ReadsRequired (ReadsSpanned ReadsText) (at_key key.Path entries) file.path
-  pub checksum : ReadsOptional (ReadsSpanned ReadsChecksum) (at_key key.Checksum entries) file.checksum
+  pub path : ReadsThere (ReadsSpanned ReadsText) (at_key key.Path entries) file.path
+  pub checksum : ReadsIfThere (ReadsSpanned ReadsChecksum) (at_key key.Checksum entries) file.checksum
 
 abbrev pub faults_of_bypass_path : Value → List ConfigFault
 faults_of_bypass_path v = faults_of_table (λ entries. bypass_path_fields) v
@@ -39,9 +39,9 @@ bypass_fields =
     ∷ []
 
 pub record ReadsBypassKeys (entries : Entries) (keys : BypassKeys) : Type 0 where
-  pub build_script : ReadsOptional (ReadsSpanned ReadsChecksum) (at_key key.BuildScript entries) keys.build_script
+  pub build_script : ReadsIfThere (ReadsSpanned ReadsChecksum) (at_key key.BuildScript entries) keys.build_script
   pub required_features : ReadsOr [] ReadsTexts (at_key key.RequiredFeatures entries) keys.required_features
-  pub allow_globs : ReadsOptional ReadsTexts (at_key key.AllowGlobs entries) keys.allow_globs
+  pub allow_globs : ReadsIfThere ReadsTexts (at_key key.AllowGlobs entries) keys.allow_globs
   pub allow : ReadsOr [] (ReadsList (ReadsTable ReadsBypassPath)) (at_key key.Allow entries) keys.allow
 
 abbrev pub keys_in : Bypass → BypassKeys
@@ -72,11 +72,11 @@ build_fields =
     ∷ []
 
 pub record ReadsBuild (entries : Entries) (build : BuildConfig) : Type 0 where
-  pub allow_build_scripts : ReadsOptional (ReadsList ReadsSpec) (at_key key.AllowBuildScripts entries) build.allow_build_scripts
+  pub allow_build_scripts : ReadsIfThere (ReadsList ReadsSpec) (at_key key.AllowBuildScripts entries) build.allow_build_scripts
   pub executables : ReadsOr level.Deny (ReadsAs level_of) (at_key key.Executables entries) build.executables
   pub interpreted : ReadsOr level.Allow (ReadsAs level_of) (at_key key.Interpreted entries) build.interpreted
-  pub script_extensions : ReadsOptional ReadsTexts (at_key key.ScriptExtensions entries) build.script_extensions
-  pub bypass : ReadsOptional (ReadsList ReadsBypass) (at_key key.Bypass entries) build.bypass
+  pub script_extensions : ReadsIfThere ReadsTexts (at_key key.ScriptExtensions entries) build.script_extensions
+  pub bypass : ReadsIfThere (ReadsList ReadsBypass) (at_key key.Bypass entries) build.bypass
   pub enable_builtin_globs : ReadsOr false ReadsBool (at_key key.EnableBuiltinGlobs entries) build.enable_builtin_globs
   pub include_dependencies : ReadsOr false ReadsBool (at_key key.IncludeDependencies entries) build.include_dependencies
   pub include_workspace : ReadsOr false ReadsBool (at_key key.IncludeWorkspace entries) build.include_workspace

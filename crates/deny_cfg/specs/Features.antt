@@ -8,7 +8,7 @@ use Rattle.deny_cfg.specs.declared.bans.cfg.features.CrateFeatures.{CrateFeature
 use Rattle.deny_cfg.specs.declared.bans.cfg.features.FeatureLists.{FeatureLists}
 use Rattle.deny_cfg.specs.Entry.{ReadsEntryKeys, entry_fields}
 use Rattle.deny_cfg.specs.Bans.{ReadsReason}
-use Rattle.deny_cfg.specs.Table.{Entries, Field, optional, at_key, ReadsOptional, ReadsOr, ReadsTable, faults_of_table}
+use Rattle.deny_cfg.specs.Table.{Entries, Field, optional, at_key, ReadsIfThere, ReadsOr, ReadsTable, faults_of_table}
 use Rattle.deny_cfg.specs.Words.{faults_of_bool, ReadsBool, faults_of_any_text, faults_of_texts, ReadsTexts, ReadsSpanned}
 
 -- what stands for a value that is left out has the range 0..0
@@ -28,7 +28,7 @@ pub record ReadsFeatures (entries : Entries) (lists : FeatureLists) : Type 0 whe
   pub allow : ReadsOr (nowhere []) (ReadsSpanned ReadsTexts) (at_key key.Allow entries) lists.allow
   pub deny : ReadsOr [] ReadsTexts (at_key key.Deny entries) lists.deny
   pub exact : ReadsOr (nowhere false) (ReadsSpanned ReadsBool) (at_key key.Exact entries) lists.exact
-  pub reason : ReadsOptional ReadsReason (at_key key.Reason entries) lists.reason
+  pub reason : ReadsIfThere ReadsReason (at_key key.Reason entries) lists.reason
 
 abbrev pub lists_in : CrateFeatures → FeatureLists
 lists_in features = record { allow = features.allow; deny = features.deny; exact = features.exact; reason = features.reason }

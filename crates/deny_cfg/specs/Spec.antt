@@ -9,7 +9,7 @@ use Rattle.deny_toml.specs.Calls.{is_verbatim, text_in}
 use Rattle.deny_cfg.specs.declared.package_spec.PackageSpec.{PackageSpec}
 use Rattle.deny_cfg.specs.declared.policy_key.PolicyKey.TheVariants as key
 use Rattle.deny_cfg.specs.Requirement.{is_readable, requirement_text}
-use Rattle.deny_cfg.specs.Table.{Entries, Field, optional, required, at_key, ReadsTable, ReadsOptional, ReadsRequired, faults_of_table}
+use Rattle.deny_cfg.specs.Table.{Entries, Field, optional, required, at_key, ReadsTable, ReadsIfThere, ReadsThere, faults_of_table}
 use Rattle.deny_cfg.specs.Words.{faults_as, faults_of_meaning, ReadsAs, ReadsSpanned}
 
 -- what a divider divides where it stands first
@@ -75,8 +75,8 @@ abbrev pub spec_fields : Entries → List Field
 spec_fields entries = if is_some (at_key key.Crate entries) then crate_fields else name_fields
 
 pub record ReadsName (entries : Entries) (spec : PackageSpec) : Type 0 where
-  pub name : ReadsRequired (ReadsSpanned (ReadsAs name_in)) (at_key key.Name entries) spec.name
-  pub version : ReadsOptional (ReadsAs requirement_text) (at_key key.Version entries) spec.req_text
+  pub name : ReadsThere (ReadsSpanned (ReadsAs name_in)) (at_key key.Name entries) spec.name
+  pub version : ReadsIfThere (ReadsAs requirement_text) (at_key key.Version entries) spec.req_text
 
 -- what the keys of a spec say
 abbrev pub ReadsSpecBy : Option Value → Entries → PackageSpec → Type 0

@@ -10,7 +10,7 @@ use Rattle.deny_cfg.specs.declared.scope.Scope.TheVariants as word
 use Rattle.deny_cfg.specs.declared.bans.cfg.std_replacements.StdReplacementConfig.{StdReplacementConfig}
 use Rattle.deny_cfg.specs.Bans.{faults_of_reasoned, ReadsReasoned}
 use Rattle.deny_cfg.specs.RustVersion.{rust_version_in}
-use Rattle.deny_cfg.specs.Table.{Entries, Field, optional, at_key, faults_of_table, ReadsOptional, ReadsOr}
+use Rattle.deny_cfg.specs.Table.{Entries, Field, optional, at_key, faults_of_table, ReadsIfThere, ReadsOr}
 use Rattle.deny_cfg.specs.Words.{faults_as, level_of, scope_of, ReadsAs, faults_of_list, ReadsList}
 
 abbrev pub ReadsRustVersion : Value → Version → Type 0
@@ -28,7 +28,7 @@ std_fields =
 pub record ReadsStd (entries : Entries) (config : StdReplacementConfig) : Type 0 where
   pub scope : ReadsOr word.Workspace (ReadsAs scope_of) (at_key key.Scope entries) config.scope
   pub level : ReadsOr level.Deny (ReadsAs level_of) (at_key key.Level entries) config.level
-  pub rust_version : ReadsOptional ReadsRustVersion (at_key key.RustVersion entries) config.rust_version
+  pub rust_version : ReadsIfThere ReadsRustVersion (at_key key.RustVersion entries) config.rust_version
   pub ignore : ReadsOr [] (ReadsList ReadsReasoned) (at_key key.Ignore entries) config.ignore
   pub ignore_rust_version : ReadsOr word.None (ReadsAs scope_of) (at_key key.IgnoreRustVersion entries) config.ignore_rust_version
 

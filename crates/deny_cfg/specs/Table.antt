@@ -64,10 +64,10 @@ abbrev pub ReadsTable : {T : Type 0} → (Entries → T → Type 0) → Value �
 ReadsTable Reads v x = ReadsIn Reads (table_in v) x
 
 -- what is read from a key that may be left out: nothing, or what its value says
-abbrev pub ReadsOptional : {T : Type 0} → (Value → T → Type 0) → Option Value → Option T → Type 0
-ReadsOptional Reads None read = read ≡ None
-ReadsOptional Reads (Some v) None = ⊥
-ReadsOptional Reads (Some v) (Some x) = Reads v x
+abbrev pub ReadsIfThere : {T : Type 0} → (Value → T → Type 0) → Option Value → Option T → Type 0
+ReadsIfThere Reads None read = read ≡ None
+ReadsIfThere Reads (Some v) None = ⊥
+ReadsIfThere Reads (Some v) (Some x) = Reads v x
 
 -- the same where something stands for a key that is left out
 abbrev pub ReadsOr : {T : Type 0} → T → (Value → T → Type 0) → Option Value → T → Type 0
@@ -75,9 +75,9 @@ ReadsOr default Reads None x = x ≡ default
 ReadsOr default Reads (Some v) x = Reads v x
 
 -- what is read from a key that has to be there
-abbrev pub ReadsRequired : {T : Type 0} → (Value → T → Type 0) → Option Value → T → Type 0
-ReadsRequired Reads None x = ⊥
-ReadsRequired Reads (Some v) x = Reads v x
+abbrev pub ReadsThere : {T : Type 0} → (Value → T → Type 0) → Option Value → T → Type 0
+ReadsThere Reads None x = ⊥
+ReadsThere Reads (Some v) x = Reads v x
 
 -- something was read
 abbrev pub Gives : {T : Type 0} → (T → Type 0) → Option T → Type 0

@@ -1,5 +1,5 @@
 ghost use Rattle.std.specs.Prelude.{◌≡◌, IfOk, OnOk};
-ghost use Rattle.deny_cfg.specs.Table.{ReadsOptional, ReadsOr, ReadAt, state_of, after};
+ghost use Rattle.deny_cfg.specs.Table.{ReadsIfThere, ReadsOr, ReadAt, state_of, after};
 ghost use Rattle.deny_cfg.specs.Table as spec;
 ghost use Rattle.deny_cfg.specs.Words.{faults_as, level_of, ReadsAs};
 ghost use Rattle.deny_toml.specs.Value.{span_in};
@@ -66,7 +66,7 @@ pub(crate) fn optional_level(
     key: PolicyKey,
 ) -> Result<Option<Spanned<LintLevel>>, NoMemory>
     ensures next { OnOk result (state_of helper.new ≡ after (spec.optional key (faults_as level_of)) (state_of helper.old)) }
-    ensures read { IfOk result (λ x. ReadAt (spec.optional key (faults_as level_of)) (state_of helper.old) (λ v. ReadsOptional (λ w s. (s.span ≡ span_in w) × ReadsAs level_of w s.value) v x)) }
+    ensures read { IfOk result (λ x. ReadAt (spec.optional key (faults_as level_of)) (state_of helper.old) (λ v. ReadsIfThere (λ w s. (s.span ≡ span_in w) × ReadsAs level_of w s.value) v x)) }
 {
     match table::optional::<Spanned<Level>>(helper, key)? {
         Some(level) => Ok(Some(Spanned {

@@ -8,7 +8,7 @@ ghost use Rattle.deny_cfg.specs.PolicyKey.{name_of};
 ghost use Rattle.deny_cfg.specs.Requirement.{IsReadIn, requirement_text};
 ghost use Rattle.deny_cfg.specs.Spec as spec;
 ghost use Rattle.deny_cfg.specs.Spec.{parts_in, divided, name_in, spec_in, name_span, ReadsSpecText, ReadsSpecKeys, ReadsSpec, ReadsName, crate_fields, name_field, name_fields, spec_fields, faults_of_spec};
-ghost use Rattle.deny_cfg.specs.Table.{Gives, ReadAt, ReadsRequired, ReadsTable, after, after_all, faults_of_table, faults_of_fields, state_of, at_key};
+ghost use Rattle.deny_cfg.specs.Table.{Gives, ReadAt, ReadsThere, ReadsTable, after, after_all, faults_of_table, faults_of_fields, state_of, at_key};
 ghost use Rattle.deny_cfg.specs.Words.{faults_as, ReadsAs, ReadsSpanned};
 ghost use Rattle.deny_cfg.specs.declared.policy_key.PolicyKey.TheVariants as key;
 
@@ -173,7 +173,7 @@ fn read_crate(helper: &mut TableHelper<'_>) -> Result<Option<PackageSpec>, NoMem
 /// Reads the key `name`.
 fn read_name_key(helper: &mut TableHelper<'_>) -> Result<Option<Spanned<Text>>, NoMemory>
     ensures next { OnOk result (state_of helper.new ≡ after name_field (state_of helper.old)) }
-    ensures read { IfOk result (λ x. ReadAt name_field (state_of helper.old) (λ v. Gives (ReadsRequired (ReadsSpanned (ReadsAs name_in)) v) x)) }
+    ensures read { IfOk result (λ x. ReadAt name_field (state_of helper.old) (λ v. Gives (ReadsThere (ReadsSpanned (ReadsAs name_in)) v) x)) }
 {
     match table::required::<Spanned<SpecName>>(helper, PolicyKey::Name)? {
         Some(name) => Ok(Some(Spanned {

@@ -2,7 +2,7 @@
 ghost use Rattle.std.specs.Prelude.{◌≡◌, [], List, IfOk, IfErr, OnOk, Option};
 ghost use Rattle.deny_toml.specs.declared.value.Value.{Value};
 ghost use Rattle.deny_toml.specs.Faults.{Reports};
-ghost use Rattle.deny_cfg.specs.Table.{ReadsOptional, ReadsOr, ReadsRequired, Gives, state_of, after, ReadAt};
+ghost use Rattle.deny_cfg.specs.Table.{ReadsIfThere, ReadsOr, ReadsThere, Gives, state_of, after, ReadAt};
 ghost use Rattle.deny_cfg.specs.Table as spec;
 ghost use Rattle.deny_cfg.specs.Words.{faults_of_list, ReadsList};
 
@@ -18,7 +18,7 @@ pub(crate) fn optional<T: Deserialize>(
     key: PolicyKey,
 ) -> Result<Option<T>, NoMemory>
     ensures next { OnOk result (state_of helper.new ≡ after (spec.optional key T.faults_of) (state_of helper.old)) }
-    ensures read { IfOk result (λ x. ReadAt (spec.optional key T.faults_of) (state_of helper.old) (λ v. ReadsOptional T.reads v x)) }
+    ensures read { IfOk result (λ x. ReadAt (spec.optional key T.faults_of) (state_of helper.old) (λ v. ReadsIfThere T.reads v x)) }
 {
     helper.optional(key.name())
 }
@@ -45,7 +45,7 @@ pub(crate) fn required<T: Deserialize>(
     key: PolicyKey,
 ) -> Result<Option<T>, NoMemory>
     ensures next { OnOk result (state_of helper.new ≡ after (spec.required key T.faults_of) (state_of helper.old)) }
-    ensures read { IfOk result (λ x. ReadAt (spec.required key T.faults_of) (state_of helper.old) (λ v. Gives (ReadsRequired T.reads v) x)) }
+    ensures read { IfOk result (λ x. ReadAt (spec.required key T.faults_of) (state_of helper.old) (λ v. Gives (ReadsThere T.reads v) x)) }
 {
     match helper.required(key.name()) {
         Ok(read) => Ok(Some(read)),

@@ -3,7 +3,7 @@ use Rattle.deny_toml.specs.declared.value.Value.{Value}
 use Rattle.deny_cfg.specs.PolicyKey.{name_of}
 use Rattle.deny_cfg.specs.Requirement.{requirement_text}
 use Rattle.deny_cfg.specs.Spec.{name_fields, name_in}
-use Rattle.deny_cfg.specs.Table.{state_of, at_key, Gives, ReadsRequired, ReadsOptional}
+use Rattle.deny_cfg.specs.Table.{state_of, at_key, Gives, ReadsThere, ReadsIfThere}
 use Rattle.deny_cfg.specs.Words.{ReadsAs, ReadsSpanned}
 use Rattle.deny_cfg.specs.declared.policy_key.PolicyKey.TheVariants as key
 use Rattle.deny_cfg.proofs.TableLaws.{read_at, none_first, none_rest, optional_mapped}
@@ -19,8 +19,8 @@ returns-in-Some-clause-read c = λ none0.
     let v : Option Value = at_key key.Name c.args.helper.now.entries in
     let w : Option Value = at_key key.Version c.args.helper.now.entries in
     record {
-      name = subst (λ n. ReadsRequired (ReadsSpanned (ReadsAs name_in)) v n) (sym c.with_version.ensures.name)
-          (subst (Gives (ReadsRequired (ReadsSpanned (ReadsAs name_in)) v)) c.in-Some.is named);
-      version = subst (λ t. ReadsOptional (ReadsAs requirement_text) w t) (sym c.with_version.ensures.version)
+      name = subst (λ n. ReadsThere (ReadsSpanned (ReadsAs name_in)) v n) (sym c.with_version.ensures.name)
+          (subst (Gives (ReadsThere (ReadsSpanned (ReadsAs name_in)) v)) c.in-Some.is named);
+      version = subst (λ t. ReadsIfThere (ReadsAs requirement_text) w t) (sym c.with_version.ensures.version)
           (optional_mapped (ReadsAs requirement_text) (λ written. written.text) w c.in_ok-version.version version);
     }

@@ -2,7 +2,7 @@ ghost use Rattle.std.specs.Prelude.{◌≡◌, IfOk, OnOk};
 ghost use Rattle.deny_cfg.specs.Apart.{std-apart};
 ghost use Rattle.deny_cfg.specs.RustVersion.{rust_version_in};
 ghost use Rattle.deny_cfg.specs.StdReplacements.{std_fields, ReadsRustVersion, ReadsStd, faults_of_std};
-ghost use Rattle.deny_cfg.specs.Table.{ReadAt, ReadsOptional, ReadsTable, after, state_of};
+ghost use Rattle.deny_cfg.specs.Table.{ReadAt, ReadsIfThere, ReadsTable, after, state_of};
 ghost use Rattle.deny_cfg.specs.Table as spec;
 ghost use Rattle.deny_cfg.specs.Words.{faults_as};
 ghost use Rattle.deny_cfg.specs.declared.policy_key.PolicyKey.TheVariants as key;
@@ -34,7 +34,7 @@ pub struct StdReplacementConfig {
 /// Reads the key `rust-version`.
 fn rust_version(helper: &mut TableHelper<'_>) -> Result<Option<Version>, NoMemory>
     ensures next { OnOk result (state_of helper.new ≡ after (spec.optional key.RustVersion (faults_as rust_version_in)) (state_of helper.old)) }
-    ensures read { IfOk result (λ x. ReadAt (spec.optional key.RustVersion (faults_as rust_version_in)) (state_of helper.old) (λ v. ReadsOptional ReadsRustVersion v x)) }
+    ensures read { IfOk result (λ x. ReadAt (spec.optional key.RustVersion (faults_as rust_version_in)) (state_of helper.old) (λ v. ReadsIfThere ReadsRustVersion v x)) }
 {
     match table::optional::<RustVersion>(helper, PolicyKey::RustVersion)? {
         Some(version) => Ok(Some(version.0)),

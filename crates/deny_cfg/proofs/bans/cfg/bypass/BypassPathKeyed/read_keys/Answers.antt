@@ -1,7 +1,7 @@
 use Rattle.std.proofs.Common.{take, refl, subst, Option}
 use Rattle.deny_toml.specs.declared.value.Value.{Value}
 use Rattle.deny_cfg.specs.PolicyKey.{name_of}
-use Rattle.deny_cfg.specs.Table.{state_of, at_key, Gives, ReadsRequired}
+use Rattle.deny_cfg.specs.Table.{state_of, at_key, Gives, ReadsThere}
 use Rattle.deny_cfg.specs.Words.{ReadsSpanned, ReadsText}
 use Rattle.deny_cfg.specs.Build.{bypass_path_fields}
 use Rattle.deny_cfg.specs.declared.policy_key.PolicyKey.TheVariants as key
@@ -16,6 +16,6 @@ returns-in-Some-clause-read c = λ none0.
     let v : Option Value = at_key key.Path c.args.helper.now.entries in
     let path = read_at (take 0 bypass_path_fields) _ start _ refl refl c.in_ok-path.ensures.read (none_first _ _ none0) in
     record {
-      path = subst (Gives (ReadsRequired (ReadsSpanned ReadsText) v)) c.in-Some.is path;
+      path = subst (Gives (ReadsThere (ReadsSpanned ReadsText) v)) c.in-Some.is path;
       checksum = read_at (take 1 bypass_path_fields) _ start _ c.in_ok-path.ensures.next refl c.in_ok-checksum.ensures.read (none_first _ _ none1);
     }
