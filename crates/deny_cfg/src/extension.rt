@@ -12,7 +12,7 @@ use std::alloc::Global;
 
 /// What the table of an entry may say besides its spec. `fields` are its keys, and `reads_in` says
 /// what is read from a table where none of them has a fault.
-pub trait Extension: Sized + Drop {
+pub(crate) trait Extension: Sized + Drop {
     ghost fields: { List Field };
 
     ghost reads_in: { Entries → Option Self → Type 0 };

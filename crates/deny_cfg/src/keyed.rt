@@ -9,7 +9,7 @@ use std::alloc::Global;
 
 /// A type that is read from the keys of a table. `fields` are these keys, and `reads_in` says what
 /// is read from a table where none of them has a fault.
-pub trait Keyed: Sized + Drop {
+pub(crate) trait Keyed: Sized + Drop {
     ghost fields: { List Field };
 
     ghost reads_in: { Entries → Self → Type 0 };

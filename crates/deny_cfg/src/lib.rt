@@ -26,8 +26,6 @@ mod validate;
 mod version_key;
 mod written_requirement;
 
-pub use extension::Extension;
-pub use keyed::Keyed;
 pub use laws::{one_policy, one_refusal};
 pub use matching::match_krate;
 pub use package_spec::PackageSpec;

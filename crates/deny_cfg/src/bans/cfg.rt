@@ -17,10 +17,10 @@ mod workspace;
 
 pub use ban::CrateBanExtended;
 pub use build::BuildConfig;
-pub use bypass::{Bypass, BypassKeys, BypassPath};
+pub use bypass::{Bypass, BypassPath};
 pub use checksum::{Checksum, ChecksumParseError, checksum_round_trip};
 pub use config::Config;
-pub use features::{CrateFeatures, FeatureLists};
+pub use features::CrateFeatures;
 pub use highlight::GraphHighlight;
 pub use std_replacements::StdReplacementConfig;
 pub use tree_skip::TreeSkipExtended;

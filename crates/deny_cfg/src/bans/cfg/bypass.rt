@@ -64,7 +64,7 @@ pub struct Bypass {
 
 /// What an entry of `bypass` says besides its spec.
 #[derive(Debug, Drop)]
-pub struct BypassKeys {
+pub(crate) struct BypassKeys {
     pub build_script: Option<Spanned<Checksum>>,
     pub required_features: List<Spanned<Text>>,
     pub allow_globs: Option<List<Spanned<Text>>>,

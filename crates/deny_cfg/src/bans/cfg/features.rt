@@ -32,7 +32,7 @@ pub struct CrateFeatures {
 
 /// What an entry of `features` says besides its spec.
 #[derive(Debug, Drop)]
-pub struct FeatureLists {
+pub(crate) struct FeatureLists {
     pub allow: Spanned<List<Spanned<Text>>>,
     pub deny: List<Spanned<Text>>,
     pub exact: Spanned<bool>,
