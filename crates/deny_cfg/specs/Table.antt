@@ -79,6 +79,8 @@ abbrev pub ReadsThere : {T : Type 0} → (Value → T → Type 0) → Option Val
 ReadsThere Reads None x = ⊥
 ReadsThere Reads (Some v) x = Reads v x
 
+-- ---- for private clauses
+
 -- something was read
 abbrev pub Gives : {T : Type 0} → (T → Type 0) → Option T → Type 0
 Gives Reads None = ⊥
