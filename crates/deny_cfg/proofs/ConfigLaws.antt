@@ -9,8 +9,7 @@ use Rattle.deny_cfg.specs.Config.{ReadsConfig}
 use Rattle.deny_cfg.specs.Entry.{ReadsEntry, ReadsEntryBy, ReadsEntryKeys, ReadsPair, ReadsSome}
 use Rattle.deny_cfg.specs.Features.{ReadsCrateFeatures, ReadsFeatures, lists_in, nowhere}
 use Rattle.deny_cfg.specs.PolicyText.{ReadsBans}
-use Rattle.deny_cfg.specs.Spec.{spec_fields}
-use Rattle.deny_cfg.specs.Table.{Entries, Field, at_key, left}
+use Rattle.deny_cfg.specs.Table.{Entries, Field, at_key}
 use Rattle.deny_cfg.specs.Words.{ReadsAs, ReadsBool, ReadsCount, ReadsSpanned, ReadsText, ReadsTexts, highlight_of, level_of}
 use Rattle.deny_cfg.specs.declared.bans.cfg.config.Config.{Config}
 use Rattle.deny_cfg.specs.declared.bans.cfg.features.CrateFeatures.{CrateFeatures}
@@ -63,7 +62,7 @@ SaidAlike x y = SpecsAlike x.0 y.0 × (x.1 ≡ y.1)
 
 pair_alike : {T : Type 0} (Reads : Entries → T → Type 0) → ReadsOne Reads → ReadsAlike (ReadsPair Reads) SaidAlike
 pair_alike Reads same entries x y one two =
-    (keys_alike entries x.0 y.0 one.of_spec two.of_spec, same (left (spec_fields entries) entries) x.1 y.1 one.besides two.besides)
+    (keys_alike entries x.0 y.0 one.of_spec two.of_spec, same entries x.1 y.1 one.besides two.besides)
 
 -- two entries are alike where their specs are, and else they say the same
 abbrev pub EntriesAlike : {T : Type 0} → PackageSpecOrExtended T → PackageSpecOrExtended T → Type 0
@@ -91,7 +90,7 @@ FeaturesAlike a b = SpecsAlike a.spec b.spec × (lists_in a ≡ lists_in b)
 
 features_keys_alike : ReadsAlike (λ entries (read : CrateFeatures). ReadsEntryKeys ReadsFeatures entries read.spec (lists_in read)) FeaturesAlike
 features_keys_alike entries a b one two =
-    (keys_alike entries a.spec b.spec one.of_spec two.of_spec, one_features (left (spec_fields entries) entries) (lists_in a) (lists_in b) one.besides two.besides)
+    (keys_alike entries a.spec b.spec one.of_spec two.of_spec, one_features entries (lists_in a) (lists_in b) one.besides two.besides)
 
 features_alike : ReadsAlike ReadsCrateFeatures FeaturesAlike
 features_alike v a b one two =

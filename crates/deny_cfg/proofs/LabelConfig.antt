@@ -15,10 +15,12 @@ use Rattle.deny_toml.specs.Ranges.{IsRange, StandsIn}
 use Rattle.deny_toml.specs.Value.{entries_in}
 use Rattle.deny_toml.specs.declared.value.Table.{Table}
 use Rattle.deny_toml.specs.declared.value.Value.{Value}
-use Rattle.deny_cfg.specs.Bans.{ReadsBan, ReadsBanEntry, ReadsReason, ReadsReasonKey, ReadsReasoned, ReadsTreeSkip, ReadsTreeSkipEntry, ban_fields, tree_skip_fields}
+use Rattle.deny_cfg.specs.Apart.{ban_entry-apart, feature_entry-apart, reason_entry-apart, tree_skip_entry-apart}
+use Rattle.deny_cfg.specs.Bans.{ReadsBan, ReadsBanEntry, ReadsReason, ReadsReasonKey, ReadsReasoned, ReadsTreeSkip, ReadsTreeSkipEntry, ban_fields, reason_fields, tree_skip_fields}
 use Rattle.deny_cfg.specs.Config.{ReadsConfig}
+use Rattle.deny_cfg.specs.Depends.{ban-depends, features-depend, reason-depends, tree_skip-depends}
 use Rattle.deny_cfg.specs.Entry.{ReadsEntryKeys, ReadsSome}
-use Rattle.deny_cfg.specs.Features.{ReadsCrateFeatures, ReadsFeatures, lists_in, nowhere}
+use Rattle.deny_cfg.specs.Features.{ReadsCrateFeatures, ReadsFeatures, feature_fields, lists_in, nowhere}
 use Rattle.deny_cfg.specs.LabelRanges.{AreLabels, config_labels, crate_ban_ranges, crate_feature_ranges, joined, of_some, own_range, reason_range, root_ranges, std_ranges, with_spec, word_ranges}
 use Rattle.deny_cfg.specs.PolicyKey.{name_of}
 use Rattle.deny_cfg.specs.PolicyText.{ReadsBans, bans_name}
@@ -66,21 +68,21 @@ ban_within text entries ban reads =
 
 ban_entry_within : (text : List ℕ) (v : Value) (e : PackageSpecOrExtended CrateBanExtended) → ReadsBanEntry v e → Within text v (with_spec crate_ban_ranges e)
 ban_entry_within text v e reads =
-    entry_within text crate_ban_ranges (ReadsSome ban_fields ReadsBan) (some_within text crate_ban_ranges ban_fields ReadsBan (ban_within text)) v e.spec e.inner reads
+    entry_within text ban_fields ban_entry-apart crate_ban_ranges (ReadsSome ban_fields ReadsBan) ban-depends (some_within text crate_ban_ranges ban_fields ReadsBan (ban_within text)) v e.spec e.inner reads
 
 reason_key_within : (text : List ℕ) (entries : Entries) (reason : Option Reason) → ReadsReasonKey entries reason → WithinKeys text entries (of_some reason_range reason)
 reason_key_within text entries reason reads =
     one_key text (name_of key.Reason) entries (of_some reason_range reason) (optional_within text reason_range ReadsReason (reason_within text) (at_key key.Reason entries) reason reads)
 
 reasoned_within : (text : List ℕ) (v : Value) (e : PackageSpecOrExtended Reason) → ReadsReasoned v e → Within text v (with_spec reason_range e)
-reasoned_within text v e reads = entry_within text reason_range ReadsReasonKey (reason_key_within text) v e.spec e.inner reads
+reasoned_within text v e reads = entry_within text reason_fields reason_entry-apart reason_range ReadsReasonKey reason-depends (reason_key_within text) v e.spec e.inner reads
 
 root_within : (text : List ℕ) (entries : Entries) (skip : TreeSkipExtended) → ReadsTreeSkip entries skip → WithinKeys text entries (root_ranges skip)
 root_within text entries skip reads = reason_key_within text entries skip.reason reads.reason
 
 root_entry_within : (text : List ℕ) (v : Value) (e : PackageSpecOrExtended TreeSkipExtended) → ReadsTreeSkipEntry v e → Within text v (with_spec root_ranges e)
 root_entry_within text v e reads =
-    entry_within text root_ranges (ReadsSome tree_skip_fields ReadsTreeSkip) (some_within text root_ranges tree_skip_fields ReadsTreeSkip (root_within text)) v e.spec e.inner reads
+    entry_within text tree_skip_fields tree_skip_entry-apart root_ranges (ReadsSome tree_skip_fields ReadsTreeSkip) tree_skip-depends (some_within text root_ranges tree_skip_fields ReadsTreeSkip (root_within text)) v e.spec e.inner reads
 
 features_within : (text : List ℕ) (f : CrateFeatures) (entries : Entries) → ReadsFeatures entries (lists_in f)
     → WithinKeys text entries (joined (word_ranges f.allow.value ∷ word_ranges f.deny ∷ of_some reason_range f.reason ∷ []))
@@ -102,7 +104,7 @@ features_within text f entries reads =
 feature_entry_within : (text : List ℕ) (v : Value) (f : CrateFeatures) → ReadsCrateFeatures v f → Within text v (crate_feature_ranges f)
 feature_entry_within text v f reads =
     table_within text (crate_feature_ranges f) (λ entries (read : CrateFeatures). ReadsEntryKeys ReadsFeatures entries read.spec (lists_in read)) f
-    (entry_keys_within text ReadsFeatures (joined (word_ranges f.allow.value ∷ word_ranges f.deny ∷ of_some reason_range f.reason ∷ [])) f.spec (lists_in f) (features_within text f)) v reads
+    (entry_keys_within text feature_fields feature_entry-apart ReadsFeatures features-depend (joined (word_ranges f.allow.value ∷ word_ranges f.deny ∷ of_some reason_range f.reason ∷ [])) f.spec (lists_in f) (features_within text f)) v reads
 
 std_within : (text : List ℕ) (v : Value) (std : StdReplacementConfig) → ReadsTable ReadsStd v std → Within text v (std_ranges std)
 std_within text v std reads =

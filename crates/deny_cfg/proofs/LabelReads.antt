@@ -24,17 +24,19 @@ use Rattle.deny_toml.specs.declared.value.Scalar.{Scalar}
 use Rattle.deny_toml.specs.declared.value.Scalar.TheVariants as scalar
 use Rattle.deny_toml.specs.declared.value.Value.{Value}
 use Rattle.deny_cfg.specs.Bans.{ReadsReason}
-use Rattle.deny_cfg.specs.Entry.{ReadsEntry, ReadsEntryBy, ReadsEntryKeys, ReadsPair}
+use Rattle.deny_cfg.specs.Entry.{ReadsEntry, ReadsEntryBy, ReadsEntryKeys, ReadsPair, entry_fields}
 use Rattle.deny_cfg.specs.LabelRanges.{of_some, own_range, reason_range, spec_range, word_ranges}
 use Rattle.deny_cfg.specs.PolicyKey.{name_of}
 use Rattle.deny_cfg.specs.Spec.{ReadsSpecBy, ReadsSpecKeys, ReadsSpecOf, ReadsSpecText, crate_fields, divided, divided_at, name_fields, name_in, name_span, or_else, parts_or, spec_fields, spec_in}
-use Rattle.deny_cfg.specs.Table.{Entries, ReadsThere, at_key, left}
+use Rattle.deny_cfg.specs.Table.{DependsOn, Entries, Field, ReadsThere, are_apart, at_key}
 use Rattle.deny_cfg.specs.Words.{ReadsAs, ReadsBool, ReadsSpanned, ReadsText, ReadsTexts, level_of}
 use Rattle.deny_cfg.specs.declared.package_spec.PackageSpec.{PackageSpec}
 use Rattle.deny_cfg.specs.declared.policy_key.PolicyKey.TheVariants as key
 use Rattle.deny_cfg.specs.declared.reason.Reason.{Reason}
 use Rattle.deny_cfg.proofs.LabelLaws.{Within, WithinKey, WithinKeys, key_at, list_within, put_key, skip_key, stands_itself, table_within}
 use Rattle.deny_cfg.proofs.SpecLaws.{verbatim_length}
+use Rattle.deny_cfg.proofs.TableLaws.{said_left}
+use Rattle.deny_cfg.proofs.UnknownLaws.{left}
 
 -- ---- scalars
 
@@ -214,16 +216,19 @@ spec_keys_within text entries spec ys reads rest = by_crate (at_key key.Crate en
         put_key text (name_of key.Name) entries (spec_range spec) ys (name_key_within text (at_key key.Name entries) spec reads.name)
         (skip_key text (name_of key.Version) (without (name_of key.Name) entries) ys rest)
 
-pub entry_keys_within : {T : Type 0} (text : List ℕ) (Reads : Entries → T → Type 0) (ys : List Span) (spec : PackageSpec) (said : T)
+pub entry_keys_within : {T : Type 0} (text : List ℕ) (fields : List Field) (apart : (entries : Entries) → are_apart (entry_fields fields entries) ≡ true) (Reads : Entries → T → Type 0) → DependsOn fields Reads → (ys : List Span) (spec : PackageSpec) (said : T)
     → ((entries : Entries) → Reads entries said → WithinKeys text entries ys) → (entries : Entries) → ReadsEntryKeys Reads entries spec said → WithinKeys text entries (spec_range spec ++ ys)
-entry_keys_within text Reads ys spec said each entries reads = spec_keys_within text entries spec ys reads.of_spec (each (left (spec_fields entries) entries) reads.besides)
+entry_keys_within text fields apart Reads depends ys spec said each entries reads =
+    let rest = said_left (spec_fields entries) fields Reads entries said depends (apart entries) reads.besides in
+    spec_keys_within text entries spec ys reads.of_spec (each (left (spec_fields entries) entries) rest)
 
-pub entry_within : {T : Type 0} (text : List ℕ) (f : T → List Span) (Reads : Entries → Option T → Type 0)
-    → ((entries : Entries) (said : Option T) → Reads entries said → WithinKeys text entries (of_some f said))
+pub entry_within : {T : Type 0} (text : List ℕ) (fields : List Field) (apart : (entries : Entries) → are_apart (entry_fields fields entries) ≡ true) (f : T → List Span)
+    (Reads : Entries → Option T → Type 0) → DependsOn fields Reads → ((entries : Entries) (said : Option T) → Reads entries said → WithinKeys text entries (of_some f said))
     → (v : Value) (spec : PackageSpec) (inner : Option T) → ReadsEntry Reads v spec inner → Within text v (spec_range spec ++ of_some f inner)
-entry_within text f Reads each v spec inner reads = by_text (text_in v) reads
+entry_within text fields apart f Reads depends each v spec inner reads = by_text (text_in v) reads
   where
     by_text : (o : Option (List ℕ)) → ReadsEntryBy Reads o v spec inner → Within text v (spec_range spec ++ of_some f inner)
     by_text None reads =
-        table_within text (spec_range spec ++ of_some f inner) (ReadsPair Reads) (spec, inner) (entry_keys_within text Reads (of_some f inner) spec inner (λ entries said. each entries inner said)) v reads
+        table_within text (spec_range spec ++ of_some f inner) (ReadsPair Reads) (spec, inner)
+        (entry_keys_within text fields apart Reads depends (of_some f inner) spec inner (λ entries said. each entries inner said)) v reads
     by_text (Some t) reads = subst (λ i. Within text v (spec_range spec ++ of_some f i)) (sym reads.1) (spec_text_within text v spec reads.0)

@@ -7,6 +7,7 @@ pub mod LabelReads
 pub mod PolicyLaws
 pub mod FirstPlacesLaws
 pub mod ClashLaws
+pub mod UnknownLaws
 pub mod TableLaws
 pub mod ChecksumLaws
 pub mod SpecLaws

@@ -16,7 +16,7 @@ use Rattle.deny_toml.specs.declared.value.Value.{Value}
 use Rattle.deny_cfg.specs.declared.package_spec.PackageSpec.{PackageSpec}
 use Rattle.deny_cfg.specs.Requirement.{held_in, requirement_in}
 use Rattle.deny_cfg.specs.SpecView.{same_spec, spec_view}
-use Rattle.deny_cfg.proofs.TableLaws.{same_is, and_parts}
+use Rattle.deny_cfg.proofs.UnknownLaws.{same_is, and_parts}
 
 same_option : (a b : Option (List ℕ)) → option_eq same_text a b ≡ true → a ≡ b
 same_option None None e = refl

@@ -1,6 +1,6 @@
 -- Keys that are read one after another, and what each of them says of the whole table.
 use Rattle.std.proofs.lemmas.Bool.Decides.{nat_tests}
-use Rattle.std.proofs.Common.{zero, suc, nat_lt, length, take, drop, arith, ◌≡◌, ℕ, Bool, true, false, ◌&&◌, not, List, [], ◌∷◌, ◌++◌, map, Option, None, Some, refl, sym, ap, subst, eqb-true, append-nil, ◌∙◌}
+use Rattle.std.proofs.Common.{zero, suc, nat_lt, length, take, drop, arith, ◌≡◌, ℕ, Bool, true, false, ◌&&◌, not, List, [], ◌∷◌, ◌++◌, map, Option, None, Some, refl, sym, ap, subst, append-nil, ◌∙◌}
 use Rattle.std.proofs.lemmas.List.{append_assoc}
 use Rattle.std.specs.Prelude.{nat_eq, find, option_map, is_some, ◌||◌}
 use Rattle.std.specs.List.{list_any}
@@ -19,7 +19,8 @@ use Rattle.deny_toml.proofs.FaultLaws.{in_order-empty}
 use Rattle.deny_toml.specs.Faults.{under, Reports}
 use Rattle.deny_toml.specs.TableHelper.{optional_faults, table_faults}
 use Rattle.deny_toml.specs.TableHelper as helper
-use Rattle.deny_cfg.specs.Table.{Entries, Field, faults_of_fields, faults_in_table, faults_of_table, ReadsIn, ReadsTable, left, is_other, are_apart, State, after, after_all, ReadAt, ReadsIfThere, ReadsOr, optional}
+use Rattle.deny_cfg.specs.Table.{Entries, Field, faults_of_fields, faults_in_table, faults_of_table, ReadsIn, ReadsTable, unknown_keys, is_other, are_apart, AreAlikeAt, DependsOn, State, after, after_all, ReadAt, ReadsIfThere, ReadsOr, optional}
+use Rattle.deny_cfg.proofs.UnknownLaws.{and_parts, left, left_unknown, not_true, same_is}
 use Rattle.deny_cfg.specs.declared.policy_key.PolicyKey.{PolicyKey}
 use Rattle.deny_cfg.specs.PolicyKey.{name_of}
 use Rattle.std.specs.Prelude.{Result, Ok, Err, IfOk, if◌then◌else◌}
@@ -52,24 +53,6 @@ read_result faults_of Reads name (Ok x) key s named says =
     record { says = λ none. optional_read faults_of Reads (name_of key) (value_at (name_of key) s.entries) x renamed none }
 read_result faults_of Reads name (Err e) key s named says = tt
 
-pub and_parts : (a b : Bool) → (a && b) ≡ true → (a ≡ true) × (b ≡ true)
-and_parts true b e = (refl, e)
-and_parts false b e = cc e
-
-not_true : (b : Bool) → not b ≡ true → b ≡ false
-not_true true e = cc e
-not_true false e = refl
-
-pub same_is : (xs ys : List ℕ) → pointwise nat_eq xs ys ≡ true → xs ≡ ys
-same_is [] [] e = refl
-same_is [] (y ∷ ys) e = cc e
-same_is (x ∷ xs) [] e = cc e
-same_is (x ∷ xs) (y ∷ ys) e =
-    let parts = and_parts (nat_eq x y) (pointwise nat_eq xs ys) e in
-    let first : x ≡ y = eqb-true x y parts.0 in
-    let rest : xs ≡ ys = same_is xs ys parts.1 in
-    cc (first, rest)
-
 -- a key that was taken out is not found under another name
 without_by : (name : List ℕ) (e : Key × Value) (es rest : Entries) (taken : Bool) → (taken ≡ true → has_name name e ≡ false)
     → (option_map (λ x. x.1) (find (has_name name) rest) ≡ option_map (λ x. x.1) (find (has_name name) es))
@@ -89,12 +72,40 @@ value_at-without name other (e ∷ es) apart =
     (λ taken. subst (λ n. pointwise nat_eq n name ≡ false) (sym (same_is e.0.name other taken)) apart)
     (value_at-without name other es apart)
 
-pub faults-without : (fs : List Field) (other : List ℕ) (place : Span) (es : Entries) → is_other other fs ≡ true
-    → faults_of_fields fs place (without other es) ≡ faults_of_fields fs place es
-faults-without [] other place es apart = refl
-faults-without (f ∷ fs) other place es apart =
+-- ---- two tables that hold the same at some keys
+
+alike-itself : (fs : List Field) (es : Entries) → AreAlikeAt fs es es
+alike-itself [] es = tt
+alike-itself (f ∷ fs) es = (refl, alike-itself fs es)
+
+alike-trans : (fs : List Field) (one other third : Entries) → AreAlikeAt fs one other → AreAlikeAt fs other third → AreAlikeAt fs one third
+alike-trans [] one other third first second = tt
+alike-trans (f ∷ fs) one other third first second = (first.0 ∙ second.0, alike-trans fs one other third first.1 second.1)
+
+alike-sym : (fs : List Field) (one other : Entries) → AreAlikeAt fs one other → AreAlikeAt fs other one
+alike-sym [] one other alike = tt
+alike-sym (f ∷ fs) one other alike = (sym alike.0, alike-sym fs one other alike.1)
+
+alike-without : (fs : List Field) (other : List ℕ) (es : Entries) → is_other other fs ≡ true → AreAlikeAt fs (without other es) es
+alike-without [] other es apart = tt
+alike-without (f ∷ fs) other es apart =
     let parts = and_parts (not (pointwise nat_eq other f.name)) (is_other other fs) apart in
-    rw (value_at-without f.name other es (not_true _ parts.0)) (ap (λ rest. f.faults place (value_at f.name es) ++ rest) (faults-without fs other place es parts.1))
+    (value_at-without f.name other es (not_true _ parts.0), alike-without fs other es parts.1)
+
+other_rest : (name : List ℕ) (fs gs : List Field) → is_other name (fs ++ gs) ≡ true → is_other name gs ≡ true
+other_rest name [] gs other = other
+other_rest name (f ∷ fs) gs other = other_rest name fs gs (and_parts (not (pointwise nat_eq name f.name)) (is_other name (fs ++ gs)) other).1
+
+-- what some keys leave of a table holds the same at others
+alike-left : (fs gs : List Field) (es : Entries) → are_apart (fs ++ gs) ≡ true → AreAlikeAt gs (left fs es) es
+alike-left [] gs es apart = alike-itself gs es
+alike-left (f ∷ fs) gs es apart =
+    let parts = and_parts (is_other f.name (fs ++ gs)) (are_apart (fs ++ gs)) apart in
+    alike-trans gs (left fs (without f.name es)) (without f.name es) es (alike-left fs gs (without f.name es) parts.1) (alike-without gs f.name es (other_rest f.name fs gs parts.0))
+
+faults-alike : (fs : List Field) (place : Span) (one other : Entries) → AreAlikeAt fs one other → faults_of_fields fs place one ≡ faults_of_fields fs place other
+faults-alike [] place one other alike = refl
+faults-alike (f ∷ fs) place one other alike = rw alike.0 (ap (λ rest. f.faults place (value_at f.name other) ++ rest) (faults-alike fs place one other alike.1))
 
 -- the keys that are left, and the faults, after these keys
 pub after_all-entries : (fs : List Field) (s : State) → (after_all fs s).entries ≡ left fs s.entries
@@ -110,7 +121,7 @@ after_all-faults [] s apart = sym (append-nil s.faults)
 after_all-faults (f ∷ fs) s apart =
     let parts = and_parts (is_other f.name fs) (are_apart fs) apart in
     after_all-faults fs (after f s) parts.1
-    ∙ ap (λ rest. (s.faults ++ f.faults s.place (value_at f.name s.entries)) ++ rest) (faults-without fs f.name s.place s.entries parts.0)
+    ∙ ap (λ rest. (s.faults ++ f.faults s.place (value_at f.name s.entries)) ++ rest) (faults-alike fs s.place (without f.name s.entries) s.entries (alike-without fs f.name s.entries parts.0))
     ∙ append_assoc s.faults (f.faults s.place (value_at f.name s.entries)) (faults_of_fields fs s.place s.entries)
 
 -- the name is that of none of these keys
@@ -156,13 +167,13 @@ entries_back entries = ap (λ r. r.entries) (out-roll-Table (record { entries = 
 
 -- the faults of a table of these entries
 faults_with : (Entries → List Field) → Span → Entries → List ConfigFault
-faults_with fields place entries = in_order (faults_of_fields (fields entries) place entries ++ map unknown (left (fields entries) entries))
+faults_with fields place entries = in_order (faults_of_fields (fields entries) place entries ++ map unknown (unknown_keys (fields entries) entries))
 
 faults_with-is : (fields : Entries → List Field) (v : Value) (entries : Entries) (place : Span) → table_in v ≡ Some (table_with entries) → place ≡ span_in v
     → faults_with fields place entries ≡ faults_of_table fields v
 unfolding faults_with
 faults_with-is fields v entries place table at =
-    ap (λ (es : Entries). in_order (faults_of_fields (fields es) place es ++ map unknown (left (fields es) es))) (sym (entries_back entries))
+    ap (λ (es : Entries). in_order (faults_of_fields (fields es) place es ++ map unknown (unknown_keys (fields es) es))) (sym (entries_back entries))
     ∙ ap (λ p. faults_in_table fields p (Some (table_with entries))) at
     ∙ ap (faults_in_table fields (span_in v)) (sym table)
 
@@ -177,13 +188,14 @@ all_faults fields v start end apart table place no_fault_yet read =
     ap (λ (t : State). t.faults) read ∙ after_all-faults fs start apart ∙ ap (λ before. before ++ faults_of_fields fs start.place start.entries) no_fault_yet in
     let rest : end.entries ≡ left fs start.entries = ap (λ (t : State). t.entries) read ∙ after_all-entries fs start in
     ap (λ all. table_faults all end.entries) kept ∙ ap (table_faults (faults_of_fields fs start.place start.entries)) rest
+    ∙ left_unknown (faults_of_fields fs start.place start.entries) fs start.entries apart
     ∙ faults_with-is fields v start.entries start.place table place
 
 pub no_field_faults : (fields : Entries → List Field) (v : Value) (entries : Entries) (place : Span)
     → table_in v ≡ Some (table_with entries) → place ≡ span_in v → faults_of_table fields v ≡ [] → faults_of_fields (fields entries) place entries ≡ []
 unfolding faults_with
 no_field_faults fields v entries place table at none =
-    none_first (faults_of_fields (fields entries) place entries) (map unknown (left (fields entries) entries))
+    none_first (faults_of_fields (fields entries) place entries) (map unknown (unknown_keys (fields entries) entries))
     (in_order-empty _ (faults_with-is fields v entries place table at ∙ none))
 
 pub read_in : {T : Type 0} (Reads : Entries → T → Type 0) (v : Value) (entries : Entries) (x : T) → table_in v ≡ Some (table_with entries) → Reads entries x → ReadsTable Reads v x
@@ -221,16 +233,6 @@ faults-append (f ∷ fs) gs place es =
     ap (λ rest. f.faults place (value_at f.name es) ++ rest) (faults-append fs gs place es)
     ∙ sym (append_assoc (f.faults place (value_at f.name es)) (faults_of_fields fs place es) (faults_of_fields gs place es))
 
-other_rest : (name : List ℕ) (fs gs : List Field) → is_other name (fs ++ gs) ≡ true → is_other name gs ≡ true
-other_rest name [] gs other = other
-other_rest name (f ∷ fs) gs other = other_rest name fs gs (and_parts (not (pointwise nat_eq name f.name)) (is_other name (fs ++ gs)) other).1
-
-faults-left : (fs gs : List Field) (place : Span) (es : Entries) → are_apart (fs ++ gs) ≡ true → faults_of_fields gs place (left fs es) ≡ faults_of_fields gs place es
-faults-left [] gs place es apart = refl
-faults-left (f ∷ fs) gs place es apart =
-    let parts = and_parts (is_other f.name (fs ++ gs)) (are_apart (fs ++ gs)) apart in
-    faults-left fs gs place (without f.name es) parts.1 ∙ faults-without gs f.name place es (other_rest f.name fs gs parts.0)
-
 -- where keys and others after them have no fault, neither have the others in what the first keys leave
 pub none_left : (fs gs : List Field) (start between : State) → are_apart (fs ++ gs) ≡ true → between ≡ after_all fs start
     → faults_of_fields (fs ++ gs) start.place start.entries ≡ [] → faults_of_fields gs between.place between.entries ≡ []
@@ -238,11 +240,18 @@ none_left fs gs start between apart chain none =
     ap (λ (t : State). faults_of_fields gs t.place t.entries) chain
     ∙ ap (λ p. faults_of_fields gs p (after_all fs start).entries) (after_all-place fs start)
     ∙ ap (faults_of_fields gs start.place) (after_all-entries fs start)
-    ∙ faults-left fs gs start.place start.entries apart
+    ∙ faults-alike gs start.place (left fs start.entries) start.entries (alike-left fs gs start.entries apart)
     ∙ none_rest (faults_of_fields fs start.place start.entries) (faults_of_fields gs start.place start.entries) (sym (faults-append fs gs start.place start.entries) ∙ none)
 
 pub none_before : (fs gs : List Field) (place : Span) (es : Entries) → faults_of_fields (fs ++ gs) place es ≡ [] → faults_of_fields fs place es ≡ []
 none_before fs gs place es none = none_first (faults_of_fields fs place es) (faults_of_fields gs place es) (sym (faults-append fs gs place es) ∙ none)
+
+-- what keys say after others were read says the same of the whole table
+pub said_whole : {T : Type 0} (fs gs : List Field) (Reads : Entries → T → Type 0) (es : Entries) (said : T) → DependsOn gs Reads → are_apart (fs ++ gs) ≡ true → Reads (left fs es) said → Reads es said
+said_whole fs gs Reads es said depends apart reads = depends (left fs es) es said (alike-left fs gs es apart) reads
+
+pub said_left : {T : Type 0} (fs gs : List Field) (Reads : Entries → T → Type 0) (es : Entries) (said : T) → DependsOn gs Reads → are_apart (fs ++ gs) ≡ true → Reads es said → Reads (left fs es) said
+said_left fs gs Reads es said depends apart reads = depends es (left fs es) said (alike-sym gs (left fs es) es (alike-left fs gs es apart)) reads
 
 -- where keys have no fault, none of them has
 pub none_of : (fs : List Field) (place : Span) (es : Entries) → faults_of_fields fs place es ≡ [] → (k : ℕ)

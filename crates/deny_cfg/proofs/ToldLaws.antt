@@ -10,7 +10,7 @@ use Rattle.deny_base.specs.declared.span.Span.{Span}
 use Rattle.deny_base.specs.declared.span.Spanned.{Spanned}
 use Rattle.deny_model.specs.Policy.{Words}
 use Rattle.deny_model.specs.Text.{same_text}
-use Rattle.deny_toml.specs.Calls.{array_in, below_name, table_in, text_in, without}
+use Rattle.deny_toml.specs.Calls.{array_in, below_name, table_in, text_in}
 use Rattle.deny_toml.specs.Deserialize.{ReadsArray, ReadsEach}
 use Rattle.deny_toml.specs.Ranges.{IsRange, StandsIn}
 use Rattle.deny_toml.specs.Value.{entries_in}
@@ -23,9 +23,8 @@ use Rattle.deny_cfg.specs.Entry.{ReadsEntryBy, ReadsPair, ReadsSome}
 use Rattle.deny_cfg.specs.LabelRanges.{AreLabels, config_labels, crate_ban_ranges, crate_feature_ranges, list_ranges, of_some, own_range, reason_range, told_ranges, with_spec, word_ranges, wrapper_list}
 use Rattle.deny_cfg.specs.PolicyText.{ReadsBans, bans_name}
 use Rattle.deny_cfg.specs.PolicyKey.{name_of}
-use Rattle.deny_cfg.specs.Spec.{spec_fields}
 use Rattle.deny_cfg.specs.SpecView.{same_spec}
-use Rattle.deny_cfg.specs.Table.{Entries, Field, ReadsIn, ReadsIfThere, ReadsOr, at_key, left}
+use Rattle.deny_cfg.specs.Table.{Entries, ReadsIn, ReadsIfThere, ReadsOr, at_key}
 use Rattle.deny_cfg.specs.Words.{ReadsList, ReadsSpanned, ReadsTexts}
 use Rattle.deny_cfg.specs.declared.bans.cfg.ban.CrateBanExtended.{CrateBanExtended}
 use Rattle.deny_cfg.specs.declared.bans.cfg.config.Config.{Config}
@@ -38,14 +37,10 @@ use Rattle.deny_cfg.specs.declared.policy_key.PolicyKey.TheVariants as key
 use Rattle.deny_cfg.specs.declared.reason.Reason.{Reason}
 use Rattle.deny_cfg.specs.declared.spec_or_extended.PackageSpecOrExtended.{PackageSpecOrExtended}
 use Rattle.deny_cfg.proofs.LabelConfig.{name_stands}
-use Rattle.deny_cfg.proofs.LabelLaws.{EntriesStand, Lie, StandsAt, at_stands, elements_stand, entries_stand, lie_append, no_entries_stand, stands_itself, without_stands}
+use Rattle.deny_cfg.proofs.LabelLaws.{EntriesStand, Lie, StandsAt, at_stands, elements_stand, entries_stand, lie_append, no_entries_stand, stands_itself}
 use Rattle.deny_cfg.proofs.LabelValid.{lie_back, lie_front}
 
 -- ---- the lists of wrappers
-
-left_stands : (text : List ℕ) (fields : List Field) (entries : Entries) → EntriesStand text entries → EntriesStand text (left fields entries)
-left_stands text [] entries stand = stand
-left_stands text (f ∷ fs) entries stand = left_stands text fs (without f.name entries) (without_stands text f.name entries stand)
 
 list_lies : (text : List ℕ) (o : Option Value) (wrappers : Option (Spanned (List Words))) → StandsAt text o → ReadsIfThere (ReadsSpanned ReadsTexts) o wrappers → Lie text (of_some own_range wrappers)
 list_lies text o None stands reads = tt
@@ -62,8 +57,7 @@ entry_lies text v e stands reads = by_text (text_in v) reads
     by_table : (o : Option Table) → table_in v ≡ o → ReadsIn (ReadsPair (ReadsSome ban_fields ReadsBan)) o (e.spec, e.inner) → Lie text (wrapper_list e)
     by_table None is pair = absurd pair
     by_table (Some t) is pair =
-        let entries = entries_in t in
-        some_lies text (left (spec_fields entries) entries) e.inner (left_stands text (spec_fields entries) entries (entries_stand text v t is stands)) pair.besides
+        some_lies text (entries_in t) e.inner (entries_stand text v t is stands) pair.besides
 
     by_text : (o : Option (List ℕ)) → ReadsEntryBy (ReadsSome ban_fields ReadsBan) o v e.spec e.inner → Lie text (wrapper_list e)
     by_text None table = by_table (table_in v) refl table

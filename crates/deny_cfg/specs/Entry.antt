@@ -6,7 +6,7 @@ use Rattle.deny_toml.specs.declared.value.Value.{Value}
 use Rattle.deny_toml.specs.Calls.{text_in, value_at}
 use Rattle.deny_cfg.specs.declared.package_spec.PackageSpec.{PackageSpec}
 use Rattle.deny_cfg.specs.Spec.{spec_fields, spec_in, ReadsSpecKeys, ReadsSpecText}
-use Rattle.deny_cfg.specs.Table.{Entries, Field, left, ReadsTable, faults_of_table}
+use Rattle.deny_cfg.specs.Table.{Entries, Field, ReadsTable, faults_of_table}
 use Rattle.deny_cfg.specs.Words.{faults_of_meaning}
 
 -- the keys of a spec, and these
@@ -21,10 +21,10 @@ faults_of_entry_by fields (Some text) v = faults_of_meaning v (spec_in text)
 abbrev pub faults_of_entry : List Field → Value → List ConfigFault
 faults_of_entry fields v = faults_of_entry_by fields (text_in v) v
 
--- what is read from the table of an entry: a spec, and what the rest of the table says
+-- what is read from the table of an entry: a spec, and what its other keys say
 pub record ReadsEntryKeys {T : Type 0} (Reads : Entries → T → Type 0) (entries : Entries) (spec : PackageSpec) (said : T) : Type 0 where
   pub of_spec : ReadsSpecKeys entries spec
-  pub besides : Reads (left (spec_fields entries) entries) said
+  pub besides : Reads entries said
 
 abbrev pub ReadsPair : {T : Type 0} → (Entries → T → Type 0) → Entries → PackageSpec × T → Type 0
 ReadsPair Reads entries pair = ReadsEntryKeys Reads entries pair.0 pair.1

@@ -4,6 +4,7 @@ pub mod Build
 pub mod Checksum
 pub mod Clashes
 pub mod Config
+pub mod Depends
 pub mod Entry
 pub mod Features
 pub mod FirstPlaces

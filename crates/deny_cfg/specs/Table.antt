@@ -1,6 +1,6 @@
 -- What is read from a table, key by key, and its faults. A table is described by its keys: each has a name, and says
 -- which faults there are where it holds a value or is left out.
-use Rattle.std.specs.Prelude.{◌≡◌, ℕ, Bool, true, ◌&&◌, not, List, [], ◌∷◌, ◌++◌, map, Option, None, Some}
+use Rattle.std.specs.Prelude.{◌≡◌, ℕ, Bool, true, ◌&&◌, not, List, [], ◌∷◌, ◌++◌, filter, map, Option, None, Some}
 use Rattle.std.specs.Cmp.Lexicographic.{pointwise}
 use Rattle.std.specs.Prelude.{nat_eq}
 use Rattle.deny_base.specs.declared.span.Span.{Span}
@@ -9,7 +9,7 @@ use Rattle.deny_toml.specs.declared.value.Key.{Key}
 use Rattle.deny_toml.specs.declared.value.Value.{Value}
 use Rattle.deny_toml.specs.declared.value.Table.{Table}
 use Rattle.deny_toml.specs.Value.{span_in, entries_in}
-use Rattle.deny_toml.specs.Calls.{table_in, value_at, without}
+use Rattle.deny_toml.specs.Calls.{has_name, table_in, value_at, without}
 use Rattle.deny_toml.specs.Faults.{wrong_kind, in_order}
 use Rattle.deny_toml.specs.TableHelper.{required_faults, optional_faults, unknown}
 use Rattle.deny_toml.specs.declared.table_helper.TableHelper.{TableHelper}
@@ -41,16 +41,25 @@ abbrev pub faults_of_fields : List Field → Span → Entries → List ConfigFau
 faults_of_fields [] place entries = []
 faults_of_fields (f ∷ fs) place entries = f.faults place (value_at f.name entries) ++ faults_of_fields fs place entries
 
--- what is left of a table without these keys
-abbrev pub left : List Field → Entries → Entries
-left [] entries = entries
-left (f ∷ fs) entries = left fs (without f.name entries)
+-- whether a name is none of these keys
+abbrev pub is_other : List ℕ → List Field → Bool
+is_other name [] = true
+is_other name (f ∷ fs) = not (pointwise nat_eq name f.name) && is_other name fs
 
--- the faults of a value that is to be a table of these keys: those of each key, and each other key, which is unknown
+-- the keys of a table that have the name of one before them, each once or more; the table of a text has none
+abbrev pub repeated : Entries → Entries
+repeated [] = []
+repeated (e ∷ es) = filter (has_name e.0.name) es ++ repeated es
+
+-- the keys of a table that are unknown where it is to have these keys alone
+abbrev pub unknown_keys : List Field → Entries → Entries
+unknown_keys fields entries = filter (λ e. is_other e.0.name fields) entries ++ repeated entries
+
+-- the faults of a value that is to be a table of these keys: those of each key, and each key that is unknown
 abbrev pub faults_in_table : (Entries → List Field) → Span → Option Table → List ConfigFault
 faults_in_table fields place None = wrong_kind place
 faults_in_table fields place (Some t) =
-    in_order (faults_of_fields (fields (entries_in t)) place (entries_in t) ++ map unknown (left (fields (entries_in t)) (entries_in t)))
+    in_order (faults_of_fields (fields (entries_in t)) place (entries_in t) ++ map unknown (unknown_keys (fields (entries_in t)) (entries_in t)))
 
 abbrev pub faults_of_table : (Entries → List Field) → Value → List ConfigFault
 faults_of_table fields v = faults_in_table fields (span_in v) (table_in v)
@@ -86,14 +95,19 @@ abbrev pub Gives : {T : Type 0} → (T → Type 0) → Option T → Type 0
 Gives Reads None = ⊥
 Gives Reads (Some x) = Reads x
 
--- whether a name is none of these keys, and whether no two of these keys have one name
-abbrev pub is_other : List ℕ → List Field → Bool
-is_other name [] = true
-is_other name (f ∷ fs) = not (pointwise nat_eq name f.name) && is_other name fs
-
+-- whether no two of these keys have one name
 abbrev pub are_apart : List Field → Bool
 are_apart [] = true
 are_apart (f ∷ fs) = is_other f.name fs && are_apart fs
+
+-- two tables hold the same at these keys
+abbrev pub AreAlikeAt : List Field → Entries → Entries → Type 0
+AreAlikeAt [] one other = Unit {0}
+AreAlikeAt (f ∷ fs) one other = (value_at f.name one ≡ value_at f.name other) × AreAlikeAt fs one other
+
+-- what is read from a table depends on what it holds at these keys alone
+abbrev pub DependsOn : {T : Type 0} → List Field → (Entries → T → Type 0) → Type 0
+DependsOn {T} fields Reads = (one other : Entries) (x : T) → AreAlikeAt fields one other → Reads one x → Reads other x
 
 -- how far the reading of a table has come: the keys that are left, and the faults so far
 pub record State : Type 0 where

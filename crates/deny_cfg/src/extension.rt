@@ -2,7 +2,7 @@
 ghost use Rattle.std.specs.Prelude.{◌≡◌, [], true, List, Option, IfOk, IfErr, OnOk};
 ghost use Rattle.deny_toml.specs.Faults.{Reports};
 ghost use Rattle.deny_cfg.specs.Entry.{ReadsPair, entry_fields};
-ghost use Rattle.deny_cfg.specs.Table.{Entries, Field, ReadsTable, are_apart, after_all, faults_of_fields, faults_of_table, state_of};
+ghost use Rattle.deny_cfg.specs.Table.{DependsOn, Entries, Field, ReadsTable, are_apart, after_all, faults_of_fields, faults_of_table, state_of};
 
 use crate::package_spec::PackageSpec;
 use crate::spec::read_spec;
@@ -11,7 +11,7 @@ use deny_toml::{DeserError, TableHelper, Value};
 use std::alloc::Global;
 
 /// What the table of an entry may say besides its spec. `fields` are its keys, and `reads_in` says
-/// what is read from a table where none of them has a fault.
+/// what is read from a table where none of them has a fault: it depends on these keys alone.
 pub(crate) trait Extension: Sized + Drop {
     ghost fields: { List Field };
 
@@ -23,6 +23,8 @@ pub(crate) trait Extension: Sized + Drop {
         ensures read { IfOk result (λ x. faults_of_fields fields helper.old.span helper.old.entries ≡ [] → reads_in helper.old.entries x) };
 
     ghost apart: { (entries : Entries) → are_apart (entry_fields fields entries) ≡ true };
+
+    ghost depends: { DependsOn fields reads_in };
 }
 
 /// Reads a value that is to be a table of a spec and of these keys alone.

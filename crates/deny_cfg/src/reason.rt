@@ -2,6 +2,7 @@ ghost use Rattle.std.specs.Prelude.{◌≡◌};
 ghost use Rattle.deny_toml.specs.Value.{span_in};
 ghost use Rattle.deny_cfg.specs.Apart.{reason_entry-apart};
 ghost use Rattle.deny_cfg.specs.Bans.{reason_fields, ReadsReasonKey};
+ghost use Rattle.deny_cfg.specs.Depends.{reason-depends};
 ghost use Rattle.deny_cfg.specs.Words.{faults_of_any_text, ReadsText};
 
 use crate::extension::Extension;
@@ -35,4 +36,6 @@ impl Extension for Reason {
     }
 
     ghost apart = { reason_entry-apart };
+
+    ghost depends = { reason-depends };
 }

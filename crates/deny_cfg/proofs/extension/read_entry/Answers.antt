@@ -3,7 +3,7 @@ use Rattle.deny_toml.specs.TableHelper.{table_faults}
 use Rattle.deny_cfg.specs.Table.{Gives, State, after_all, faults_of_table, state_of}
 use Rattle.deny_cfg.specs.Spec.{spec_fields, ReadsSpecKeys}
 use Rattle.deny_cfg.specs.Entry.{ReadsPair, entry_fields}
-use Rattle.deny_cfg.proofs.TableLaws.{all_faults, no_field_faults, read_in, reports_same, after_all-append, after_all-entries, none_left, none_before}
+use Rattle.deny_cfg.proofs.TableLaws.{all_faults, no_field_faults, read_in, reports_same, after_all-append, after_all-entries, none_left, none_before, said_whole}
 use Rattle.deny_cfg.proofs.extension.read_entry.Goals as goal
 
 pub returns-in_err-finalize-clause-faults : goal.returns-in_err-finalize-clause-faults
@@ -49,5 +49,8 @@ returns-clause-ok g c =
     let rest = ap (λ (t : State). t.entries) c.in_ok-spec.ensures.next ∙ after_all-entries fs start in (
       clean,
       read_in (ReadsPair g.T.Extension.reads_in) c.args.value.now c.in_ok-helper.helper.entries (c.in-Some.spec, c.in_ok-said.said) h.table
-          (record { of_spec = spec; besides = subst (λ es. g.T.Extension.reads_in es c.in_ok-said.said) rest said }),
+          (record {
+            of_spec = spec;
+            besides = said_whole fs g.T.Extension.fields g.T.Extension.reads_in c.in_ok-helper.helper.entries c.in_ok-said.said g.met.T.Extension.depends apart (subst (λ es. g.T.Extension.reads_in es c.in_ok-said.said) rest said);
+          }),
     )

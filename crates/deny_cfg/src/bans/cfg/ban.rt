@@ -1,6 +1,7 @@
 ghost use Rattle.std.specs.Prelude.{◌≡◌};
 ghost use Rattle.deny_cfg.specs.Apart.{ban-apart, ban_entry-apart};
 ghost use Rattle.deny_cfg.specs.Bans.{ban_fields, ReadsBan, says_nothing};
+ghost use Rattle.deny_cfg.specs.Depends.{ban-depends};
 ghost use Rattle.deny_cfg.specs.Entry.{ReadsSome};
 ghost use Rattle.deny_cfg.specs.Table.{ReadsTable, faults_of_table};
 
@@ -80,6 +81,8 @@ impl Extension for CrateBanExtended {
     }
 
     ghost apart = { ban_entry-apart };
+
+    ghost depends = { ban-depends };
 }
 
 impl Deserialize for CrateBanExtended {

@@ -1,5 +1,6 @@
 ghost use Rattle.deny_cfg.specs.Apart.{bypass_path-apart, bypass_entry-apart};
 ghost use Rattle.deny_cfg.specs.Build.{bypass_path_fields, ReadsBypassPath, faults_of_bypass_path, bypass_fields, ReadsBypassKeys, faults_of_bypass, ReadsBypass};
+ghost use Rattle.deny_cfg.specs.Depends.{bypass-depends};
 ghost use Rattle.deny_cfg.specs.Table.{Gives, ReadsTable};
 
 use crate::bans::cfg::checksum::Checksum;
@@ -93,6 +94,8 @@ impl Extension for BypassKeys {
     }
 
     ghost apart = { bypass_entry-apart };
+
+    ghost depends = { bypass-depends };
 }
 
 /// A table of a spec and of the other keys.

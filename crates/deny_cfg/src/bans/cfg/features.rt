@@ -1,5 +1,6 @@
 ghost use Rattle.std.specs.Prelude.{◌≡◌, Some, None};
 ghost use Rattle.deny_cfg.specs.Apart.{feature_entry-apart};
+ghost use Rattle.deny_cfg.specs.Depends.{feature_lists-depend};
 ghost use Rattle.deny_cfg.specs.Entry.{entry_fields};
 ghost use Rattle.deny_cfg.specs.Features.{feature_fields, ReadsFeatures, ReadsCrateFeatures, nowhere};
 ghost use Rattle.std.specs.Prelude.{[], false, IfOk, OnOk};
@@ -96,6 +97,8 @@ impl Extension for FeatureLists {
     }
 
     ghost apart = { feature_entry-apart };
+
+    ghost depends = { feature_lists-depend };
 }
 
 /// A table of a spec and of the lists.

@@ -1,6 +1,7 @@
 ghost use Rattle.std.specs.Prelude.{◌≡◌};
 ghost use Rattle.deny_cfg.specs.Apart.{tree_skip-apart, tree_skip_entry-apart};
 ghost use Rattle.deny_cfg.specs.Bans.{tree_skip_fields, ReadsTreeSkip};
+ghost use Rattle.deny_cfg.specs.Depends.{tree_skip-depends};
 ghost use Rattle.deny_cfg.specs.Entry.{ReadsSome};
 ghost use Rattle.deny_cfg.specs.Table.{ReadsTable, faults_of_table};
 
@@ -58,6 +59,8 @@ impl Extension for TreeSkipExtended {
     }
 
     ghost apart = { tree_skip_entry-apart };
+
+    ghost depends = { tree_skip-depends };
 }
 
 impl Deserialize for TreeSkipExtended {
