@@ -11,12 +11,14 @@ use std::collections::BTreeMap;
 /// What a spec says, or a word, by which it is compared with others.
 #[derive(Debug, PartialEq, Eq, PartialOrd, Ord, Drop)]
 pub struct Wording {
+    /// The name of a spec, or the word.
     pub name: Text,
     /// The requirement of a spec, as it is written.
     pub requirement: Option<Text>,
 }
 
 impl Wording {
+    /// The name and the written requirement of a spec.
     pub fn of_spec(spec: &PackageSpec) -> Result<Wording, NoMemory>
         ensures { IfOk result (λ wording. wording ≡ spec_wording spec.now) }
     {
@@ -26,6 +28,7 @@ impl Wording {
         })
     }
 
+    /// A word, which has no requirement.
     pub fn of_word(word: &Text) -> Result<Wording, NoMemory>
         ensures { IfOk result (λ wording. wording ≡ plain_wording word.now) }
     {

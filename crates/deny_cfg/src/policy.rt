@@ -23,6 +23,7 @@ use std::alloc::Global;
 /// What a policy says.
 #[derive(Debug, Drop)]
 pub struct Policy {
+    /// The table `bans`; its defaults where the text has none.
     pub bans: ValidConfig,
     /// Warnings about the policy itself; there are none yet.
     pub warnings: List<Diagnostic>,
@@ -207,7 +208,8 @@ fn policy_of(
 /// `deny.toml`, if it is UTF-8; there have to be fewer than 2^30 others.
 ///
 /// `Config` comes exactly where the text has faults, `Invalid` exactly where it has none and entries
-/// of it clash.
+/// of it clash. `Memory` may come in place of each of these; the text was then put behind the files,
+/// or they are as they were.
 pub fn read_policy(alloc: Global, bytes: &[u8], files: &mut Files) -> Result<Policy, PolicyError>
     requires small { length bytes.now < 2 ^ 28 }
     requires few { length files.old < 2 ^ 30 }

@@ -67,7 +67,7 @@ fn rust_version_in(alloc: Global, text: &str) -> Result<Option<Version>, NoMemor
 
 /// Reads a version of Rust: a text of two or three numbers with dots between them, each of digits
 /// and below 2^32. A patch that is left out is 0. A value of another kind is `WrongKind`, and
-/// another text `Unreadable`. The value stays as it is.
+/// another text `Unreadable`; `Memory` may come in place of each of these. The value stays as it is.
 pub fn parse_semver(alloc: Global, v: &mut Value<'_>) -> Result<Version, DeserError>
     ensures ok { IfOk result (λ version. ReadsAs rust_version_in v.old (parts_of version)) }
     ensures faults { IfErr result (Reports (faults_as rust_version_in v.old)) }

@@ -4,12 +4,16 @@ ghost use Rattle.deny_cfg.specs.Words.{faults_as, scope_of, ReadsAs};
 use deny_toml::{DeserError, Deserialize, Value};
 use std::alloc::Global;
 
-/// Which crates a rule looks at.
+/// Which crates a rule looks at. A policy writes the variants in small letters.
 #[derive(Debug, Clone, Copy, PartialEq, Eq)]
 pub enum Scope {
+    /// Every crate.
     All,
+    /// The members of the workspace.
     Workspace,
+    /// The crates that are no members.
     Transitive,
+    /// No crate: the rule is off.
     None,
 }
 

@@ -10,7 +10,9 @@ use std::alloc::Global;
 /// An entry: a spec, and what its table says besides, if it says anything.
 #[derive(Debug, Drop)]
 pub struct PackageSpecOrExtended<T> {
+    /// The crates that it speaks of.
     pub spec: PackageSpec,
+    /// What its table says besides; none also where the entry is a text.
     pub inner: Option<T>,
 }
 

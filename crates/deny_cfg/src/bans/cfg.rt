@@ -1,4 +1,5 @@
-//! The tables and entries of `[bans]`.
+//! The tables and entries of `[bans]`. Their keys are those of cargo-deny: a field has the name of
+//! its key, with `_` for `-`, unless it says another.
 
 use crate::reason::Reason;
 use crate::spec_or_extended::PackageSpecOrExtended;
@@ -27,14 +28,20 @@ pub use tree_skip::TreeSkipExtended;
 pub use valid::{Features, KrateBan, ValidConfig, ValidKrateFeatures};
 pub use workspace::WorkspaceDepsConfig;
 
+/// An entry of `deny`.
 pub type CrateBan = PackageSpecOrExtended<CrateBanExtended>;
 
+/// An entry of `allow`.
 pub type CrateAllow = PackageSpecOrExtended<Reason>;
 
+/// An entry of `skip`.
 pub type CrateSkip = PackageSpecOrExtended<Reason>;
 
+/// An entry of `skip-tree`.
 pub type TreeSkip = PackageSpecOrExtended<TreeSkipExtended>;
 
+/// An entry of `skip-tree` in a configuration without clashes.
 pub type ValidTreeSkip = PackageSpecOrExtended<TreeSkipExtended>;
 
+/// An entry of `ignore`, and of `allow` or `skip` in a configuration without clashes.
 pub type SpecAndReason = PackageSpecOrExtended<Reason>;

@@ -19,8 +19,9 @@ use std::alloc::Global;
 pub struct CrateBanExtended {
     /// The crates that may depend on the banned one.
     pub wrappers: Option<Spanned<List<Spanned<Text>>>>,
-    /// Whether the crate is denied only in several versions.
+    /// Whether the crate is denied only in several versions; left out it is as false.
     pub deny_multiple_versions: Option<Spanned<bool>>,
+    /// Why the crate is banned.
     pub reason: Option<Reason>,
     /// What to use in its place: a crate, or an address.
     pub use_instead: Option<Spanned<Text>>,

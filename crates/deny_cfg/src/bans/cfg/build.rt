@@ -12,19 +12,28 @@ use deny_base::{LintLevel, List, NoMemory, Spanned, Text};
 use deny_toml::{DeserError, Deserialize, TableHelper, Value};
 use std::alloc::Global;
 
-/// How build scripts and the files of packages are minded.
+/// How build scripts and the files of packages are minded: the table `build`.
 #[derive(Debug, Drop)]
 pub struct BuildConfig {
     /// The crates that may have a build script; without it, all may.
     pub allow_build_scripts: Option<List<PackageSpec>>,
+    /// Whether packages may hold executables: at `allow` their files are not looked at; default
+    /// `deny`.
     pub executables: LintLevel,
+    /// The level of a file whose first line names an interpreter; default `allow`.
     pub interpreted: LintLevel,
-    /// The extensions of files that count as scripts.
+    /// The extensions of files that count as scripts, without the dot.
     pub script_extensions: Option<List<Spanned<Text>>>,
+    /// What single crates are allowed; of several entries for one crate the first holds.
     pub bypass: Option<List<Bypass>>,
+    /// Whether the extensions that are built in count as scripts too; default false.
     pub enable_builtin_globs: bool,
+    /// Whether the dependencies of crates that run while others are built are looked at too; default
+    /// false.
     pub include_dependencies: bool,
+    /// Whether members of the workspace are looked at too; default false.
     pub include_workspace: bool,
+    /// Whether archives count as executables; default false.
     pub include_archives: bool,
 }
 

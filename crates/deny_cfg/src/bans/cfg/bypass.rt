@@ -13,7 +13,7 @@ use deny_base::{List, NoMemory, Spanned, Text};
 use deny_toml::{DeserError, Deserialize, TableHelper, Value};
 use std::alloc::Global;
 
-/// A file of a package that may be executable.
+/// A file of a package that may be executable: an entry of `allow` in an entry of `bypass`.
 #[derive(Debug, Drop)]
 pub struct BypassPath {
     /// Its path, relative to the package's folder.
@@ -52,23 +52,32 @@ impl Deserialize for BypassPath {
     }
 }
 
-/// What the build check allows a crate.
+/// What the build check allows a crate: an entry of `bypass`.
 #[derive(Debug, Drop)]
 pub struct Bypass {
+    /// The crates that it speaks of.
     pub spec: PackageSpec,
+    /// The digest of the build script with which the whole package passes.
     pub build_script: Option<Spanned<Checksum>>,
-    /// The features without which the build script is not run.
+    /// Features of the crate: where one of them is enabled, its files are looked at all the same;
+    /// default none.
     pub required_features: List<Spanned<Text>>,
+    /// The globs of paths that pass.
     pub allow_globs: Option<List<Spanned<Text>>>,
+    /// The single files that pass; default none.
     pub allow: List<BypassPath>,
 }
 
 /// What an entry of `bypass` says besides its spec.
 #[derive(Debug, Drop)]
 pub(crate) struct BypassKeys {
+    /// The key `build-script`, as `Bypass` has it.
     pub build_script: Option<Spanned<Checksum>>,
+    /// The key `required-features`; default none.
     pub required_features: List<Spanned<Text>>,
+    /// The key `allow-globs`.
     pub allow_globs: Option<List<Spanned<Text>>>,
+    /// The key `allow`; default none.
     pub allow: List<BypassPath>,
 }
 

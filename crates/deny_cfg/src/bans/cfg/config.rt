@@ -18,29 +18,45 @@ use deny_base::{LintLevel, List, NoMemory, Spanned};
 use deny_toml::{DeserError, Deserialize, TableHelper, Value};
 use std::alloc::Global;
 
-/// What `[bans]` says, as it is written.
+/// What `[bans]` of a `deny.toml` says, as it is written. A key that is left out gives the default
+/// that is named, or none.
 #[derive(Debug, Drop)]
 pub struct Config {
-    /// The level of crates that stand in several versions.
+    /// The level of crates that stand in several versions; default `warn`.
     pub multiple_versions: LintLevel,
+    /// Whether crates that are reached through dev dependencies alone count too; default false.
     pub multiple_versions_include_dev: bool,
+    /// Which paths are shown of the crates of a duplicate; default `all`.
     pub highlight: GraphHighlight,
+    /// The crates that are banned, and those that are denied in several versions alone.
     pub deny: List<CrateBan>,
     /// The crates that alone are allowed; where there are none, all are.
     pub allow: List<CrateAllow>,
+    /// Whether members of the workspace need no entry of `allow` and stand outside the bans; default
+    /// false.
     pub allow_workspace: bool,
+    /// The level of the feature `default` where a crate outside the workspace has it enabled.
     pub external_default_features: Option<Spanned<LintLevel>>,
+    /// The same for members of the workspace.
     pub workspace_default_features: Option<Spanned<LintLevel>>,
+    /// Which features of which crates may be enabled.
     pub features: List<CrateFeatures>,
     /// The crates that do not count among several versions.
     pub skip: List<CrateSkip>,
     /// The crates whose trees do not.
     pub skip_tree: List<TreeSkip>,
+    /// The level of a dependency whose requirement is `*`; default `allow`.
     pub wildcards: LintLevel,
+    /// Whether such a dependency may stand where it comes from no registry, in a private crate or as
+    /// a dev dependency; default false.
     pub allow_wildcard_paths: bool,
+    /// The older place of the list of this name in `build`, beside which it says nothing.
     pub allow_build_scripts: Option<Spanned<List<PackageSpec>>>,
+    /// How build scripts and the files of packages are minded; without it, not at all.
     pub build: Option<BuildConfig>,
+    /// How the dependencies that a workspace shares are minded; without it, not at all.
     pub workspace_dependencies: Option<WorkspaceDepsConfig>,
+    /// How crates that the standard library has replaced are minded; without it, not at all.
     pub std_replacements: Option<StdReplacementConfig>,
 }
 

@@ -18,25 +18,32 @@ use deny_base::{List, NoMemory, Span, Spanned, Text};
 use deny_toml::{DeserError, Deserialize, TableHelper, Value};
 use std::alloc::Global;
 
-/// Which features of a crate may be enabled.
+/// Which features of a crate may be enabled: an entry of `features`.
 #[derive(Debug, Drop)]
 pub struct CrateFeatures {
+    /// The crates that it speaks of.
     pub spec: PackageSpec,
-    /// The features that may be enabled; where there are none, all may.
+    /// The features that may be enabled; where there are none, all may. Left out it is empty and
+    /// stands at 0..0.
     pub allow: Spanned<List<Spanned<Text>>>,
-    /// The features that may not.
+    /// The features that may not; default none.
     pub deny: List<Spanned<Text>>,
-    /// Whether exactly those of `allow` are to be enabled.
+    /// Whether exactly those of `allow` are to be enabled. Left out it is false and stands at 0..0.
     pub exact: Spanned<bool>,
+    /// Why others may not.
     pub reason: Option<Reason>,
 }
 
 /// What an entry of `features` says besides its spec.
 #[derive(Debug, Drop)]
 pub(crate) struct FeatureLists {
+    /// The key `allow`, as `CrateFeatures` has it.
     pub allow: Spanned<List<Spanned<Text>>>,
+    /// The key `deny`; default none.
     pub deny: List<Spanned<Text>>,
+    /// The key `exact`; default false.
     pub exact: Spanned<bool>,
+    /// The key `reason`.
     pub reason: Option<Reason>,
 }
 

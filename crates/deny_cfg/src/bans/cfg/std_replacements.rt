@@ -19,15 +19,19 @@ use deny_toml::{DeserError, Deserialize, TableHelper, Value};
 use semver::Version;
 use std::alloc::Global;
 
-/// How crates that the standard library has replaced are minded.
+/// How crates that the standard library has replaced are minded: the table `std-replacements`.
 #[derive(Debug, Drop)]
 pub struct StdReplacementConfig {
+    /// Whose direct dependencies are looked at; default `workspace`.
     pub scope: Scope,
+    /// The level of a crate that is replaced; default `deny`.
     pub level: LintLevel,
-    /// The version of Rust above which replacements do not count.
+    /// The version of Rust of a crate that names none: what was replaced in a later one does not
+    /// count.
     pub rust_version: Option<Version>,
+    /// The crates that are passed over; default none.
     pub ignore: List<SpecAndReason>,
-    /// Whose own version of Rust does not count.
+    /// Whose own version of Rust does not count; default `none`.
     pub ignore_rust_version: Scope,
 }
 

@@ -17,8 +17,9 @@ use std::alloc::Global;
 /// What an entry of `skip-tree` says besides its spec.
 #[derive(Debug, Drop)]
 pub struct TreeSkipExtended {
-    /// How far below the crate others are skipped; without it, at any depth.
+    /// How many edges below the crate others are skipped; without it, any number.
     pub depth: Option<u32>,
+    /// Why they are skipped.
     pub reason: Option<Reason>,
 }
 

@@ -24,6 +24,7 @@ use std::alloc::Global;
 pub struct KrateBan {
     /// The crates that may depend on the banned one; an empty list is as none.
     pub wrappers: Option<List<Spanned<Text>>>,
+    /// Why they are banned.
     pub reason: Option<Reason>,
     /// What to use in its place: a crate, or an address.
     pub use_instead: Option<Spanned<Text>>,
@@ -43,36 +44,51 @@ pub struct Features {
 /// An entry of `features`.
 #[derive(Debug, Drop)]
 pub struct ValidKrateFeatures {
+    /// The crates that it speaks of.
     pub spec: PackageSpec,
+    /// Which of their features may be enabled.
     pub features: Features,
+    /// Why others may not.
     pub reason: Option<Reason>,
 }
 
-/// What `[bans]` says, without clashes. Ranges are those of the file `file_id`.
+/// What `[bans]` says, without clashes. A field that `Config` has too means the same.
 #[derive(Debug, Drop)]
 pub struct ValidConfig {
+    /// The file whose ranges all spans are.
     pub file_id: FileId,
     /// The level of crates that stand in several versions.
     pub multiple_versions: LintLevel,
+    /// Whether crates that are reached through dev dependencies alone count too.
     pub multiple_versions_include_dev: bool,
+    /// Which paths are shown of the crates of a duplicate.
     pub highlight: GraphHighlight,
     /// The entries of `deny` that ban crates.
     pub denied: List<PackageSpecOrExtended<KrateBan>>,
-    /// The entries of `deny` that deny several versions alone.
+    /// The entries of `deny` that deny several versions alone, by `deny-multiple-versions`.
     pub denied_multiple_versions: List<PackageSpec>,
-    /// The crates that alone are allowed; where there are none, all are.
+    /// The entries of `allow`: the crates that alone are allowed; where there are none, all are.
     pub allowed: List<SpecAndReason>,
+    /// Whether members of the workspace need no entry of `allow` and stand outside the bans.
     pub allow_workspace: bool,
+    /// The level of the feature `default` where a crate outside the workspace has it enabled.
     pub external_default_features: Option<Spanned<LintLevel>>,
+    /// The same for members of the workspace.
     pub workspace_default_features: Option<Spanned<LintLevel>>,
+    /// Which features of which crates may be enabled.
     pub features: List<ValidKrateFeatures>,
-    /// The crates that do not count among several versions.
+    /// The entries of `skip`: the crates that do not count among several versions.
     pub skipped: List<SpecAndReason>,
-    /// The crates whose trees do not.
+    /// The entries of `skip-tree`: the crates whose trees do not.
     pub tree_skipped: List<ValidTreeSkip>,
+    /// The level of a dependency whose requirement is `*`.
     pub wildcards: LintLevel,
+    /// Whether such a dependency may stand where it comes from no registry, in a private crate or as
+    /// a dev dependency.
     pub allow_wildcard_paths: bool,
+    /// How the dependencies that a workspace shares are minded; without it, not at all.
     pub workspace_dependencies: Option<WorkspaceDepsConfig>,
+    /// How crates that the standard library has replaced are minded; without it, not at all.
     pub std_replacements: Option<StdReplacementConfig>,
 }
 

@@ -11,13 +11,14 @@ use deny_base::{LintLevel, NoMemory};
 use deny_toml::{DeserError, Deserialize, TableHelper, Value};
 use std::alloc::Global;
 
-/// How the dependencies that a workspace shares are minded.
+/// How the dependencies that a workspace shares are minded: the table `workspace-dependencies`.
 #[derive(Debug, Drop)]
 pub struct WorkspaceDepsConfig {
-    /// The level of a dependency that several members declare and none shares.
+    /// The level of a dependency that several members declare and none shares; default `deny`.
     pub duplicates: LintLevel,
+    /// Whether dependencies that are named by a path count too; default true.
     pub include_path_dependencies: bool,
-    /// The level of a shared dependency that no member uses.
+    /// The level of a shared dependency that no member uses; default `deny`.
     pub unused: LintLevel,
 }
 
