@@ -1,3 +1,4 @@
+pub mod ValidatingLaws
 pub mod ToldLaws
 pub mod LawfulLaws
 pub mod LabelValid

@@ -1,8 +1,9 @@
 //! What is told of clashes.
-ghost use Rattle.std.specs.Prelude.{◌≡◌, ◌∷◌, [], ◌++◌, IfOk, OnOk, map};
+ghost use Rattle.std.specs.Prelude.{◌≡◌, ◌∷◌, [], ◌++◌, IfOk, OnErr, OnOk, map};
 ghost use Rattle.deny_base.specs.declared.label.LabelStyle.TheVariants.{Secondary};
 ghost use Rattle.deny_cfg.specs.Clashes as spec;
 ghost use Rattle.deny_cfg.specs.Clashes.{clash_labels, clash_message, clash_told, label_of, marks};
+ghost use Rattle.deny_cfg.specs.Validating.{GainsFront};
 
 use crate::clash::{Clash, ClashKind};
 use deny_base::{Diagnostic, FileId, Label, LabelStyle, List, NoMemory, Severity, Span, Text};
@@ -134,14 +135,16 @@ fn clash_told(alloc: Global, file: FileId, clash: &Clash) -> Result<Diagnostic, 
     })
 }
 
-/// Tells the clashes of the file, in order.
+/// Tells the clashes of the file, in order, behind what was told before. Where memory is wanting, a
+/// front of them was told.
 pub fn tell_clashes(
     alloc: Global,
     file: FileId,
     clashes: &[Clash],
     told: &mut List<Diagnostic>,
 ) -> Result<(), NoMemory>
-    ensures { OnOk result (told.new ≡ told.old ++ map (clash_told file) clashes.now) }
+    ensures ok { OnOk result (told.new ≡ told.old ++ map (clash_told file) clashes.now) }
+    ensures err { OnErr result (GainsFront (map (clash_told file) clashes.now) told.old told.new) }
 {
     for clash in clashes {
         told.push(clash_told(alloc, file, clash)?)?;
