@@ -61,7 +61,7 @@ pub(crate) fn level_or(
 }
 
 /// Reads a key that may hold a level, which has no default.
-pub(crate) fn optional_level(
+pub(crate) fn level_if_set(
     helper: &mut TableHelper<'_>,
     key: PolicyKey,
 ) -> Result<Option<Spanned<LintLevel>>, NoMemory>

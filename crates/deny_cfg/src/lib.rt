@@ -7,6 +7,7 @@ mod clash_told;
 mod clashes;
 mod extension;
 mod first_places;
+mod flag;
 mod keyed;
 mod laws;
 mod level;

@@ -3,6 +3,7 @@ ghost use Rattle.deny_cfg.specs.Build.{build_fields, ReadsBuild, faults_of_build
 ghost use Rattle.deny_cfg.specs.Table.{ReadsTable};
 
 use crate::bans::cfg::bypass::Bypass;
+use crate::flag::is_set;
 use crate::keyed::{Keyed, read_table};
 use crate::level::level_or;
 use crate::package_spec::PackageSpec;
@@ -51,18 +52,10 @@ impl Keyed for BuildConfig {
         let interpreted = level_or(helper, PolicyKey::Interpreted, LintLevel::Allow)?;
         let script_extensions = table::optional(helper, PolicyKey::ScriptExtensions)?;
         let bypass = table::optional(helper, PolicyKey::Bypass)?;
-        let enable_builtin_globs = table::optional_or(
-            helper,
-            PolicyKey::EnableBuiltinGlobs,
-            false,
-        )?;
-        let include_dependencies = table::optional_or(
-            helper,
-            PolicyKey::IncludeDependencies,
-            false,
-        )?;
-        let include_workspace = table::optional_or(helper, PolicyKey::IncludeWorkspace, false)?;
-        let include_archives = table::optional_or(helper, PolicyKey::IncludeArchives, false)?;
+        let enable_builtin_globs = is_set(helper, PolicyKey::EnableBuiltinGlobs)?;
+        let include_dependencies = is_set(helper, PolicyKey::IncludeDependencies)?;
+        let include_workspace = is_set(helper, PolicyKey::IncludeWorkspace)?;
+        let include_archives = is_set(helper, PolicyKey::IncludeArchives)?;
         Ok(Some(BuildConfig {
             allow_build_scripts,
             executables,

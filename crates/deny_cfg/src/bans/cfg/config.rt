@@ -9,8 +9,9 @@ use crate::bans::cfg::highlight::GraphHighlight;
 use crate::bans::cfg::std_replacements::StdReplacementConfig;
 use crate::bans::cfg::workspace::WorkspaceDepsConfig;
 use crate::bans::cfg::{CrateAllow, CrateBan, CrateSkip, TreeSkip};
+use crate::flag::is_set;
 use crate::keyed::{Keyed, read_table};
-use crate::level::{level_or, optional_level};
+use crate::level::{level_if_set, level_or};
 use crate::package_spec::PackageSpec;
 use crate::policy_key::PolicyKey;
 use crate::table;
@@ -94,29 +95,18 @@ impl Keyed for Config {
 
     fn read_keys(alloc: Global, helper: &mut TableHelper<'_>) -> Result<Option<Config>, NoMemory> {
         let multiple_versions = level_or(helper, PolicyKey::MultipleVersions, LintLevel::Warn)?;
-        let multiple_versions_include_dev = table::optional_or(
-            helper,
-            PolicyKey::MultipleVersionsIncludeDev,
-            false,
-        )?;
+        let multiple_versions_include_dev = is_set(helper, PolicyKey::MultipleVersionsIncludeDev)?;
         let highlight = table::optional_or(helper, PolicyKey::Highlight, GraphHighlight::All)?;
         let deny = table::optional_list(alloc, helper, PolicyKey::Deny)?;
         let allow = table::optional_list(alloc, helper, PolicyKey::Allow)?;
-        let allow_workspace = table::optional_or(helper, PolicyKey::AllowWorkspace, false)?;
-        let external_default_features = optional_level(helper, PolicyKey::ExternalDefaultFeatures)?;
-        let workspace_default_features = optional_level(
-            helper,
-            PolicyKey::WorkspaceDefaultFeatures,
-        )?;
+        let allow_workspace = is_set(helper, PolicyKey::AllowWorkspace)?;
+        let external_default_features = level_if_set(helper, PolicyKey::ExternalDefaultFeatures)?;
+        let workspace_default_features = level_if_set(helper, PolicyKey::WorkspaceDefaultFeatures)?;
         let features = table::optional_list(alloc, helper, PolicyKey::Features)?;
         let skip = table::optional_list(alloc, helper, PolicyKey::Skip)?;
         let skip_tree = table::optional_list(alloc, helper, PolicyKey::SkipTree)?;
         let wildcards = level_or(helper, PolicyKey::Wildcards, LintLevel::Allow)?;
-        let allow_wildcard_paths = table::optional_or(
-            helper,
-            PolicyKey::AllowWildcardPaths,
-            false,
-        )?;
+        let allow_wildcard_paths = is_set(helper, PolicyKey::AllowWildcardPaths)?;
         let allow_build_scripts = table::optional(helper, PolicyKey::AllowBuildScripts)?;
         let build = table::optional(helper, PolicyKey::Build)?;
         let workspace_dependencies = table::optional(helper, PolicyKey::WorkspaceDependencies)?;
