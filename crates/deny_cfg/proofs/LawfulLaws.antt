@@ -2,12 +2,12 @@
 use Rattle.std.proofs.Common.{◌++◌, ℕ, List, [], ◌∷◌, Option, Some, None, ap, arith}
 use Rattle.std.specs.List.{flat_map}
 use Rattle.deny_base.specs.declared.span.Span.{Span}
-use Rattle.deny_cfg.specs.LabelRanges.{AreLabels, ban_ranges, feature_ranges, of_some, own_range, reason_range, root_ranges, spec_range, std_ranges, with_spec, word_labels, word_ranges}
-use Rattle.deny_cfg.specs.Lawful.{IsLawful, ban_entries, entry_ranges, feature_entries, ignore_ranges, name_range, wrapper_ranges}
-use Rattle.deny_cfg.specs.declared.bans.cfg.std_replacements.StdReplacementConfig.{StdReplacementConfig}
+use Rattle.deny_cfg.specs.LabelRanges.{AreLabels, ban_ranges, feature_ranges, feature_ranges_by, of_some, own_range, reason_range, root_ranges, spec_range, std_ranges, std_ranges_by, with_spec, word_labels, word_ranges}
+use Rattle.deny_cfg.specs.Lawful.{IsLawful, entry_spans, no_range, wrapper_ranges}
 use Rattle.deny_cfg.specs.declared.bans.cfg.valid.KrateBan.{KrateBan}
 use Rattle.deny_cfg.specs.declared.bans.cfg.valid.ValidConfig.{ValidConfig}
 use Rattle.deny_cfg.specs.declared.bans.cfg.valid.ValidKrateFeatures.{ValidKrateFeatures}
+use Rattle.deny_cfg.specs.declared.reason.Reason.{Reason}
 use Rattle.deny_cfg.specs.declared.spec_or_extended.PackageSpecOrExtended.{PackageSpecOrExtended}
 use Rattle.deny_cfg.proofs.LabelValid.{Among, among_both, among_itself, among_joined, labels_among, lie_front, times_both}
 
@@ -18,53 +18,61 @@ among_flat : {T : Type 0} (f g : T → List Span) → ((x : T) → Among (f x) (
 among_flat f g each [] = among_itself []
 among_flat f g each (x ∷ xs) = among_both (f x) (flat_map f xs) (g x) (flat_map g xs) (each x) (among_flat f g each xs)
 
-name_among : {T : Type 0} (ranges : T → List Span) (e : PackageSpecOrExtended T) → Among (name_range e) (with_spec ranges e)
-name_among ranges e = among_front (spec_range e.spec) (of_some ranges e.inner)
+among_some : {T : Type 0} (f g : T → List Span) → ((x : T) → Among (f x) (g x)) → (o : Option T) → Among (of_some f o) (of_some g o)
+among_some f g each None = among_itself []
+among_some f g each (Some x) = each x
 
-wrappers_among : (inner : Option KrateBan) → Among (of_some wrapper_ranges inner) (of_some ban_ranges inner)
-wrappers_among None = among_itself []
-wrappers_among (Some ban) = among_front (of_some word_ranges ban.wrappers) (of_some reason_range ban.reason ++ (of_some own_range ban.use_instead ++ []))
+among_entry : {T : Type 0} (f g : T → List Span) → ((x : T) → Among (f x) (g x)) → (e : PackageSpecOrExtended T) → Among (with_spec f e) (with_spec g e)
+among_entry f g each e = among_both (spec_range e.spec) (of_some f e.inner) (spec_range e.spec) (of_some g e.inner) (among_itself (spec_range e.spec)) (among_some f g each e.inner)
 
-ban_among : (e : PackageSpecOrExtended KrateBan) → Among (ban_entries e) (with_spec ban_ranges e)
-ban_among e = among_both (spec_range e.spec) (of_some wrapper_ranges e.inner) (spec_range e.spec) (of_some ban_ranges e.inner) (among_itself (spec_range e.spec)) (wrappers_among e.inner)
+none_among : {T : Type 0} (g : T → List Span) (x : T) → Among (no_range x) (g x)
+none_among g x = among_front [] (g x)
 
-feature_among : (f : ValidKrateFeatures) → Among (feature_entries f) (feature_ranges f)
+wrappers_among : (ban : KrateBan) → Among (wrapper_ranges ban) (ban_ranges ban)
+wrappers_among ban = among_front (of_some word_ranges ban.wrappers) (of_some reason_range ban.reason ++ (of_some own_range ban.use_instead ++ []))
+
+feature_among : (f : ValidKrateFeatures) → Among (feature_ranges_by no_range f) (feature_ranges f)
 feature_among f =
     let allow = word_ranges f.features.allow.value in
     let deny = word_ranges f.features.deny in
+    let nothing = of_some no_range f.reason ++ [] in
     let reason = of_some reason_range f.reason ++ [] in
-    among_both (spec_range f.spec) (allow ++ deny) (spec_range f.spec) (allow ++ (deny ++ reason)) (among_itself (spec_range f.spec))
-    (among_both allow deny allow (deny ++ reason) (among_itself allow) (among_front deny reason))
+    among_both (spec_range f.spec) (allow ++ (deny ++ nothing)) (spec_range f.spec) (allow ++ (deny ++ reason)) (among_itself (spec_range f.spec))
+    (among_both allow (deny ++ nothing) allow (deny ++ reason) (among_itself allow)
+    (among_both deny nothing deny reason (among_itself deny)
+    (among_both (of_some no_range f.reason) [] (of_some reason_range f.reason) [] (among_some no_range reason_range (none_among reason_range) f.reason) (among_itself []))))
 
-ignore_among : (std : Option StdReplacementConfig) → Among (of_some ignore_ranges std) (of_some std_ranges std)
-ignore_among None = among_itself []
-ignore_among (Some std) = among_flat name_range (with_spec reason_range) (name_among reason_range) std.ignore
+reasons_among : (es : List (PackageSpecOrExtended Reason)) → Among (flat_map (with_spec no_range) es) (flat_map (with_spec reason_range) es)
+reasons_among = among_flat (with_spec no_range) (with_spec reason_range) (among_entry no_range reason_range (none_among reason_range))
 
-entries_among : (valid : ValidConfig) → Among (entry_ranges valid) (word_labels valid)
-unfolding entry_ranges word_labels
+entries_among : (valid : ValidConfig) → Among (entry_spans valid) (word_labels valid)
+unfolding entry_spans word_labels
 entries_among valid =
     let several = flat_map spec_range valid.denied_multiple_versions in
     among_joined
-    ((flat_map ban_entries valid.denied ++ several) ∷ flat_map name_range valid.allowed ∷ of_some own_range valid.external_default_features ∷ of_some own_range valid.workspace_default_features
-    ∷ flat_map feature_entries valid.features ∷ flat_map name_range valid.skipped ∷ flat_map name_range valid.tree_skipped ∷ of_some ignore_ranges valid.std_replacements ∷ [])
+    ((flat_map (with_spec wrapper_ranges) valid.denied ++ several) ∷ flat_map (with_spec no_range) valid.allowed ∷ of_some own_range valid.external_default_features
+    ∷ of_some own_range valid.workspace_default_features ∷ flat_map (feature_ranges_by no_range) valid.features ∷ flat_map (with_spec no_range) valid.skipped
+    ∷ flat_map (with_spec no_range) valid.tree_skipped ∷ of_some (std_ranges_by no_range) valid.std_replacements ∷ [])
     ((flat_map (with_spec ban_ranges) valid.denied ++ several) ∷ flat_map (with_spec reason_range) valid.allowed ∷ of_some own_range valid.external_default_features
     ∷ of_some own_range valid.workspace_default_features ∷ flat_map feature_ranges valid.features ∷ flat_map (with_spec reason_range) valid.skipped ∷ flat_map (with_spec root_ranges) valid.tree_skipped
     ∷ of_some std_ranges valid.std_replacements ∷ []) (
-      among_both (flat_map ban_entries valid.denied) several (flat_map (with_spec ban_ranges) valid.denied) several (among_flat ban_entries (with_spec ban_ranges) ban_among valid.denied) (among_itself several),
+      among_both (flat_map (with_spec wrapper_ranges) valid.denied) several (flat_map (with_spec ban_ranges) valid.denied) several
+          (among_flat (with_spec wrapper_ranges) (with_spec ban_ranges) (among_entry wrapper_ranges ban_ranges wrappers_among) valid.denied)
+          (among_itself several),
       (
-        among_flat name_range (with_spec reason_range) (name_among reason_range) valid.allowed,
+        reasons_among valid.allowed,
         (
           among_itself (of_some own_range valid.external_default_features),
           (
             among_itself (of_some own_range valid.workspace_default_features),
             (
-              among_flat feature_entries feature_ranges feature_among valid.features,
+              among_flat (feature_ranges_by no_range) feature_ranges feature_among valid.features,
               (
-                among_flat name_range (with_spec reason_range) (name_among reason_range) valid.skipped,
+                reasons_among valid.skipped,
                 (
-                  among_flat name_range (with_spec root_ranges) (name_among root_ranges) valid.tree_skipped,
+                  among_flat (with_spec no_range) (with_spec root_ranges) (among_entry no_range root_ranges (none_among root_ranges)) valid.tree_skipped,
                   (
-                    ignore_among valid.std_replacements,
+                    among_some (std_ranges_by no_range) std_ranges (λ std. reasons_among std.ignore) valid.std_replacements,
                     (
                         tt),
                   ),
@@ -78,5 +86,5 @@ entries_among valid =
 
 pub lawful : (text : List ℕ) (valid : ValidConfig) → AreLabels text (word_labels valid) → IsLawful valid
 lawful text valid labels =
-    let entries = labels_among text (entry_ranges valid) (word_labels valid) (entries_among valid) labels in
+    let entries = labels_among text (entry_spans valid) (word_labels valid) (entries_among valid) labels in
     λ i j d below within same. entries.apart i j d below within (ap (λ (span : Span). span.start) same)

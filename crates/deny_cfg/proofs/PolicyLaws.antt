@@ -5,6 +5,7 @@ use Rattle.deny_base.specs.declared.files.File.{File}
 use Rattle.deny_base.specs.declared.finding.Diagnostic.{Diagnostic}
 use Rattle.deny_base.specs.declared.span.Span.{Span}
 use Rattle.deny_base.proofs.AscendingLemmas.{Contains-first}
+use Rattle.deny_model.specs.Keys.{no_span}
 use Rattle.deny_toml.proofs.FaultLaws.{single_ascends}
 use Rattle.deny_toml.specs.Faults.{Reports, fault_at}
 use Rattle.deny_toml.specs.Parser.{IsFaultOf, IsTreeOf}
@@ -14,7 +15,7 @@ use Rattle.deny_toml.specs.declared.error.DeserError.TheVariants as deser
 use Rattle.deny_toml.specs.declared.error.FaultKind.TheVariants as kind
 use Rattle.deny_toml.specs.declared.error.TomlKind.{TomlKind}
 use Rattle.deny_toml.specs.declared.value.Value.{Value}
-use Rattle.deny_cfg.specs.Clashes.{AreClashes, clash_told, clashes_in, no_span}
+use Rattle.deny_cfg.specs.Clashes.{AreClashes, clash_told, clashes_in}
 use Rattle.deny_cfg.specs.PolicyText.{AreFaults, IsConfig, IsNoPolicy, Keeps, KeepsOnError, ListsFaults, faults_of_tree, kind_of, policy_file}
 use Rattle.deny_cfg.specs.PolicyText.AreFaults.{not_utf8, no_toml, of_tree}
 use Rattle.deny_cfg.specs.Validating.{Gains}

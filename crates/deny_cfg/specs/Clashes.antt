@@ -24,10 +24,8 @@ use Rattle.deny_cfg.specs.declared.clash.ClashKind.TheVariants as clash
 use Rattle.deny_cfg.specs.declared.package_spec.PackageSpec.{PackageSpec}
 use Rattle.deny_cfg.specs.declared.spec_or_extended.PackageSpecOrExtended.{PackageSpecOrExtended}
 use Rattle.deny_model.specs.Policy.{Words}
+pub use Rattle.deny_model.specs.Keys.{no_span}
 use Rattle.deny_model.specs.Text.{same_text}
-
-abbrev pub no_span : Span
-no_span = record { start = 0; end = 0 }
 
 -- what the entry says of several versions
 abbrev pub flag_of : PackageSpecOrExtended CrateBanExtended → Option (Spanned Bool)

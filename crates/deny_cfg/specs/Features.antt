@@ -1,6 +1,7 @@
 -- Entries of `features`.
 use Rattle.std.specs.Prelude.{List, [], ◌∷◌, false}
 use Rattle.deny_base.specs.declared.span.Spanned.{Spanned}
+use Rattle.deny_model.specs.Keys.{no_span}
 use Rattle.deny_toml.specs.declared.error.ConfigFault.{ConfigFault}
 use Rattle.deny_toml.specs.declared.value.Value.{Value}
 use Rattle.deny_cfg.specs.declared.policy_key.PolicyKey.TheVariants as key
@@ -13,7 +14,7 @@ use Rattle.deny_cfg.specs.Words.{faults_of_bool, ReadsBool, faults_of_any_text, 
 
 -- what stands for a value that is left out has the range 0..0
 abbrev pub nowhere : {T : Type 0} → T → Spanned T
-nowhere value = record { value = value; span = record { start = 0; end = 0 } }
+nowhere value = record { value = value; span = no_span }
 
 abbrev pub feature_fields : List Field
 feature_fields =

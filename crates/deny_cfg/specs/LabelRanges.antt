@@ -47,25 +47,36 @@ ban_ranges ban = joined (of_some word_ranges ban.wrappers ∷ of_some reason_ran
 abbrev pub root_ranges : TreeSkipExtended → List Span
 root_ranges skip = of_some reason_range skip.reason
 
+-- an entry of `features`, with what is taken of its reason
+abbrev pub feature_ranges_by : (Reason → List Span) → ValidKrateFeatures → List Span
+feature_ranges_by reasons f = spec_range f.spec ++ joined (word_ranges f.features.allow.value ∷ word_ranges f.features.deny ∷ of_some reasons f.reason ∷ [])
+
 abbrev pub feature_ranges : ValidKrateFeatures → List Span
-feature_ranges f = spec_range f.spec ++ joined (word_ranges f.features.allow.value ∷ word_ranges f.features.deny ∷ of_some reason_range f.reason ∷ [])
+feature_ranges = feature_ranges_by reason_range
+
+abbrev pub std_ranges_by : (Reason → List Span) → StdReplacementConfig → List Span
+std_ranges_by reasons std = flat_map (with_spec reasons) std.ignore
 
 abbrev pub std_ranges : StdReplacementConfig → List Span
-std_ranges std = flat_map (with_spec reason_range) std.ignore
+std_ranges = std_ranges_by reason_range
+
+-- of each name, feature and level, and what is taken of bans, reasons and trees besides
+abbrev pub ranges_by : (KrateBan → List Span) → (Reason → List Span) → (TreeSkipExtended → List Span) → ValidConfig → List Span
+ranges_by bans reasons trees cfg = joined (
+    (flat_map (with_spec bans) cfg.denied ++ flat_map spec_range cfg.denied_multiple_versions)
+    ∷ flat_map (with_spec reasons) cfg.allowed
+    ∷ of_some own_range cfg.external_default_features
+    ∷ of_some own_range cfg.workspace_default_features
+    ∷ flat_map (feature_ranges_by reasons) cfg.features
+    ∷ flat_map (with_spec reasons) cfg.skipped
+    ∷ flat_map (with_spec trees) cfg.tree_skipped
+    ∷ of_some (std_ranges_by reasons) cfg.std_replacements
+    ∷ []
+    )
 
 -- of each name, word, reason and level that the rules tell of: the ranges that tell entries apart are among them
 unfoldable pub word_labels : ValidConfig → List Span
-word_labels cfg = joined (
-    (flat_map (with_spec ban_ranges) cfg.denied ++ flat_map spec_range cfg.denied_multiple_versions)
-    ∷ flat_map (with_spec reason_range) cfg.allowed
-    ∷ of_some own_range cfg.external_default_features
-    ∷ of_some own_range cfg.workspace_default_features
-    ∷ flat_map feature_ranges cfg.features
-    ∷ flat_map (with_spec reason_range) cfg.skipped
-    ∷ flat_map (with_spec root_ranges) cfg.tree_skipped
-    ∷ of_some std_ranges cfg.std_replacements
-    ∷ []
-    )
+word_labels cfg = ranges_by ban_ranges reason_range root_ranges cfg
 
 -- the same of a configuration as it is written, where an entry of `deny` may have a flag
 abbrev pub crate_ban_ranges : CrateBanExtended → List Span

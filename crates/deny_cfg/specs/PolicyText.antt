@@ -6,6 +6,7 @@ use Rattle.std.specs.Option.{option_map_or}
 use Rattle.deny_base.specs.declared.files.File.{File}
 use Rattle.deny_base.specs.declared.finding.Diagnostic.{Diagnostic}
 use Rattle.deny_base.specs.declared.span.Span.{Span}
+use Rattle.deny_model.specs.Keys.{no_span}
 use Rattle.deny_toml.specs.Calls.{below_name}
 use Rattle.deny_toml.specs.Faults.{fault_at, fault_cmp}
 use Rattle.deny_toml.specs.Parser.{IsFaultOf, IsTreeOf}
@@ -17,7 +18,7 @@ use Rattle.deny_toml.specs.declared.error.FaultKind.TheVariants as kind
 use Rattle.deny_toml.specs.declared.error.TomlKind.{TomlKind}
 use Rattle.deny_toml.specs.declared.error.TomlKind.TheVariants as toml
 use Rattle.deny_toml.specs.declared.value.Value.{Value}
-use Rattle.deny_cfg.specs.Clashes.{AreClashes, clashes_in, no_span}
+use Rattle.deny_cfg.specs.Clashes.{AreClashes, clashes_in}
 use Rattle.deny_cfg.specs.Config.{ReadsConfig, faults_of_config}
 use Rattle.deny_cfg.specs.LabelRanges.{told_ranges}
 use Rattle.deny_cfg.specs.PolicyKey.{name_of}
