@@ -27,58 +27,21 @@ fn bans_message(alloc: Global, teller: &Teller<'_>, key: &Key, code: Code) -> Re
     ensures { IfOk result (λ text. text ≡ message_told (DiagnosticCode.Bans code) (policy_view teller.now.cfg.now) teller.now.krates.now key.now) }
 {
     match code {
-        Code::Banned => of_krate(
-            alloc,
-            teller,
-            "crate '",
-            key.place,
-            "' is explicitly banned",
-        ),
-        Code::Allowed => of_krate(
-            alloc,
-            teller,
-            "crate '",
-            key.place,
-            "' is explicitly allowed",
-        ),
-        Code::NotAllowed => of_krate(
-            alloc,
-            teller,
-            "crate '",
-            key.place,
-            "' is not explicitly allowed",
-        ),
+        Code::Banned => krate_message(alloc, teller, key, "' is explicitly banned"),
+        Code::Allowed => krate_message(alloc, teller, key, "' is explicitly allowed"),
+        Code::NotAllowed => krate_message(alloc, teller, key, "' is not explicitly allowed"),
         Code::Duplicate => duplicate_message(alloc, teller, key),
-        Code::Skipped => of_krate(
+        Code::Skipped => krate_message(
             alloc,
             teller,
-            "crate '",
-            key.place,
+            key,
             "' skipped when checking for duplicates",
         ),
-        Code::UnmatchedSkip => of_skip(
-            alloc,
-            teller,
-            "skipped crate '",
-            key.entry,
-            "' was not encountered",
-        ),
-        Code::UnnecessarySkip => of_skip(
-            alloc,
-            teller,
-            "skip '",
-            key.entry,
-            "' applied to a crate with only one version",
-        ),
+        Code::UnmatchedSkip => unmatched_skip_message(alloc, teller, key),
+        Code::UnnecessarySkip => unnecessary_skip_message(alloc, teller, key),
         Code::AllowedByWrapper => allowed_by_wrapper_message(alloc, teller, key),
         Code::UnmatchedWrapper => unmatched_wrapper_message(alloc, teller, key),
-        Code::SkippedByRoot => of_krate(
-            alloc,
-            teller,
-            "skipping crate '",
-            key.place,
-            "' due to root skip",
-        ),
+        Code::SkippedByRoot => skipped_by_root_message(alloc, teller, key),
         Code::UnmatchedSkipRoot => Ok(Text::from_str(
             alloc,
             "skip tree root was not found in the dependency graph",
@@ -89,6 +52,18 @@ fn bans_message(alloc: Global, teller: &Teller<'_>, key: &Key, code: Code) -> Re
         )?),
         _ => Ok(Text::new(alloc)),
     }
+}
+
+// A sentence that begins with the crate of a finding.
+fn krate_message(
+    alloc: Global,
+    teller: &Teller<'_>,
+    key: &Key,
+    after: &str,
+) -> Result<Text, NoMemory>
+    ensures { IfOk result (λ text. text ≡ codes "crate '" ++ (crate_text_at teller.now.krates.now key.now.place ++ after.now)) }
+{
+    of_krate(alloc, teller, "crate '", key.place, after)
 }
 
 // A sentence about the crate at a place.
@@ -138,6 +113,42 @@ fn spec_text(alloc: Global, spec: &PackageSpec) -> Result<Text, NoMemory>
         Some(written) => Ok(Text::from_string(format!(in alloc; "{name} = {written}")?)),
         None => Ok(name.clone()?),
     }
+}
+
+fn unmatched_skip_message(alloc: Global, teller: &Teller<'_>, key: &Key) -> Result<Text, NoMemory>
+    ensures { IfOk result (λ text. text ≡ codes "skipped crate '" ++ (skip_text_at (policy_view teller.now.cfg.now) key.now.entry ++ codes "' was not encountered")) }
+{
+    of_skip(
+        alloc,
+        teller,
+        "skipped crate '",
+        key.entry,
+        "' was not encountered",
+    )
+}
+
+fn unnecessary_skip_message(alloc: Global, teller: &Teller<'_>, key: &Key) -> Result<Text, NoMemory>
+    ensures { IfOk result (λ text. text ≡ codes "skip '" ++ (skip_text_at (policy_view teller.now.cfg.now) key.now.entry ++ codes "' applied to a crate with only one version")) }
+{
+    of_skip(
+        alloc,
+        teller,
+        "skip '",
+        key.entry,
+        "' applied to a crate with only one version",
+    )
+}
+
+fn skipped_by_root_message(alloc: Global, teller: &Teller<'_>, key: &Key) -> Result<Text, NoMemory>
+    ensures { IfOk result (λ text. text ≡ codes "skipping crate '" ++ (crate_text_at teller.now.krates.now key.now.place ++ codes "' due to root skip")) }
+{
+    of_krate(
+        alloc,
+        teller,
+        "skipping crate '",
+        key.place,
+        "' due to root skip",
+    )
 }
 
 fn duplicate_message(alloc: Global, teller: &Teller<'_>, key: &Key) -> Result<Text, NoMemory>
