@@ -1,12 +1,12 @@
 -- What a list comes to hold, step by step.
-use Rattle.std.proofs.Common.{◌≡◌, ◌⊎◌, ◌++◌, ◌+◌, ◌<◌, ◌≤◌, ℕ, List, [], ◌∷◌, Contains, drop, get_or, length, take, sym, ap, ◌∙◌, subst, inl, inr}
+use Rattle.std.proofs.Common.{◌≡◌, ◌⊎◌, ◌++◌, ◌+◌, ◌<◌, ◌≤◌, ℕ, List, [], ◌∷◌, Contains, drop, get_or, length, map, take, sym, ap, ◌∙◌, subst, inl, inr, append_assoc}
 use Rattle.std.specs.List.{flat_map}
 use Rattle.std.specs.declared.cmp.Ordering.{Ordering}
 use Rattle.std.proofs.lemmas.Grind.{flat_map-append}
-use Rattle.std.proofs.lemmas.List.{append-nil, at_drop_all, take_all, take_more}
+use Rattle.std.proofs.lemmas.List.{append-nil, at_drop_all, drop_more, take_all, take_more}
 use Rattle.std.proofs.lemmas.List.Elements.{Contains-append_left, Contains-append_right, Contains-append_cases}
 use Rattle.deny_base.specs.Ascending.{Adds, Lists}
-use Rattle.deny_rules.proofs.Members.{no_member}
+use Rattle.deny_rules.proofs.MemberLemmas.{no_member}
 
 pub adds_list : {T : Type 0} (old new added : List T) → new ≡ old ++ added → Adds (Contains added) old new
 adds_list {T} old new added is = record {
@@ -14,9 +14,6 @@ adds_list {T} old new added is = record {
   whole = λ x stands. subst (λ (xs : List T). Contains xs x) (sym is) (Contains-append_right old added x stands);
   sound = λ x stands. Contains-append_cases old added x (subst (λ (xs : List T). Contains xs x) is stands);
 }
-
-pub adds_nothing : {T : Type 0} (xs : List T) → Adds (Contains []) xs xs
-adds_nothing xs = adds_list xs xs [] (sym (append-nil xs))
 
 -- the same facts in other words
 pub adds_same : {T : Type 0} (P Q : T → Type 0) (old new : List T) → Adds P old new → ((x : T) → P x → Q x) → ((x : T) → Q x → P x) → Adds Q old new
@@ -26,26 +23,24 @@ adds_same P Q old new adds there back = record {
   sound = λ x stands. elim (adds.sound x stands) as (λ _. Contains old x ⊎ Q x) [ inl before ↦ inl before | inr is ↦ inr (there x is) ];
 }
 
-pub adds_both : {T : Type 0} (one two : List T) (old mid new : List T) → Adds (Contains one) old mid → Adds (Contains two) mid new → Adds (Contains (one ++ two)) old new
-adds_both one two old mid new first second = record {
-  kept = λ x stands. second.kept x (first.kept x stands);
-  whole = λ x is. elim (Contains-append_cases one two x is) as (λ _. Contains new x) [
-    | inl here ↦ second.kept x (first.whole x here)
-    | inr there ↦ second.whole x there
-  ];
-  sound = λ x stands. elim (second.sound x stands) as (λ _. Contains old x ⊎ Contains (one ++ two) x) [
-    | inr there ↦ inr (Contains-append_right one two x there)
-    | inl before ↦ elim (first.sound x before) as (λ _. Contains old x ⊎ Contains (one ++ two) x) [
-      | inl before ↦ inl before
-      | inr here ↦ inr (Contains-append_left one two x here)
-    ]
+-- what is added first, and what then
+pub adds_then : {T : Type 0} (P Q : T → Type 0) (old mid new : List T) → Adds P old mid → Adds Q mid new → Adds (λ x. P x ⊎ Q x) old new
+adds_then P Q old mid new first second = record {
+  kept = λ x is. second.kept x (first.kept x is);
+  whole = λ x is. elim is as (λ _. Contains new x) [ inl here ↦ second.kept x (first.whole x here) | inr there ↦ second.whole x there ];
+  sound = λ x is. elim (second.sound x is) as (λ _. Contains old x ⊎ (P x ⊎ Q x)) [
+    | inr there ↦ inr (inr there)
+    | inl before ↦ elim (first.sound x before) as (λ _. Contains old x ⊎ (P x ⊎ Q x)) [ inl old ↦ inl old | inr here ↦ inr (inl here) ]
   ];
 }
 
--- a loop that adds what each element gives
-pub adds_each_start : {X T : Type 0} (f : X → List T) (xs : List X) (old : List T) → Adds (Contains (flat_map f (take 0 xs))) old old
-adds_each_start f xs old = adds_nothing old
+pub adds_both : {T : Type 0} (one two : List T) (old mid new : List T) → Adds (Contains one) old mid → Adds (Contains two) mid new → Adds (Contains (one ++ two)) old new
+adds_both one two old mid new first second =
+    adds_same (λ x. Contains one x ⊎ Contains two x) (Contains (one ++ two)) old new (adds_then (Contains one) (Contains two) old mid new first second)
+    (λ x is. elim is as (λ _. Contains (one ++ two) x) [ inl here ↦ Contains-append_left one two x here | inr there ↦ Contains-append_right one two x there ])
+    (λ x is. Contains-append_cases one two x is)
 
+-- a loop that adds what each element gives
 pub adds_each_more : {X T : Type 0} (f : X → List T) (xs : List X) (x : X) (i : ℕ) (old mid new : List T) → i < length xs → x ≡ get_or xs i x
     → Adds (Contains (flat_map f (take i xs))) old mid → Adds (Contains (f x)) mid new → Adds (Contains (flat_map f (take (i + 1) xs))) old new
 adds_each_more {X} {T} f xs x i old mid new inside is before here =
@@ -57,13 +52,25 @@ adds_each_more {X} {T} f xs x i old mid new inside is before here =
 pub adds_each_all : {X T : Type 0} (f : X → List T) (xs : List X) (i : ℕ) (old new : List T) → length xs ≤ i → Adds (Contains (flat_map f (take i xs))) old new → Adds (Contains (flat_map f xs)) old new
 adds_each_all {X} {T} f xs i old new past adds = subst (λ (ys : List X). Adds (Contains (flat_map f ys)) old new) (take_all i xs past) adds
 
--- a list that is made from nothing, in order
-pub lists_added : {T : Type 0} (cmp : T → T → Ordering) (added old new : List T) → Adds (Contains added) [] old → Lists cmp (Contains old) new → Lists cmp (Contains added) new
-lists_added cmp added old new adds listed = record {
+-- what was added to nothing, put in order
+pub lists_added : {T : Type 0} (cmp : T → T → Ordering) (P : T → Type 0) (old new : List T) → Adds P [] old → Lists cmp (Contains old) new → Lists cmp P new
+lists_added cmp P old new adds listed = record {
   ascending = listed.ascending;
   whole = λ x is. listed.whole x (adds.whole x is);
-  sound = λ x stands. elim (adds.sound x (listed.sound x stands)) as (λ _. Contains added x) [ inl none ↦ absurd (no_member x none) | inr is ↦ is ];
+  sound = λ x stands. elim (adds.sound x (listed.sound x stands)) as (λ _. P x) [ inl none ↦ absurd (no_member x none) | inr is ↦ is ];
 }
+
+-- a step of a loop that appends what is next
+pub appended : {X Y : Type 0} (each : List X → List Y) (xs rest : List X) (here old new whole : List Y) → each xs ≡ here ++ each rest → new ≡ old ++ here → old ++ each xs ≡ whole → new ++ each rest ≡ whole
+appended each xs rest here old new whole split added so =
+    ap (λ ys. ys ++ each rest) added ∙ (append_assoc old here (each rest) ∙ (ap (λ ys. old ++ ys) (sym split) ∙ so))
+
+-- the same where each element gives a list
+pub flat-step : {X Y Z : Type 0} (f : Y → List Z) (v : X → Y) (xs : List X) (x : X) (i : ℕ) (old new whole : List Z) → i < length xs → x ≡ get_or xs i x
+    → new ≡ old ++ f (v x) → old ++ flat_map f (map v (drop i xs)) ≡ whole → new ++ flat_map f (map v (drop (i + 1) xs)) ≡ whole
+flat-step f v xs x i old new whole inside is =
+    appended (λ ys. flat_map f (map v ys)) (drop i xs) (drop (i + 1) xs) (f (v x)) old new whole
+    (ap (λ ys. flat_map f (map v ys)) (drop_more xs i x inside ∙ ap (λ y. y ∷ drop (i + 1) xs) (sym is)))
 
 -- what a loop over a list kept, at its end
 pub pushed_all : {X Y : Type 0} (each : List X → List Y) (xs : List X) (i : ℕ) (new whole : List Y) → each [] ≡ [] → length xs ≤ i → new ++ each (drop i xs) ≡ whole → new ≡ whole

@@ -1,7 +1,6 @@
 -- What stands of each entry that bans crates, rule by rule.
-use Rattle.std.proofs.Common.{◌≡◌, ◌+◌, ◌++◌, ◌<◌, ℕ, List, [], ◌∷◌, Contains, drop, get_or, length, map, refl, sym, ap, ◌∙◌, subst, inl, inr, append_assoc}
+use Rattle.std.proofs.Common.{◌≡◌, ◌++◌, List, Contains, subst, inl, inr, append_assoc}
 use Rattle.std.specs.List.{flat_map}
-use Rattle.std.proofs.lemmas.List.{drop_more}
 use Rattle.std.proofs.lemmas.List.Elements.{Contains-append_cases, Contains-append_left, Contains-append_right}
 use Rattle.deny_base.specs.Ascending.{Adds}
 use Rattle.deny_base.specs.declared.key.Key.{Key}
@@ -12,19 +11,7 @@ use Rattle.deny_model.specs.Rules.{ban_keys}
 use Rattle.deny_model.specs.Wrappers.{unused_wrapper_keys_of}
 use Rattle.deny_rules.specs.Banned.{keys_of_ban}
 use Rattle.deny_rules.proofs.AddsLemmas.{adds_both, adds_list, adds_same}
-use Rattle.deny_rules.proofs.Members.{Contains-flat_map, Contains-from_flat_map}
-
-pub flat_map-map : {X Y Z : Type 0} (f : Y → List Z) (v : X → Y) (xs : List X) → flat_map (λ x. f (v x)) xs ≡ flat_map f (map v xs)
-flat_map-map f v [] = refl
-flat_map-map f v (x ∷ xs) = ap (λ ys. f (v x) ++ ys) (flat_map-map f v xs)
-
--- a step of a loop that adds what each element gives, in order
-pub flat-step : {X Y Z : Type 0} (f : Y → List Z) (v : X → Y) (xs : List X) (x : X) (i : ℕ) (old new whole : List Z) → i < length xs → x ≡ get_or xs i x
-    → new ≡ old ++ f (v x) → old ++ flat_map f (map v (drop i xs)) ≡ whole → new ++ flat_map f (map v (drop (i + 1) xs)) ≡ whole
-flat-step f v xs x i old new whole inside is added so =
-    let rest = flat_map f (map v (drop (i + 1) xs)) in
-    let split : flat_map f (map v (drop i xs)) ≡ f (v x) ++ rest = ap (λ ys. flat_map f (map v ys)) (drop_more xs i x inside ∙ ap (λ y. y ∷ drop (i + 1) xs) (sym is)) in
-    ap (λ zs. zs ++ rest) added ∙ (append_assoc old (f (v x)) rest ∙ (ap (λ zs. old ++ zs) (sym split) ∙ so))
+use Rattle.deny_rules.proofs.MemberLemmas.{Contains-flat_map, Contains-from_flat_map}
 
 module _ {X Y : Type 0} (f h : X → List Y) (xs : List X) (y : Y) where
   apart : Contains (flat_map (λ x. f x ++ h x) xs) y → Contains (flat_map f xs ++ flat_map h xs) y

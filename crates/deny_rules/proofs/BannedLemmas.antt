@@ -20,31 +20,23 @@ use Rattle.deny_model.specs.Keys.{crate_key, dependent_key, unused_key}
 use Rattle.deny_model.specs.Match.{matches}
 use Rattle.deny_model.specs.Policy.{Ban, Policy, Words}
 use Rattle.deny_model.specs.Wrappers.{hits_wrapper, is_hit_wrapper, same_span, unused_wrapper_keys_of, wraps}
+use Rattle.deny_model.proofs.Kept.{filter_on}
 use Rattle.deny_rules.specs.Banned.{AreFirst, hits_at, is_hit, is_lifted_at, keys_of_ban, places_concerned, range_of, told_code, told_key, told_keys_at}
 use Rattle.deny_rules.specs.Marks.{marked}
 use Rattle.deny_rules.specs.Placed.{ArePlaced}
 use Rattle.deny_rules.proofs.AddsLemmas.{adds_both, adds_list, adds_same}
-use Rattle.deny_rules.proofs.AnyLemmas.{Contains-filter_map, any_from, any_passes, filter_same, from_filter_map}
+use Rattle.deny_rules.proofs.FilterLemmas.{filter-all, filter-filter, filter-map, filter-none}
 use Rattle.deny_rules.proofs.FirstLemmas.{has-wrapper, range-wrapper}
 use Rattle.deny_rules.proofs.MarkLemmas.{marked-is}
-use Rattle.deny_rules.proofs.MatchingLemmas.{filter-filter, filter-map}
-use Rattle.deny_rules.proofs.Members.{Contains-filter, Contains-flat_map, Contains-from_filter, Contains-from_flat_map, Contains-from_map, Contains-map, same_test}
+use Rattle.deny_rules.proofs.MemberLemmas.{Contains-filter, Contains-filter_map, Contains-flat_map, Contains-from_filter, Contains-from_flat_map, Contains-from_map, Contains-map, any_from, any_passes, from_filter_map, same_test}
 
 -- the places that are found are those of the crates that an entry concerns
 pub concerned_are : (p : Policy) (g : Graph) (ban : Ban) (exempt : List Bool) → ArePlaced g.crates → exempt ≡ map (is_exempt p g) g.crates
     → map (λ (c : Crate). c.place) (filter (λ c. matches ban.spec c && not (marked exempt c)) g.crates) ≡ places_concerned p g ban
 unfolding places_concerned concerns
 concerned_are p g ban exempt placed marks =
-    ap (map (λ (c : Crate). c.place)) (filter_same (λ c. matches ban.spec c && not (marked exempt c)) (λ c. matches ban.spec c && not (is_exempt p g c)) g.crates
-    (λ c stands. ap (λ b. matches ban.spec c && not b) (marked-is g.crates (is_exempt p g) exempt c placed marks stands)))
-
-pub filter-none : {X : Type 0} (p : X → Bool) (xs : List X) → ((x : X) → p x ≡ false) → filter p xs ≡ []
-filter-none p [] none = refl
-filter-none p (x ∷ xs) none = let rest : filter p xs ≡ [] = filter-none p xs none in let here : p x ≡ false = none x in rw (here, rest) refl
-
-and_true : (a : Bool) → (a && true) ≡ a
-and_true true = refl
-and_true false = refl
+    ap (map (λ (c : Crate). c.place)) (filter_on (λ c. matches ban.spec c && not (marked exempt c)) (λ c. matches ban.spec c && not (is_exempt p g c)) g.crates
+    (λ c stands. ap (λ b. matches ban.spec c && not b) (marked-is g.crates placed (is_exempt p g) exempt marks c stands)))
 
 pub has_none : (ban : Ban) → length ban.wrappers ≡ 0 → has_wrappers ban ≡ false
 unfolding has_wrappers
@@ -73,10 +65,6 @@ module _ (p : Policy) (g : Graph) (ban : Ban) where
     unfolding is_wrapped
     not_wrapped c = ap (λ b. b && concerns p g ban c) bare
 
-    all_pass : {X : Type 0} (xs : List X) → filter (λ x. true) xs ≡ xs
-    all_pass [] = refl
-    all_pass (x ∷ xs) = ap (λ ys. x ∷ ys) (all_pass xs)
-
     bare_keys : (ws : List Words) → not (length ws == 0) ≡ false → map (λ (w : Words). unused_key UnusedWrapper w.span) (filter (λ w. not (is_hit_wrapper p g ban w)) ws) ≡ []
     bare_keys [] none = refl
     bare_keys (w ∷ ws) none = absurd (omega (arith, eqb-true (length (w ∷ ws)) 0 (not-false (length (w ∷ ws) == 0) none)))
@@ -97,7 +85,7 @@ module _ (p : Policy) (g : Graph) (ban : Ban) where
     unfolding keys_of_ban places_concerned
     bare_ban places old new are added =
         let all : map (λ place. crate_key Banned place ban.spec.range) places ≡ banned_keys_of p g ban =
-        ap (map (λ place. crate_key Banned place ban.spec.range)) (are ∙ ap (map (λ (c : Crate). c.place)) (sym (all_pass (filter (concerns p g ban) g.crates)))) ∙ banned-by (λ c. true) bare_banned in
+        ap (map (λ place. crate_key Banned place ban.spec.range)) (are ∙ ap (map (λ (c : Crate). c.place)) (sym (filter-all (filter (concerns p g ban) g.crates)))) ∙ banned-by (λ c. true) bare_banned in
         let rest : allowed_by_wrapper_keys_of p g ban ++ (unmatched_wrapper_keys_of p g ban ++ unused_wrapper_keys_of p g ban) ≡ [] =
         ap (λ ks. ks ++ (unmatched_wrapper_keys_of p g ban ++ unused_wrapper_keys_of p g ban)) no_allowed
         ∙ (ap (λ ks. ks ++ unused_wrapper_keys_of p g ban) no_unmatched ∙ no_unused) in
@@ -121,7 +109,7 @@ module _ (p : Policy) (g : Graph) (ban : Ban) where
     unfolding places_concerned
     banned_are places are =
         ap (λ ps. map (λ place. crate_key Banned place ban.spec.range) (filter (λ place. not (is_lifted_at g ranges place)) ps)) are
-        ∙ (ap (map (λ place. crate_key Banned place ban.spec.range)) (filter-map (λ (c : Crate). c.place) (λ place. not (is_lifted_at g ranges place)) (filter (concerns p g ban) g.crates))
+        ∙ (ap (map (λ place. crate_key Banned place ban.spec.range)) (filter-map (λ place. not (is_lifted_at g ranges place)) (λ (c : Crate). c.place) (filter (concerns p g ban) g.crates))
         ∙ banned-by (λ c. not (is_lifted_at g ranges c.place)) banned-same)
 
     wrapped-same : (c : Crate) → concerns p g ban c ≡ is_wrapped p g ban c

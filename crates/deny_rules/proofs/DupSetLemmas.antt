@@ -1,5 +1,5 @@
 -- The numbers of edges, set by set, and the set with the fewest.
-use Rattle.std.proofs.Common.{◌≡◌, ◌<◌, ◌≤◌, ◌+◌, ◌++◌, ℕ, zero, suc, List, [], ◌∷◌, Bool, true, false, Some, Contains, length, take, filter, slice_get, refl, sym, ap, ◌∙◌, subst, arith, add-one}
+use Rattle.std.proofs.Common.{◌≡◌, ◌<◌, ◌≤◌, ◌+◌, ◌++◌, ℕ, zero, suc, List, [], ◌∷◌, Bool, true, false, Some, Contains, length, take, filter, slice_get, refl, sym, ap, ◌∙◌, subst, arith}
 use Rattle.std.specs.Prelude.{All, cond, slice_index_or}
 use Rattle.std.specs.List.{AllByRecursion, AllZip}
 use Rattle.std.specs.List.Sorted.{IsStrictlySortedBy}
@@ -7,33 +7,35 @@ use Rattle.std.specs.Option.{option_map_or}
 use Rattle.std.specs.Ordering.{nat_cmp}
 use Rattle.std.specs.Cmp.{nat_cmp_is}
 use Rattle.std.specs.declared.cmp.Ordering.TheVariants.{Less}
-use Rattle.std.proofs.Math.Seq.{take-suc}
 use Rattle.std.proofs.lemmas.Bool.{cond-true, cond-false}
 use Rattle.std.proofs.lemmas.List.{append-nil}
-use Rattle.std.proofs.lemmas.List.Elements.{All-contains, filter-append}
+use Rattle.std.proofs.lemmas.List.Elements.{All-contains, filter_more}
 use Rattle.std.proofs.lemmas.Option.{slice_get_within}
 use Rattle.deny_base.specs.Ascending.{Lists}
 use Rattle.deny_base.specs.declared.edge.Edge.{Edge}
 use Rattle.deny_krates.specs.Orderly.{IsOrderly}
+use Rattle.deny_krates.proofs.ListLemmas.{from_there}
 use Rattle.deny_model.specs.Counting.{Chain}
 use Rattle.deny_model.specs.Graph.{Graph}
 use Rattle.deny_rules.specs.Above.{AreAbove}
 use Rattle.deny_rules.specs.DupEdges.{IsNumberOf, IsSimplest, edge_count}
 use Rattle.deny_rules.specs.EdgeLists.{IsMarkedNumber}
 use Rattle.deny_rules.specs.declared.dup_edges.DupSet.{DupSet}
-use Rattle.deny_rules.proofs.Members.{Contains-cases, Contains-first, Contains-rest, no_member}
+use Rattle.deny_rules.specs.Marks.{mark_at}
+use Rattle.deny_rules.proofs.DependencyLemmas.{child_stands}
+use Rattle.deny_rules.proofs.MemberLemmas.{Contains-cases, Contains-first, Contains-rest, no_member, some_at}
 
 -- ---- the numbers of the edges to crates that are marked
 
 -- those of a list whose first edge has this number
 abbrev pub numbers_from : List Bool → ℕ → List Edge → List ℕ
 numbers_from marks number [] = []
-numbers_from marks number (e ∷ edges) = cond (slice_index_or marks e.child false) (number ∷ numbers_from marks (number + 1) edges) (numbers_from marks (number + 1) edges)
+numbers_from marks number (e ∷ edges) = cond (mark_at marks e.child) (number ∷ numbers_from marks (number + 1) edges) (numbers_from marks (number + 1) edges)
 
 module _ (marks : List Bool) where
   above_all : (edges : List Edge) (low number : ℕ) → low < number → AllByRecursion (λ n. nat_cmp low n ≡ Less) (numbers_from marks number edges)
   above_all [] low number below = tt
-  above_all (e ∷ edges) low number below = by_mark (slice_index_or marks e.child false) (above_all edges low (number + 1) (omega arith))
+  above_all (e ∷ edges) low number below = by_mark (mark_at marks e.child) (above_all edges low (number + 1) (omega arith))
     where
       by_mark : (b : Bool) → AllByRecursion (λ n. nat_cmp low n ≡ Less) (numbers_from marks (number + 1) edges)
           → AllByRecursion (λ n. nat_cmp low n ≡ Less) (cond b (number ∷ numbers_from marks (number + 1) edges) (numbers_from marks (number + 1) edges))
@@ -43,7 +45,7 @@ module _ (marks : List Bool) where
   ascending : (edges : List Edge) (number : ℕ) → IsStrictlySortedBy nat_cmp (numbers_from marks number edges)
   unfolding IsStrictlySortedBy
   ascending [] number = tt
-  ascending (e ∷ edges) number = by_mark (slice_index_or marks e.child false) (ascending edges (number + 1))
+  ascending (e ∷ edges) number = by_mark (mark_at marks e.child) (ascending edges (number + 1))
     where
       by_mark : (b : Bool) → IsStrictlySortedBy nat_cmp (numbers_from marks (number + 1) edges)
           → IsStrictlySortedBy nat_cmp (cond b (number ∷ numbers_from marks (number + 1) edges) (numbers_from marks (number + 1) edges))
@@ -56,33 +58,33 @@ module _ (marks : List Bool) where
     pub at : n ≡ number + offset
     pub edge : Edge
     pub numbered : slice_get edges offset ≡ Some edge
-    pub marked : slice_index_or marks edge.child false ≡ true
+    pub marked : mark_at marks edge.child ≡ true
 
   sound_from : (edges : List Edge) (number n : ℕ) → Contains (numbers_from marks number edges) n → IsNumberFrom number edges n
   sound_from [] number n is = absurd (no_member n is)
   sound_from (e ∷ edges) number n is =
-      by_mark (slice_index_or marks e.child false) refl is (sound_from edges (number + 1) n)
+      by_mark (mark_at marks e.child) refl is (sound_from edges (number + 1) n)
     where
       later : IsNumberFrom (number + 1) edges n → IsNumberFrom number (e ∷ edges) n
       later of = record { offset = suc of.offset; at = omega (arith, of.at); edge = of.edge; numbered = of.numbered; marked = of.marked }
 
-      by_mark : (b : Bool) → slice_index_or marks e.child false ≡ b → Contains (cond b (number ∷ numbers_from marks (number + 1) edges) (numbers_from marks (number + 1) edges)) n
+      by_mark : (b : Bool) → mark_at marks e.child ≡ b → Contains (cond b (number ∷ numbers_from marks (number + 1) edges) (numbers_from marks (number + 1) edges)) n
           → (Contains (numbers_from marks (number + 1) edges) n → IsNumberFrom (number + 1) edges n) → IsNumberFrom number (e ∷ edges) n
       by_mark true marked is rest = Contains-cases number (numbers_from marks (number + 1) edges) n is
           (λ here. record { offset = 0; at = omega (arith, here); edge = e; numbered = refl; marked = marked })
           (λ there. later (rest there))
       by_mark false marked is rest = later (rest is)
 
-  whole_from : (edges : List Edge) (number offset : ℕ) (edge : Edge) → slice_get edges offset ≡ Some edge → slice_index_or marks edge.child false ≡ true → Contains (numbers_from marks number edges) (number + offset)
+  whole_from : (edges : List Edge) (number offset : ℕ) (edge : Edge) → slice_get edges offset ≡ Some edge → mark_at marks edge.child ≡ true → Contains (numbers_from marks number edges) (number + offset)
   whole_from [] number offset edge numbered marked = cc
   whole_from (e ∷ edges) number zero edge numbered marked =
       let same : e ≡ edge = cc in
-      let here : slice_index_or marks e.child false ≡ true = ap (λ (d : Edge). slice_index_or marks d.child false) same ∙ marked in
+      let here : mark_at marks e.child ≡ true = ap (λ (d : Edge). mark_at marks d.child) same ∙ marked in
       let first : number ≡ number + 0 = omega arith in
-      subst (λ (ns : List ℕ). Contains ns (number + 0)) (sym (cond-true (slice_index_or marks e.child false) (number ∷ numbers_from marks (number + 1) edges) (numbers_from marks (number + 1) edges) here))
+      subst (λ (ns : List ℕ). Contains ns (number + 0)) (sym (cond-true (mark_at marks e.child) (number ∷ numbers_from marks (number + 1) edges) (numbers_from marks (number + 1) edges) here))
       (subst (Contains (number ∷ numbers_from marks (number + 1) edges)) first (Contains-first number (numbers_from marks (number + 1) edges)))
   whole_from (e ∷ edges) number (suc offset) edge numbered marked =
-      by_mark (slice_index_or marks e.child false) (whole_from edges (number + 1) offset edge numbered marked)
+      by_mark (mark_at marks e.child) (whole_from edges (number + 1) offset edge numbered marked)
     where
       same : (number + 1) + offset ≡ number + suc offset
       same = omega arith
@@ -105,50 +107,20 @@ module _ (marks : List Bool) where
 
 -- ---- the set of one crate
 
-contains_at : {X : Type 0} (xs : List X) (n : ℕ) (x : X) → slice_get xs n ≡ Some x → Contains xs x
-contains_at [] n x is = cc
-contains_at (y ∷ xs) zero x is = let same : y ≡ x = cc in subst (Contains (y ∷ xs)) same (Contains-first y xs)
-contains_at (y ∷ xs) (suc n) x is = Contains-rest y xs x (contains_at xs n x is)
-
 pub set_numbers : (g : Graph) (edges : List Edge) (place : ℕ) (marks : List Bool) (numbers : List ℕ) → IsOrderly g → All (λ e. Contains g.edges e) edges → AreAbove g (place ∷ []) marks
     → Lists nat_cmp (IsMarkedNumber marks edges) numbers → Lists nat_cmp (IsNumberOf g edges place) numbers
 set_numbers g edges place marks numbers orderly all above listed = record {
   ascending = listed.ascending;
   whole = λ n is.
-      let inside = child_stands is.edge is.above.stands in
+      let inside = child_stands g orderly is.edge is.above.stands in
       listed.whole n record { edge = is.edge; numbered = is.numbered; marked = (above.each is.edge.child inside).1 record { place = place; is_one = Contains-first place []; leads = is.above.leads } };
   sound = λ n is.
       let of = listed.sound n is in
-      let stands = All-contains (λ e. Contains g.edges e) edges of.edge all (contains_at edges n of.edge of.numbered) in
-      let leads = (above.each of.edge.child (child_stands of.edge stands)).0 of.marked in
+      let stands = All-contains (λ e. Contains g.edges e) edges of.edge all (from_there edges n of.edge of.numbered) in
+      let leads = (above.each of.edge.child (child_stands g orderly of.edge stands)).0 of.marked in
       let here : place ≡ leads.place = Contains-cases place [] leads.place leads.is_one (λ same. same) (λ none. absurd (no_member leads.place none)) in
       record { edge = of.edge; numbered = of.numbered; above = record { stands = stands; leads = record { length = leads.leads.length; chain = subst (λ (to : ℕ). Chain g.edges of.edge.child to leads.leads.length) (sym here) leads.leads.chain } } };
 }
-  where
-    child_stands : (e : Edge) → Contains g.edges e → e.child < length g.crates
-    child_stands e stands = All-contains (λ d. d.child < length g.crates) g.edges e orderly.children stands
-
--- ---- the set with the fewest edges
-
-some_at : {X : Type 0} (xs : List X) (n : ℕ) → n < length xs → (x : X) × (slice_get xs n ≡ Some x)
-some_at [] n inside = absurd (omega (arith, inside))
-some_at (x ∷ xs) zero inside = (x, refl)
-some_at (x ∷ xs) (suc n) inside = some_at xs n (omega (arith, inside))
-
-count_at : (sets : List DupSet) (n : ℕ) (s : DupSet) → slice_get sets n ≡ Some s → edge_count sets n ≡ length s.edges
-count_at sets n s is = ap (λ o. option_map_or (λ (set : DupSet). length set.edges) o 0) is
-
-pub is_simplest : (sets : List DupSet) (number : ℕ) → number < length sets → ((k : ℕ) → k < length sets → edge_count sets number ≤ edge_count sets k) → ((k : ℕ) → k < number → edge_count sets number < edge_count sets k)
-    → IsSimplest sets number
-is_simplest sets number inside least earlier =
-    let set = some_at sets number inside in
-    let here = count_at sets number set.0 set.1 in
-    record {
-      set = set.0;
-      numbered = set.1;
-      fewest = λ k s is. omega (arith, here, count_at sets k s is, least k (slice_get_within sets k s is));
-      first = λ k s is before. omega (arith, here, count_at sets k s is, earlier k before);
-    }
 
 -- ---- lists that grow side by side
 
@@ -158,19 +130,19 @@ zip_push R [] (v ∷ ys) x y zip is = absurd zip
 zip_push R (u ∷ xs) [] x y zip is = absurd zip
 zip_push R (u ∷ xs) (v ∷ ys) x y zip is = (zip.0, zip_push R xs ys x y zip.1 is)
 
-filter_more : {A : Type 0} (p : A → Bool) (xs : List A) (i : ℕ) (x : A) → i < length xs → x ≡ slice_index_or xs i x → filter p (take (i + 1) xs) ≡ filter p (take i xs) ++ cond (p x) (x ∷ []) []
-filter_more p xs i x inside is = rw (add-one, take-suc xs i x inside, ← is) (filter-append p (take i xs) (x ∷ []))
+one_more : {A : Type 0} (p : A → Bool) (xs : List A) (i : ℕ) (x : A) → i < length xs → x ≡ slice_index_or xs i x → filter p (take (i + 1) xs) ≡ filter p (take i xs) ++ cond (p x) (x ∷ []) []
+one_more p xs i x inside is = filter_more p xs i x inside ∙ ap (λ y. filter p (take i xs) ++ cond (p y) (y ∷ []) []) (sym is)
 
 -- one more of those that pass ..
 pub zip_kept : {A B : Type 0} (R : A → B → Type 0) (p : A → Bool) (xs : List A) (ys : List B) (i : ℕ) (x : A) (y : B) → i < length xs → x ≡ slice_index_or xs i x → p x ≡ true
     → AllZip R (filter p (take i xs)) ys → R x y → AllZip R (filter p (take (i + 1) xs)) (ys ++ y ∷ [])
 zip_kept {A} {B} R p xs ys i x y inside is passes zip of =
-    let more = filter_more p xs i x inside is ∙ ap (λ (zs : List A). filter p (take i xs) ++ zs) (cond-true (p x) (x ∷ []) [] passes) in
+    let more = one_more p xs i x inside is ∙ ap (λ (zs : List A). filter p (take i xs) ++ zs) (cond-true (p x) (x ∷ []) [] passes) in
     subst (λ (zs : List A). AllZip R zs (ys ++ y ∷ [])) (sym more) (zip_push R (filter p (take i xs)) ys x y zip of)
 
 -- .. or of the others
 pub zip_passed : {A B : Type 0} (R : A → B → Type 0) (p : A → Bool) (xs : List A) (ys : List B) (i : ℕ) (x : A) → i < length xs → x ≡ slice_index_or xs i x → p x ≡ false
     → AllZip R (filter p (take i xs)) ys → AllZip R (filter p (take (i + 1) xs)) ys
 zip_passed {A} {B} R p xs ys i x inside is fails zip =
-    let more = filter_more p xs i x inside is ∙ (ap (λ (zs : List A). filter p (take i xs) ++ zs) (cond-false (p x) (x ∷ []) [] fails) ∙ append-nil (filter p (take i xs))) in
+    let more = one_more p xs i x inside is ∙ (ap (λ (zs : List A). filter p (take i xs) ++ zs) (cond-false (p x) (x ∷ []) [] fails) ∙ append-nil (filter p (take i xs))) in
     subst (λ (zs : List A). AllZip R zs ys) (sym more) zip

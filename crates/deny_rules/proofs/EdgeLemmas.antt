@@ -4,35 +4,25 @@ use Rattle.std.specs.Prelude.{slice_index_or}
 use Rattle.std.proofs.Math.Seq.{take-suc}
 use Rattle.std.proofs.lemmas.Bool.{false≢true, cases_lt}
 use Rattle.std.proofs.lemmas.List.{map-append, take_all}
-use Rattle.std.proofs.lemmas.List.Elements.{All-contains, Contains-append_left, Contains-append_right, Contains-append_cases}
+use Rattle.std.proofs.lemmas.List.Elements.{Contains-append_left, Contains-push, Contains-push_cases}
 use Rattle.deny_base.specs.Ascending.{Adds, Lists}
 use Rattle.deny_base.specs.Edge.{edge_cmp}
 use Rattle.deny_base.specs.declared.edge.DepKind.{DepKind}
 use Rattle.deny_base.specs.declared.edge.DepKind.TheVariants.{Normal, Dev, Build}
 use Rattle.deny_base.specs.declared.edge.Edge.{Edge}
-use Rattle.deny_krates.specs.Crates.{crates_from}
 use Rattle.deny_krates.specs.Dependents.{AreDirectDependents}
 use Rattle.deny_krates.specs.Orderly.{IsOrderly}
 use Rattle.deny_krates.specs.declared.krate.DirectDependent.{DirectDependent}
-use Rattle.deny_krates.specs.declared.krate.Krate.{Krate}
 use Rattle.deny_model.specs.Graph.{Graph}
 use Rattle.deny_rules.specs.Above.{AreAbove}
 use Rattle.deny_rules.specs.DupEdges.{IsAboveOne}
 use Rattle.deny_rules.specs.EdgeLists.{IsBetween, IsEdge, IsTo, IsToMarked}
-use Rattle.deny_rules.proofs.AddsLemmas.{adds_same}
-use Rattle.deny_rules.proofs.Members.{Contains-cases, Contains-first, no_member}
+use Rattle.deny_rules.specs.Marks.{mark_at}
+use Rattle.deny_rules.specs.Placed.{ArePlaced}
+use Rattle.deny_rules.proofs.AddsLemmas.{adds_same, adds_then, lists_added}
+use Rattle.deny_rules.proofs.DependencyLemmas.{child_stands}
+use Rattle.deny_rules.proofs.MemberLemmas.{no_member}
 use Rattle.deny_rules.proofs.TurnedLemmas.{no_dependent_is_missed}
-
--- what is added first, and what then
-adds_then : {T : Type 0} (P Q : T → Type 0) (old mid new : List T) → Adds P old mid → Adds Q mid new → Adds (λ x. P x ⊎ Q x) old new
-adds_then P Q old mid new first second = record {
-  kept = λ x is. second.kept x (first.kept x is);
-  whole = λ x is. elim is as (λ _. Contains new x) [ inl here ↦ second.kept x (first.whole x here) | inr there ↦ second.whole x there ];
-  sound = λ x is. elim (second.sound x is) as (λ _. Contains old x ⊎ (P x ⊎ Q x)) [
-    | inr there ↦ inr (inr there)
-    | inl before ↦ elim (first.sound x before) as (λ _. Contains old x ⊎ (P x ⊎ Q x)) [ inl old ↦ inl old | inr here ↦ inr (inl here) ]
-  ];
-}
 
 -- ---- the edges from one crate to another: one of each kind at most
 
@@ -81,24 +71,17 @@ pub record IsFromOne (g : Graph) (child : ℕ) (parents : List ℕ) (e : Edge) :
 abbrev pub FromFirst : Graph → ℕ → List DirectDependent → ℕ → Edge → Type 0
 FromFirst g child ds i = IsFromOne g child (map (λ d. d.place) (take i ds))
 
-pub from_none : (g : Graph) (child : ℕ) (ds : List DirectDependent) (edges : List Edge) → Adds (FromFirst g child ds 0) edges edges
-from_none g child ds edges = record {
-  kept = λ e is. is;
-  whole = λ e is. absurd (no_member e.parent is.from);
-  sound = λ e is. inl is;
-}
-
 from_push : (g : Graph) (child parent : ℕ) (parents : List ℕ) (old mid new : List Edge) → Adds (IsFromOne g child parents) old mid → Adds (IsBetween g parent child) mid new → Adds (IsFromOne g child (parents ++ parent ∷ [])) old new
 from_push g child parent parents old mid new before here =
     adds_same (λ e. IsFromOne g child parents e ⊎ IsBetween g parent child e) (IsFromOne g child (parents ++ parent ∷ [])) old new
     (adds_then (IsFromOne g child parents) (IsBetween g parent child) old mid new before here)
     (λ e is. elim is as (λ _. IsFromOne g child (parents ++ parent ∷ []) e) [
       | inl of ↦ record { stands = of.stands; to = of.to; from = Contains-append_left parents (parent ∷ []) e.parent of.from }
-      | inr of ↦ record { stands = of.stands; to = of.to; from = subst (Contains (parents ++ parent ∷ [])) (sym of.from) (Contains-append_right parents (parent ∷ []) parent (Contains-first parent [])) }
+      | inr of ↦ record { stands = of.stands; to = of.to; from = subst (Contains (parents ++ parent ∷ [])) (sym of.from) (Contains-push parents parent) }
     ])
-    (λ e is. elim (Contains-append_cases parents (parent ∷ []) e.parent is.from) as (λ _. IsFromOne g child parents e ⊎ IsBetween g parent child e) [
+    (λ e is. elim (Contains-push_cases parents parent e.parent is.from) as (λ _. IsFromOne g child parents e ⊎ IsBetween g parent child e) [
       | inl before ↦ inl record { stands = is.stands; to = is.to; from = before }
-      | inr last ↦ inr record { stands = is.stands; to = is.to; from = Contains-cases parent [] e.parent last sym (λ none. absurd (no_member e.parent none)) }
+      | inr last ↦ inr record { stands = is.stands; to = is.to; from = sym last }
     ])
 
 pub from_more : (g : Graph) (child : ℕ) (ds : List DirectDependent) (i : ℕ) (d : DirectDependent) (old mid new : List Edge) → i < length ds → d ≡ slice_index_or ds i d
@@ -108,15 +91,15 @@ from_more g child ds i d old mid new inside is before here =
     rw (add-one, take-suc ds i d inside, ← is) (map-append (λ (x : DirectDependent). x.place) (take i ds) (d ∷ [])) in
     subst (λ (ps : List ℕ). Adds (IsFromOne g child ps) old new) (sym more) (from_push g child d.place (map (λ x. x.place) (take i ds)) old mid new before here)
 
-pub from_all : (g : Graph) (krates : List Krate) (child : ℕ) (ds : List DirectDependent) (i : ℕ) (old new : List Edge) → crates_from 0 krates ≡ g.crates → IsOrderly g → AreDirectDependents g child ds → length ds ≤ i
+pub from_all : (g : Graph) (child : ℕ) (ds : List DirectDependent) (i : ℕ) (old new : List Edge) → ArePlaced g.crates → IsOrderly g → AreDirectDependents g child ds → length ds ≤ i
     → Adds (FromFirst g child ds i) old new → Adds (IsTo g child) old new
-from_all g krates child ds i old new crates orderly are past adds =
+from_all g child ds i old new placed orderly are past adds =
     adds_same (FromFirst g child ds i) (IsTo g child) old new adds
     (λ e is. record { stands = is.stands; to = is.to })
     (λ e is. record {
       stands = is.stands;
       to = is.to;
-      from = subst (λ (xs : List DirectDependent). Contains (map (λ d. d.place) xs) e.parent) (sym (take_all i ds past)) (no_dependent_is_missed g krates child ds crates orderly are e is.stands is.to);
+      from = subst (λ (xs : List DirectDependent). Contains (map (λ d. d.place) xs) e.parent) (sym (take_all i ds past)) (no_dependent_is_missed g child ds placed orderly are e is.stands is.to);
     })
 
 -- ---- the edges to crates that are marked, crate by crate
@@ -125,28 +108,21 @@ pub record IsToMarkedBelow (g : Graph) (marks : List Bool) (end : ℕ) (e : Edge
   pub is : IsToMarked g marks e
   pub below : e.child < end
 
-pub below_none : (g : Graph) (marks : List Bool) (edges : List Edge) → Adds (IsToMarkedBelow g marks 0) edges edges
-below_none g marks edges = record {
-  kept = λ e is. is;
-  whole = λ e is. absurd (omega (arith, is.below));
-  sound = λ e is. inl is;
-}
-
-pub below_marked : (g : Graph) (marks : List Bool) (place : ℕ) (old mid new : List Edge) → slice_index_or marks place false ≡ true → Adds (IsToMarkedBelow g marks place) old mid → Adds (IsTo g place) mid new
+pub below_marked : (g : Graph) (marks : List Bool) (place : ℕ) (old mid new : List Edge) → mark_at marks place ≡ true → Adds (IsToMarkedBelow g marks place) old mid → Adds (IsTo g place) mid new
     → Adds (IsToMarkedBelow g marks (place + 1)) old new
 below_marked g marks place old mid new marked before here =
     adds_same (λ e. IsToMarkedBelow g marks place e ⊎ IsTo g place e) (IsToMarkedBelow g marks (place + 1)) old new
     (adds_then (IsToMarkedBelow g marks place) (IsTo g place) old mid new before here)
     (λ e is. elim is as (λ _. IsToMarkedBelow g marks (place + 1) e) [
       | inl of ↦ record { is = of.is; below = omega (arith, of.below) }
-      | inr of ↦ record { is = record { stands = of.stands; marked = ap (λ n. slice_index_or marks n false) of.to ∙ marked }; below = omega (arith, of.to) }
+      | inr of ↦ record { is = record { stands = of.stands; marked = ap (λ n. mark_at marks n) of.to ∙ marked }; below = omega (arith, of.to) }
     ])
     (λ e is. elim (cases_lt e.child place) as (λ _. IsToMarkedBelow g marks place e ⊎ IsTo g place e) [
       | inl below ↦ inl record { is = is.is; below = below }
       | inr past ↦ inr record { stands = is.is.stands; to = omega (arith, is.below, past) }
     ])
 
-pub below_unmarked : (g : Graph) (marks : List Bool) (place : ℕ) (old new : List Edge) → slice_index_or marks place false ≡ false → Adds (IsToMarkedBelow g marks place) old new → Adds (IsToMarkedBelow g marks (place + 1)) old new
+pub below_unmarked : (g : Graph) (marks : List Bool) (place : ℕ) (old new : List Edge) → mark_at marks place ≡ false → Adds (IsToMarkedBelow g marks place) old new → Adds (IsToMarkedBelow g marks (place + 1)) old new
 below_unmarked g marks place old new unmarked adds =
     adds_same (IsToMarkedBelow g marks place) (IsToMarkedBelow g marks (place + 1)) old new adds
     (λ e is. record { is = is.is; below = omega (arith, is.below) })
@@ -154,32 +130,25 @@ below_unmarked g marks place old new unmarked adds =
       | inl below ↦ record { is = is.is; below = below }
       | inr past ↦
           let here : e.child ≡ place = omega (arith, is.below, past) in
-          absurd (false≢true (sym unmarked ∙ (ap (λ n. slice_index_or marks n false) (sym here) ∙ is.is.marked)))
+          absurd (false≢true (sym unmarked ∙ (ap (λ n. mark_at marks n) (sym here) ∙ is.is.marked)))
     ])
 
 pub below_all : (g : Graph) (marks : List Bool) (end : ℕ) (old new : List Edge) → IsOrderly g → length g.crates ≤ end → Adds (IsToMarkedBelow g marks end) old new → Adds (IsToMarked g marks) old new
 below_all g marks end old new orderly past adds =
     adds_same (IsToMarkedBelow g marks end) (IsToMarked g marks) old new adds
     (λ e is. is.is)
-    (λ e is. record { is = is; below = omega (arith, past, All-contains (λ d. d.child < length g.crates) g.edges e orderly.children is.stands) })
+    (λ e is. record { is = is; below = omega (arith, past, child_stands g orderly e is.stands) })
 
 -- ---- put in order, these are the edges above the crates that the marks are of
 
 pub edges_listed : (g : Graph) (places : List ℕ) (marks : List Bool) (old new : List Edge) → IsOrderly g → AreAbove g places marks → Adds (IsToMarked g marks) [] old → Lists edge_cmp (Contains old) new
     → Lists edge_cmp (IsAboveOne g places) new
-edges_listed g places marks old new orderly above adds listed = record {
-  ascending = listed.ascending;
-  whole = λ e is.
-      let inside = child_stands e is.above.stands in
-      let marked = (above.each e.child inside).1 record { place = is.place; is_one = is.is_one; leads = is.above.leads } in
-      listed.whole e (adds.whole e record { stands = is.above.stands; marked = marked });
-  sound = λ e is. elim (adds.sound e (listed.sound e is)) as (λ _. IsAboveOne g places e) [
-    | inl none ↦ absurd (no_member e none)
-    | inr to ↦
-        let leads = (above.each e.child (child_stands e to.stands)).0 to.marked in
-        record { place = leads.place; is_one = leads.is_one; above = record { stands = to.stands; leads = leads.leads } }
-  ];
-}
-  where
-    child_stands : (e : Edge) → Contains g.edges e → e.child < length g.crates
-    child_stands e stands = All-contains (λ d. d.child < length g.crates) g.edges e orderly.children stands
+edges_listed g places marks old new orderly above adds = lists_added edge_cmp (IsAboveOne g places) old new
+    (adds_same (IsToMarked g marks) (IsAboveOne g places) [] old adds
+    (λ e to.
+    let leads = (above.each e.child (child_stands g orderly e to.stands)).0 to.marked in
+    record { place = leads.place; is_one = leads.is_one; above = record { stands = to.stands; leads = leads.leads } })
+    (λ e is. record {
+      stands = is.above.stands;
+      marked = (above.each e.child (child_stands g orderly e is.above.stands)).1 record { place = is.place; is_one = is.is_one; leads = is.above.leads };
+    }))

@@ -5,6 +5,7 @@ use Rattle.std.specs.FinMap as finite
 use Rattle.std.specs.Option.{option_or}
 use Rattle.std.specs.Ordering.{eq_by_cmp, nat_cmp}
 use Rattle.std.specs.Cmp.Lexicographic.{nat_list_cmp_total, slice_cmp, texts_ties}
+use Rattle.std.proofs.lemmas.Cmp.{nat_list_eq_equiv}
 use Rattle.std.proofs.lemmas.List.Folds.{find-append}
 use Rattle.std.proofs.lemmas.Slice.Eq.{bytes_eq-Decides}
 use Rattle.deny_base.specs.TextMap.{TextFinMap}
@@ -14,7 +15,6 @@ use Rattle.deny_model.specs.Graph.{Crate}
 use Rattle.deny_model.specs.Policy.{Words}
 use Rattle.deny_model.specs.Text.{same_text}
 use Rattle.deny_rules.specs.Banned.{AreFirst, first_of, has_range, range_of}
-use Rattle.deny_rules.proofs.MatchingLemmas.{same_text-turned}
 
 abbrev range : Words → Span
 range w = w.span
@@ -32,7 +32,7 @@ unfolding first_of
 first-push ws w name = find-append (λ v. same_text v.value name) ws (w ∷ [])
 
 tied : (name key : List ℕ) → eq_by_cmp (slice_cmp nat_cmp) name key ≡ same_text key name
-tied name key = sym (texts_ties name key) ∙ same_text-turned name key
+tied name key = sym (texts_ties name key) ∙ nat_list_eq_equiv.symm name key
 
 named : (w : Words) (name : List ℕ) → same_text w.value name ≡ true → w.value ≡ name
 named w name e = (bytes_eq-Decides w.value name).0 e

@@ -1,25 +1,25 @@
 -- The first witnesses of entries, and the meetings of wrappers that give theirs.
-use Rattle.std.proofs.Common.{◌≡◌, ◌++◌, ◌+◌, ◌<◌, ◌==◌, ℕ, zero, suc, List, [], ◌∷◌, Bool, true, false, not, Option, None, Some, All, Contains, length, filter, find, map, refl, sym, ap, ◌∙◌, subst, inl, inr, arith, rules, tests}
-use Rattle.std.specs.Prelude.{◌&&◌, filter_map, option_and_then, option_map, slice_get, slice_index_or}
+use Rattle.std.proofs.Common.{◌≡◌, ◌++◌, ◌+◌, ◌<◌, ℕ, zero, suc, List, [], ◌∷◌, Bool, true, false, not, Option, None, Some, Contains, length, filter, find, map, refl, sym, ap, ◌∙◌, subst, inl, inr, arith, rules, tests}
+use Rattle.std.specs.Prelude.{◌&&◌, filter_map, option_and_then, option_map, slice_get}
 use Rattle.std.specs.Cmp.{nat_cmp_total}
 use Rattle.std.specs.List.{AllByRecursion, flat_map, list_any, range_with_len}
 use Rattle.std.specs.List.Sorted.{IsStrictlySortedBy}
 use Rattle.std.specs.Option.{option_map_or}
 use Rattle.std.specs.Ordering.{nat_cmp}
 use Rattle.std.specs.declared.cmp.Ordering.TheVariants.{Less}
-use Rattle.std.proofs.lemmas.Bool.{and_parts, cases_Bool, eqb-true}
-use Rattle.std.proofs.lemmas.List.Elements.{All-contains, All-contains_itself, All-map, All-weaker}
+use Rattle.std.proofs.Math.Bool.{and_comm}
+use Rattle.std.proofs.lemmas.Bool.{cases_Bool}
+use Rattle.std.proofs.lemmas.List.Elements.{All-contains}
 use Rattle.std.proofs.lemmas.List.Kept.{IsStrictlySortedBy-filter}
 use Rattle.std.proofs.lemmas.Option.{slice_get-map}
 use Rattle.deny_base.specs.Ascending.{Lists}
-use Rattle.deny_base.proofs.AscendingLemmas.{Contains-first, Contains-rest, one_list}
+use Rattle.deny_base.proofs.AscendingLemmas.{one_list}
 use Rattle.deny_base.specs.declared.entry.EntryKind.TheVariants.{Wrapper}
 use Rattle.deny_base.specs.declared.entry.Hit.{Hit}
 use Rattle.deny_base.specs.declared.entry.Witness.TheVariants.{Parent}
 use Rattle.deny_base.specs.declared.span.Span.{Span}
 use Rattle.deny_krates.specs.Dependents.{AreDirectDependents}
 use Rattle.deny_krates.specs.declared.krate.DirectDependent.{DirectDependent}
-use Rattle.deny_krates.proofs.DependentsLemmas.{filtered}
 use Rattle.deny_krates.proofs.ListLemmas.{from_contains_map}
 use Rattle.deny_model.specs.Bans.{concerns, is_exempt, wrapper_of}
 use Rattle.deny_model.specs.Graph.{Crate, Graph, dependents, kid_of, leads}
@@ -29,12 +29,15 @@ use Rattle.deny_model.specs.Policy.{Ban, Policy, Words}
 use Rattle.deny_model.specs.Told.{crate_at}
 use Rattle.deny_model.specs.Wrappers.{hits_wrapper, same_span, wraps}
 use Rattle.deny_model.proofs.Kept.{list_any_on}
-use Rattle.deny_rules.specs.Marks.{marked}
+use Rattle.deny_rules.specs.Marks.{mark_at, marked}
 use Rattle.deny_rules.specs.Meetings.{first_meeting, meeting, meeting_at, meetings_at, meetings_of, wrapper_hits_of}
-use Rattle.deny_rules.proofs.Firsts.{and_turned, any-filter_map, filter-map, filter_map-map, filter_map_on, find-filter, find-filter_map, find-flat_map, find-map, find_on, first-filter, found_on, map-and_then, passes}
+use Rattle.deny_rules.proofs.DependentLemmas.{dependent_stands}
+use Rattle.deny_rules.proofs.FilterLemmas.{any-filter_map, filter-map, filter_map-map, filter_map_on, find-filter, find-filter_map, find-flat_map, find-map, find_on, first-filter, found_on, map-and_then, passes}
 use Rattle.deny_rules.specs.Placed.{ArePlaced}
-use Rattle.deny_rules.proofs.PlaceLemmas.{place_within}
-use Rattle.deny_rules.proofs.SkipLemmas.{mark-made, place_of}
+use Rattle.deny_rules.proofs.MarkLemmas.{marked-is}
+use Rattle.deny_rules.proofs.MemberLemmas.{Contains-first, Contains-rest}
+use Rattle.deny_rules.proofs.PlaceLemmas.{place_of}
+use Rattle.deny_rules.proofs.RangeLemmas.{same-span}
 
 -- the crate that is found first, looked up at its place
 looked-up-in : (crates xs : List Crate) (p : Crate → Bool) → ((c : Crate) → Contains xs c → slice_get crates c.place ≡ Some c)
@@ -50,9 +53,9 @@ looked-up g p placed = looked-up-in g.crates g.crates p placed.at
 
 -- the first marked one of some crates
 pub first-marked : (g : Graph) (marks : List Bool) (p : Crate → Bool) → ArePlaced g.crates
-    → option_and_then (crate_at g) (find (λ place. slice_index_or marks place false) (map place_of (filter p g.crates))) ≡ find (λ c. marked marks c && p c) g.crates
+    → option_and_then (crate_at g) (find (mark_at marks) (map place_of (filter p g.crates))) ≡ find (λ c. marked marks c && p c) g.crates
 first-marked g marks p placed =
-    ap (option_and_then (crate_at g)) (find-map (λ place. slice_index_or marks place false) place_of (filter p g.crates)
+    ap (option_and_then (crate_at g)) (find-map (mark_at marks) place_of (filter p g.crates)
     ∙ ap (option_map place_of) (find-filter (marked marks) p g.crates))
     ∙ looked-up g (λ c. marked marks c && p c) placed
 
@@ -61,12 +64,6 @@ pub first-of : (g : Graph) (p : Crate → Bool) → ArePlaced g.crates → optio
 first-of g p placed =
     ap (option_and_then (crate_at g)) (slice_get-map place_of (filter p g.crates) 0 ∙ ap (option_map place_of) (first-filter p g.crates))
     ∙ looked-up g p placed
-
--- the places of some crates are within the graph
-pub places-within : (crates : List Crate) (p : Crate → Bool) → ArePlaced crates → All (λ n. n < length crates) (map place_of (filter p crates))
-places-within crates p placed =
-    All-map (λ n. n < length crates) place_of (filter p crates)
-    (All-weaker (Contains (filter p crates)) (λ c. c.place < length crates) (λ c is. place_within crates c placed (filtered p crates c is)) (filter p crates) (All-contains_itself (filter p crates)))
 
 -- numbers in their order ascend
 above : (a n b : ℕ) → b < a → AllByRecursion (λ z. nat_cmp b z ≡ Less) (range_with_len a n)
@@ -101,10 +98,6 @@ by_place g place ds placed direct places listed = one_list nat_cmp_total places 
 abbrev met : List Words → Crate → Crate → Option Hit
 met wrappers c d = meeting wrappers (kid_of c) d.name (kid_of d)
 
-dependents-known : (g : Graph) (place : ℕ) (d : Crate) → Contains (dependents g place) d → Contains g.crates d
-unfolding dependents
-dependents-known g place d is = filtered (λ parent. list_any (leads parent.place place) g.edges) g.crates d is
-
 -- crates at their places meet as they do
 met-at : (g : Graph) (wrappers : List Words) (c d : Crate) → ArePlaced g.crates → Contains g.crates c → Contains g.crates d → meeting_at g wrappers c.place d.place ≡ met wrappers c d
 unfolding meeting_at
@@ -117,7 +110,7 @@ unfolding meetings_at
 met-dependents g wrappers c placed stands =
     filter_map-map (meeting_at g wrappers c.place) place_of (dependents g c.place)
     ∙ filter_map_on (λ d. meeting_at g wrappers c.place d.place) (met wrappers c) (dependents g c.place)
-    (λ d is. met-at g wrappers c d placed stands (dependents-known g c.place d is))
+    (λ d is. met-at g wrappers c d placed stands (dependent_stands g c.place d is))
 
 -- a meeting is of a wrapper's range where the wrapper stands for the dependent
 abbrev is_of : Words → Hit → Bool
@@ -130,12 +123,6 @@ range-wraps wrappers w c d = by_first (wrapper_of wrappers d)
     by_first : (first : Option Words) → option_map_or (is_of w) (option_map (λ (f : Words). hit_of Wrapper f.span (Parent (kid_of c) (kid_of d))) first) false ≡ option_map_or (λ (f : Words). same_span f.span w.span) first false
     by_first None = refl
     by_first (Some f) = refl
-
-pub same-span : (a b : Span) → same_span a b ≡ true → a ≡ b
-same-span a b same =
-    let parts = and_parts (a.start == b.start) (a.end == b.end) same in
-    ap (λ (start : ℕ). record { start = start; end = a.end }) (eqb-true a.start b.start parts.0)
-    ∙ ap (λ (end : ℕ). record { start = b.start; end = end }) (eqb-true a.end b.end parts.1)
 
 -- where the wrapper stands for a dependent, their meeting is the wrapper's hit
 meets-as : (wrappers : List Words) (w : Words) (c d : Crate) → wraps wrappers w d ≡ true → met wrappers c d ≡ Some (hit_of Wrapper w.span (Parent (kid_of c) (kid_of d)))
@@ -165,28 +152,27 @@ any-at g ban w c placed stands =
 
 -- a wrapper's first meeting is its hit
 module _ (p : Policy) (g : Graph) (exempt : List Bool) (placed : ArePlaced g.crates) (told : exempt ≡ map (is_exempt p g) g.crates) where
-  concerned : (ban : Ban) (c : Crate) → Contains g.crates c → (not (marked exempt c) && matches ban.spec c) ≡ concerns p g ban c
+  concerned : (ban : Ban) (c : Crate) → Contains g.crates c → (matches ban.spec c && not (marked exempt c)) ≡ concerns p g ban c
   unfolding concerns
   concerned ban c stands =
-      ap (λ b. not b && matches ban.spec c) (ap (λ (ms : List Bool). slice_index_or ms c.place false) told ∙ mark-made (is_exempt p g) g.crates c placed stands)
-      ∙ and_turned (not (is_exempt p g c)) (matches ban.spec c)
+      ap (λ b. matches ban.spec c && not b) (marked-is g.crates placed (is_exempt p g) exempt told c stands)
 
   tested : (ban : Ban) (w : Words) (c : Crate) → Contains g.crates c
-      → (list_any (is_of w) (meetings_at g ban.wrappers c.place) && (not (marked exempt c) && matches ban.spec c)) ≡ hits_wrapper p g ban w c
+      → (list_any (is_of w) (meetings_at g ban.wrappers c.place) && (matches ban.spec c && not (marked exempt c))) ≡ hits_wrapper p g ban w c
   unfolding hits_wrapper
   tested ban w c stands =
-      ap (λ b. b && (not (marked exempt c) && matches ban.spec c)) (any-at g ban w c placed stands)
+      ap (λ b. b && (matches ban.spec c && not (marked exempt c))) (any-at g ban w c placed stands)
       ∙ (ap (λ b. list_any (wraps ban.wrappers w) (dependents g c.place) && b) (concerned ban c stands)
-      ∙ and_turned (list_any (wraps ban.wrappers w) (dependents g c.place)) (concerns p g ban c))
+      ∙ and_comm (list_any (wraps ban.wrappers w) (dependents g c.place)) (concerns p g ban c))
 
   first-meeting : (ban : Ban) (w : Words) → first_meeting (meetings_of g exempt ban) w ≡ wrapper_hit p g ban w
   unfolding first_meeting meetings_of wrapper_hit
   first-meeting ban w =
       let met_by = λ (c : Crate). meetings_at g ban.wrappers c.place in
       let any = λ (c : Crate). list_any (is_of w) (meetings_at g ban.wrappers c.place) in
-      find-flat_map (is_of w) met_by (filter (λ c. not (marked exempt c) && matches ban.spec c) g.crates)
-      ∙ (ap (option_and_then (λ (c : Crate). find (is_of w) (met_by c))) (find-filter any (λ c. not (marked exempt c) && matches ban.spec c) g.crates
-      ∙ find_on (λ c. any c && (not (marked exempt c) && matches ban.spec c)) (hits_wrapper p g ban w) g.crates (tested ban w))
+      find-flat_map (is_of w) met_by (filter (λ c. matches ban.spec c && not (marked exempt c)) g.crates)
+      ∙ (ap (option_and_then (λ (c : Crate). find (is_of w) (met_by c))) (find-filter any (λ c. matches ban.spec c && not (marked exempt c)) g.crates
+      ∙ find_on (λ c. any c && (matches ban.spec c && not (marked exempt c))) (hits_wrapper p g ban w) g.crates (tested ban w))
       ∙ found_on (λ (c : Crate). find (is_of w) (met_by c)) (wrapper_hit_at g ban w) (hits_wrapper p g ban w) g.crates (λ c stands _. first-at g ban w c placed stands))
 
   pub wrapper-hits : (bans : List Ban) → flat_map (wrapper_hits_of g exempt) bans ≡ flat_map (λ ban. filter_map (wrapper_hit p g ban) ban.wrappers) bans

@@ -1,32 +1,28 @@
--- The first meeting of each range, kept as meetings come.
+-- Ranges: when two are one, and the first meeting of each, kept as meetings come.
 use Rattle.std.proofs.Common.{◌≡◌, ◌++◌, ◌+◌, ◌<◌, ℕ, List, [], ◌∷◌, Bool, true, false, Option, None, Some, Bor, cond, find, get_or, is_some, length, take, refl, sym, ap, ◌∙◌, subst}
 use Rattle.std.specs.Prelude.{◌==◌, ◌&&◌, option_copied}
 use Rattle.std.specs.BTreeMap.{BTreeMap}
 use Rattle.std.specs.BTreeMap as tree
-use Rattle.std.specs.Cmp.{unsigned_ties}
+use Rattle.std.specs.Cmp.{Equal-is, tied_then, unsigned_ties}
 use Rattle.std.specs.Option.{option_or}
-use Rattle.std.specs.Ordering.{is_eq, nat_cmp, ordering_then}
-use Rattle.std.specs.declared.cmp.Ordering.{Ordering}
-use Rattle.std.specs.declared.cmp.Ordering.TheVariants.{Less, Equal, Greater}
+use Rattle.std.specs.Ordering.{is_eq, nat_cmp}
 use Rattle.std.proofs.lemmas.List.{take_more}
 use Rattle.std.proofs.lemmas.List.Folds.{find-append}
+use Rattle.deny_base.proofs.KeyEqual.{span_cmp-exact}
 use Rattle.deny_base.specs.KeyOrder.{span_cmp}
 use Rattle.deny_base.specs.declared.entry.Hit.{Hit}
 use Rattle.deny_base.specs.declared.span.Span.{Span}
 use Rattle.deny_model.specs.Wrappers.{same_span}
 use Rattle.deny_rules.specs.Meetings.{LeadToFirsts}
-use Rattle.deny_rules.proofs.HitLemmas.{same-span}
-
-both_tie : (r s : Ordering) → is_eq (ordering_then r s) ≡ (is_eq r && is_eq s)
-both_tie Less s = refl
-both_tie Equal s = refl
-both_tie Greater s = refl
 
 ties : (a b : Span) → is_eq (span_cmp a b) ≡ same_span a b
 ties a b =
-    both_tie (nat_cmp a.start b.start) (nat_cmp a.end b.end)
+    sym (tied_then (nat_cmp a.start b.start) (nat_cmp a.end b.end))
     ∙ (ap (λ (start : Bool). start && is_eq (nat_cmp a.end b.end)) (sym (unsigned_ties a.start b.start))
     ∙ ap (λ (end : Bool). (a.start == b.start) && end) (sym (unsigned_ties a.end b.end)))
+
+pub same-span : (a b : Span) → same_span a b ≡ true → a ≡ b
+same-span a b same = span_cmp-exact a b ((Equal-is (span_cmp a b)).0 (ties a b ∙ same))
 
 new_at : (o : Option (Bor Hit)) (found : Option Hit) (same : Bool) (value : Bor Hit) (hit : Hit) → value.now ≡ hit → option_copied o ≡ found → (same ≡ true → is_some o ≡ false)
     → option_copied (cond same (Some value) o) ≡ option_or found (cond same (Some hit) None)

@@ -1,6 +1,6 @@
 -- What is looked up for a finding: entries by their ranges, and crates by their places.
 use Rattle.std.proofs.Common.{◌≡◌, ◌+◌, ◌<◌, ◌≤◌, ◌||◌, ℕ, Bool, true, false, List, [], ◌∷◌, Option, Some, None, MatchOption, Bor, length, map, filter_map, slice_get, option_map, refl, sym, ap, ◌∙◌, subst}
-use Rattle.std.specs.Prelude.{cond, find, slice_index_or, unwrap_or}
+use Rattle.std.specs.Prelude.{cond, find, unwrap_or}
 use Rattle.std.specs.List.{HoldsAt, cons_option, list_any}
 use Rattle.std.proofs.lemmas.Option.{slice_get_past, slice_get-get_or, slice_get-map, unwrap_or-slice_get}
 use Rattle.deny_base.specs.declared.span.Span.{Span}
@@ -12,6 +12,8 @@ use Rattle.deny_model.specs.Policy.{Root}
 use Rattle.deny_model.specs.Told.{crate_at, crates_at}
 use Rattle.deny_model.specs.Wrappers.{same_span}
 use Rattle.deny_rules.specs.ByRange.{first_of}
+use Rattle.deny_rules.specs.Marks.{mark_at}
+use Rattle.deny_rules.proofs.FilterLemmas.{find-map}
 
 -- what `get` gives
 pub got : {X Y : Type 0} (f : X → Y) (xs : List X) (n : ℕ) (r : Option (Bor X)) → MatchOption r (length xs ≤ n) (λ x. (n < length xs) × HoldsAt (λ y. x.now ≡ y) xs n)
@@ -22,14 +24,6 @@ got f xs n (Some x) at = ap (option_map f) (ap Some (at.1 x.now) ∙ sym (slice_
 option_map-map : {X Y Z : Type 0} (f : Y → Z) (g : X → Y) (o : Option X) → option_map f (option_map g o) ≡ option_map (λ x. f (g x)) o
 option_map-map f g None = refl
 option_map-map f g (Some x) = refl
-
-option_map-cond : {X Y : Type 0} (f : X → Y) (b : Bool) (x : X) (o : Option X) → option_map f (cond b (Some x) o) ≡ cond b (Some (f x)) (option_map f o)
-option_map-cond f true x o = refl
-option_map-cond f false x o = refl
-
-find-map : {X Y : Type 0} (p : Y → Bool) (f : X → Y) (xs : List X) → find p (map f xs) ≡ option_map f (find (λ x. p (f x)) xs)
-find-map p f [] = refl
-find-map p f (x ∷ xs) = ap (λ o. cond (p (f x)) (Some (f x)) o) (find-map p f xs) ∙ sym (option_map-cond f (p (f x)) x (find (λ y. p (f y)) xs))
 
 -- an entry that was found, as it is seen
 pub seen : {X Y : Type 0} (p : Y → Bool) (f : X → Y) (xs : List X) (r : Option (Bor X)) → option_map (λ x. x.now) r ≡ find (λ x. p (f x)) xs → option_map (λ x. f x.now) r ≡ find p (map f xs)
@@ -57,13 +51,13 @@ root_seen range es None is = subst (IsRootAt range (roots_from 0 es)) (sym is) (
 root_seen range es (Some e) is = subst (IsRootAt range (roots_from 0 es)) (sym is) (root_found range 0 es)
 
 -- one of the crates at these places passes a test, where one of the places has a mark
-pub one_marked : (g : Graph) (t : Crate → Bool) (marks : List Bool) (places : List ℕ) → marks ≡ map t g.crates → list_any (λ place. slice_index_or marks place false) places ≡ list_any t (crates_at g places)
+pub one_marked : (g : Graph) (t : Crate → Bool) (marks : List Bool) (places : List ℕ) → marks ≡ map t g.crates → list_any (mark_at marks) places ≡ list_any t (crates_at g places)
 unfolding crates_at
 one_marked g t marks [] is = refl
-one_marked g t marks (place ∷ places) is = ap (λ b. b || list_any (λ p. slice_index_or marks p false) places) here ∙ (ap (λ b. unwrap_or (option_map t (crate_at g place)) false || b) (one_marked g t marks places is) ∙ joined (crate_at g place))
+one_marked g t marks (place ∷ places) is = ap (λ b. b || list_any (mark_at marks) places) here ∙ (ap (λ b. unwrap_or (option_map t (crate_at g place)) false || b) (one_marked g t marks places is) ∙ joined (crate_at g place))
   where
-    here : slice_index_or marks place false ≡ unwrap_or (option_map t (crate_at g place)) false
-    here = ap (λ ms. slice_index_or ms place false) is ∙ (sym (unwrap_or-slice_get (map t g.crates) place false) ∙ ap (λ o. unwrap_or o false) (slice_get-map t g.crates place))
+    here : mark_at marks place ≡ unwrap_or (option_map t (crate_at g place)) false
+    here = ap (λ ms. mark_at ms place) is ∙ (sym (unwrap_or-slice_get (map t g.crates) place false) ∙ ap (λ o. unwrap_or o false) (slice_get-map t g.crates place))
 
     joined : (o : Option Crate) → (unwrap_or (option_map t o) false || list_any t (filter_map (crate_at g) places)) ≡ list_any t (cons_option o (filter_map (crate_at g) places))
     joined None = refl

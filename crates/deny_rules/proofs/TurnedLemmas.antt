@@ -1,27 +1,26 @@
 -- Chains that are followed from their ends: chains of the graph whose edges lead the other way.
-use Rattle.std.proofs.Common.{◌≡◌, ◌<◌, ℕ, zero, suc, List, [], ◌∷◌, true, false, Option, Some, None, length, map, filter, refl, sym, ap, ◌∙◌, subst, arith}
-use Rattle.std.specs.Prelude.{IsTrue, All, Contains, is_some, nat_lt, slice_get, slice_index_or}
+use Rattle.std.proofs.Common.{◌≡◌, ◌<◌, ℕ, zero, suc, List, [], ◌∷◌, true, Option, Some, None, length, map, filter, refl, sym, ap, ◌∙◌, subst}
+use Rattle.std.specs.Prelude.{IsTrue, All, Contains, is_some, nat_lt}
 use Rattle.std.specs.List.{list_any}
 use Rattle.std.proofs.lemmas.Bool.{false≢true, lt-ltb}
 use Rattle.std.proofs.lemmas.List.{length-map}
 use Rattle.std.proofs.lemmas.List.Elements.{All-contains, All-map, All-weaker, All-contains_itself}
 use Rattle.deny_base.specs.declared.edge.Edge.{Edge}
-use Rattle.deny_krates.specs.Crates.{crates_from}
 use Rattle.deny_krates.specs.Dependents.{AreDirectDependents, IsLeastKind}
 use Rattle.deny_krates.specs.Orderly.{IsOrderly}
 use Rattle.deny_krates.specs.declared.krate.DirectDependent.{DirectDependent}
-use Rattle.deny_krates.specs.declared.krate.Krate.{Krate}
-use Rattle.deny_krates.proofs.DependentsLemmas.{crate_place, filter_keeps}
+use Rattle.deny_krates.proofs.DependentsLemmas.{filter_keeps}
 use Rattle.deny_krates.proofs.ListLemmas.{contains_map}
-use Rattle.deny_krates.proofs.Runs.{length-crates_from}
 use Rattle.deny_model.specs.Counting.{Chain}
-use Rattle.deny_model.specs.Graph.{Crate, Graph, dependents, leads}
+use Rattle.deny_model.specs.Graph.{Graph, dependents, leads}
 use Rattle.deny_rules.specs.Above.{AreAbove, LeadsToOne, turned, turned_edge}
 use Rattle.deny_rules.specs.Distances.{AreDistances, IsDistance, distance_at}
-use Rattle.deny_rules.proofs.AnyLemmas.{any_from}
-use Rattle.deny_rules.proofs.Dependencies.{EdgeTo, leads_over}
+use Rattle.deny_rules.specs.Marks.{mark_at}
+use Rattle.deny_rules.specs.Placed.{ArePlaced}
+use Rattle.deny_rules.proofs.DependencyLemmas.{EdgeTo, child_stands, leads_over, parent_stands}
 use Rattle.deny_rules.proofs.DistancesLemmas.{chain_more}
-use Rattle.deny_rules.proofs.Members.{Contains-from_map, Contains-from_filter, Contains-filter}
+use Rattle.deny_rules.proofs.MemberLemmas.{Contains-from_map, Contains-from_filter, Contains-filter, any_from}
+use Rattle.deny_rules.proofs.PlaceLemmas.{stands_at}
 
 -- ---- direct dependents are what the turned edges lead to
 
@@ -41,7 +40,7 @@ turned_back g e is =
 
 pub each_dependent_is_known : (g : Graph) (place : ℕ) (ds : List DirectDependent) → IsOrderly g → AreDirectDependents g place ds → All (λ n. n < length g.crates) (map (λ d. d.place) ds)
 each_dependent_is_known g place ds orderly are = All-weaker (EdgeTo (turned g) place) (λ n. n < length g.crates)
-    (λ n edge. subst (λ (m : ℕ). m < length g.crates) edge.3 (All-contains (λ e. e.parent < length g.crates) g.edges (turned_edge edge.0) orderly.parents (turned_back g edge.0 edge.1)))
+    (λ n edge. subst (λ (m : ℕ). m < length g.crates) edge.3 (parent_stands g orderly (turned_edge edge.0) (turned_back g edge.0 edge.1)))
     (map (λ d. d.place) ds) (each_dependent_is_led_to g place ds are)
 
 pub each_dependent_stands : (g : Graph) (place : ℕ) (ds : List DirectDependent) → IsOrderly g → AreDirectDependents g place ds → All (λ d. d.place < length g.crates) ds
@@ -49,22 +48,18 @@ each_dependent_stands g place ds orderly are = All-weaker (Contains ds) (λ d. d
     (λ d is. All-contains (λ n. n < length g.crates) (map (λ d. d.place) ds) d.place (each_dependent_is_known g place ds orderly are) (contains_map (λ (d : DirectDependent). d.place) ds d is)) ds (All-contains_itself ds)
 
 -- each edge to a crate comes from one of its direct dependents
-pub no_dependent_is_missed : (g : Graph) (krates : List Krate) (place : ℕ) (ds : List DirectDependent) → crates_from 0 krates ≡ g.crates → IsOrderly g → AreDirectDependents g place ds
+pub no_dependent_is_missed : (g : Graph) (place : ℕ) (ds : List DirectDependent) → ArePlaced g.crates → IsOrderly g → AreDirectDependents g place ds
     → (e : Edge) → Contains g.edges e → e.child ≡ place → Contains (map (λ d. d.place) ds) e.parent
 unfolding dependents
-no_dependent_is_missed g krates place ds crates orderly are e stands to =
-    let long : length g.crates ≡ length krates = ap length (sym crates) ∙ length-crates_from 0 krates in
-    let inside : e.parent < length krates = subst (λ (n : ℕ). e.parent < n) long (All-contains (λ e. e.parent < length g.crates) g.edges e orderly.parents stands) in
-    let found = crate_place 0 krates e.parent inside in
-    let at : slice_get g.crates e.parent ≡ Some found.0 = subst (λ (cs : List Crate). slice_get cs e.parent ≡ Some found.0) crates found.1 in
-    let here : found.0.place ≡ e.parent = omega (arith, found.2) in
-    let passes : list_any (leads found.0.place place) g.edges ≡ true = any_from (leads found.0.place place) g.edges e stands (leads_over e found.0.place place (sym here) (sym to)) in
-    let listed : Contains (dependents g place) found.0 = filter_keeps (λ parent. list_any (leads parent.place place) g.edges) g.crates e.parent found.0 at passes in
-    subst (λ (n : ℕ). Contains (map (λ d. d.place) ds) n) here (All-contains (λ c. Contains (map (λ d. d.place) ds) c.place) (dependents g place) found.0 are.whole listed)
+no_dependent_is_missed g place ds placed orderly are e stands to =
+    let found = stands_at g.crates placed e.parent (parent_stands g orderly e stands) in
+    let passes : list_any (leads found.0.place place) g.edges ≡ true = any_from (leads found.0.place place) g.edges e stands (leads_over e found.0.place place (sym found.2) (sym to)) in
+    let listed : Contains (dependents g place) found.0 = filter_keeps (λ parent. list_any (leads parent.place place) g.edges) g.crates e.parent found.0 found.1 passes in
+    subst (λ (n : ℕ). Contains (map (λ d. d.place) ds) n) found.2 (All-contains (λ c. Contains (map (λ d. d.place) ds) c.place) (dependents g place) found.0 are.whole listed)
 
-pub no_turned_is_missed : (g : Graph) (krates : List Krate) (place : ℕ) (ds : List DirectDependent) → crates_from 0 krates ≡ g.crates → IsOrderly g → AreDirectDependents g place ds
+pub no_turned_is_missed : (g : Graph) (place : ℕ) (ds : List DirectDependent) → ArePlaced g.crates → IsOrderly g → AreDirectDependents g place ds
     → (e : Edge) → Contains (turned g).edges e → e.parent ≡ place → Contains (map (λ d. d.place) ds) e.child
-no_turned_is_missed g krates place ds crates orderly are e stands from = no_dependent_is_missed g krates place ds crates orderly are (turned_edge e) (turned_back g e stands) from
+no_turned_is_missed g place ds placed orderly are e stands from = no_dependent_is_missed g place ds placed orderly are (turned_edge e) (turned_back g e stands) from
 
 -- ---- chains, turned
 
@@ -85,11 +80,11 @@ chain_back g a b n chain = subst (λ (es : List Edge). Chain es b a n) (turned_t
 -- what a chain leads to from a crate is a crate
 chain_stays : (g : Graph) (a b n : ℕ) → IsOrderly g → a < length g.crates → Chain g.edges a b n → b < length g.crates
 chain_stays g a b zero orderly inside chain = subst (λ (m : ℕ). m < length g.crates) chain inside
-chain_stays g a b (suc n) orderly inside chain = chain_stays g chain.0.child b n orderly (All-contains (λ e. e.child < length g.crates) g.edges chain.0 orderly.children chain.1) chain.3
+chain_stays g a b (suc n) orderly inside chain = chain_stays g chain.0.child b n orderly (child_stands g orderly chain.0 chain.1) chain.3
 
 -- ---- marks for the crates that have a distance
 
-mark-is : (ds : List (Option ℕ)) (n : ℕ) → slice_index_or (map is_some ds) n false ≡ is_some (distance_at ds n)
+mark-is : (ds : List (Option ℕ)) (n : ℕ) → mark_at (map is_some ds) n ≡ is_some (distance_at ds n)
 mark-is [] n = refl
 mark-is (d ∷ ds) zero = refl
 mark-is (d ∷ ds) (suc n) = mark-is ds n

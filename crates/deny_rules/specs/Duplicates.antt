@@ -15,7 +15,8 @@ use Rattle.deny_model.specs.Groups.{has_name}
 use Rattle.deny_model.specs.Keys.{duplicate_key}
 use Rattle.deny_model.specs.Policy.{Policy}
 use Rattle.deny_model.specs.VersionOrder.{version_cmp}
-use Rattle.deny_rules.specs.Groups.{AreGroups, on_at}
+use Rattle.deny_rules.specs.Groups.{AreGroups}
+use Rattle.deny_rules.specs.Marks.{mark_at, marked}
 use Rattle.deny_rules.specs.declared.duplicates.Minded.{Minded}
 use Rattle.deny_rules.specs.declared.duplicates.Standing.{Standing}
 use Rattle.deny_rules.specs.declared.groups.Groups.{Groups}
@@ -35,14 +36,14 @@ same_id a b = bytes_eq a.id b.id
 
 -- the crate at a place is in the reduced group of its name, and no skip speaks of it
 unfoldable pub is_unmarked_at : Groups → ℕ → Bool
-is_unmarked_at groups place = on_at groups.reduced place && not (on_at groups.marked place)
+is_unmarked_at groups place = mark_at groups.reduced place && not (mark_at groups.marked place)
 
 abbrev pub is_unmarked : Groups → Crate → Bool
 is_unmarked groups c = is_unmarked_at groups c.place
 
 -- the level at which these crates may not stand side by side
 unfoldable pub level_at : Minded → List Crate → LintLevel
-level_at m crates = if list_any (λ c. on_at m.denied c.place) crates then Deny else m.level
+level_at m crates = if list_any (marked m.denied) crates then Deny else m.level
 
 -- the key of crates at a level that minds them
 abbrev pub key_at : LintLevel → List Crate → Option Key

@@ -1,7 +1,8 @@
 -- Edges of a graph, by the crates that they lead to.
-use Rattle.std.specs.Prelude.{◌≡◌, ℕ, Bool, true, false, List, Some, slice_get, slice_index_or, Contains}
+use Rattle.std.specs.Prelude.{◌≡◌, ℕ, Bool, true, List, Some, slice_get, Contains}
 use Rattle.deny_base.specs.declared.edge.Edge.{Edge}
 use Rattle.deny_model.specs.Graph.{Graph}
+use Rattle.deny_rules.specs.Marks.{mark_at}
 
 -- the edge is this one, which the graph has
 pub record IsEdge (g : Graph) (edge : Edge) (e : Edge) : Type 0 where
@@ -22,10 +23,10 @@ pub record IsTo (g : Graph) (child : ℕ) (e : Edge) : Type 0 where
 -- the edge leads to a crate that is marked
 pub record IsToMarked (g : Graph) (marks : List Bool) (e : Edge) : Type 0 where
   pub stands : Contains g.edges e
-  pub marked : slice_index_or marks e.child false ≡ true
+  pub marked : mark_at marks e.child ≡ true
 
 -- the edge of this number leads to a crate that is marked
 pub record IsMarkedNumber (marks : List Bool) (edges : List Edge) (number : ℕ) : Type 0 where
   pub edge : Edge
   pub numbered : slice_get edges number ≡ Some edge
-  pub marked : slice_index_or marks edge.child false ≡ true
+  pub marked : mark_at marks edge.child ≡ true

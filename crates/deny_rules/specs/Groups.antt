@@ -1,5 +1,5 @@
 -- The reduced groups of names, as the code keeps them: a mark for each crate that is in the one of its name.
-use Rattle.std.specs.Prelude.{◌≡◌, ◌&&◌, ◌||◌, ◌==◌, ◌<◌, ◌≤◌, ◌++◌, ◌-◌, ℕ, Bool, false, not, List, filter, map, length, take, drop, slice_get, slice_index_or}
+use Rattle.std.specs.Prelude.{◌≡◌, ◌&&◌, ◌||◌, ◌==◌, ◌<◌, ◌≤◌, ◌++◌, ◌-◌, ℕ, Bool, false, not, List, filter, map, length, take, drop, slice_get}
 use Rattle.std.specs.List.{list_all}
 use Rattle.std.specs.Option.{option_map_or}
 use Rattle.deny_krates.specs.declared.krate.DirectDependent.{DirectDependent}
@@ -9,24 +9,12 @@ use Rattle.deny_model.specs.Graph.{Crate, Graph, dependents}
 use Rattle.deny_model.specs.Groups.{has_name, is_internal, is_marked, may_stand, reduced}
 use Rattle.deny_model.specs.Policy.{Policy}
 use Rattle.deny_model.specs.Text.{same_text}
+use Rattle.deny_rules.specs.Marks.{mark_at, marked}
 use Rattle.deny_rules.specs.declared.groups.Groups.{Groups}
-
--- the mark at a place
-abbrev pub on_at : List Bool → ℕ → Bool
-on_at marks place = slice_index_or marks place false
-
--- marks come to hold besides at each place where a test is true
-pub record HaveBesides (test : ℕ → Bool) (old new : List Bool) : Type 0 where
-  pub long : length new ≡ length old
-  pub each : (place : ℕ) → place < length old → on_at new place ≡ (on_at old place || test place)
-
--- marks that a test gives come to be those of it or another
-pub record AddsMarks (crates : List Crate) (other : Crate → Bool) (old new : List Bool) : Type 0 where
-  pub is : (test : Crate → Bool) → old ≡ map test crates → new ≡ map (λ c. test c || other c) crates
 
 -- whether a crate counts, and a skip speaks of it or no tree has it, by marks at its place
 unfoldable pub may_stand_at : List Bool → List Bool → List Bool → ℕ → Bool
-may_stand_at counts skipped rooted place = on_at counts place && (on_at skipped place || not (on_at rooted place))
+may_stand_at counts skipped rooted place = mark_at counts place && (mark_at skipped place || not (mark_at rooted place))
 
 -- whether the crate at a place bears a name
 unfoldable pub bears : List Krate → List ℕ → ℕ → Bool
@@ -42,11 +30,11 @@ is_left g stands c = stands c && (length (filter (λ d. has_name c.name d && sta
 
 -- the same at a place, of a name and of whether one crate of it stands
 unfoldable pub is_left_at : Graph → List Bool → List ℕ → Bool → ℕ → Bool
-is_left_at g standing name alone place = on_at standing place && (alone || not (list_all (has_name name) (dependents g place)))
+is_left_at g standing name alone place = mark_at standing place && (alone || not (list_all (has_name name) (dependents g place)))
 
 -- marks come to go on from a place to the next
 pub record AddsLeft (g : Graph) (standing : List Bool) (place next : ℕ) (old new : List Bool) : Type 0 where
-  pub added : new ≡ old ++ map (is_left g (λ c. on_at standing c.place)) (take (next - place) (drop place g.crates))
+  pub added : new ≡ old ++ map (is_left g (marked standing)) (take (next - place) (drop place g.crates))
   pub up : place < next
   pub within : next ≤ length g.crates
 

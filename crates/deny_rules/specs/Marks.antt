@@ -1,5 +1,5 @@
 -- The facts that the rules rest on, as the code keeps them: a mark for each crate, at its place.
-use Rattle.std.specs.Prelude.{◌↔◌, ℕ, max, Bool, true, false, IsTrue, List, [], Option, None, Some, slice_index_or, nat_lt, Contains}
+use Rattle.std.specs.Prelude.{◌≡◌, ◌||◌, ◌<◌, ◌↔◌, ℕ, max, Bool, true, false, IsTrue, List, [], Option, None, Some, length, map, slice_index_or, nat_lt, Contains}
 use Rattle.deny_cfg.specs.PolicyView.{root_view}
 use Rattle.deny_cfg.specs.declared.bans.cfg.tree_skip.TreeSkipExtended.{TreeSkipExtended}
 use Rattle.deny_cfg.specs.declared.spec_or_extended.PackageSpecOrExtended.{PackageSpecOrExtended}
@@ -9,8 +9,22 @@ use Rattle.deny_model.specs.Graph.{Crate, Graph}
 use Rattle.deny_model.specs.Roots.{IsInTree}
 use Rattle.deny_rules.specs.declared.facts.Marks.{Marks}
 
+-- the mark at a place; none is as `false`
+abbrev pub mark_at : List Bool → ℕ → Bool
+mark_at marks place = slice_index_or marks place false
+
+-- the mark of a crate
 abbrev pub marked : List Bool → Crate → Bool
-marked marks c = slice_index_or marks c.place false
+marked marks c = mark_at marks c.place
+
+-- marks come to hold besides at each place where a test is true
+pub record HaveBesides (test : ℕ → Bool) (old new : List Bool) : Type 0 where
+  pub long : length new ≡ length old
+  pub each : (place : ℕ) → place < length old → mark_at new place ≡ (mark_at old place || test place)
+
+-- marks that a test gives come to be those of it or another
+pub record AddsMarks (crates : List Crate) (other : Crate → Bool) (old new : List Bool) : Type 0 where
+  pub is : (test : Crate → Bool) → old ≡ map test crates → new ≡ map (λ c. test c || other c) crates
 
 abbrev pub facts_of : Marks → Facts
 facts_of m = record { counts = λ c. marked m.counts.items c; in_tree = λ t c. marked (slice_index_or m.trees t.number []) c }

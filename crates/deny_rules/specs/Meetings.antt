@@ -35,7 +35,7 @@ meetings_at g wrappers place = filter_map (meeting_at g wrappers place) (map (λ
 
 -- those of all crates that are not exempt and that a ban speaks of
 unfoldable pub meetings_of : Graph → List Bool → Ban → List Hit
-meetings_of g exempt ban = flat_map (λ c. meetings_at g ban.wrappers c.place) (filter (λ c. not (marked exempt c) && matches ban.spec c) g.crates)
+meetings_of g exempt ban = flat_map (λ c. meetings_at g ban.wrappers c.place) (filter (λ c. matches ban.spec c && not (marked exempt c)) g.crates)
 
 -- the first meeting of a wrapper, which is known by its range
 unfoldable pub first_meeting : List Hit → Words → Option Hit

@@ -48,7 +48,7 @@ fn allow_each(
     ensures marks { IfOk result (λ marks. marks ≡ map (allows (map entry_view entries.now)) krates.now.crates) }
 {
     are_placed(krates);
-    let mut marks = no_marks(alloc, krates.krates().len())?;
+    let mut marks = no_marks(alloc, krates)?;
     for entry in entries {
         let places = matched(alloc, krates, &entry.spec)?;
         add_crate_keys(

@@ -18,6 +18,7 @@ ghost use Rattle.deny_rules.specs.Banned.{AreFirst, hits_at, is_hit, is_lifted_a
 ghost use Rattle.deny_rules.specs.Marks.{marked};
 
 use crate::crate_keys::{add_crate_keys, dependent_key, unused_key};
+use crate::krate_at::krate_at;
 use crate::marking::unmarked;
 use crate::matching::matched;
 use crate::placed::are_placed;
@@ -48,17 +49,15 @@ pub fn add_banned_keys(
 }
 
 /// The places of the crates that an entry speaks of and that are not exempt.
-fn concerned(
+pub fn concerned(
     alloc: Global,
     krates: &Krates,
     spec: &PackageSpec,
     exempt: &[bool],
 ) -> Result<List<u32>, NoMemory>
-    requires { length exempt.now ≡ length krates.now.crates }
     ensures { IfOk result (λ places. places
         ≡ map (λ c. c.place) (filter (λ c. matches (spec_view spec.now) c && not (marked exempt.now c)) krates.now.crates)) }
 {
-    are_placed(krates);
     let places = matched(alloc, krates, spec)?;
     unmarked(alloc, places.as_slice(), exempt)
 }
@@ -125,7 +124,7 @@ fn add_wrapped_keys(
 }
 
 /// The range of the first wrapper of each name.
-pub fn ranges_by_name(alloc: Global, wrappers: &[Spanned<Text>]) -> Result<TextMap<Span>, NoMemory>
+fn ranges_by_name(alloc: Global, wrappers: &[Spanned<Text>]) -> Result<TextMap<Span>, NoMemory>
     ensures { IfOk result (AreFirst wrappers.now) }
 {
     let mut ranges = TextMap::new(alloc);
@@ -141,7 +140,7 @@ pub fn ranges_by_name(alloc: Global, wrappers: &[Spanned<Text>]) -> Result<TextM
 fn range_at(krates: &Krates, ranges: &TextMap<Span>, place: u32) -> Option<Span>
     ensures { result ≡ range_at krates.now ranges.now place }
 {
-    let krate = krates.krates().get(place as usize)?;
+    let krate = krate_at(krates, place)?;
     ranges.get(krate.name.as_str()).copied()
 }
 

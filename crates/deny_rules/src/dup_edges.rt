@@ -9,8 +9,8 @@ ghost use Rattle.deny_rules.specs.DupEdges.{AreEdgesOf, IsAboveOne, IsSetOf, IsS
 ghost use Rattle.deny_rules.specs.EdgeLists.{IsBetween, IsEdge, IsMarkedNumber, IsTo, IsToMarked};
 
 use crate::above::marks_above;
-use crate::facts::mark_at;
 use crate::krate_at::krate_name;
+use crate::marking::mark_at;
 use deny_base::{
     Code, DepKind, DiagnosticCode, Edge, Key, List, NoMemory, Text, edge_order, put_in_order,
 };

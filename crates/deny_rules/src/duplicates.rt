@@ -10,8 +10,9 @@ ghost use Rattle.deny_model.specs.VersionOrder.{version_cmp};
 ghost use Rattle.deny_rules.specs.Duplicates.{AddsKey, IsKeyOfCrates, IsMinded, is_unmarked, is_unmarked_at, key_of_group, level_at, same_id, standing_view};
 ghost use Rattle.deny_rules.specs.Marks.{facts_of};
 
-use crate::facts::{Marks, mark_at};
+use crate::facts::Marks;
 use crate::groups::{Groups, groups_of, spoken_of};
+use crate::marking::mark_at;
 use deny_base::{Code, DiagnosticCode, Key, LintLevel, List, NoMemory, Section, Span, Text};
 use deny_cfg::bans::cfg::ValidConfig;
 use deny_krates::{Krate, Krates};

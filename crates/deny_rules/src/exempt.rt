@@ -17,8 +17,8 @@ pub fn exempt_marks(
 ) -> Result<List<bool>, NoMemory>
     ensures { IfOk result (λ marks. marks ≡ map (is_exempt (policy_view cfg.now) krates.now) krates.now.crates) }
 {
-    let all = krates.krates();
-    let mut marks = no_marks(alloc, all.len())?;
+    let _orderly = krates.krates();
+    let mut marks = no_marks(alloc, krates)?;
     if !cfg.allow_workspace {
         return Ok(marks);
     }

@@ -1,5 +1,5 @@
 //! What the rules ask of chains, worked out for each crate.
-ghost use Rattle.std.specs.Prelude.{◌≡◌, IfOk, false, map, slice_index_or, option_and_then};
+ghost use Rattle.std.specs.Prelude.{◌≡◌, IfOk, map, option_and_then};
 ghost use Rattle.std.specs.List.{AllZip};
 ghost use Rattle.deny_cfg.specs.PolicyView.{policy_view};
 ghost use Rattle.deny_model.specs.Facts.{AreFacts};
@@ -7,6 +7,7 @@ ghost use Rattle.deny_rules.specs.Marks.{facts_of, is_near, AreCounted, IsTreeOf
 
 use crate::distances::distances_from;
 use crate::matching::matched;
+use crate::placed::are_placed;
 use deny_base::{DepKind, List, NoMemory};
 use deny_cfg::bans::cfg::{ValidConfig, ValidTreeSkip};
 use deny_krates::Krates;
@@ -20,13 +21,6 @@ pub struct Marks {
     /// Which crates lie in the tree of each entry of `skip-tree`; empty for an entry that speaks of
     /// no crate.
     pub trees: List<List<bool>>,
-}
-
-/// The mark at a place; none is as `false`.
-pub fn mark_at(marks: &[bool], place: u32) -> bool
-    ensures { result ≡ slice_index_or marks.now place false }
-{
-    marks.get(place as usize).copied().unwrap_or(false)
 }
 
 /// What is true of a configuration and a graph.
@@ -68,7 +62,7 @@ fn trees_of(
 fn tree_of(alloc: Global, krates: &Krates, entry: &ValidTreeSkip) -> Result<List<bool>, NoMemory>
     ensures { IfOk result (IsTreeOf krates.now entry.now) }
 {
-    let _standing = krates.krates();
+    are_placed(krates);
     let roots = matched(alloc, krates, &entry.spec)?;
     if roots.len() == 0 {
         return Ok(List::new(alloc));

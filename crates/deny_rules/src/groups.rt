@@ -1,16 +1,18 @@
 //! The crates of one name that may stand side by side.
-ghost use Rattle.std.specs.Prelude.{◌≡◌, ◌++◌, ◌<◌, ◌≤◌, ◌-◌, ◌==◌, IfOk, OnOk, All, false, filter, length, map, take};
+ghost use Rattle.std.specs.Prelude.{◌≡◌, ◌++◌, ◌<◌, ◌≤◌, ◌-◌, IfOk, OnOk, All, filter, length, map, take};
 ghost use Rattle.std.specs.List.{list_all, list_any, range_with_len};
 ghost use Rattle.deny_cfg.specs.PolicyView.{entry_view, policy_view};
 ghost use Rattle.deny_cfg.specs.SpecView.{spec_view};
 ghost use Rattle.deny_model.specs.Graph.{dependents};
 ghost use Rattle.deny_model.specs.Groups.{has_name};
 ghost use Rattle.deny_model.specs.Match.{matches};
-ghost use Rattle.deny_rules.specs.Groups.{AddsLeft, AddsMarks, AreGroups, HaveBesides, IsReducedLength, all_bear, bears, is_left, is_left_at, may_stand_at, on_at};
-ghost use Rattle.deny_rules.specs.Marks.{facts_of, marked};
+ghost use Rattle.deny_rules.specs.Groups.{AddsLeft, AreGroups, IsReducedLength, all_bear, bears, is_left, is_left_at, may_stand_at};
+ghost use Rattle.deny_rules.specs.Marks.{AddsMarks, HaveBesides, facts_of, mark_at, marked};
 
-use crate::facts::{Marks, mark_at};
+use crate::facts::Marks;
+use crate::marking::{mark_at, mark_each, no_marks};
 use crate::matching::matched;
+use crate::placed::are_placed;
 use deny_base::{List, NoMemory};
 use deny_cfg::PackageSpec;
 use deny_cfg::bans::cfg::{SpecAndReason, ValidConfig};
@@ -36,7 +38,7 @@ pub fn groups_of(
 ) -> Result<Groups, NoMemory>
     ensures { IfOk result (AreGroups (policy_view cfg.now) krates.now (facts_of marks.now)) }
 {
-    let _standing = krates.krates();
+    are_placed(krates);
     let marked = skipped_of(alloc, krates, cfg.skipped.as_slice())?;
     let trees = first_trees(marks.trees.as_slice(), cfg.tree_skipped.len());
     let rooted = rooted_of(alloc, krates, trees)?;
@@ -55,7 +57,7 @@ pub fn groups_of(
 pub fn reduced_len(krates: &Krates, groups: &Groups, name: &str) -> usize
     ensures { IsReducedLength krates.now groups.now name.now result }
 {
-    let _standing = krates.krates();
+    are_placed(krates);
     let run = krates.places_by_name(name);
     count_marked(groups.reduced.as_slice(), run.start, run.end)
 }
@@ -68,7 +70,7 @@ pub fn spoken_of(
 ) -> Result<List<bool>, NoMemory>
     ensures { IfOk result (λ marks. marks ≡ map (λ c. list_any (λ s. matches s c) (map spec_view specs.now)) krates.now.crates) }
 {
-    let mut marks = none_marked(alloc, krates)?;
+    let mut marks = no_marks(alloc, krates)?;
     for spec in specs {
         mark_spec(alloc, krates, spec, &mut marks)?;
     }
@@ -83,18 +85,11 @@ fn skipped_of(
 ) -> Result<List<bool>, NoMemory>
     ensures { IfOk result (λ marks. marks ≡ map (λ c. list_any (λ s. matches s.spec c) (map entry_view skips.now)) krates.now.crates) }
 {
-    let mut marks = none_marked(alloc, krates)?;
+    let mut marks = no_marks(alloc, krates)?;
     for skip in skips {
         mark_spec(alloc, krates, &skip.spec, &mut marks)?;
     }
     Ok(marks)
-}
-
-/// A mark for each crate, none of them set.
-fn none_marked(alloc: Global, krates: &Krates) -> Result<List<bool>, NoMemory>
-    ensures { IfOk result (λ marks. marks ≡ map (λ c. false) krates.now.crates) }
-{
-    Ok(List::from_vec(vec![in alloc; false; krates.krates().len()]?))
 }
 
 /// Marks the crates that a spec speaks of.
@@ -107,20 +102,10 @@ fn mark_spec(
     requires { length marks.old ≡ length krates.now.crates }
     ensures { OnOk result (AddsMarks krates.now.crates (matches (spec_view spec.now)) marks.old marks.new) }
 {
-    let _standing = krates.krates();
+    are_placed(krates);
     let places = matched(alloc, krates, spec)?;
-    mark_places(places.as_slice(), marks);
+    mark_each(marks, places.as_slice());
     Ok(())
-}
-
-/// Marks places.
-fn mark_places(places: &[u32], marks: &mut List<bool>)
-    requires { All (λ place. place < length marks.old) places.now }
-    ensures { HaveBesides (λ k. list_any (λ place. place == k) places.now) marks.old marks.new }
-{
-    for place in places {
-        marks.vec[*place as usize] = true;
-    }
 }
 
 /// The first trees, so many at most.
@@ -134,8 +119,8 @@ fn first_trees(trees: &[List<bool>], size: usize) -> &[List<bool>]
 fn rooted_of(alloc: Global, krates: &Krates, trees: &[List<bool>]) -> Result<List<bool>, NoMemory>
     ensures { IfOk result (λ marks. marks ≡ map (λ c. list_any (λ tree. marked tree c) trees.now) krates.now.crates) }
 {
-    let _standing = krates.krates();
-    let mut rooted = none_marked(alloc, krates)?;
+    are_placed(krates);
+    let mut rooted = no_marks(alloc, krates)?;
     for tree in trees {
         mark_tree(tree.as_slice(), &mut rooted);
     }
@@ -144,7 +129,7 @@ fn rooted_of(alloc: Global, krates: &Krates, trees: &[List<bool>]) -> Result<Lis
 
 /// Marks the crates of a tree.
 fn mark_tree(tree: &[bool], rooted: &mut List<bool>)
-    ensures { HaveBesides (on_at tree.now) rooted.old rooted.new }
+    ensures { HaveBesides (mark_at tree.now) rooted.old rooted.new }
 {
     for place in 0..tree.len() {
         if tree[place] && place < rooted.len() {
@@ -273,7 +258,7 @@ fn bears(krates: &[Krate], name: &str, place: u32) -> bool
 /// How many places from one to another are marked.
 fn count_marked(marks: &[bool], start: u32, end: u32) -> usize
     requires { start ≤ end }
-    ensures { result ≡ length (filter (on_at marks.now) (range_with_len start (end - start))) }
+    ensures { result ≡ length (filter (mark_at marks.now) (range_with_len start (end - start))) }
 {
     let mut count = 0;
     for place in start..end {

@@ -1,23 +1,25 @@
 //! Which entries are hit, each with its first witness.
-ghost use Rattle.std.specs.Prelude.{◌≡◌, ◌++◌, ◌<◌, false, not, map, filter, filter_map, find, length, slice_get, slice_index_or, option_map, option_and_then, IfOk, OnOk, All};
+ghost use Rattle.std.specs.Prelude.{◌≡◌, ◌++◌, ◌<◌, map, filter_map, find, length, slice_get, option_map, option_and_then, IfOk, OnOk, All};
 ghost use Rattle.std.specs.List.{flat_map};
 ghost use Rattle.deny_base.specs.declared.entry.EntryKind.TheVariants as kind;
 ghost use Rattle.deny_base.specs.declared.entry.Witness.TheVariants as witness;
 ghost use Rattle.deny_cfg.specs.PolicyView.{ban_view, entry_view, policy_view, roots_from};
 ghost use Rattle.deny_cfg.specs.SpecView.{spec_view};
-ghost use Rattle.deny_krates.specs.Crates.{crate_view};
 ghost use Rattle.deny_model.specs.Graph.{dependents, kid_of};
 ghost use Rattle.deny_model.specs.Hits.{all_hits, hit_of, root_hit, skip_hit};
 ghost use Rattle.deny_model.specs.Match.{matches};
 ghost use Rattle.deny_model.specs.Text.{same_text};
 ghost use Rattle.deny_model.specs.Told.{crate_at};
-ghost use Rattle.deny_rules.specs.Marks.{facts_of};
+ghost use Rattle.deny_rules.specs.Marks.{facts_of, mark_at};
 ghost use Rattle.deny_rules.specs.Meetings.{LeadToFirsts, meeting, meeting_at, meeting_of, meetings_at, meetings_of, wrapper_hits_of};
 
-use crate::banned::{ranges_by_name, wrappers_of};
+use crate::banned::{concerned, wrappers_of};
 use crate::exempt::exempt_marks;
-use crate::facts::{Marks, mark_at};
+use crate::facts::Marks;
+use crate::krate_at::krate_at;
+use crate::marking::mark_at;
 use crate::matching::matched;
+use crate::placed::are_placed;
 use deny_base::{
     EntryId, EntryKind, Hit, List, NoMemory, Span, Spanned, Text, Witness, put_in_order,
 };
@@ -37,7 +39,7 @@ pub fn hits_of(
 ) -> Result<List<Hit>, NoMemory>
     ensures { IfOk result (λ hits. hits ≡ all_hits (policy_view cfg.now) krates.now (facts_of marks.now)) }
 {
-    let _orderly = krates.krates();
+    are_placed(krates);
     let mut hits = List::new(alloc);
     let exempt = exempt_marks(alloc, cfg, krates)?;
     add_skip_hits(alloc, krates, marks, cfg.skipped.as_slice(), &mut hits)?;
@@ -50,13 +52,6 @@ pub fn hits_of(
         &mut hits,
     )?;
     Ok(hits)
-}
-
-/// The crate at a place.
-fn krate_at(krates: &Krates, place: u32) -> Option<&Krate>
-    ensures { option_map (λ k. crate_view place k.now) result ≡ crate_at krates.now place }
-{
-    krates.krates().get(place as usize)
 }
 
 /// The hit of an entry by the crate at a place.
@@ -82,7 +77,7 @@ fn krate_hit(
 
 /// The first of some places that is marked.
 fn first_marked(places: &[u32], marks: &[bool]) -> Option<u32>
-    ensures { result ≡ find (λ place. slice_index_or marks.now place false) places.now }
+    ensures { result ≡ find (mark_at marks.now) places.now }
 {
     for place in places {
         if mark_at(marks, *place) {
@@ -102,7 +97,7 @@ fn skip_hit(
 ) -> Result<Option<Hit>, NoMemory>
     ensures { IfOk result (λ hit. hit ≡ skip_hit krates.now (facts_of marks.now) (entry_view skip.now)) }
 {
-    let _orderly = krates.krates();
+    are_placed(krates);
     let places = matched(alloc, krates, &skip.spec)?;
     let first = first_marked(places.as_slice(), marks.counts.as_slice());
     krate_hit(krates, EntryKind::Skip, skip.spec.name.span, first)
@@ -136,7 +131,7 @@ fn root_hit(alloc: Global, krates: &Krates, spec: &PackageSpec) -> Result<Option
     ensures { IfOk result (λ hit. hit ≡ option_map (λ c. hit_of kind.SkipRoot spec.now.name.span (witness.Krate (kid_of c)))
         (find (matches (spec_view spec.now)) krates.now.crates)) }
 {
-    let _orderly = krates.krates();
+    are_placed(krates);
     let places = matched(alloc, krates, spec)?;
     let first = first_place(places.as_slice());
     krate_hit(krates, EntryKind::SkipRoot, spec.name.span, first)
@@ -249,10 +244,9 @@ fn meetings_of(
 ) -> Result<List<Hit>, NoMemory>
     ensures { IfOk result (λ met. met ≡ meetings_of krates.now exempt.now (ban_view ban.now)) }
 {
+    are_placed(krates);
     let mut met = List::new(alloc);
-    let places = matched(alloc, krates, &ban.spec)?;
-    let _orderly = krates.krates();
-    let concerned = unmarked_places(alloc, places.as_slice(), exempt)?;
+    let concerned = concerned(alloc, krates, &ban.spec, exempt)?;
     add_all_meetings(
         alloc,
         krates,
@@ -261,19 +255,6 @@ fn meetings_of(
         &mut met,
     )?;
     Ok(met)
-}
-
-/// Those of some places that are not marked.
-fn unmarked_places(alloc: Global, places: &[u32], marks: &[bool]) -> Result<List<u32>, NoMemory>
-    ensures { IfOk result (λ kept. kept ≡ filter (λ place. not (slice_index_or marks.now place false)) places.now) }
-{
-    let mut kept = List::new(alloc);
-    for place in places {
-        if !mark_at(marks, *place) {
-            kept.push(*place)?;
-        }
-    }
-    Ok(kept)
 }
 
 fn add_all_meetings(
@@ -331,7 +312,7 @@ fn dependents_by_place(alloc: Global, krates: &Krates, place: u32) -> Result<Lis
     requires { place < length krates.now.crates }
     ensures { IfOk result (λ places. places ≡ map (λ c. c.place) (dependents krates.now place)) }
 {
-    let _orderly = krates.krates();
+    are_placed(krates);
     let mut places = places_of(alloc, krates.direct_dependents(place))?;
     put_in_order(&mut places)?;
     Ok(places)

@@ -1,7 +1,7 @@
 //! The crate at a place, and how it is shown.
-ghost use Rattle.std.specs.Prelude.{◌≡◌, ◌++◌, IfOk, option_map, slice_get};
+ghost use Rattle.std.specs.Prelude.{◌≡◌, ◌++◌, IfOk, option_map};
 ghost use Rattle.deny_krates.specs.Crates.{crate_view};
-ghost use Rattle.deny_model.specs.Told.{crate_name_at, crate_text_at};
+ghost use Rattle.deny_model.specs.Told.{crate_at, crate_name_at, crate_text_at};
 
 use deny_base::{NoMemory, Text};
 use deny_krates::{Krate, Krates};
@@ -9,7 +9,7 @@ use std::alloc::Global;
 
 /// The crate at a place.
 pub fn krate_at(krates: &Krates, place: u32) -> Option<&Krate>
-    ensures { option_map (λ k. crate_view place k.now) result ≡ slice_get krates.now.crates place }
+    ensures { option_map (λ k. crate_view place k.now) result ≡ crate_at krates.now place }
 {
     krates.krates().get(place as usize)
 }

@@ -1,5 +1,5 @@
 //! What is told of skips and skipped trees.
-ghost use Rattle.std.specs.Prelude.{◌≡◌, ◌++◌, false, not, [], map, filter, slice_index_or, Contains, IfOk, OnOk};
+ghost use Rattle.std.specs.Prelude.{◌≡◌, ◌++◌, not, [], map, filter, slice_index_or, Contains, IfOk, OnOk};
 ghost use Rattle.std.specs.List.{flat_map, list_any, range_with_len};
 ghost use Rattle.deny_base.specs.Ascending.{Adds};
 ghost use Rattle.deny_base.specs.declared.code.Code.TheVariants as code;
@@ -15,8 +15,9 @@ ghost use Rattle.deny_rules.specs.Marks.{facts_of};
 ghost use Rattle.deny_rules.specs.Skipping.{is_left_out};
 
 use crate::crate_keys::{add_crate_keys, unused_key};
-use crate::facts::{Marks, mark_at};
+use crate::facts::Marks;
 use crate::groups::{Groups, groups_of, reduced_len};
+use crate::marking::{mark_at, marked};
 use crate::matching::matched;
 use deny_base::{Code, Key, List, NoMemory};
 use deny_cfg::PackageSpec;
@@ -54,19 +55,6 @@ pub fn add_skip_keys(
     Ok(())
 }
 
-/// Those of some places that are marked.
-fn marked_places(alloc: Global, places: &[u32], marks: &[bool]) -> Result<List<u32>, NoMemory>
-    ensures { IfOk result (λ kept. kept ≡ filter (λ place. slice_index_or marks.now place false) places.now) }
-{
-    let mut kept = List::new(alloc);
-    for place in places {
-        if mark_at(marks, *place) {
-            kept.push(*place)?;
-        }
-    }
-    Ok(kept)
-}
-
 /// The places of the counting crates that a skip speaks of, ascending.
 fn skipped_places(
     alloc: Global,
@@ -77,7 +65,7 @@ fn skipped_places(
     ensures { IfOk result (λ places. places ≡ map (λ c. c.place) (filter (is_skipped (facts_of marks.now) (entry_view skip.now)) krates.now.crates)) }
 {
     let places = matched(alloc, krates, &skip.spec)?;
-    marked_places(alloc, places.as_slice(), marks.counts.as_slice())
+    marked(alloc, places.as_slice(), marks.counts.as_slice())
 }
 
 /// Adds the keys of the counting crates that a skip speaks of.

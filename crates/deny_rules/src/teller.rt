@@ -1,14 +1,15 @@
 //! What findings are told from.
-ghost use Rattle.std.specs.Prelude.{◌≡◌, IfOk, map, option_map, slice_index_or, false, MatchOption, ℕ, None};
+ghost use Rattle.std.specs.Prelude.{◌≡◌, IfOk, map, option_map, MatchOption, ℕ, None};
 ghost use Rattle.std.specs.List.{list_any};
 ghost use Rattle.deny_cfg.specs.PolicyView.{ban_view, entry_view, policy_view, root_view};
 ghost use Rattle.deny_model.specs.Duplicates.{is_denied_multiple};
 ghost use Rattle.deny_model.specs.Told.{allow_at, ban_at, crates_at, root_at, skip_at};
 ghost use Rattle.deny_rules.specs.ByRange.{IsByRange};
+ghost use Rattle.deny_rules.specs.Marks.{mark_at};
 
 use crate::by_range::ByRange;
-use crate::facts::mark_at;
 use crate::groups::spoken_of;
+use crate::marking::mark_at;
 use deny_base::{FileId, List, NoMemory, Span};
 use deny_cfg::bans::cfg::{KrateBan, TreeSkipExtended, ValidConfig};
 use deny_cfg::{PackageSpecOrExtended, Reason};
@@ -98,7 +99,7 @@ impl<'c> Teller<'c> {
 
 // Whether a mark stands at one of these places.
 fn is_one_marked(marks: &[bool], places: &[u32]) -> bool
-    ensures { result ≡ list_any (λ place. slice_index_or marks.now place false) places.now }
+    ensures { result ≡ list_any (mark_at marks.now) places.now }
 {
     places.iter().any(|place| mark_at(marks, *place))
 }

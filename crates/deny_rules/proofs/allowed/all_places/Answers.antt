@@ -1,5 +1,5 @@
 use Rattle.std.proofs.Common.{arith}
-use Rattle.deny_rules.proofs.PlaceLemmas.{pushed-range}
+use Rattle.deny_rules.proofs.RunLemmas.{pushed-range}
 use Rattle.deny_rules.proofs.allowed.all_places.Goals as goal
 
 pub loop-place-preserved : goal.loop-place-preserved

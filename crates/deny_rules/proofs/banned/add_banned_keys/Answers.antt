@@ -1,6 +1,7 @@
-use Rattle.std.proofs.Common.{List, Contains, length, map, not, ap, ◌∙◌, subst, arith, refl}
+use Rattle.std.proofs.Common.{List, Contains, length, map, not, sym, ap, ◌∙◌, subst, arith, refl}
 use Rattle.std.specs.Prelude.{◌&&◌}
 use Rattle.std.specs.List.{flat_map}
+use Rattle.std.proofs.lemmas.List.Folds.{flat_map-map}
 use Rattle.deny_base.specs.Ascending.{Adds}
 use Rattle.deny_base.specs.declared.key.Key.{Key}
 use Rattle.deny_cfg.specs.PolicyView.{ban_view, policy_view}
@@ -12,7 +13,6 @@ use Rattle.deny_model.specs.Match.{matches}
 use Rattle.deny_rules.specs.Banned.{keys_of_ban}
 use Rattle.deny_rules.specs.Marks.{marked}
 use Rattle.deny_rules.proofs.AddsLemmas.{adds_each_all, adds_each_more}
-use Rattle.deny_rules.proofs.BanKeysLemmas.{flat_map-map}
 use Rattle.deny_rules.proofs.BannedLemmas.{concerned_are}
 use Rattle.deny_rules.proofs.MarkLemmas.{places_within}
 use Rattle.deny_rules.proofs.banned.add_banned_keys.Goals as goal
@@ -21,7 +21,7 @@ pub add_keys_of_ban-requires : goal.add_keys_of_ban-requires
 add_keys_of_ban-requires c =
     let crates = c.args.krates.now.crates in
     let spec = spec_view c.ban-item.result.spec in
-    places_within crates (λ (k : Crate). matches spec k && not (marked c.args.exempt.now k)) c.as_slice.result.now (length crates) c.are_placed.ensures (c.as_slice.ensures ∙ c.in_ok-places.ensures) refl
+    places_within crates c.are_placed.ensures (λ (k : Crate). matches spec k && not (marked c.args.exempt.now k)) c.as_slice.result.now (length crates) (c.as_slice.ensures ∙ c.in_ok-places.ensures) refl
 
 pub loop-ban-preserved : goal.loop-ban-preserved
 loop-ban-preserved c =
@@ -38,5 +38,5 @@ returns c =
     let g = c.args.krates.now in
     let denied = c.as_slice-denied.result.now in
     subst (λ (keys : List Key). Adds (Contains keys) c.args.keys.now c.loop-ban.keys)
-    (flat_map-map (keys_of_ban p g) ban_view denied ∙ ap (λ bans. flat_map (keys_of_ban p g) (map ban_view bans)) c.as_slice-denied.ensures)
+    (sym (flat_map-map (keys_of_ban p g) ban_view denied) ∙ ap (λ bans. flat_map (keys_of_ban p g) (map ban_view bans)) c.as_slice-denied.ensures)
     (adds_each_all (λ (b : PackageSpecOrExtended KrateBan). keys_of_ban p g (ban_view b)) denied c.loop-ban.ban-index c.args.keys.now c.loop-ban.keys (omega arith) c.loop-ban.invariant)

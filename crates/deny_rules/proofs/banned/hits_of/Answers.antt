@@ -1,4 +1,4 @@
-use Rattle.std.proofs.Common.{◌<◌, [], get_or, length, arith}
+use Rattle.std.proofs.Common.{◌<◌, [], Contains, get_or, length, arith}
 use Rattle.std.specs.List.{flat_map}
 use Rattle.std.proofs.lemmas.List.{get_or_default}
 use Rattle.deny_base.specs.KeyOrder.{span_cmp}
@@ -18,5 +18,5 @@ pub returns : goal.returns
 returns c =
     let places = c.args.places.now in
     let hits = hits_at c.args.krates.now c.args.ranges.now in
-    lists_added span_cmp (flat_map hits places) c.loop-place.hits c.put_in_order.new.list
+    lists_added span_cmp (Contains (flat_map hits places)) c.loop-place.hits c.put_in_order.new.list
     (adds_each_all hits places c.loop-place.place-index [] c.loop-place.hits (omega arith) c.loop-place.invariant) c.in_ok-put_in_order.ensures.ok

@@ -3,8 +3,8 @@ use Rattle.std.proofs.lemmas.List.{get_or_default}
 use Rattle.deny_base.specs.declared.edge.DepKind.TheVariants.{Normal}
 use Rattle.deny_krates.specs.declared.krate.DirectDependent.{DirectDependent}
 use Rattle.deny_rules.specs.Banned.{range_at}
-use Rattle.deny_rules.proofs.AnyLemmas.{all_passed, all_stopped}
 use Rattle.deny_rules.proofs.DependentLemmas.{lifted-is}
+use Rattle.deny_rules.proofs.MemberLemmas.{all_passed, all_stopped}
 use Rattle.deny_rules.proofs.banned.is_lifted_at.Goals as goal
 
 pub returns-then-not-is_wrapper_at : goal.returns-then-not-is_wrapper_at

@@ -1,10 +1,10 @@
 use Rattle.std.proofs.Common.{◌≡◌, ◌<◌, ◌+◌, ℕ, List, [], Option, length, map, sym, ap, ◌∙◌, subst, arith, rules}
 use Rattle.std.specs.Prelude.{All, fold, unwrap_or}
 use Rattle.std.proofs.lemmas.List.{length-replicate}
-use Rattle.deny_krates.proofs.Runs.{length-crates_from}
 use Rattle.deny_krates.specs.declared.krate.DirectDependent.{DirectDependent}
 use Rattle.deny_rules.specs.Distances.{reached}
-use Rattle.deny_rules.proofs.Dependencies.{each_is_known, each_is_led_to, each_stands, none_is_missed}
+use Rattle.deny_rules.proofs.DependencyLemmas.{each_is_known, each_is_led_to, each_stands, none_is_missed}
+use Rattle.deny_rules.proofs.PlaceLemmas.{are_placed, length_of}
 use Rattle.deny_rules.proofs.DistancesLemmas.{State, IsSpreading, next_is, nowhere, nothing, spreading_start, spreading_more, spreading_end, order_fits}
 use Rattle.deny_rules.proofs.distances.distances_from.Goals as goal
 
@@ -12,7 +12,7 @@ pub reach_roots-requires : goal.reach_roots-requires
 reach_roots-requires c =
     let g = c.args.krates.now in
     let empty : c.from_vec-distances.result ≡ nowhere (length c.krates.result.now) = c.from_vec-distances.ensures ∙ c.in_ok-vec.ensures.items_if_clones_equal (λ y is. search rules) in
-    let same : length c.krates.result.now ≡ length g.crates = sym (length-crates_from 0 c.krates.result.now) ∙ ap length c.krates.ensures.crates in
+    let same : length c.krates.result.now ≡ length g.crates = sym (length_of c.krates.result.now g.crates c.krates.ensures.crates) in
     let long : length c.from_vec-distances.result ≡ length g.crates = ap length empty ∙ (length-replicate (length c.krates.result.now) nothing ∙ same) in
     subst (λ (n : ℕ). All (λ root. root < n) c.args.roots.now) (sym long) c.requires
 
@@ -21,7 +21,7 @@ loop-next-init c =
     let g = c.args.krates.now in
     let roots = c.args.roots.now in
     let empty : c.from_vec-distances.result ≡ nowhere (length c.krates.result.now) = c.from_vec-distances.ensures ∙ c.in_ok-vec.ensures.items_if_clones_equal (λ y is. search rules) in
-    let same : length c.krates.result.now ≡ length g.crates = sym (length-crates_from 0 c.krates.result.now) ∙ ap length c.krates.ensures.crates in
+    let same : length c.krates.result.now ≡ length g.crates = sym (length_of c.krates.result.now g.crates c.krates.ensures.crates) in
     let distances : c.from_vec-distances.result ≡ nowhere (length g.crates) = empty ∙ ap nowhere same in
     let order : c.new-order.result ≡ [] = c.new-order.ensures in
     let first = ap (λ (ds : List (Option ℕ)). fold (reached 0) (ds, c.new-order.result) roots) distances ∙ ap (λ (o : List ℕ). fold (reached 0) (nowhere (length g.crates), o) roots) order in
@@ -35,7 +35,7 @@ overflow_add-distance c =
     let more : c.loop-next.next < length c.loop-next.order = omega (arith, c.loop-next-test.true, c.len.ensures) in
     let here = next_is g roots s c.loop-next.next c.place_at-place.result c.loop-next.invariant more c.place_at-place.ensures in
     let distance : c.distance_of-distance.result ≡ here.distance = c.distance_of-distance.ensures ∙ ap (λ (d : Option ℕ). unwrap_or d 0) here.is in
-    let same : length c.krates.result.now ≡ length g.crates = sym (length-crates_from 0 c.krates.result.now) ∙ ap length c.krates.ensures.crates in
+    let same : length c.krates.result.now ≡ length g.crates = sym (length_of c.krates.result.now g.crates c.krates.ensures.crates) in
     omega (arith, distance, here.small, more, order_fits g roots s c.loop-next.invariant.good, same, c.krates.ensures.few)
 
 pub reach_dependencies-requires : goal.reach_dependencies-requires
@@ -61,7 +61,7 @@ loop-next-preserved c =
     subst (λ (t : State). IsSpreading g roots t (c.loop-next.next + 1)) (sym after)
     (spreading_more g roots s c.loop-next.next place here.distance ns c.loop-next.invariant more c.place_at-place.ensures here.is
     (each_is_known g place ds c.krates.ensures.orderly are) (each_is_led_to g place ds are)
-    (none_is_missed g c.krates.result.now place ds c.krates.ensures.crates c.krates.ensures.orderly are))
+    (none_is_missed g place ds (are_placed c.krates.result.now g.crates c.krates.ensures.crates) c.krates.ensures.orderly are))
 
 pub returns : goal.returns
 returns c = spreading_end c.args.krates.now c.args.roots.now (c.loop-next.distances, c.loop-next.order) c.loop-next.next c.loop-next.invariant (omega (arith, c.loop-next-test.false, c.len.ensures))

@@ -3,6 +3,7 @@ use Rattle.std.proofs.lemmas.List.{get_or_default}
 use Rattle.deny_base.specs.declared.edge.DepKind.TheVariants.{Normal}
 use Rattle.deny_krates.specs.declared.krate.DirectDependent.{DirectDependent}
 use Rattle.deny_rules.proofs.EdgeLemmas.{from_more, from_all}
+use Rattle.deny_rules.proofs.PlaceLemmas.{are_placed}
 use Rattle.deny_rules.proofs.TurnedLemmas.{each_dependent_stands}
 use Rattle.deny_rules.proofs.dup_edges.add_edges_to.Goals as goal
 
@@ -25,5 +26,5 @@ loop-dependent-preserved c =
 
 pub returns : goal.returns
 returns c =
-    from_all c.args.krates.now c.krates-standing.result.now c.args.child c.direct_dependents-dependent-items.result.now c.loop-dependent.dependent-index c.args.edges.now c.loop-dependent.edges
-    c.krates-standing.ensures.crates c.krates-standing.ensures.orderly c.direct_dependents-dependent-items.ensures c.loop-dependent-test.false c.loop-dependent.invariant
+    from_all c.args.krates.now c.args.child c.direct_dependents-dependent-items.result.now c.loop-dependent.dependent-index c.args.edges.now c.loop-dependent.edges
+    (are_placed c.krates-standing.result.now c.args.krates.now.crates c.krates-standing.ensures.crates) c.krates-standing.ensures.orderly c.direct_dependents-dependent-items.ensures c.loop-dependent-test.false c.loop-dependent.invariant

@@ -1,7 +1,7 @@
 use Rattle.std.proofs.Common.{◌≤◌, ◌+◌, ◌∙◌, List, [], length, sym, subst, arith}
 use Rattle.deny_base.specs.Ascending.{Adds}
 use Rattle.deny_base.specs.declared.edge.Edge.{Edge}
-use Rattle.deny_rules.proofs.CratePlaces.{length-crates}
+use Rattle.deny_rules.proofs.PlaceLemmas.{length_of}
 use Rattle.deny_rules.proofs.EdgeLemmas.{IsToMarkedBelow, below_marked, below_unmarked, below_all}
 use Rattle.deny_rules.proofs.dup_edges.edges_to.Goals as goal
 use Rattle.deny_rules.proofs.dup_edges.edges_to.Goals.{then-mark_at+in_ok-add_edges_to, else-mark_at}
@@ -23,5 +23,5 @@ loop-place-preserved c =
 pub returns : goal.returns
 returns c =
     let g = c.args.krates.now in
-    let past : length g.crates ≤ c.loop-place.place = omega (arith, length-crates c.krates.result.now g.crates c.krates.ensures.crates, c.loop-place-test.false) in
+    let past : length g.crates ≤ c.loop-place.place = omega (arith, length_of c.krates.result.now g.crates c.krates.ensures.crates, c.loop-place-test.false) in
     below_all g c.args.marks.now c.loop-place.place [] c.loop-place.edges c.krates.ensures.orderly past c.loop-place.invariant

@@ -1,13 +1,13 @@
 use Rattle.std.proofs.Common.{◌-◌, List, length, take, drop, filter, sym, ap, ◌∙◌, subst, arith}
 use Rattle.std.specs.List.{IsDistinct}
-use Rattle.deny_krates.proofs.Runs.{length-crates_from}
 use Rattle.deny_model.specs.Graph.{Crate}
 use Rattle.deny_rules.specs.Duplicates.{is_unmarked, same_id}
-use Rattle.deny_rules.proofs.VersionLaws.{distinct-run}
+use Rattle.deny_rules.proofs.PlaceLemmas.{length_of}
+use Rattle.deny_rules.proofs.VersionLemmas.{distinct-run}
 use Rattle.deny_rules.proofs.duplicates.key_of_run.Goals as goal
 
 pub unmarked_of-requires-clause-within : goal.unmarked_of-requires-clause-within
-unmarked_of-requires-clause-within c = omega (arith, c.requires.within, length-crates_from 0 c.krates.result.now, ap length c.krates.ensures.crates)
+unmarked_of-requires-clause-within c = omega (arith, c.requires.within, length_of c.krates.result.now c.args.krates.now.crates c.krates.ensures.crates)
 
 pub put_by_version-requires : goal.put_by_version-requires
 put_by_version-requires c =

@@ -4,7 +4,7 @@ use Rattle.std.proofs.lemmas.List.MinMax.{ranks_by}
 use Rattle.std.proofs.lemmas.List.Sorted.{answers_always}
 use Rattle.deny_model.specs.VersionOrder.{version_cmp}
 use Rattle.deny_rules.specs.Duplicates.{standing_view}
-use Rattle.deny_rules.proofs.VersionLaws.{version_cmp-total, lists_by_version}
+use Rattle.deny_rules.proofs.VersionLemmas.{version_cmp-total, lists_by_version}
 use Rattle.deny_rules.proofs.duplicates.put_by_version.Goals as goal
 
 pub returns : goal.returns

@@ -1,7 +1,7 @@
 use Rattle.std.proofs.Common.{subst}
 use Rattle.std.specs.List.{AllZip}
 use Rattle.deny_rules.specs.Marks.{IsTreeOf}
-use Rattle.deny_rules.proofs.FactLaws.{in_trees}
+use Rattle.deny_rules.proofs.FactLemmas.{in_trees}
 use Rattle.deny_rules.proofs.facts.marks_of.Goals as goal
 
 pub returns : goal.returns

@@ -5,9 +5,8 @@ use Rattle.deny_model.specs.Graph.{Crate}
 use Rattle.deny_model.specs.Groups.{is_marked, is_rooted, may_stand}
 use Rattle.deny_model.specs.Match.{matches}
 use Rattle.deny_model.proofs.Kept.{map_on}
-use Rattle.deny_rules.specs.Groups.{on_at}
 use Rattle.deny_rules.specs.Marks.{facts_of, marked}
-use Rattle.deny_rules.proofs.GroupLaws.{left_by_marks, rooted_are, stand_alike}
+use Rattle.deny_rules.proofs.GroupLemmas.{left_by_marks, rooted_are, stand_alike}
 use Rattle.deny_rules.proofs.groups.groups_of.Goals as goal
 
 pub returns : goal.returns
@@ -15,8 +14,7 @@ unfolding is_marked is_rooted
 returns c =
     let cfg = c.args.cfg.now in
     let g = c.args.krates.now in
-    let ks = c.krates-standing.result.now in
-    let placed = c.krates-standing.ensures.crates in
+    let placed = c.are_placed.ensures in
     let p = policy_view cfg in
     let m = c.args.marks.now in
     let facts = facts_of m in
@@ -29,6 +27,6 @@ returns c =
     ∙ (ap (λ (ts : List (List Bool)). map (λ (d : Crate). list_any (λ tree. marked tree d) ts) g.crates) trees
     ∙ map_on (λ (d : Crate). list_any (λ tree. marked tree d) (take (length cfg.tree_skipped) m.trees)) (is_rooted p facts) g.crates (λ d known. rooted_are cfg.tree_skipped m.trees d)) in
     let standing : c.in_ok-standing.standing ≡ map (may_stand p facts) g.crates =
-    stand_alike ks p g facts c.as_slice-3.result.now c.as_slice-4.result.now c.as_slice-5.result.now c.in_ok-standing.standing placed (λ d known. ap (λ (ms : List Bool). on_at ms d.place) c.as_slice-3.ensures.value)
+    stand_alike p g facts c.as_slice-3.result.now c.as_slice-4.result.now c.as_slice-5.result.now c.in_ok-standing.standing placed (λ d _. ap (λ (ms : List Bool). marked ms d) c.as_slice-3.ensures.value)
     (c.as_slice-4.ensures ∙ skips) (c.as_slice-5.ensures ∙ roots) c.in_ok-standing.ensures in
-    record { marked = skips; reduced = left_by_marks ks g (may_stand p facts) c.as_slice-6.result.now c.in_ok-reduced.reduced placed (c.as_slice-6.ensures ∙ standing) c.in_ok-reduced.ensures }
+    record { marked = skips; reduced = left_by_marks g (may_stand p facts) c.as_slice-6.result.now c.in_ok-reduced.reduced placed (c.as_slice-6.ensures ∙ standing) c.in_ok-reduced.ensures }

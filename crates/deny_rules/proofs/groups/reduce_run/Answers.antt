@@ -1,5 +1,5 @@
 use Rattle.deny_rules.specs.Groups.{is_left_at}
-use Rattle.deny_rules.proofs.RunLaws.{pushed-run}
+use Rattle.deny_rules.proofs.RunLemmas.{pushed-run}
 use Rattle.deny_rules.proofs.groups.reduce_run.Goals as goal
 
 pub loop-place-preserved : goal.loop-place-preserved

@@ -1,8 +1,8 @@
 use Rattle.std.proofs.Common.{List, Bool, length, filter, ap, ◌∙◌}
 use Rattle.std.specs.List.{range_with_len}
 use Rattle.std.specs.Prelude.{◌-◌}
-use Rattle.deny_rules.specs.Groups.{on_at}
-use Rattle.deny_rules.proofs.GroupLaws.{reduced_length}
+use Rattle.deny_rules.specs.Marks.{mark_at}
+use Rattle.deny_rules.proofs.GroupLemmas.{reduced_length}
 use Rattle.deny_rules.proofs.groups.reduced_len.Goals as goal
 
 pub returns : goal.returns
@@ -10,7 +10,7 @@ returns c =
     let run = c.places_by_name-run in
     record {
       is = λ p facts are.
-          reduced_length c.krates-standing.result.now c.args.krates.now c.args.groups.now.reduced c.args.name.now run.result.start run.result.end c.count_marked.result c.krates-standing.ensures.crates
+          reduced_length c.args.krates.now c.args.groups.now.reduced c.args.name.now run.result.start run.result.end c.count_marked.result c.are_placed.ensures
           run.ensures.upward run.ensures.within run.ensures.named
-          (c.count_marked.ensures ∙ ap (λ (marks : List Bool). length (filter (on_at marks) (range_with_len run.result.start (run.result.end - run.result.start)))) c.as_slice.ensures) p facts are.reduced;
+          (c.count_marked.ensures ∙ ap (λ (marks : List Bool). length (filter (mark_at marks) (range_with_len run.result.start (run.result.end - run.result.start)))) c.as_slice.ensures) p facts are.reduced;
     }

@@ -1,21 +1,21 @@
-use Rattle.std.proofs.Common.{length, map, ap, ◌∙◌, arith}
-use Rattle.deny_krates.proofs.Runs.{length-crates_from}
+use Rattle.std.proofs.Common.{map, ap, ◌∙◌, arith}
+use Rattle.std.proofs.lemmas.List.{take_all}
 use Rattle.deny_rules.specs.Groups.{is_left}
 use Rattle.deny_rules.specs.Marks.{marked}
-use Rattle.deny_rules.proofs.GroupLaws.{more_left}
-use Rattle.deny_rules.proofs.RunLaws.{take-past}
+use Rattle.deny_rules.proofs.GroupLemmas.{more_left}
+use Rattle.deny_rules.proofs.PlaceLemmas.{length_of}
 use Rattle.deny_rules.proofs.groups.reduced_of.Goals as goal
 
 pub reduce_next-requires : goal.reduce_next-requires
 reduce_next-requires c =
     let ks = c.krates-size.result.now in
-    omega (arith, c.loop-next-test.true, length-crates_from 0 ks, ap length c.krates-size.ensures.crates)
+    omega (arith, c.loop-next-test.true, length_of ks c.args.krates.now.crates c.krates-size.ensures.crates)
 
 pub loop-next-preserved : goal.loop-next-preserved
 loop-next-preserved c =
     let ks = c.krates-size.result.now in
     record {
-      within = omega (arith, c.in_ok-next.ensures.within, length-crates_from 0 ks, ap length c.krates-size.ensures.crates);
+      within = omega (arith, c.in_ok-next.ensures.within, length_of ks c.args.krates.now.crates c.krates-size.ensures.crates);
       so_far = more_left c.args.krates.now c.args.standing.now c.loop-next.next c.in_ok-next.next c.loop-next.reduced c.reduce_next.new.reduced c.loop-next.invariant.so_far c.in_ok-next.ensures;
     }
 
@@ -24,4 +24,4 @@ returns c =
     let ks = c.krates-size.result.now in
     let g = c.args.krates.now in
     c.loop-next.invariant.so_far
-    ∙ ap (map (is_left g (marked c.args.standing.now))) (take-past c.loop-next.next g.crates (omega (arith, c.loop-next-test.false, length-crates_from 0 ks, ap length c.krates-size.ensures.crates)))
+    ∙ ap (map (is_left g (marked c.args.standing.now))) (take_all c.loop-next.next g.crates (omega (arith, c.loop-next-test.false, length_of ks c.args.krates.now.crates c.krates-size.ensures.crates)))

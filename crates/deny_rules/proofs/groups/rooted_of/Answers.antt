@@ -1,8 +1,7 @@
 use Rattle.std.proofs.Common.{◌+◌, take, ap}
 use Rattle.std.specs.List.{list_any}
-use Rattle.deny_rules.specs.Groups.{on_at}
-use Rattle.deny_rules.specs.Marks.{marked}
-use Rattle.deny_rules.proofs.MarkLaws.{adds_marks, any_next, more_marks}
+use Rattle.deny_rules.specs.Marks.{mark_at, marked}
+use Rattle.deny_rules.proofs.MarkLemmas.{adds_marks, any_next, more_marks}
 use Rattle.deny_rules.proofs.groups.rooted_of.Goals as goal
 
 pub loop-tree-preserved : goal.loop-tree-preserved
@@ -12,6 +11,6 @@ loop-tree-preserved c =
     let i = c.loop-tree.tree-index in
     let tree = c.tree-item.result in
     more_marks crates (λ d. list_any (λ t. marked t d) (take i trees)) (λ d. list_any (λ t. marked t d) (take (i + 1) trees)) (marked tree) c.loop-tree.rooted c.mark_tree.new.rooted c.loop-tree.invariant
-    (adds_marks c.krates-standing.result.now crates (on_at c.as_slice.result.now) (marked tree) c.loop-tree.rooted c.mark_tree.new.rooted c.krates-standing.ensures.crates c.mark_tree.ensures
-    (λ d known. ap (λ ms. marked ms d) c.as_slice.ensures))
+    (adds_marks crates c.are_placed.ensures (mark_at c.as_slice.result.now) (marked tree) c.loop-tree.rooted c.mark_tree.new.rooted c.mark_tree.ensures
+    (λ d _. ap (λ ms. marked ms d) c.as_slice.ensures))
     (λ d. any_next (λ t. marked t d) trees i tree c.loop-tree-test.true c.tree-item.is)

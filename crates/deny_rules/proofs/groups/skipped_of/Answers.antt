@@ -3,7 +3,7 @@ use Rattle.std.specs.List.{list_any}
 use Rattle.deny_cfg.specs.PolicyView.{entry_view}
 use Rattle.deny_cfg.specs.SpecView.{spec_view}
 use Rattle.deny_model.specs.Match.{matches}
-use Rattle.deny_rules.proofs.MarkLaws.{any_next_view, more_marks}
+use Rattle.deny_rules.proofs.MarkLemmas.{any_next_view, more_marks}
 use Rattle.deny_rules.proofs.groups.skipped_of.Goals as goal
 
 pub loop-skip-preserved : goal.loop-skip-preserved

@@ -2,10 +2,9 @@ use Rattle.std.proofs.Common.{◌≡◌, ◌++◌, ℕ, List, length, map, sym, 
 use Rattle.std.specs.List.{range_with_len}
 use Rattle.std.proofs.lemmas.List.{append-nil}
 use Rattle.std.proofs.lemmas.Simd.{map-map}
-use Rattle.deny_krates.proofs.Runs.{length-crates_from}
-use Rattle.deny_model.specs.Graph.{Crate}
 use Rattle.deny_rules.specs.Groups.{may_stand_at}
-use Rattle.deny_rules.proofs.RunLaws.{all_places, no_range, pushed-run}
+use Rattle.deny_rules.proofs.PlaceLemmas.{are_placed, length_of, place_of}
+use Rattle.deny_rules.proofs.RunLemmas.{no_range, pushed-run}
 use Rattle.deny_rules.proofs.groups.standing_of.Goals as goal
 
 pub loop-place-preserved : goal.loop-place-preserved
@@ -18,10 +17,10 @@ returns c =
     let crates = c.args.krates.now.crates in
     let ks = c.krates.result.now in
     let test = may_stand_at c.args.counts.now c.args.skipped.now c.args.rooted.now in
-    let long : length crates ≡ length ks = sym (ap length c.krates.ensures.crates) ∙ length-crates_from 0 ks in
+    let long : length crates ≡ length ks = length_of ks crates c.krates.ensures.crates in
     sym (append-nil c.loop-place.standing)
     ∙ (ap (λ (ps : List ℕ). c.loop-place.standing ++ map test ps) (sym (no_range c.loop-place.place (length ks) (omega (arith, c.loop-place-test.false))))
     ∙ (c.loop-place.invariant
     ∙ (ap (λ (n : ℕ). map test (range_with_len 0 n)) (sym long)
-    ∙ (ap (map test) (sym (all_places ks crates c.krates.ensures.crates))
-    ∙ map-map test (λ (d : Crate). d.place) crates))))
+    ∙ (ap (map test) (sym (are_placed ks crates c.krates.ensures.crates).places)
+    ∙ map-map test place_of crates))))

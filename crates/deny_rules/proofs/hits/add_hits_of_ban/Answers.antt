@@ -3,7 +3,7 @@ use Rattle.std.specs.Prelude.{filter_map}
 use Rattle.deny_base.specs.declared.entry.Hit.{Hit}
 use Rattle.deny_cfg.specs.PolicyView.{ban_view}
 use Rattle.deny_rules.specs.Meetings.{first_meeting, meeting_of, meetings_of, wrapper_hits_of}
-use Rattle.deny_rules.proofs.Firsts.{filter_map_on}
+use Rattle.deny_rules.proofs.FilterLemmas.{filter_map_on}
 use Rattle.deny_rules.proofs.hits.add_hits_of_ban.Goals as goal
 
 pub returns : goal.returns

@@ -1,11 +1,10 @@
 use Rattle.std.proofs.Common.{ℕ, List, Contains, nat_cmp, subst}
 use Rattle.deny_base.specs.Ascending.{Lists}
 use Rattle.deny_rules.proofs.HitLemmas.{by_place}
-use Rattle.deny_rules.proofs.PlaceLemmas.{are_placed}
 use Rattle.deny_rules.proofs.hits.dependents_by_place.Goals as goal
 
 pub returns : goal.returns
 returns c =
     let g = c.args.krates.now in
-    by_place g c.args.place c.direct_dependents.result.now (are_placed c.krates-orderly.result.now g.crates c.krates-orderly.ensures.crates) c.direct_dependents.ensures
+    by_place g c.args.place c.direct_dependents.result.now c.are_placed.ensures c.direct_dependents.ensures
     c.put_in_order.new.list (subst (λ (old : List ℕ). Lists nat_cmp (Contains old) c.put_in_order.new.list) c.in_ok-places.ensures c.in_ok-put_in_order.ensures.ok)

@@ -7,7 +7,6 @@ use Rattle.deny_model.specs.Hits.{root_hit, skip_hit}
 use Rattle.deny_rules.specs.Marks.{facts_of}
 use Rattle.deny_rules.specs.Meetings.{wrapper_hits_of}
 use Rattle.deny_rules.proofs.HitLemmas.{wrapper-hits}
-use Rattle.deny_rules.proofs.PlaceLemmas.{are_placed}
 use Rattle.deny_rules.proofs.hits.hits_of.Goals as goal
 
 three : (old first second third a b d : List Hit) → old ≡ [] → first ≡ old ++ a → second ≡ first ++ b → third ≡ second ++ d → third ≡ a ++ (b ++ d)
@@ -17,7 +16,6 @@ pub returns : goal.returns
 returns c =
     let p = policy_view c.args.cfg.now in
     let g = c.args.krates.now in
-    let placed = are_placed c.krates-orderly.result.now g.crates c.krates-orderly.ensures.crates in
     three c.new-hits.result c.add_skip_hits.new.hits c.add_root_hits.new.hits c.add_wrapper_hits.new.hits _ _ _
     c.new-hits.ensures
     (c.in_ok-add_skip_hits.ensures ∙ ap (λ es. c.new-hits.result ++ filter_map (skip_hit g (facts_of c.args.marks.now)) (map entry_view es)) c.as_slice.ensures)
@@ -25,4 +23,4 @@ returns c =
     (c.in_ok-add_wrapper_hits.ensures
     ∙ (ap (λ exempt. c.add_root_hits.new.hits ++ flat_map (wrapper_hits_of g exempt) (map ban_view c.as_slice-4.result.now)) c.as_slice-3.ensures
     ∙ (ap (λ es. c.add_root_hits.new.hits ++ flat_map (wrapper_hits_of g c.in_ok-exempt.exempt) (map ban_view es)) c.as_slice-4.ensures
-    ∙ ap (λ hits. c.add_root_hits.new.hits ++ hits) (wrapper-hits p g c.in_ok-exempt.exempt placed c.in_ok-exempt.ensures (map ban_view c.args.cfg.now.denied)))))
+    ∙ ap (λ hits. c.add_root_hits.new.hits ++ hits) (wrapper-hits p g c.in_ok-exempt.exempt c.are_placed.ensures c.in_ok-exempt.ensures (map ban_view c.args.cfg.now.denied)))))

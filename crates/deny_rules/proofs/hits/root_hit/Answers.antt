@@ -8,7 +8,6 @@ use Rattle.deny_model.specs.Hits.{hit_of}
 use Rattle.deny_model.specs.Match.{matches}
 use Rattle.deny_model.specs.Told.{crate_at}
 use Rattle.deny_rules.proofs.HitLemmas.{first-of}
-use Rattle.deny_rules.proofs.PlaceLemmas.{are_placed}
 use Rattle.deny_rules.proofs.hits.root_hit.Goals as goal
 
 pub returns : goal.returns
@@ -19,5 +18,5 @@ returns c =
     (ap (option_and_then (crate_at g))
     (c.first_place-first.ensures
     ∙ ap (λ (places : List ℕ). slice_get places 0) (c.as_slice.ensures ∙ c.in_ok-places.ensures))
-    ∙ first-of g (matches spec) (are_placed c.krates-orderly.result.now g.crates c.krates-orderly.ensures.crates))
+    ∙ first-of g (matches spec) c.are_placed.ensures)
     c.krate_hit.ensures

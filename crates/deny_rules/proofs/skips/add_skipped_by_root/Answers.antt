@@ -2,7 +2,7 @@ use Rattle.std.proofs.Common.{◌≡◌, ◌++◌, ℕ, List, Bool, [], OnOk, fi
 use Rattle.std.specs.List.{range_with_len}
 use Rattle.std.specs.Prelude.{slice_index_or}
 use Rattle.std.proofs.lemmas.Bool.{eqb-true}
-use Rattle.std.proofs.lemmas.List.{append-nil}
+use Rattle.std.proofs.lemmas.List.{append-nil, nil_from_length}
 use Rattle.std.proofs.lemmas.Simd.{map-map}
 use Rattle.deny_base.specs.declared.code.Code.TheVariants.{SkippedByRoot}
 use Rattle.deny_base.specs.declared.key.Key.{Key}
@@ -11,8 +11,8 @@ use Rattle.deny_model.specs.Keys.{crate_key}
 use Rattle.deny_model.specs.Skips.{is_skipped_by_root, skipped_by_root_keys_of}
 use Rattle.deny_rules.specs.Marks.{facts_of}
 use Rattle.deny_rules.specs.Skipping.{is_left_out}
-use Rattle.deny_rules.proofs.PlaceLemmas.{are_placed, length_of}
-use Rattle.deny_rules.proofs.SkipLemmas.{left-out, no-tree, no_length, place_of}
+use Rattle.deny_rules.proofs.PlaceLemmas.{are_placed, length_of, place_of}
+use Rattle.deny_rules.proofs.SkipLemmas.{left-out, no-tree}
 use Rattle.deny_rules.proofs.skips.add_skipped_by_root.Goals as goal
 
 pub returns-then-is_empty : goal.returns-then-is_empty
@@ -20,7 +20,7 @@ returns-then-is_empty c =
     let root = root_view c.args.number c.args.root.now in
     let none : slice_index_or c.args.marks.now.trees c.args.number [] ≡ [] =
     sym (c.tree_at-tree.ensures ∙ ap (λ (trees : List (List Bool)). slice_index_or trees c.args.number []) c.as_slice.ensures)
-    ∙ no_length c.tree_at-tree.result.now (eqb-true (length c.tree_at-tree.result.now) 0 (sym c.is_empty.ensures ∙ c.if-is_empty.true)) in
+    ∙ nil_from_length c.tree_at-tree.result.now (eqb-true (length c.tree_at-tree.result.now) 0 (sym c.is_empty.ensures ∙ c.if-is_empty.true)) in
     sym (ap (λ (keys : List Key). c.args.keys.now ++ keys) (no-tree (policy_view c.args.cfg.now) c.args.krates.now c.args.marks.now root none) ∙ append-nil c.args.keys.now)
 
 pub returns : goal.returns

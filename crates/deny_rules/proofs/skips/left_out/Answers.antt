@@ -1,7 +1,7 @@
 use Rattle.std.proofs.Common.{◌≡◌, ◌++◌, [], ◌∷◌, Bool, cond, filter, sym, ap, ◌∙◌, arith}
 use Rattle.std.proofs.lemmas.List.{append-nil}
 use Rattle.deny_rules.specs.Skipping.{is_left_out}
-use Rattle.deny_rules.proofs.SkipLemmas.{kept-run}
+use Rattle.deny_rules.proofs.RunLemmas.{kept-run}
 use Rattle.deny_rules.proofs.skips.left_out.Goals as goal
 use Rattle.deny_rules.proofs.skips.left_out.Goals.{then-is_left_out+in_ok-push, else-is_left_out}
 

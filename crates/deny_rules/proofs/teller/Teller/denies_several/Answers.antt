@@ -1,8 +1,8 @@
-use Rattle.std.proofs.Common.{◌∙◌, List, ap, false}
-use Rattle.std.specs.Prelude.{slice_index_or}
+use Rattle.std.proofs.Common.{◌∙◌, List, ap}
 use Rattle.std.specs.List.{list_any}
 use Rattle.deny_cfg.specs.PolicyView.{policy_view}
 use Rattle.deny_model.specs.Duplicates.{is_denied_multiple}
+use Rattle.deny_rules.specs.Marks.{mark_at}
 use Rattle.deny_rules.proofs.ToldLemmas.{one_marked}
 use Rattle.deny_rules.proofs.teller.Teller.denies_several.Goals as goal
 
@@ -10,5 +10,5 @@ pub returns : goal.returns
 returns c =
     let self = c.args.self.now in
     c.is_one_marked.ensures
-    ∙ (ap (λ (marks : List _). list_any (λ place. slice_index_or marks place false) c.args.places.now) c.as_slice.ensures
+    ∙ (ap (λ (marks : List _). list_any (mark_at marks) c.args.places.now) c.as_slice.ensures
     ∙ one_marked self.krates.now (is_denied_multiple (policy_view self.cfg.now)) self.several c.args.places.now self.several_marked)

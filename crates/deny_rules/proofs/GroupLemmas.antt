@@ -2,24 +2,26 @@
 use Rattle.std.proofs.Common.{◌≡◌, ℕ, suc, ◌+◌, ◌-◌, ◌≤◌, Bool, true, false, not, List, [], ◌∷◌, ◌++◌, length, map, filter, take, drop, get_or, cond, refl, sym, ap, ◌∙◌, inl, inr, arith, drop-cons}
 use Rattle.std.specs.Prelude.{◌&&◌, ◌||◌, ◌==◌, slice_index_or}
 use Rattle.std.specs.List.{list_all, list_any, range_with_len}
+use Rattle.std.proofs.Math.Bool.{and-true}
 use Rattle.std.proofs.Math.ListN.{drop_of_length-le}
+use Rattle.std.proofs.Math.Seq.{take-nil}
 use Rattle.std.proofs.lemmas.Bool.{cases_Bool, cases_lt, cond-true, cond-false}
 use Rattle.std.proofs.lemmas.List.{get_or_past, map-append}
 use Rattle.deny_cfg.specs.PolicyView.{roots_from}
 use Rattle.deny_cfg.specs.declared.bans.cfg.tree_skip.TreeSkipExtended.{TreeSkipExtended}
 use Rattle.deny_cfg.specs.declared.spec_or_extended.PackageSpecOrExtended.{PackageSpecOrExtended}
-use Rattle.deny_krates.specs.Crates.{crates_from}
-use Rattle.deny_krates.specs.declared.krate.Krate.{Krate}
 use Rattle.deny_model.specs.Facts.{Facts}
 use Rattle.deny_model.specs.Graph.{Crate, Graph, dependents}
 use Rattle.deny_model.specs.Groups.{has_name, group, is_in_group, is_internal, is_marked, is_rooted, may_stand, reduced}
 use Rattle.deny_model.specs.Policy.{Policy}
 use Rattle.deny_model.proofs.Kept.{AgreeOn, filter_on, map_on}
-use Rattle.deny_rules.specs.Groups.{on_at, is_left, is_left_at, may_stand_at, AddsLeft}
-use Rattle.deny_rules.specs.Marks.{marked}
-use Rattle.deny_rules.proofs.MarkLaws.{mark_of}
-use Rattle.deny_rules.proofs.Members.{Contains-from_filter}
-use Rattle.deny_rules.proofs.RunLaws.{IsRunOf, count-run, filter-both, map-run, named_is, take-nil, take-next}
+use Rattle.deny_rules.specs.Groups.{is_left, is_left_at, may_stand_at, AddsLeft}
+use Rattle.deny_rules.specs.Marks.{mark_at, marked}
+use Rattle.deny_rules.specs.Placed.{ArePlaced}
+use Rattle.deny_rules.proofs.FilterLemmas.{filter-filter}
+use Rattle.deny_rules.proofs.MarkLemmas.{marked-is}
+use Rattle.deny_rules.proofs.MemberLemmas.{Contains-from_filter}
+use Rattle.deny_rules.proofs.RunLemmas.{IsRunOf, count-run, map-run, named_is, take-next}
 
 -- trees by their numbers
 
@@ -48,15 +50,15 @@ rooted_are es trees c = rooted_from 0 es trees c
 
 -- which crates stand
 
-pub stand_alike : (ks : List Krate) (p : Policy) (g : Graph) (facts : Facts) (counts skipped rooted standing : List Bool) → crates_from 0 ks ≡ g.crates → AgreeOn g.crates (λ c. on_at counts c.place) facts.counts
+pub stand_alike : (p : Policy) (g : Graph) (facts : Facts) (counts skipped rooted standing : List Bool) → ArePlaced g.crates → AgreeOn g.crates (marked counts) facts.counts
     → skipped ≡ map (is_marked p) g.crates → rooted ≡ map (is_rooted p facts) g.crates → standing ≡ map (λ c. may_stand_at counts skipped rooted c.place) g.crates → standing ≡ map (may_stand p facts) g.crates
 unfolding may_stand may_stand_at
-stand_alike ks p g facts counts skipped rooted standing placed counted skips roots are =
+stand_alike p g facts counts skipped rooted standing placed counted skips roots are =
     are
-    ∙ map_on (λ c. on_at counts c.place && (on_at skipped c.place || not (on_at rooted c.place))) (may_stand p facts) g.crates (λ c known.
-    ap (λ b. b && (on_at skipped c.place || not (on_at rooted c.place))) (counted c known)
-    ∙ (ap (λ b. facts.counts c && (b || not (on_at rooted c.place))) (mark_of ks g.crates (is_marked p) skipped c placed skips known)
-    ∙ ap (λ b. facts.counts c && (is_marked p c || not b)) (mark_of ks g.crates (is_rooted p facts) rooted c placed roots known)))
+    ∙ map_on (λ c. marked counts c && (marked skipped c || not (marked rooted c))) (may_stand p facts) g.crates (λ c known.
+    ap (λ b. b && (marked skipped c || not (marked rooted c))) (counted c known)
+    ∙ (ap (λ b. facts.counts c && (b || not (marked rooted c))) (marked-is g.crates placed (is_marked p) skipped skips c known)
+    ∙ ap (λ b. facts.counts c && (is_marked p c || not b)) (marked-is g.crates placed (is_rooted p facts) rooted roots c known)))
 
 -- which crates are left
 
@@ -68,16 +70,12 @@ left_alike g these those agree = λ c known.
     (filter_on (λ d. has_name c.name d && these d) (λ d. has_name c.name d && those d) g.crates (λ d is. ap (λ b. has_name c.name d && b) (agree d is)))
 
 -- the marks of what is left, by marks of what stands
-pub left_by_marks : (ks : List Krate) (g : Graph) (stands : Crate → Bool) (standing reduced : List Bool) → crates_from 0 ks ≡ g.crates → standing ≡ map stands g.crates
-    → reduced ≡ map (is_left g (λ c. on_at standing c.place)) g.crates → reduced ≡ map (is_left g stands) g.crates
-left_by_marks ks g stands standing reduced placed are left =
+pub left_by_marks : (g : Graph) (stands : Crate → Bool) (standing reduced : List Bool) → ArePlaced g.crates → standing ≡ map stands g.crates
+    → reduced ≡ map (is_left g (marked standing)) g.crates → reduced ≡ map (is_left g stands) g.crates
+left_by_marks g stands standing reduced placed are left =
     left
-    ∙ map_on (is_left g (λ c. on_at standing c.place)) (is_left g stands) g.crates
-    (left_alike g (λ c. on_at standing c.place) stands (λ c known. mark_of ks g.crates stands standing c placed are known))
-
-and_true : (b : Bool) → (b && true) ≡ b
-and_true true = refl
-and_true false = refl
+    ∙ map_on (is_left g (marked standing)) (is_left g stands) g.crates
+    (left_alike g (marked standing) stands (marked-is g.crates placed stands standing are))
 
 module _ (p : Policy) (g : Graph) (facts : Facts) (name : List ℕ) where
   abbrev stands : Crate → Bool
@@ -97,10 +95,10 @@ module _ (p : Policy) (g : Graph) (facts : Facts) (name : List ℕ) where
   kept : (keep : Crate → Bool) → ((c : Crate) → c.name ≡ name → (stands c && keep c) ≡ is_left g stands c) → filter (λ c. is_in_group p facts name c && keep c) g.crates ≡ filter (is_left g stands) (filter (has_name name) g.crates)
   kept keep same =
       filter_on (λ c. is_in_group p facts name c && keep c) (λ c. has_name name c && is_left g stands c) g.crates (keeps keep same)
-      ∙ sym (filter-both (has_name name) (is_left g stands) g.crates)
+      ∙ sym (filter-filter (has_name name) (is_left g stands) g.crates)
 
   -- the reduced group of a name has those of its crates that are left
-  pub reduced-left : reduced p g facts name ≡ filter (is_left g stands) (filter (has_name name) g.crates)
+  reduced-left : reduced p g facts name ≡ filter (is_left g stands) (filter (has_name name) g.crates)
   unfolding reduced
   reduced-left =
       let named : List Crate = group p g facts name in
@@ -108,52 +106,52 @@ module _ (p : Policy) (g : Graph) (facts : Facts) (name : List ℕ) where
       elim (cases_Bool (length named == 1)) as (λ _. cond (length named == 1) named others ≡ filter (is_left g stands) (filter (has_name name) g.crates)) [
         | inl e ↦
             cond-true (length named == 1) named others e
-            ∙ (filter_on (is_in_group p facts name) (λ c. is_in_group p facts name c && true) g.crates (λ c known. sym (and_true (is_in_group p facts name c)))
+            ∙ (filter_on (is_in_group p facts name) (λ c. is_in_group p facts name c && true) g.crates (λ c known. sym (and-true (is_in_group p facts name c)))
             ∙ kept (λ c. true) (λ c owned. sym (left_of c owned ∙ ap (λ b. stands c && (b || not (is_internal g name c))) e)))
         | inr e ↦
             cond-false (length named == 1) named others e
-            ∙ (filter-both (is_in_group p facts name) (λ c. not (is_internal g name c)) g.crates
+            ∙ (filter-filter (is_in_group p facts name) (λ c. not (is_internal g name c)) g.crates
             ∙ kept (λ c. not (is_internal g name c)) (λ c owned. sym (left_of c owned ∙ ap (λ b. stands c && (b || not (is_internal g name c))) e)))
       ]
 
 -- a reduced group by marks
-pub reduced_by_marks : (ks : List Krate) (p : Policy) (g : Graph) (facts : Facts) (name : List ℕ) (marks : List Bool) → crates_from 0 ks ≡ g.crates → marks ≡ map (is_left g (may_stand p facts)) g.crates
-    → filter (λ c. on_at marks c.place) (filter (has_name name) g.crates) ≡ reduced p g facts name
-reduced_by_marks ks p g facts name marks placed are =
-    filter_on (λ c. on_at marks c.place) (is_left g (may_stand p facts)) (filter (has_name name) g.crates)
-    (λ c is. mark_of ks g.crates (is_left g (may_stand p facts)) marks c placed are (Contains-from_filter (has_name name) g.crates c is).0)
+pub reduced_by_marks : (p : Policy) (g : Graph) (facts : Facts) (name : List ℕ) (marks : List Bool) → ArePlaced g.crates → marks ≡ map (is_left g (may_stand p facts)) g.crates
+    → filter (marked marks) (filter (has_name name) g.crates) ≡ reduced p g facts name
+reduced_by_marks p g facts name marks placed are =
+    filter_on (marked marks) (is_left g (may_stand p facts)) (filter (has_name name) g.crates)
+    (λ c is. marked-is g.crates placed (is_left g (may_stand p facts)) marks are c (Contains-from_filter (has_name name) g.crates c is).0)
     ∙ sym (reduced-left p g facts name)
 
 -- a run of a name, at its marks
-pub left_in_run : (ks : List Krate) (g : Graph) (standing : List Bool) (name : List ℕ) (alone : Bool) (place start end : ℕ) → crates_from 0 ks ≡ g.crates → end ≤ length g.crates → IsRunOf ks g.crates name place start end
-    → alone ≡ (length (filter (λ c. on_at standing c.place) (filter (has_name name) g.crates)) == 1) → (old new : List Bool)
+pub left_in_run : (g : Graph) (standing : List Bool) (name : List ℕ) (alone : Bool) (place start end : ℕ) → ArePlaced g.crates → end ≤ length g.crates → IsRunOf g.crates name place start end
+    → alone ≡ (length (filter (marked standing) (filter (has_name name) g.crates)) == 1) → (old new : List Bool)
     → new ≡ old ++ map (is_left_at g standing name alone) (range_with_len place (end - place)) → AddsLeft g standing place end old new
 unfolding is_left is_left_at is_internal
-left_in_run ks g standing name alone place start end placed within run one old new added = record {
-  added = added ∙ ap (λ ms. old ++ ms) (map-run (is_left_at g standing name alone) ks g.crates place end placed (omega (arith, run.past)) within ∙ map_on _ _ (take (end - place) (drop place g.crates)) alike);
+left_in_run g standing name alone place start end placed within run one old new added = record {
+  added = added ∙ ap (λ ms. old ++ ms) (map-run g.crates placed place end (omega (arith, run.past)) within (is_left_at g standing name alone) ∙ map_on _ _ (take (end - place) (drop place g.crates)) alike);
   up = run.past;
   within = within;
 }
   where
-    alike : AgreeOn (take (end - place) (drop place g.crates)) (λ c. is_left_at g standing name alone c.place) (is_left g (λ c. on_at standing c.place))
+    alike : AgreeOn (take (end - place) (drop place g.crates)) (λ c. is_left_at g standing name alone c.place) (is_left g (marked standing))
     alike = λ c is.
-        ap (λ b. on_at standing c.place && (b || not (list_all (has_name name) (dependents g c.place)))) (one ∙ ap (λ (cs : List Crate). length cs == 1) (filter-both (has_name name) (λ d. on_at standing d.place) g.crates))
-        ∙ ap (λ (n : List ℕ). on_at standing c.place && (length (filter (λ d. has_name n d && on_at standing d.place) g.crates) == 1 || not (list_all (has_name n) (dependents g c.place)))) (sym (run.named c is))
+        ap (λ b. marked standing c && (b || not (list_all (has_name name) (dependents g c.place)))) (one ∙ ap (λ (cs : List Crate). length cs == 1) (filter-filter (has_name name) (marked standing) g.crates))
+        ∙ ap (λ (n : List ℕ). marked standing c && (length (filter (λ d. has_name n d && marked standing d) g.crates) == 1 || not (list_all (has_name n) (dependents g c.place)))) (sym (run.named c is))
 
-pub more_left : (g : Graph) (standing : List Bool) (place next : ℕ) (old new : List Bool) → old ≡ map (is_left g (λ c. on_at standing c.place)) (take place g.crates) → AddsLeft g standing place next old new
-    → new ≡ map (is_left g (λ c. on_at standing c.place)) (take next g.crates)
+pub more_left : (g : Graph) (standing : List Bool) (place next : ℕ) (old new : List Bool) → old ≡ map (is_left g (marked standing)) (take place g.crates) → AddsLeft g standing place next old new
+    → new ≡ map (is_left g (marked standing)) (take next g.crates)
 more_left g standing place next old new so more =
-    let t = is_left g (λ (c : Crate). on_at standing c.place) in
+    let t = is_left g (marked standing) in
     more.added
     ∙ (ap (λ ms. ms ++ map t (take (next - place) (drop place g.crates))) so
     ∙ (sym (map-append t (take place g.crates) (take (next - place) (drop place g.crates)))
     ∙ ap (map t) (sym (take-next g.crates place next (omega (arith, more.up))))))
 
-pub reduced_length : (ks : List Krate) (g : Graph) (marks : List Bool) (name : List ℕ) (start end size : ℕ) → crates_from 0 ks ≡ g.crates → start ≤ end → end ≤ length g.crates
-    → take (end - start) (drop start g.crates) ≡ filter (has_name name) g.crates → size ≡ length (filter (on_at marks) (range_with_len start (end - start)))
+pub reduced_length : (g : Graph) (marks : List Bool) (name : List ℕ) (start end size : ℕ) → ArePlaced g.crates → start ≤ end → end ≤ length g.crates
+    → take (end - start) (drop start g.crates) ≡ filter (has_name name) g.crates → size ≡ length (filter (mark_at marks) (range_with_len start (end - start)))
     → (p : Policy) (facts : Facts) → marks ≡ map (is_left g (may_stand p facts)) g.crates → size ≡ length (reduced p g facts name)
-reduced_length ks g marks name start end size placed up within named is p facts are =
+reduced_length g marks name start end size placed up within named is p facts are =
     is
-    ∙ (count-run marks ks g.crates start end placed up within
-    ∙ (ap (λ (cs : List Crate). length (filter (λ c. on_at marks c.place) cs)) named
-    ∙ ap length (reduced_by_marks ks p g facts name marks placed are)))
+    ∙ (count-run g.crates placed start end up within marks
+    ∙ (ap (λ (cs : List Crate). length (filter (marked marks) cs)) named
+    ∙ ap length (reduced_by_marks p g facts name marks placed are)))

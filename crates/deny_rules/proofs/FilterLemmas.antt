@@ -1,26 +1,31 @@
--- What is found first in a list, through the words that make lists.
+-- What is kept of a list, and what is found first in it, through the words that make lists.
 use Rattle.std.proofs.Common.{◌≡◌, List, [], ◌∷◌, Bool, true, false, Option, None, Some, refl, sym, ap, ◌∙◌, inl, inr, suc, arith}
 use Rattle.std.specs.Prelude.{◌&&◌, ◌||◌, Contains, cond, filter, filter_map, find, is_some, length, map, nat_lt, option_map, option_and_then, slice_get}
 use Rattle.std.specs.List.{cons_option, flat_map, list_any}
 use Rattle.std.specs.Option.{option_map_or, option_or}
-use Rattle.std.proofs.lemmas.Bool.{cases_Bool, lt-ltb}
+use Rattle.std.proofs.Math.Bool.{and_comm}
+use Rattle.std.proofs.lemmas.Bool.{cases_Bool, cond-false, lt-ltb}
 use Rattle.std.proofs.lemmas.List.Folds.{find-append}
-use Rattle.deny_base.proofs.AscendingLemmas.{Contains-first, Contains-rest}
 use Rattle.deny_model.proofs.Kept.{AgreeOn}
+use Rattle.deny_rules.proofs.MemberLemmas.{Contains-first, Contains-rest}
 
-pub and_turned : (a b : Bool) → (a && b) ≡ (b && a)
-and_turned true true = refl
-and_turned true false = refl
-and_turned false true = refl
-and_turned false false = refl
+-- what is kept
 
-pub filter-filter : {X : Type 0} (p q : X → Bool) (xs : List X) → filter p (filter q xs) ≡ filter (λ x. p x && q x) xs
+pub filter-all : {X : Type 0} (xs : List X) → filter (λ x. true) xs ≡ xs
+filter-all [] = refl
+filter-all (x ∷ xs) = ap (λ ys. x ∷ ys) (filter-all xs)
+
+pub filter-none : {X : Type 0} (p : X → Bool) (xs : List X) → ((x : X) → p x ≡ false) → filter p xs ≡ []
+filter-none p [] fails = refl
+filter-none p (x ∷ xs) fails = cond-false (p x) (x ∷ filter p xs) (filter p xs) (fails x) ∙ filter-none p xs fails
+
+pub filter-filter : {X : Type 0} (p q : X → Bool) (xs : List X) → filter q (filter p xs) ≡ filter (λ x. p x && q x) xs
 filter-filter p q [] = refl
 filter-filter p q (x ∷ xs) =
-    let rest : filter p (filter q xs) ≡ filter (λ x. p x && q x) xs = filter-filter p q xs in
-    elim (cases_Bool (q x)) as (λ _. filter p (filter q (x ∷ xs)) ≡ filter (λ x. p x && q x) (x ∷ xs)) [
-      | inl e ↦ rw (e, and_turned (p x) true, rest) refl
-      | inr e ↦ rw (e, and_turned (p x) false, rest) refl
+    let rest : filter q (filter p xs) ≡ filter (λ x. p x && q x) xs = filter-filter p q xs in
+    elim (cases_Bool (p x)) as (λ _. filter q (filter p (x ∷ xs)) ≡ filter (λ x. p x && q x) (x ∷ xs)) [
+      | inl e ↦ rw (e, rest) refl
+      | inr e ↦ rw (e, rest) refl
     ]
 
 pub filter-map : {X Y : Type 0} (p : Y → Bool) (f : X → Y) (xs : List X) → filter p (map f xs) ≡ map f (filter (λ x. p (f x)) xs)
@@ -31,6 +36,27 @@ filter-map p f (x ∷ xs) =
       | inl e ↦ rw (e, rest) refl
       | inr e ↦ rw (e, rest) refl
     ]
+
+-- something is kept where something passes
+pub some-filter : {X : Type 0} (p : X → Bool) (xs : List X) → nat_lt 0 (length (filter p xs)) ≡ list_any p xs
+some-filter p [] = refl
+some-filter p (x ∷ xs) = elim (cases_Bool (p x)) as (λ _. nat_lt 0 (length (filter p (x ∷ xs))) ≡ list_any p (x ∷ xs)) [
+  | inl e ↦ rw e (lt-ltb 0 (suc (length (filter p xs))) (omega arith))
+  | inr e ↦ rw (e, some-filter p xs) refl
+]
+
+pub filter_map-map : {X Y Z : Type 0} (h : Y → Option Z) (f : X → Y) (xs : List X) → filter_map h (map f xs) ≡ filter_map (λ x. h (f x)) xs
+filter_map-map h f [] = refl
+filter_map-map h f (x ∷ xs) = rw (filter_map-map h f xs) refl
+
+rest_agrees : {X A : Type 0} (f g : X → A) (x : X) (xs : List X) → AgreeOn (x ∷ xs) f g → AgreeOn xs f g
+rest_agrees f g x xs agree = λ y is. agree y (Contains-rest x xs y is)
+
+pub filter_map_on : {X A : Type 0} (f g : X → Option A) (xs : List X) → AgreeOn xs f g → filter_map f xs ≡ filter_map g xs
+filter_map_on f g [] agree = refl
+filter_map_on f g (x ∷ xs) agree = rw (agree x (Contains-first x xs), filter_map_on f g xs (rest_agrees f g x xs agree)) refl
+
+-- what is found first
 
 pub find-map : {X Y : Type 0} (p : Y → Bool) (f : X → Y) (xs : List X) → find p (map f xs) ≡ option_map f (find (λ x. p (f x)) xs)
 find-map p f [] = refl
@@ -44,8 +70,8 @@ find-filter p q [] = refl
 find-filter p q (x ∷ xs) =
     let rest : find p (filter q xs) ≡ find (λ x. p x && q x) xs = find-filter p q xs in
     elim (cases_Bool (q x)) as (λ _. find p (filter q (x ∷ xs)) ≡ find (λ x. p x && q x) (x ∷ xs)) [
-      | inl e ↦ rw (e, and_turned (p x) true, rest) refl
-      | inr e ↦ rw (e, and_turned (p x) false, rest) refl
+      | inl e ↦ rw (e, and_comm (p x) true, rest) refl
+      | inr e ↦ rw (e, and_comm (p x) false, rest) refl
     ]
 
 -- the first that is kept is the first that passes
@@ -54,14 +80,6 @@ first-filter p [] = refl
 first-filter p (x ∷ xs) = elim (cases_Bool (p x)) as (λ _. slice_get (filter p (x ∷ xs)) 0 ≡ find p (x ∷ xs)) [
   | inl e ↦ rw e refl
   | inr e ↦ rw (e, first-filter p xs) refl
-]
-
--- something is kept where something passes
-pub some-filter : {X : Type 0} (p : X → Bool) (xs : List X) → nat_lt 0 (length (filter p xs)) ≡ list_any p xs
-some-filter p [] = refl
-some-filter p (x ∷ xs) = elim (cases_Bool (p x)) as (λ _. nat_lt 0 (length (filter p (x ∷ xs))) ≡ list_any p (x ∷ xs)) [
-  | inl e ↦ rw e (lt-ltb 0 (suc (length (filter p xs))) (omega arith))
-  | inr e ↦ rw (e, some-filter p xs) refl
 ]
 
 find-any : {X : Type 0} (p : X → Bool) (xs : List X) → list_any p xs ≡ is_some (find p xs)
@@ -110,17 +128,6 @@ any-filter_map {X} {Y} p h (x ∷ xs) = by_what (h x) (any-filter_map p h xs)
     by_what : (o : Option Y) → list_any p (filter_map h xs) ≡ list_any (passes p h) xs → list_any p (cons_option o (filter_map h xs)) ≡ (option_map_or p o false || list_any (passes p h) xs)
     by_what None rest = rest
     by_what (Some y) rest = ap (λ b. p y || b) rest
-
-pub filter_map-map : {X Y Z : Type 0} (h : Y → Option Z) (f : X → Y) (xs : List X) → filter_map h (map f xs) ≡ filter_map (λ x. h (f x)) xs
-filter_map-map h f [] = refl
-filter_map-map h f (x ∷ xs) = rw (filter_map-map h f xs) refl
-
-rest_agrees : {X A : Type 0} (f g : X → A) (x : X) (xs : List X) → AgreeOn (x ∷ xs) f g → AgreeOn xs f g
-rest_agrees f g x xs agree = λ y is. agree y (Contains-rest x xs y is)
-
-pub filter_map_on : {X A : Type 0} (f g : X → Option A) (xs : List X) → AgreeOn xs f g → filter_map f xs ≡ filter_map g xs
-filter_map_on f g [] agree = refl
-filter_map_on f g (x ∷ xs) agree = rw (agree x (Contains-first x xs), filter_map_on f g xs (rest_agrees f g x xs agree)) refl
 
 pub find_on : {X : Type 0} (p q : X → Bool) (xs : List X) → AgreeOn xs p q → find p xs ≡ find q xs
 find_on p q [] agree = refl

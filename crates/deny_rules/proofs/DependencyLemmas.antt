@@ -1,36 +1,31 @@
 -- The direct dependencies of a crate are what its edges lead to.
-use Rattle.std.proofs.Common.{◌≡◌, ◌<◌, ℕ, List, [], ◌∷◌, Bool, true, false, Some, length, map, refl, sym, ap, ◌∙◌, subst, inl, inr, arith}
-use Rattle.std.specs.Prelude.{◌||◌, All, Contains, slice_get}
+use Rattle.std.proofs.Common.{◌≡◌, ◌<◌, ℕ, List, true, length, map, refl, sym, subst}
+use Rattle.std.specs.Prelude.{All, Contains}
 use Rattle.std.specs.List.{list_any}
 use Rattle.std.proofs.lemmas.Bool.{eq-eqb}
 use Rattle.std.proofs.lemmas.List.Elements.{All-contains, All-map, All-weaker, All-contains_itself}
-use Rattle.deny_base.proofs.AscendingLemmas.{Contains-cases}
 use Rattle.deny_base.specs.declared.edge.DepKind.{DepKind}
 use Rattle.deny_base.specs.declared.edge.Edge.{Edge}
-use Rattle.deny_krates.specs.Crates.{crates_from}
 use Rattle.deny_krates.specs.Dependents.{AreDirectDependencies, IsLeastKind}
 use Rattle.deny_krates.specs.Orderly.{IsOrderly}
 use Rattle.deny_krates.specs.declared.krate.DirectDependent.{DirectDependent}
-use Rattle.deny_krates.specs.declared.krate.Krate.{Krate}
-use Rattle.deny_krates.proofs.DependentsLemmas.{crate_place, filter_keeps}
+use Rattle.deny_krates.proofs.DependentsLemmas.{filter_keeps}
 use Rattle.deny_krates.proofs.ListLemmas.{contains_map}
-use Rattle.deny_krates.proofs.Runs.{length-crates_from}
-use Rattle.deny_model.specs.Graph.{Crate, Graph, dependencies, leads}
-
-or_true : (b : Bool) → (b || true) ≡ true
-or_true true = refl
-or_true false = refl
-
-any_by : {X : Type 0} (p : X → Bool) (xs : List X) (x : X) → Contains xs x → p x ≡ true → list_any p xs ≡ true
-any_by p [] x is passes = absurd (omega (arith, is.1))
-any_by p (y ∷ xs) x is passes = elim (Contains-cases y xs x is) as (λ _. (p y || list_any p xs) ≡ true) [
-  | inl here ↦ cc (ap p here, passes)
-  | inr later ↦ ap (λ b. p y || b) (any_by p xs x later passes) ∙ or_true (p y)
-]
+use Rattle.deny_model.specs.Graph.{Graph, dependencies, leads}
+use Rattle.deny_rules.specs.Placed.{ArePlaced}
+use Rattle.deny_rules.proofs.MemberLemmas.{any_from}
+use Rattle.deny_rules.proofs.PlaceLemmas.{stands_at}
 
 pub leads_over : (e : Edge) (parent child : ℕ) → e.parent ≡ parent → child ≡ e.child → leads parent child e ≡ true
 unfolding leads
 leads_over e parent child from to = rw (eq-eqb e.parent parent from, eq-eqb e.child child (sym to)) refl
+
+-- an edge joins crates of the graph
+pub parent_stands : (g : Graph) → IsOrderly g → (e : Edge) → Contains g.edges e → e.parent < length g.crates
+parent_stands g orderly e stands = All-contains (λ d. d.parent < length g.crates) g.edges e orderly.parents stands
+
+pub child_stands : (g : Graph) → IsOrderly g → (e : Edge) → Contains g.edges e → e.child < length g.crates
+child_stands g orderly e stands = All-contains (λ d. d.child < length g.crates) g.edges e orderly.children stands
 
 -- an edge to a dependency
 abbrev pub EdgeTo : Graph → ℕ → ℕ → Type 0
@@ -48,21 +43,17 @@ each_is_led_to g place ds are = All-map (EdgeTo g place) (λ d. d.place) ds
 
 pub each_is_known : (g : Graph) (place : ℕ) (ds : List DirectDependent) → IsOrderly g → AreDirectDependencies g place ds → All (λ n. n < length g.crates) (map (λ d. d.place) ds)
 each_is_known g place ds orderly are = All-weaker (EdgeTo g place) (λ n. n < length g.crates)
-    (λ n edge. subst (λ (m : ℕ). m < length g.crates) edge.3 (All-contains (λ e. e.child < length g.crates) g.edges edge.0 orderly.children edge.1))
+    (λ n edge. subst (λ (m : ℕ). m < length g.crates) edge.3 (child_stands g orderly edge.0 edge.1))
     (map (λ d. d.place) ds) (each_is_led_to g place ds are)
 
-pub none_is_missed : (g : Graph) (krates : List Krate) (place : ℕ) (ds : List DirectDependent) → crates_from 0 krates ≡ g.crates → IsOrderly g → AreDirectDependencies g place ds
+pub none_is_missed : (g : Graph) (place : ℕ) (ds : List DirectDependent) → ArePlaced g.crates → IsOrderly g → AreDirectDependencies g place ds
     → (e : Edge) → Contains g.edges e → e.parent ≡ place → Contains (map (λ d. d.place) ds) e.child
 unfolding dependencies
-none_is_missed g krates place ds crates orderly are e stands from =
-    let long : length g.crates ≡ length krates = ap length (sym crates) ∙ length-crates_from 0 krates in
-    let inside : e.child < length krates = subst (λ (n : ℕ). e.child < n) long (All-contains (λ e. e.child < length g.crates) g.edges e orderly.children stands) in
-    let found = crate_place 0 krates e.child inside in
-    let at : slice_get g.crates e.child ≡ Some found.0 = subst (λ (cs : List Crate). slice_get cs e.child ≡ Some found.0) crates found.1 in
-    let here : found.0.place ≡ e.child = omega (arith, found.2) in
-    let passes : list_any (leads place found.0.place) g.edges ≡ true = any_by (leads place found.0.place) g.edges e stands (leads_over e place found.0.place from here) in
-    let listed : Contains (dependencies g place) found.0 = filter_keeps (λ child. list_any (leads place child.place) g.edges) g.crates e.child found.0 at passes in
-    subst (λ (n : ℕ). Contains (map (λ d. d.place) ds) n) here (All-contains (λ c. Contains (map (λ d. d.place) ds) c.place) (dependencies g place) found.0 are.whole listed)
+none_is_missed g place ds placed orderly are e stands from =
+    let found = stands_at g.crates placed e.child (child_stands g orderly e stands) in
+    let passes : list_any (leads place found.0.place) g.edges ≡ true = any_from (leads place found.0.place) g.edges e stands (leads_over e place found.0.place from found.2) in
+    let listed : Contains (dependencies g place) found.0 = filter_keeps (λ child. list_any (leads place child.place) g.edges) g.crates e.child found.0 found.1 passes in
+    subst (λ (n : ℕ). Contains (map (λ d. d.place) ds) n) found.2 (All-contains (λ c. Contains (map (λ d. d.place) ds) c.place) (dependencies g place) found.0 are.whole listed)
 
 pub each_stands : (g : Graph) (place : ℕ) (ds : List DirectDependent) → IsOrderly g → AreDirectDependencies g place ds → All (λ d. d.place < length g.crates) ds
 each_stands g place ds orderly are = All-weaker (Contains ds) (λ d. d.place < length g.crates)

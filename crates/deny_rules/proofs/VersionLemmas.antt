@@ -6,21 +6,22 @@ use Rattle.std.specs.Cmp.Lexicographic.{slice_cmp, nat_list_cmp_total}
 use Rattle.std.specs.FinMap.{nat_cmp-IsAntisymmetric, slice_cmp-IsAntisymmetric}
 use Rattle.std.specs.List.{IsDistinct, AllByRecursion}
 use Rattle.std.specs.List.Sorted.{IsStrictlySortedBy, IsSortedBy, IsPermutation}
-use Rattle.std.specs.Ordering.{nat_cmp, is_lt, ordering_then, ordering_reverse}
+use Rattle.std.specs.Ordering.{nat_cmp, is_lt, ordering_reverse}
 use Rattle.std.specs.declared.cmp.Ordering.{Ordering}
 use Rattle.std.specs.declared.cmp.Ordering.TheVariants.{Less, Equal, Greater}
-use Rattle.std.proofs.lemmas.Bool.{false≢true, false_from_ne_true}
+use Rattle.std.proofs.lemmas.Bool.{cond_both, false≢true, false_from_ne_true}
+use Rattle.std.proofs.lemmas.Cmp.{nat_list_eq_equiv}
 use Rattle.std.proofs.lemmas.List.{get_or-map, length-map}
 use Rattle.std.proofs.lemmas.List.Sorted.{IsPermutation-map, IsPermutation-sym, Contains-permutation}
 use Rattle.std.proofs.lemmas.Map.Keys.{IsDistinct-IsPermutation, IsDistinct-from_apart, IsDistinct-cons, apart_from_distinct, sorted_from_all_adjacent}
 use Rattle.std.proofs.lemmas.Slice.Eq.{bytes_eq-Decides}
 use Rattle.semver.specs.OrderLaws.{pre_total}
 use Rattle.semver.specs.Parse.{Parts}
+use Rattle.deny_base.proofs.KeyEqual.{then_second}
 use Rattle.deny_base.specs.Ascending.{Lists}
 use Rattle.deny_model.specs.Graph.{Crate}
 use Rattle.deny_model.specs.VersionOrder.{precedence, version_cmp}
 use Rattle.deny_rules.specs.Duplicates.{same_id}
-use Rattle.deny_rules.proofs.Members.{filter-step, same_test}
 
 precedence-total : IsTotalOrder precedence
 precedence-total =
@@ -32,11 +33,6 @@ precedence-total =
 pub version_cmp-total : IsTotalOrder version_cmp
 version_cmp-total = then_total (on_total (λ (c : Crate). c.version) precedence-total) (on_total (λ (c : Crate). c.id) nat_list_cmp_total)
 
-then_second : (r s : Ordering) → ordering_then r s ≡ Equal → s ≡ Equal
-then_second Less s e = cc e
-then_second Equal s e = e
-then_second Greater s e = cc e
-
 -- crates that tie have one id
 ties : (a b : Crate) → version_cmp a b ≡ Equal → same_id a b ≡ true
 ties a b e =
@@ -44,10 +40,7 @@ ties a b e =
     (slice_cmp-IsAntisymmetric nat_cmp-IsAntisymmetric a.id b.id (then_second (precedence a.version b.version) (slice_cmp nat_cmp a.id b.id) e))
 
 same_id-flips : (a b : Crate) → same_id a b ≡ same_id b a
-same_id-flips a b =
-    let there = bytes_eq-Decides a.id b.id in
-    let here = bytes_eq-Decides b.id a.id in
-    same_test (same_id a b) (same_id b a) (λ e. here.1 (sym (there.0 e))) (λ e. there.1 (sym (here.0 e)))
+same_id-flips a b = nat_list_eq_equiv.symm a.id b.id
 
 below : (r s : Ordering) → r ≡ ordering_reverse s → is_lt s ≡ false → (r ≡ Equal → ⊥) → r ≡ Less
 below Less s e no_less no_tie = refl
@@ -87,7 +80,7 @@ module _ {X : Type 0} (view : X → Crate) where
       }
 
 -- crates with ids of their own stay so under a filter
-pub distinct-ids : (crates : List Crate) → AllPairs (λ c d. c.id ≢ d.id) crates → IsDistinct same_id crates
+distinct-ids : (crates : List Crate) → AllPairs (λ c d. c.id ≢ d.id) crates → IsDistinct same_id crates
 distinct-ids crates apart =
     IsDistinct-from_apart same_id crates (λ i j d up within.
     false_from_ne_true _ (λ e. apart i j d up within ((bytes_eq-Decides _ _).0 e)))
@@ -95,13 +88,13 @@ distinct-ids crates apart =
 all_of_filter : {X : Type 0} (P : X → Type 0) (p : X → Bool) (xs : List X) → AllByRecursion P xs → AllByRecursion P (filter p xs)
 all_of_filter P p [] all = tt
 all_of_filter P p (x ∷ xs) all =
-    filter-step p x xs (λ ys. AllByRecursion P ys) (λ e. (all.0, all_of_filter P p xs all.1)) (λ e. all_of_filter P p xs all.1)
+    cond_both (p x) (x ∷ filter p xs) (filter p xs) (λ ys. AllByRecursion P ys) (λ e. (all.0, all_of_filter P p xs all.1)) (λ e. all_of_filter P p xs all.1)
 
-pub distinct-filter : {X : Type 0} (same : X → X → Bool) (p : X → Bool) (xs : List X) → IsDistinct same xs → IsDistinct same (filter p xs)
+distinct-filter : {X : Type 0} (same : X → X → Bool) (p : X → Bool) (xs : List X) → IsDistinct same xs → IsDistinct same (filter p xs)
 unfolding IsDistinct
 distinct-filter same p [] apart = tt
 distinct-filter same p (x ∷ xs) apart =
-    filter-step p x xs (λ ys. IsDistinct same ys)
+    cond_both (p x) (x ∷ filter p xs) (filter p xs) (λ ys. IsDistinct same ys)
     (λ e. IsDistinct-cons same x (filter p xs) (all_of_filter (λ y. same x y ≡ false) p xs apart.0) (distinct-filter same p xs apart.1))
     (λ e. distinct-filter same p xs apart.1)
 

@@ -3,6 +3,7 @@ use Rattle.std.proofs.Common.{◌≡◌, ◌≢◌, ◌⊎◌, ℕ, ◌-◌, ◌
 use Rattle.std.specs.List.{list_any}
 use Rattle.std.specs.Option.{option_to_list}
 use Rattle.std.proofs.lemmas.Bool.{cases_Bool, cond-true, cond-false, le-ltb, ltb-false}
+use Rattle.std.proofs.lemmas.List.{take_all}
 use Rattle.std.proofs.lemmas.List.Elements.{Contains-append_left, Contains-append_right, Contains-append_cases}
 use Rattle.std.proofs.lemmas.Option.{same_Some}
 use Rattle.deny_base.specs.Ascending.{Adds, Lists}
@@ -10,8 +11,6 @@ use Rattle.deny_base.specs.declared.key.Key.{Key}
 use Rattle.deny_base.specs.declared.level.LintLevel.{LintLevel}
 use Rattle.deny_base.specs.declared.level.LintLevel.TheVariants.{Allow, Warn, Deny}
 use Rattle.deny_base.proofs.AscendingLemmas.{one_list}
-use Rattle.deny_krates.specs.Crates.{crates_from}
-use Rattle.deny_krates.specs.declared.krate.Krate.{Krate}
 use Rattle.deny_model.specs.Duplicates.{IsDuplicate, duplicate_level, is_denied_multiple}
 use Rattle.deny_model.specs.Facts.{Facts}
 use Rattle.deny_model.specs.Graph.{Crate, Graph}
@@ -21,13 +20,15 @@ use Rattle.deny_model.specs.Policy.{Policy}
 use Rattle.deny_model.specs.VersionOrder.{version_cmp}
 use Rattle.deny_model.proofs.Kept.{filter_on, list_any_on}
 use Rattle.deny_rules.specs.Duplicates.{AddsDuplicates, AddsKey, IsKeyOfCrates, IsKeyOfName, IsMinded, is_unmarked, is_unmarked_at, key_at, key_of_group, level_at}
-use Rattle.deny_rules.specs.Groups.{on_at}
+use Rattle.deny_rules.specs.Marks.{marked}
+use Rattle.deny_rules.specs.Placed.{ArePlaced}
 use Rattle.deny_rules.specs.declared.duplicates.Minded.{Minded}
-use Rattle.deny_rules.proofs.GroupLaws.{reduced_by_marks}
-use Rattle.deny_rules.proofs.MarkLaws.{mark_of}
-use Rattle.deny_rules.proofs.Members.{Contains-cases, Contains-first, no_member, Contains-from_filter}
-use Rattle.deny_rules.proofs.RunLaws.{IsRunOf, filter-both, take-next, take-past}
-use Rattle.deny_rules.proofs.VersionLaws.{version_cmp-total}
+use Rattle.deny_rules.proofs.FilterLemmas.{filter-filter}
+use Rattle.deny_rules.proofs.GroupLemmas.{reduced_by_marks}
+use Rattle.deny_rules.proofs.MarkLemmas.{marked-is}
+use Rattle.deny_rules.proofs.MemberLemmas.{Contains-cases, Contains-first, no_member, Contains-from_filter}
+use Rattle.deny_rules.proofs.RunLemmas.{IsRunOf, take-next}
+use Rattle.deny_rules.proofs.VersionLemmas.{version_cmp-total}
 
 -- name by name
 
@@ -64,12 +65,12 @@ module _ (g : Graph) (m : Minded) where
       }
 
   pub all_names : (place : ℕ) (old keys : List Key) → length g.crates ≤ place → AddsDuplicates g m (take place g.crates) old keys → AddsDuplicates g m g.crates old keys
-  all_names place old keys past so = subst (λ (cs : List Crate). AddsDuplicates g m cs old keys) (take-past place g.crates past) so
+  all_names place old keys past so = subst (λ (cs : List Crate). AddsDuplicates g m cs old keys) (take_all place g.crates past) so
 
 -- the key of a run comes after the others
-pub adds_key : (ks : List Krate) (g : Graph) (m : Minded) (name : List ℕ) (place start end : ℕ) (key : Option Key) (old new : List Key) → end ≤ length g.crates → IsRunOf ks g.crates name place start end
+pub adds_key : (g : Graph) (m : Minded) (name : List ℕ) (place start end : ℕ) (key : Option Key) (old new : List Key) → end ≤ length g.crates → IsRunOf g.crates name place start end
     → take (end - start) (drop start g.crates) ≡ filter (has_name name) g.crates → IsKeyOfCrates m (take (end - start) (drop start g.crates)) key → new ≡ old ++ option_to_list key → AddsKey g m place end old new
-adds_key ks g m name place start end key old new within run named is_key added = record {
+adds_key g m name place start end key old new within run named is_key added = record {
   name = name;
   key = key;
   is_key = subst (λ (cs : List Crate). IsKeyOfCrates m cs key) named is_key;
@@ -114,21 +115,21 @@ are_several level crates key e = elim (cases_Bool (ltb (length crates) 2)) as (�
 
 -- what is minded of a policy
 
-module _ (ks : List Krate) (p : Policy) (g : Graph) (facts : Facts) (m : Minded) (placed : crates_from 0 ks ≡ g.crates) (minds : IsMinded p g facts m) where
+module _ (p : Policy) (g : Graph) (facts : Facts) (m : Minded) (placed : ArePlaced g.crates) (minds : IsMinded p g facts m) where
   unmarked-marks : (name : List ℕ) → filter (is_unmarked m.groups) (filter (has_name name) g.crates) ≡ unmarked p g facts name
   unfolding is_unmarked_at
   unmarked-marks name =
       let run = filter (has_name name) g.crates in
-      sym (filter-both (λ (c : Crate). on_at m.groups.reduced c.place) (λ c. not (on_at m.groups.marked c.place)) run)
-      ∙ (ap (filter (λ (c : Crate). not (on_at m.groups.marked c.place))) (reduced_by_marks ks p g facts name m.groups.reduced placed minds.groups.reduced)
-      ∙ filter_on (λ (c : Crate). not (on_at m.groups.marked c.place)) (λ c. not (is_marked p c)) (reduced p g facts name)
-      (λ c is. ap (λ b. not b) (mark_of ks g.crates (is_marked p) m.groups.marked c placed minds.groups.marked (known name c is))))
+      sym (filter-filter (marked m.groups.reduced) (λ c. not (marked m.groups.marked c)) run)
+      ∙ (ap (filter (λ (c : Crate). not (marked m.groups.marked c))) (reduced_by_marks p g facts name m.groups.reduced placed minds.groups.reduced)
+      ∙ filter_on (λ (c : Crate). not (marked m.groups.marked c)) (λ c. not (is_marked p c)) (reduced p g facts name)
+      (λ c is. ap (λ b. not b) (marked-is g.crates placed (is_marked p) m.groups.marked minds.groups.marked c (known name c is))))
     where
       known : (name : List ℕ) (c : Crate) → Contains (reduced p g facts name) c → Contains g.crates c
       known name c is =
-          let marks = filter (λ (d : Crate). on_at m.groups.reduced d.place) (filter (has_name name) g.crates) in
-          let here = subst (λ (cs : List Crate). Contains cs c) (sym (reduced_by_marks ks p g facts name m.groups.reduced placed minds.groups.reduced)) is in
-          (Contains-from_filter (has_name name) g.crates c (Contains-from_filter (λ (d : Crate). on_at m.groups.reduced d.place) (filter (has_name name) g.crates) c here).0).0
+          let marks = filter (marked m.groups.reduced) (filter (has_name name) g.crates) in
+          let here = subst (λ (cs : List Crate). Contains cs c) (sym (reduced_by_marks p g facts name m.groups.reduced placed minds.groups.reduced)) is in
+          (Contains-from_filter (has_name name) g.crates c (Contains-from_filter (marked m.groups.reduced) (filter (has_name name) g.crates) c here).0).0
 
   known_unmarked : (name : List ℕ) (c : Crate) → Contains (filter (is_unmarked m.groups) (filter (has_name name) g.crates)) c → Contains g.crates c
   known_unmarked name c is = (Contains-from_filter (has_name name) g.crates c (Contains-from_filter (is_unmarked m.groups) (filter (has_name name) g.crates) c is).0).0
@@ -136,7 +137,7 @@ module _ (ks : List Krate) (p : Policy) (g : Graph) (facts : Facts) (m : Minded)
   level-marks : (crates : List Crate) → ((c : Crate) → Contains crates c → Contains g.crates c) → level_at m crates ≡ duplicate_level p crates
   unfolding level_at duplicate_level
   level-marks crates known =
-      ap (λ b. cond b Deny m.level) (list_any_on (λ c. on_at m.denied c.place) (is_denied_multiple p) crates (λ c is. mark_of ks g.crates (is_denied_multiple p) m.denied c placed minds.denied (known c is)))
+      ap (λ b. cond b Deny m.level) (list_any_on (marked m.denied) (is_denied_multiple p) crates (λ c is. marked-is g.crates placed (is_denied_multiple p) m.denied minds.denied c (known c is)))
       ∙ ap (λ (l : LintLevel). cond (list_any (is_denied_multiple p) crates) Deny l) minds.level
 
   from_key : (key : Key) (c : Crate) → Contains g.crates c → IsKeyOfName g m c.name (Some key) → IsDuplicate p g facts key

@@ -10,9 +10,7 @@ use Rattle.deny_cfg.specs.PolicyView.{root_view, roots_from}
 use Rattle.deny_cfg.specs.SpecView.{spec_view}
 use Rattle.deny_cfg.specs.declared.bans.cfg.tree_skip.TreeSkipExtended.{TreeSkipExtended}
 use Rattle.deny_cfg.specs.declared.spec_or_extended.PackageSpecOrExtended.{PackageSpecOrExtended}
-use Rattle.deny_krates.specs.Crates.{crates_from}
 use Rattle.deny_krates.specs.Filtered.{AreMarks}
-use Rattle.deny_krates.specs.declared.krate.Krate.{Krate}
 use Rattle.deny_model.specs.Counting.{Chain, Counts, IsReachedWithout}
 use Rattle.deny_model.specs.Graph.{Crate, Graph}
 use Rattle.deny_model.specs.Match.{matches}
@@ -20,8 +18,10 @@ use Rattle.deny_model.specs.Policy.{Root}
 use Rattle.deny_model.specs.Roots.{IsNear, IsInTree}
 use Rattle.deny_rules.specs.Distances.{IsLed, IsDistance, AreDistances, distance_at}
 use Rattle.deny_rules.specs.Marks.{marked, is_near, AreCounted, IsTreeOf}
-use Rattle.deny_rules.proofs.CratePlaces.{place_within}
-use Rattle.deny_rules.proofs.Members.{Contains-cases, no_member, Contains-map, Contains-from_map, Contains-filter, Contains-from_filter}
+use Rattle.deny_rules.specs.Placed.{ArePlaced}
+use Rattle.deny_rules.proofs.MarkLemmas.{places_within}
+use Rattle.deny_rules.proofs.PlaceLemmas.{place_within}
+use Rattle.deny_rules.proofs.MemberLemmas.{Contains-cases, no_member, Contains-map, Contains-from_map, Contains-filter, Contains-from_filter}
 
 -- which crates count
 
@@ -29,17 +29,17 @@ counts_not : (g : Graph) (c : Crate) → Counts false g c → IsReachedWithout D
 counts_not g c (inl all) = absurd (false≢true all)
 counts_not g c (inr reached) = reached
 
-pub counted_without_dev : (ks : List Krate) (g : Graph) (marks : List Bool) → crates_from 0 ks ≡ g.crates → AreMarks Dev g marks → AreCounted false g marks
-counted_without_dev ks g marks placed are = record {
+pub counted_without_dev : (g : Graph) (marks : List Bool) → ArePlaced g.crates → AreMarks Dev g marks → AreCounted false g marks
+counted_without_dev g marks placed are = record {
   each = λ c is.
-      let each = are.each c.place (place_within ks g.crates c placed is) in
+      let each = are.each c.place (place_within g.crates placed c is) in
       (λ on. inr (each.0 on), λ counts. each.1 (counts_not g c counts));
 }
 
-pub all_counted : (ks : List Krate) (g : Graph) (marks : List Bool) (size : ℕ) → crates_from 0 ks ≡ g.crates → size ≡ length g.crates → marks ≡ replicate size true → AreCounted true g marks
-all_counted ks g marks size placed long all = record {
+pub all_counted : (g : Graph) (marks : List Bool) (size : ℕ) → ArePlaced g.crates → size ≡ length g.crates → marks ≡ replicate size true → AreCounted true g marks
+all_counted g marks size placed long all = record {
   each = λ c is.
-      let inside : c.place < size = omega (arith, place_within ks g.crates c placed is) in
+      let inside : c.place < size = omega (arith, place_within g.crates placed c is) in
       (λ on. inl refl, λ counts. ap (λ ms. marked ms c) all ∙ get_or-replicate size c.place true false inside);
 }
 
@@ -60,15 +60,11 @@ unfolding is_near
 nearer_too None n m up near = refl
 nearer_too (Some depth) n m up near = lt-ltb n (max depth 1) (omega (arith, near, up))
 
-module _ (ks : List Krate) (g : Graph) (entry : PackageSpecOrExtended TreeSkipExtended) (roots : List ℕ) (placed : crates_from 0 ks ≡ g.crates)
+module _ (g : Graph) (entry : PackageSpecOrExtended TreeSkipExtended) (roots : List ℕ) (placed : ArePlaced g.crates)
     (are_roots : roots ≡ map (λ c. c.place) (filter (matches (spec_view entry.spec)) g.crates)) where
   -- what an entry speaks of stands in the graph
   pub roots_within : All (λ root. root < length g.crates) roots
-  roots_within = λ k d below.
-      let here = subst (λ (rs : List ℕ). Contains rs (slice_index_or roots k d)) are_roots (Contains-get_or roots k d below) in
-      let made = Contains-from_map (λ (c : Crate). c.place) (filter (matches (spec_view entry.spec)) g.crates) (slice_index_or roots k d) here in
-      let known = (Contains-from_filter (matches (spec_view entry.spec)) g.crates made.from made.member).0 in
-      subst (λ (n : ℕ). n < length g.crates) made.is (place_within ks g.crates made.from placed known)
+  roots_within = places_within g.crates placed (matches (spec_view entry.spec)) roots (length g.crates) are_roots refl
 
   led_by : (number : ℕ) (c : Crate) (t : IsInTree g (root_view number entry) c) → IsLed g roots c.place t.edges
   led_by number c t = record {
@@ -98,7 +94,7 @@ module _ (ks : List Krate) (g : Graph) (entry : PackageSpecOrExtended TreeSkipEx
       → marks ≡ map (is_near (option_and_then (λ skip. skip.depth) entry.inner)) distances → IsTreeOf g entry marks
   tree_by_distances distances marks are are_marks = record {
     each = λ number c is.
-        let inside = place_within ks g.crates c placed is in
+        let inside = place_within g.crates placed c is in
         let at : marked marks c ≡ is_near (root_view number entry).depth (distance_at distances c.place) =
         ap (λ ms. marked ms c) are_marks ∙ get_or-map (is_near (root_view number entry).depth) distances c.place None false (omega (arith, are.long, inside)) in
         subst (λ (b : Bool). IsTrue b ↔ IsInTree g (root_view number entry) c) (sym at) (by_distance number c (distance_at distances c.place) (are.each c.place inside));
