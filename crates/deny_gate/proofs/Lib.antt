@@ -6,6 +6,8 @@ pub mod FindingLaws
 pub mod HeadlineLaws
 pub mod LabelLaws
 pub mod Members
+pub mod OneGraph
+pub mod OneReport
 pub mod Placed
 pub mod PolicyLabels
 pub mod Standing

@@ -141,10 +141,19 @@ pub fn gate<D: PackageFiles>(
 mod tests {
     use super::*;
     use crate::report::Verdict;
-    use deny_base::MemoryDisk;
+    use deny_base::{DepKind, Edge, MemoryDisk};
+    use deny_rules::DupSet;
 
     const NO_CRATES: &[u8] =
         b"{\"packages\":[],\"workspace_members\":[],\"workspace_root\":\"/\",\"resolve\":{\"nodes\":[]}}";
+
+    // `app` needs `x` 1.0.0 and `x` 2.0.0.
+    const TWO_VERSIONS: &[u8] = b"{\"packages\":[\
+        {\"name\":\"app\",\"version\":\"0.1.0\",\"id\":\"app\",\"manifest_path\":\"/w/Cargo.toml\"},\
+        {\"name\":\"x\",\"version\":\"1.0.0\",\"id\":\"x1\",\"manifest_path\":\"/x1/Cargo.toml\"},\
+        {\"name\":\"x\",\"version\":\"2.0.0\",\"id\":\"x2\",\"manifest_path\":\"/x2/Cargo.toml\"}],\
+        \"workspace_members\":[\"app\"],\"workspace_root\":\"/w\",\"resolve\":{\"nodes\":[\
+        {\"id\":\"app\",\"deps\":[{\"pkg\":\"x1\"},{\"pkg\":\"x2\"}]},{\"id\":\"x1\"},{\"id\":\"x2\"}]}}";
 
     fn answer(
         rt: &HostRuntime,
@@ -184,6 +193,31 @@ mod tests {
         Ok(matches!(&refused, Err(GateError::NotBuilt(Which::Policy))))
     }
 
+    fn is_edge(edge: &Edge, parent: u32, child: u32) -> bool {
+        edge.parent == parent && edge.child == child && edge.kind == DepKind::Normal
+    }
+
+    fn is_set(set: &DupSet, place: u32, number: u32) -> bool {
+        set.place == place && matches!(set.edges.as_slice(), [one] if *one == number)
+    }
+
+    /// Two edges, each of which leads to one version, and the first set as the simplest.
+    fn are_apart(shown: &DupEdges) -> bool {
+        shown.name.as_str() == "x"
+            && matches!(shown.edges.as_slice(), [a, b] if is_edge(a, 0, 1) && is_edge(b, 0, 2))
+            && matches!(shown.sets.as_slice(), [a, b] if is_set(a, 1, 0) && is_set(b, 2, 1))
+            && shown.simplest == Some(0)
+            && shown.lowest.is_none()
+    }
+
+    fn shows_versions(rt: &HostRuntime) -> Result<bool, NoMemory> {
+        let policy = b"[bans]\nmultiple-versions = \"deny\"\nhighlight = \"simplest-path\"\n";
+        let report = answer(rt, policy, TWO_VERSIONS)?;
+        Ok(
+            matches!(&report, Ok(report) if matches!(report.dup_edges.as_slice(), [shown] if are_apart(shown))),
+        )
+    }
+
     fn wants_a_graph(rt: &HostRuntime) -> Result<bool, NoMemory> {
         let refused = answer(rt, b"", b"{}")?;
         Ok(matches!(&refused, Err(GateError::Metadata(MetadataFault::NoResolve))))
@@ -193,6 +227,7 @@ mod tests {
     #[test]
     fn answers_with_ample_memory(rt: HostRuntime) -> Result<(), NoMemory> {
         assert!(rt; passes(&rt)?);
+        assert!(rt; shows_versions(&rt)?);
         assert!(rt; names_faults(&rt)?);
         assert!(rt; names_clashes(&rt)?);
         assert!(rt; wants_rules(&rt)?);

@@ -1,5 +1,5 @@
 //! What follows from the words of the gate's contract.
-ghost use Rattle.std.specs.Prelude.{◌≢◌, ℕ, List};
+ghost use Rattle.std.specs.Prelude.{◌≡◌, ◌≢◌, ℕ, List};
 ghost use Rattle.deny_gate.specs.Gating.{AreOneCause, HasGraph, HasPolicy, IsCause, IsReportOf};
 ghost use Rattle.deny_gate.specs.Headline.{IsHeadlineOf};
 ghost use Rattle.deny_gate.specs.declared.report.GateError.{GateError};
@@ -16,6 +16,14 @@ pub fn one_answer()
 {
     deny_cfg::one_policy();
     deny_cfg::one_refusal();
+}
+
+/// Two texts have one report, to each edge that is shown, whatever else the disk holds.
+pub fn one_report()
+    ensures { (policy metadata : List ℕ) → (a b : Report) → IsReportOf policy metadata a → IsReportOf policy metadata b → a ≡ b }
+{
+    deny_model::one_report();
+    deny_cfg::one_policy();
 }
 
 /// The report of two texts keeps the headline.

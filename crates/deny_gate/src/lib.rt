@@ -7,5 +7,5 @@ mod laws;
 mod report;
 
 pub use gating::gate;
-pub use laws::{headline, one_answer};
+pub use laws::{headline, one_answer, one_report};
 pub use report::{Finding, GateError, Inputs, Report, Verdict};
