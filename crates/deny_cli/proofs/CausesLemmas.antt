@@ -14,7 +14,7 @@ use Rattle.deny_gate.specs.Report.{has_error}
 use Rattle.deny_gate.specs.declared.report.Report.{Report}
 use Rattle.deny_gate.specs.declared.report.Verdict.TheVariants.{Pass, Fail}
 use Rattle.deny_cli.specs.Causes.{IsShort, IsFirstLong, AreTextsAt, AreTold, IsReportOn, IsStopOn, IsRefusedRun, IsValidRun, IsHeadlineOn, IsReadable, IsTextOfClashes, ComesBy, StopsAt, path_of}
-use Rattle.deny_cli.specs.Outcome.{AreOneStop, IfDone, IsDoneOrMemory, IsStopOrMemory, bits_of, status_of}
+use Rattle.deny_cli.specs.Outcome.{AreOneStop, IfDone, IfReported, IsDoneOrMemory, IsStopOrMemory, bits_of, status_of}
 use Rattle.deny_cli.specs.Outputs.{LeavesOut}
 use Rattle.deny_cli.specs.Stops.{IsTextOf}
 use Rattle.deny_cli.specs.Words.{IsCheck}
@@ -189,6 +189,7 @@ text_of_clashes old new words policy_path metadata_path text (Gate (gate.Invalid
   subst (λ (path : List ℕ). IsWhole old path text) (sym (policy_path_is words policy_path metadata_path accepted)) stops.texts.policy_read,
   stops.texts.policy_short,
   stops.is_theirs,
+  stops.labelled,
 )
 text_of_clashes old new words policy_path metadata_path text (Gate (gate.Config faults)) accepted stops = tt
 text_of_clashes old new words policy_path metadata_path text (Gate (gate.NotBuilt which)) accepted stops = tt
@@ -216,24 +217,28 @@ is_text old words policy text Memory same is = tt
 
 -- ---- the headline
 
-pub headline_on : ((policy metadata : List ℕ) → (report : Report) → IsReportOf policy metadata report → IsHeadlineOf policy metadata report)
-    → (old new : Disk) (words : List (List ℕ)) (outcome : Outcome) → ComesBy old new words outcome → IfDone outcome (IsHeadlineOn old words)
-headline_on law old new words (Done report) comes =
-    let read = comes.read in
+of_report : ((policy metadata : List ℕ) → (report : Report) → IsReportOf policy metadata report → IsHeadlineOf policy metadata report)
+    → (old : Disk) (words : List (List ℕ)) (report : Report) → IsReportOn old words report → IsHeadlineOn old words report
+of_report law old words report on =
+    let read = on.read in
     record {
-      policy_path = comes.policy_path;
-      metadata_path = comes.metadata_path;
-      accepted = comes.accepted;
+      policy_path = on.policy_path;
+      metadata_path = on.metadata_path;
+      accepted = on.accepted;
       policy = read.policy;
       metadata = read.metadata;
       texts = read.texts;
       headline = law read.policy read.metadata report read.is_theirs;
     }
+
+pub headline_on : ((policy metadata : List ℕ) → (report : Report) → IsReportOf policy metadata report → IsHeadlineOf policy metadata report)
+    → (old new : Disk) (words : List (List ℕ)) (outcome : Outcome) → ComesBy old new words outcome → IfReported outcome (IsHeadlineOn old words)
+headline_on law old new words (Done report) comes = of_report law old words report comes
+headline_on law old new words (Write report) comes = of_report law old words report comes
 headline_on law old new words (Usage at) comes = tt
 headline_on law old new words (Read which) comes = tt
 headline_on law old new words (Long which) comes = tt
 headline_on law old new words (Gate error) comes = tt
-headline_on law old new words (Write report) comes = tt
 headline_on law old new words Memory comes = tt
 
 bits_by : (b : Bool) → bits_of (if b then Fail 2 else Pass) ≡ (if b then 2 else 0)
@@ -241,7 +246,7 @@ bits_by true = refl
 bits_by false = refl
 
 -- a status of bits where a finding is an error
-pub status_by : (old : Disk) (words : List (List ℕ)) (outcome : Outcome) (status : ℕ) → status ≡ status_of outcome → IfDone outcome (IsHeadlineOn old words)
+pub status_by : (old : Disk) (words : List (List ℕ)) (outcome : Outcome) (status : ℕ) → status ≡ status_of outcome → IfReported outcome (IsHeadlineOn old words)
     → IfDone outcome (λ report. status ≡ (if list_any has_error report.findings then 2 else 0))
 status_by old words (Done report) status is done = is ∙ (ap bits_of done.headline.keeps.fails ∙ bits_by (list_any has_error report.findings))
 status_by old words (Usage at) status is done = tt

@@ -11,6 +11,7 @@ use Rattle.deny_base.specs.declared.read.ReadEnd.TheVariants as end
 use Rattle.deny_cfg.specs.PolicyText.{TellsClashes}
 use Rattle.deny_gate.specs.Gating.{IsReportOf, IsCause, HasPolicy, HasGraph}
 use Rattle.deny_gate.specs.Headline.{IsHeadlineOf}
+use Rattle.deny_gate.specs.Labels.{AreLabelledClashes, IsLabelledCause}
 use Rattle.deny_gate.specs.Report.{policy_id}
 use Rattle.deny_gate.specs.declared.report.GateError.{GateError}
 use Rattle.deny_gate.specs.declared.report.GateError.TheVariants as gate
@@ -49,11 +50,13 @@ pub record IsReportAt (old : Disk) (policy_path metadata_path : List ℕ) (repor
   pub texts : AreTextsAt old policy_path metadata_path policy metadata
   pub is_theirs : IsReportOf policy metadata report
 
--- the gate gives no report on the texts at two paths, of which this is the policy, by its own cause
+-- the gate gives no report on the texts at two paths, of which this is the policy, by its own cause;
+-- the labels of clashes lie in the policy
 pub record IsStopAt (old : Disk) (policy_path metadata_path policy : List ℕ) (error : GateError) : Type 0 where
   pub metadata : List ℕ
   pub texts : AreTextsAt old policy_path metadata_path policy metadata
   pub is_theirs : IsCause policy metadata error
+  pub labelled : IsLabelledCause policy error
 
 -- the bytes of a long text were given, and where the disk tells its files, this is the first of
 -- those at the two paths that is long
@@ -143,9 +146,10 @@ pub record IsHeadlineOn (old : Disk) (words : List (List ℕ)) (report : Report)
   pub texts : AreTextsAt old policy_path metadata_path policy metadata
   pub headline : IsHeadlineOf policy metadata report
 
--- where entries of the policy clash, this is its text, as it was read
+-- where entries of the policy clash, this is its text, as it was read, and the labels lie in it
 abbrev pub IsTextOfClashes : Disk → List (List ℕ) → Outcome → List ℕ → Type 0
-IsTextOfClashes old words (Gate (gate.Invalid told)) policy = IsWhole old (path_of words Policy) policy × IsShort policy × TellsClashes policy policy_id told
+IsTextOfClashes old words (Gate (gate.Invalid told)) policy =
+    IsWhole old (path_of words Policy) policy × IsShort policy × TellsClashes policy policy_id told × AreLabelledClashes policy told
 IsTextOfClashes old words outcome policy = ⊤
 
 -- the same of a run that stopped before its output was made, which is neither done nor written
@@ -164,7 +168,7 @@ end_stop which end.Memory = Memory
 
 -- the gate stops a run so
 abbrev pub IsGateStop : List ℕ → List ℕ → Outcome → Type 0
-IsGateStop policy metadata (Gate error) = IsCause policy metadata error
+IsGateStop policy metadata (Gate error) = IsCause policy metadata error × IsLabelledCause policy error
 IsGateStop policy metadata _ = ⊥
 
 -- why a run over these paths stopped before its output was made; this is the policy's text, where it was read

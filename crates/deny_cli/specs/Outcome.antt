@@ -12,6 +12,12 @@ abbrev pub IfDone : Outcome → (Report → Type 0) → Type 0
 IfDone (Done report) P = P report
 IfDone _ P = ⊤
 
+-- of a report that was made, whether the output took its lines or not
+abbrev pub IfReported : Outcome → (Report → Type 0) → Type 0
+IfReported (Done report) P = P report
+IfReported (Write report) P = P report
+IfReported _ P = ⊤
+
 abbrev pub IsUsage : Outcome → Type 0
 IsUsage (Usage at) = ⊤
 IsUsage _ = ⊥

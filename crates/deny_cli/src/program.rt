@@ -3,9 +3,10 @@ ghost use Rattle.std.specs.List.{list_any};
 ghost use Rattle.deny_base.specs.Count.{Rose};
 ghost use Rattle.deny_base.specs.Disk.{IsLater};
 ghost use Rattle.deny_gate.specs.Gating.{IsReportOf};
+ghost use Rattle.deny_gate.specs.Labels.{AreLabelled};
 ghost use Rattle.deny_gate.specs.Report.{has_error};
 ghost use Rattle.deny_cli.specs.Causes.{ComesBy, StopsBy, StopsAt, IsHeadlineOn, IsReportAt, IsReportOn, IsValidRun, IsRefusedRun, IsReadable, IsGateStop, IsTextOfClashes, end_stop};
-ghost use Rattle.deny_cli.specs.Outcome.{IfDone, IsUsage, IsDoneOrMemory, IsStopOrMemory, status_of};
+ghost use Rattle.deny_cli.specs.Outcome.{IfDone, IfReported, IsUsage, IsDoneOrMemory, IsStopOrMemory, status_of};
 ghost use Rattle.deny_cli.specs.declared.outcome.Outcome.{Outcome};
 ghost use Rattle.deny_cli.specs.Stops.{IsTextOf};
 ghost use Rattle.deny_cli.specs.Outputs.{LeavesOut, LeavesErr, PutsLine, WritesReport};
@@ -53,6 +54,7 @@ fn report_of<D: PackageFiles>(alloc: Global, inputs: Inputs, disk: &mut D) -> Re
     requires policy { length inputs.policy.items < 2 ^ 28 }
     requires metadata { length inputs.metadata.items < 2 ^ 28 }
     ensures report { IfOk result (IsReportOf inputs.policy.items inputs.metadata.items) }
+    ensures labels { IfOk result (λ report. AreLabelled report.files report.findings) }
     ensures stop { IfErr result (λ ending. IsGateStop inputs.policy.items inputs.metadata.items ending.outcome) }
     ensures policy { IfErr result (λ ending. ending.policy.items ≡ inputs.policy.items) }
     ensures later { IsLater (D.seen disk.old) (D.seen disk.new) }
@@ -74,6 +76,7 @@ fn report_at<D: PackageFiles>(
 ) -> Result<Report, Ending>
     ensures report { IfOk result
         (IsReportAt (D.seen disk.old) paths.entry.policy.now paths.entry.metadata.now) }
+    ensures labels { IfOk result (λ report. AreLabelled report.files report.findings) }
     ensures stop { IfErr result (λ ending. StopsAt (D.seen disk.old) (D.seen disk.new)
         paths.entry.policy.now paths.entry.metadata.now ending.outcome ending.policy.items) }
     ensures later { IsLater (D.seen disk.old) (D.seen disk.new) }
@@ -96,6 +99,7 @@ fn report_on<D: PackageFiles>(
     disk: &mut D,
 ) -> Result<Report, Ending>
     ensures report { IfOk result (IsReportOn (D.seen disk.old) (texts words.now)) }
+    ensures labels { IfOk result (λ report. AreLabelled report.files report.findings) }
     ensures stop { IfErr result (λ ending.
         StopsBy (D.seen disk.old) (D.seen disk.new) (texts words.now) ending.outcome) }
     ensures policy { IfErr result (λ ending.
@@ -129,6 +133,7 @@ fn ending_of<D: PackageFiles, W: Out>(
     out: &mut W,
 ) -> Ending
     ensures cause { ComesBy (D.seen disk.old) (D.seen disk.new) (texts words.now) result.outcome }
+    ensures labels { IfReported result.outcome (λ report. AreLabelled report.files report.findings) }
     ensures policy { IsTextOfClashes (D.seen disk.old) (texts words.now) result.outcome result.policy.items }
     ensures out { LeavesOut W.written W.faults out.old out.new result.outcome }
     ensures later { IsLater (D.seen disk.old) (D.seen disk.new) }
@@ -191,7 +196,9 @@ pub fn run<D: PackageFiles, W: Out, E: Out>(
         → IsStopOrMemory stop result.outcome }
 
     // What is told at level deny is exactly what violates a rule, and nothing covers.
-    ensures headline { IfDone result.outcome (IsHeadlineOn (D.seen disk.old) (texts words.now)) }
+    ensures headline { IfReported result.outcome (IsHeadlineOn (D.seen disk.old) (texts words.now)) }
+    // Each label of a finding marks a range of its file.
+    ensures labels { IfReported result.outcome (λ report. AreLabelled report.files report.findings) }
 
     ensures status { result.status ≡ status_of result.outcome }
     ensures fails { IfDone result.outcome (λ report.
