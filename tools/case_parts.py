@@ -83,7 +83,6 @@ X, X2, Y, Z = package("x"), package("x", "2.0.0"), package("y"), package("z")
 ALONE = compact(metadata([]))
 WITH_X = compact(metadata([(APP, X)]))
 TWO_X = compact(metadata([(APP, X), (APP, X2)]))
-CHAIN_X = compact(metadata([(APP, X2), (X2, X)]))
 DENY_X = '[bans]\ndeny = ["x"]\n'
 DENY_SEVERAL = '[bans]\nmultiple-versions = "deny"\n'
 WORDS = ["check", "deny.toml", "metadata.json"]

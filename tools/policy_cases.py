@@ -327,6 +327,14 @@ def clashes():
             'features = [{ name = "y", allow = ["f"], deny = ["f"] }, { name = "x", deny = ["f"], allow = ["f"] }]'
         ),
         ("features: by escape", 'features = [{ name = "x", allow = ["f"], deny = ["\\u0066"] }]'),
+        (
+            "features: on lines of their own",
+            'features = [{ name = "x", allow = ["""\nf"""], deny = [\'\'\'\nf\'\'\', "g"] }]'
+        ),
+        (
+            "wrappers on lines of their own",
+            'deny = [{ name = """\nx""", wrappers = ["""\napp""", \'\'\'y\'\'\'], deny-multiple-versions = true }]'
+        ),
     ):
         yield case("clash: %s" % name, "[bans]\n%s\n" % text, BOTH_X)
     for name, text in (
