@@ -1,16 +1,14 @@
 -- The numbers of edges, set by set, and the set with the fewest.
-use Rattle.std.proofs.Common.{◌≡◌, ◌<◌, ◌≤◌, ◌+◌, ◌++◌, ℕ, zero, suc, List, [], ◌∷◌, Bool, true, false, Some, Contains, length, take, filter, slice_get, refl, sym, ap, ◌∙◌, subst, arith}
+use Rattle.std.proofs.Common.{◌≡◌, ◌<◌, ◌+◌, ◌++◌, ℕ, zero, suc, List, [], ◌∷◌, Bool, true, false, Some, Contains, length, take, filter, slice_get, refl, sym, ap, ◌∙◌, subst, arith}
 use Rattle.std.specs.Prelude.{All, cond, slice_index_or}
 use Rattle.std.specs.List.{AllByRecursion, AllZip}
 use Rattle.std.specs.List.Sorted.{IsStrictlySortedBy}
-use Rattle.std.specs.Option.{option_map_or}
 use Rattle.std.specs.Ordering.{nat_cmp}
 use Rattle.std.specs.Cmp.{nat_cmp_is}
 use Rattle.std.specs.declared.cmp.Ordering.TheVariants.{Less}
 use Rattle.std.proofs.lemmas.Bool.{cond-true, cond-false}
 use Rattle.std.proofs.lemmas.List.{append-nil}
 use Rattle.std.proofs.lemmas.List.Elements.{All-contains, filter_more}
-use Rattle.std.proofs.lemmas.Option.{slice_get_within}
 use Rattle.deny_base.specs.Ascending.{Lists}
 use Rattle.deny_base.specs.declared.edge.Edge.{Edge}
 use Rattle.deny_krates.specs.Orderly.{IsOrderly}
@@ -18,12 +16,11 @@ use Rattle.deny_krates.proofs.ListLemmas.{from_there}
 use Rattle.deny_model.specs.Counting.{Chain}
 use Rattle.deny_model.specs.Graph.{Graph}
 use Rattle.deny_rules.specs.Above.{AreAbove}
-use Rattle.deny_rules.specs.DupEdges.{IsNumberOf, IsSimplest, edge_count}
+use Rattle.deny_rules.specs.DupEdges.{IsNumberOf}
 use Rattle.deny_rules.specs.EdgeLists.{IsMarkedNumber}
-use Rattle.deny_rules.specs.declared.dup_edges.DupSet.{DupSet}
 use Rattle.deny_rules.specs.Marks.{mark_at}
 use Rattle.deny_rules.proofs.DependencyLemmas.{child_stands}
-use Rattle.deny_rules.proofs.MemberLemmas.{Contains-cases, Contains-first, Contains-rest, no_member, some_at}
+use Rattle.deny_rules.proofs.MemberLemmas.{Contains-cases, Contains-first, Contains-rest, no_member}
 
 -- ---- the numbers of the edges to crates that are marked
 

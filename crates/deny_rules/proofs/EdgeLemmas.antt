@@ -21,7 +21,6 @@ use Rattle.deny_rules.specs.Marks.{mark_at}
 use Rattle.deny_rules.specs.Placed.{ArePlaced}
 use Rattle.deny_rules.proofs.AddsLemmas.{adds_same, adds_then, lists_added}
 use Rattle.deny_rules.proofs.DependencyLemmas.{child_stands}
-use Rattle.deny_rules.proofs.MemberLemmas.{no_member}
 use Rattle.deny_rules.proofs.TurnedLemmas.{no_dependent_is_missed}
 
 -- ---- the edges from one crate to another: one of each kind at most

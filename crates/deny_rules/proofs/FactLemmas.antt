@@ -4,7 +4,6 @@ use Rattle.std.specs.Prelude.{◌↔◌, All, IsTrue, max, option_and_then, repl
 use Rattle.std.specs.List.{AllZip}
 use Rattle.std.proofs.lemmas.Bool.{false≢true, lt-ltb, ltb-true}
 use Rattle.std.proofs.lemmas.List.{get_or-map, get_or-replicate}
-use Rattle.std.proofs.lemmas.List.Elements.{Contains-get_or}
 use Rattle.deny_base.specs.declared.edge.DepKind.TheVariants.{Dev}
 use Rattle.deny_cfg.specs.PolicyView.{root_view, roots_from}
 use Rattle.deny_cfg.specs.SpecView.{spec_view}

@@ -1,4 +1,4 @@
-use Rattle.std.proofs.Common.{◌<◌, ◌-◌, Option, Some, None, length, take, drop, sym, ap, subst, arith}
+use Rattle.std.proofs.Common.{◌<◌, ◌-◌, Option, Some, None, length, take, drop, sym, subst, arith}
 use Rattle.std.proofs.lemmas.List.{append-nil}
 use Rattle.deny_base.specs.declared.key.Key.{Key}
 use Rattle.deny_rules.specs.Duplicates.{IsKeyOfCrates}

@@ -1,4 +1,4 @@
-use Rattle.std.proofs.Common.{◌-◌, List, length, take, drop, filter, sym, ap, ◌∙◌, subst, arith}
+use Rattle.std.proofs.Common.{◌-◌, List, take, drop, filter, sym, ap, ◌∙◌, subst, arith}
 use Rattle.std.specs.List.{IsDistinct}
 use Rattle.deny_model.specs.Graph.{Crate}
 use Rattle.deny_rules.specs.Duplicates.{is_unmarked, same_id}
