@@ -8,6 +8,7 @@ use Rattle.deny_base.proofs.AscendingLemmas.{Contains-first, Contains-rest, at_m
 use Rattle.deny_base.specs.declared.finding.Diagnostic.{Diagnostic}
 use Rattle.deny_base.specs.declared.span.Span.{Span}
 use Rattle.deny_base.specs.declared.span.Spanned.{Spanned}
+use Rattle.deny_model.specs.Keys.{no_span}
 use Rattle.deny_model.specs.Policy.{Words}
 use Rattle.deny_model.specs.Text.{same_text}
 use Rattle.deny_toml.specs.Calls.{array_in, below_name, table_in, text_in}
@@ -17,7 +18,7 @@ use Rattle.deny_toml.specs.Value.{entries_in}
 use Rattle.deny_toml.specs.declared.value.Table.{Table}
 use Rattle.deny_toml.specs.declared.value.Value.{Value}
 use Rattle.deny_cfg.specs.Bans.{ReadsBan, ReadsBanEntry, ban_fields}
-use Rattle.deny_cfg.specs.Clashes.{AreClashes, banned_specs, clash_labels, clash_told, clash_with, clashes_in, feature_clash, feature_clashes, is_ban, no_span, specs_of, wrappers_clash, wrappers_clash_by}
+use Rattle.deny_cfg.specs.Clashes.{AreClashes, banned_specs, clash_labels, clash_told, clash_with, clashes_in, feature_clash, feature_clashes, is_ban, specs_of, wrappers_clash, wrappers_clash_by}
 use Rattle.deny_cfg.specs.Config.{ReadsConfig}
 use Rattle.deny_cfg.specs.Entry.{ReadsEntryBy, ReadsPair, ReadsSome}
 use Rattle.deny_cfg.specs.LabelRanges.{AreLabels, config_labels, crate_ban_ranges, crate_feature_ranges, list_ranges, of_some, own_range, reason_range, told_ranges, with_spec, word_ranges, wrapper_list}

@@ -24,7 +24,7 @@ use Rattle.deny_cfg.specs.declared.clash.ClashKind.TheVariants as clash
 use Rattle.deny_cfg.specs.declared.package_spec.PackageSpec.{PackageSpec}
 use Rattle.deny_cfg.specs.declared.spec_or_extended.PackageSpecOrExtended.{PackageSpecOrExtended}
 use Rattle.deny_model.specs.Policy.{Words}
-pub use Rattle.deny_model.specs.Keys.{no_span}
+use Rattle.deny_model.specs.Keys.{no_span}
 use Rattle.deny_model.specs.Text.{same_text}
 
 -- what the entry says of several versions
