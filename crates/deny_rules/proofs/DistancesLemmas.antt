@@ -1,14 +1,16 @@
 -- Distances that spread from roots along edges, until no edge leads further.
-use Rattle.std.proofs.Common.{◌≡◌, ◌<◌, ◌≤◌, ◌+◌, ◌++◌, ℕ, zero, suc, inl, inr, List, [], ◌∷◌, Option, None, Some, length, refl, sym, ap, ◌∙◌, subst, arith, length-append}
-use Rattle.std.specs.Prelude.{All, Contains, cond, fold, is_some, slice_set, slice_index_or, replicate}
-use Rattle.std.proofs.lemmas.Bool.{cases_eq, cases_lt}
+use Rattle.std.proofs.Common.{◌≡◌, ◌<◌, ◌≤◌, ◌+◌, ◌++◌, ℕ, zero, suc, inl, inr, List, [], ◌∷◌, true, Option, None, Some, length, refl, sym, ap, ◌∙◌, subst, arith, length-append}
+use Rattle.std.specs.Prelude.{All, Contains, cond, filter, fold, is_some, slice_set, slice_index_or, replicate}
+use Rattle.std.proofs.lemmas.Bool.{cases_eq, cases_lt, false≢true}
 use Rattle.std.proofs.lemmas.List.{length-replicate, length-set, get_or-set_same, get_or-set_other, get_or_append_left, get_or_default}
 use Rattle.std.proofs.lemmas.List.Elements.{All-contains, All-contains_itself, All-cons, All-head, All-tail, All-weaker, Contains-push, Contains-append_left}
 use Rattle.std.proofs.Math.Seq.{get_or-append_seam}
 use Rattle.deny_base.specs.declared.edge.Edge.{Edge}
 use Rattle.deny_model.specs.Counting.{Chain}
 use Rattle.deny_model.specs.Graph.{Graph}
+use Rattle.deny_rules.specs.Above.{AreThose, is_reached}
 use Rattle.deny_rules.specs.Distances.{IsLed, IsDistance, AreDistances, distance_at, reached}
+use Rattle.deny_rules.proofs.MemberLemmas.{Contains-cases, no_member}
 
 abbrev pub State : Type 0
 State = List (Option ℕ) × List ℕ
@@ -382,3 +384,64 @@ next_is g roots s next place so_far more here =
     let w = within_is next (level s next) (so_far.good.held next more) in
     let is : distance_at s.0 place ≡ Some w.0 = ap (distance_at s.0) here ∙ w.1 in
     record { distance = w.0; is = is; small = w.2; inside = inside_is s.0 place w.0 is }
+
+-- ---- the places that have a distance
+
+counted : (ds : List (Option ℕ)) → length (filter is_some ds) + unset ds ≡ length ds
+counted [] = refl
+counted (Some d ∷ ds) = omega (arith, counted ds)
+counted (None ∷ ds) = omega (arith, counted ds)
+
+-- they are those of the order
+pub good_those : (g : Graph) (roots : List ℕ) (s : State) → IsGood g roots s → AreThose s.0 s.1
+good_those g roots s good = record {
+  each = λ place. (
+    listed place (distance_at s.0 place) refl,
+    λ is.
+        let at : slice_index_or s.1 is.0 0 ≡ place = get_or_default s.1 is.0 0 place is.1 ∙ is.2 in
+        let w = within_is is.0 (level s is.0) (good.held is.0 is.1) in
+        ap is_some (ap (distance_at s.0) (sym at) ∙ w.1),
+  );
+  once = omega (arith, good.count, good.long, counted s.0);
+}
+  where
+    listed : (place : ℕ) (d : Option ℕ) → distance_at s.0 place ≡ d → is_some d ≡ true → Contains s.1 place
+    listed place None is has = absurd (false≢true has)
+    listed place (Some d) is has = good.listed place d is
+
+has_inside : (ds : List (Option ℕ)) (n : ℕ) → is_reached ds n ≡ true → n < length ds
+has_inside [] n has = absurd (false≢true has)
+has_inside (d ∷ ds) zero has = omega arith
+has_inside (d ∷ ds) (suc n) has = omega (arith, has_inside ds n has)
+
+pub those_inside : (ds : List (Option ℕ)) (reached : List ℕ) → AreThose ds reached → All (λ place. place < length ds) reached
+those_inside ds reached those = All-weaker (Contains reached) (λ place. place < length ds) (λ place is. has_inside ds place ((those.each place).1 is)) reached (All-contains_itself reached)
+
+-- ---- taking them back one by one
+
+abbrev pub unset_at : List (Option ℕ) → ℕ → List (Option ℕ)
+unset_at ds place = slice_set ds place None
+
+none_left : (ds : List (Option ℕ)) → ((n : ℕ) → is_reached ds n ≡ true → ⊥) → ds ≡ nowhere (length ds)
+none_left [] none = refl
+none_left (Some d ∷ ds) none = absurd (none 0 refl)
+none_left (None ∷ ds) none = ap (λ rest. nothing ∷ rest) (none_left ds (λ n has. none (suc n) has))
+
+all_taken : (places : List ℕ) (ds : List (Option ℕ)) → All (λ place. place < length ds) places → ((n : ℕ) → is_reached ds n ≡ true → Contains places n) → fold unset_at ds places ≡ nowhere (length ds)
+all_taken [] ds inside held = none_left ds (λ n has. no_member n (held n has))
+all_taken (place ∷ places) ds inside held =
+    let long : length (unset_at ds place) ≡ length ds = length-set ds place nothing in
+    let rest : All (λ (p : ℕ). p < length (unset_at ds place)) places = subst (λ (m : ℕ). All (λ (p : ℕ). p < m) places) (sym long) (All-tail (λ (p : ℕ). p < length ds) place places inside) in
+    all_taken places (unset_at ds place) rest later ∙ ap nowhere long
+  where
+    here : place < length ds
+    here = All-head (λ (p : ℕ). p < length ds) place places inside
+
+    later : (n : ℕ) → is_reached (unset_at ds place) n ≡ true → Contains places n
+    later n has = elim (cases_eq n place) as (λ _. Contains places n) [
+      | inl same ↦ absurd (false≢true (sym (ap is_some (ap (distance_at (unset_at ds place)) same ∙ get_or-set_same ds place nothing nothing here)) ∙ has))
+      | inr other ↦ Contains-cases place places n (held n (sym (ap is_some (get_or-set_other ds place n nothing nothing other)) ∙ has)) (λ same. absurd (other (sym same))) (λ is. is)
+    ]
+
+pub taken_back : (ds : List (Option ℕ)) (reached : List ℕ) → AreThose ds reached → fold unset_at ds reached ≡ nowhere (length ds)
+taken_back ds reached those = all_taken reached ds (those_inside ds reached those) (λ n has. (those.each n).0 has)

@@ -1,5 +1,5 @@
 -- The numbers of edges, set by set, and the set with the fewest.
-use Rattle.std.proofs.Common.{◌≡◌, ◌<◌, ◌+◌, ◌++◌, ℕ, zero, suc, List, [], ◌∷◌, Bool, true, false, Some, Contains, length, take, filter, slice_get, refl, sym, ap, ◌∙◌, subst, arith}
+use Rattle.std.proofs.Common.{◌≡◌, ◌<◌, ◌+◌, ◌++◌, ℕ, zero, suc, List, [], ◌∷◌, Bool, true, false, Option, Some, Contains, length, take, filter, slice_get, refl, sym, ap, ◌∙◌, subst, arith}
 use Rattle.std.specs.Prelude.{All, cond, slice_index_or}
 use Rattle.std.specs.List.{AllByRecursion, AllZip}
 use Rattle.std.specs.List.Sorted.{IsStrictlySortedBy}
@@ -15,39 +15,38 @@ use Rattle.deny_krates.specs.Orderly.{IsOrderly}
 use Rattle.deny_krates.proofs.ListLemmas.{from_there}
 use Rattle.deny_model.specs.Counting.{Chain}
 use Rattle.deny_model.specs.Graph.{Graph}
-use Rattle.deny_rules.specs.Above.{AreAbove}
+use Rattle.deny_rules.specs.Above.{AreAbove, is_reached}
 use Rattle.deny_rules.specs.DupEdges.{IsNumberOf}
-use Rattle.deny_rules.specs.EdgeLists.{IsMarkedNumber}
-use Rattle.deny_rules.specs.Marks.{mark_at}
+use Rattle.deny_rules.specs.EdgeLists.{IsReachedNumber}
 use Rattle.deny_rules.proofs.DependencyLemmas.{child_stands}
 use Rattle.deny_rules.proofs.MemberLemmas.{Contains-cases, Contains-first, Contains-rest, no_member}
 
--- ---- the numbers of the edges to crates that are marked
+-- ---- the numbers of the edges to crates that have a distance
 
 -- those of a list whose first edge has this number
-abbrev pub numbers_from : List Bool → ℕ → List Edge → List ℕ
-numbers_from marks number [] = []
-numbers_from marks number (e ∷ edges) = cond (mark_at marks e.child) (number ∷ numbers_from marks (number + 1) edges) (numbers_from marks (number + 1) edges)
+abbrev pub numbers_from : List (Option ℕ) → ℕ → List Edge → List ℕ
+numbers_from distances number [] = []
+numbers_from distances number (e ∷ edges) = cond (is_reached distances e.child) (number ∷ numbers_from distances (number + 1) edges) (numbers_from distances (number + 1) edges)
 
-module _ (marks : List Bool) where
-  above_all : (edges : List Edge) (low number : ℕ) → low < number → AllByRecursion (λ n. nat_cmp low n ≡ Less) (numbers_from marks number edges)
+module _ (distances : List (Option ℕ)) where
+  above_all : (edges : List Edge) (low number : ℕ) → low < number → AllByRecursion (λ n. nat_cmp low n ≡ Less) (numbers_from distances number edges)
   above_all [] low number below = tt
-  above_all (e ∷ edges) low number below = by_mark (mark_at marks e.child) (above_all edges low (number + 1) (omega arith))
+  above_all (e ∷ edges) low number below = by_reached (is_reached distances e.child) (above_all edges low (number + 1) (omega arith))
     where
-      by_mark : (b : Bool) → AllByRecursion (λ n. nat_cmp low n ≡ Less) (numbers_from marks (number + 1) edges)
-          → AllByRecursion (λ n. nat_cmp low n ≡ Less) (cond b (number ∷ numbers_from marks (number + 1) edges) (numbers_from marks (number + 1) edges))
-      by_mark true rest = (sym (nat_cmp_is low number Less below), rest)
-      by_mark false rest = rest
+      by_reached : (b : Bool) → AllByRecursion (λ n. nat_cmp low n ≡ Less) (numbers_from distances (number + 1) edges)
+          → AllByRecursion (λ n. nat_cmp low n ≡ Less) (cond b (number ∷ numbers_from distances (number + 1) edges) (numbers_from distances (number + 1) edges))
+      by_reached true rest = (sym (nat_cmp_is low number Less below), rest)
+      by_reached false rest = rest
 
-  ascending : (edges : List Edge) (number : ℕ) → IsStrictlySortedBy nat_cmp (numbers_from marks number edges)
+  ascending : (edges : List Edge) (number : ℕ) → IsStrictlySortedBy nat_cmp (numbers_from distances number edges)
   unfolding IsStrictlySortedBy
   ascending [] number = tt
-  ascending (e ∷ edges) number = by_mark (mark_at marks e.child) (ascending edges (number + 1))
+  ascending (e ∷ edges) number = by_reached (is_reached distances e.child) (ascending edges (number + 1))
     where
-      by_mark : (b : Bool) → IsStrictlySortedBy nat_cmp (numbers_from marks (number + 1) edges)
-          → IsStrictlySortedBy nat_cmp (cond b (number ∷ numbers_from marks (number + 1) edges) (numbers_from marks (number + 1) edges))
-      by_mark true rest = (above_all edges number (number + 1) (omega arith), rest)
-      by_mark false rest = rest
+      by_reached : (b : Bool) → IsStrictlySortedBy nat_cmp (numbers_from distances (number + 1) edges)
+          → IsStrictlySortedBy nat_cmp (cond b (number ∷ numbers_from distances (number + 1) edges) (numbers_from distances (number + 1) edges))
+      by_reached true rest = (above_all edges number (number + 1) (omega arith), rest)
+      by_reached false rest = rest
 
   -- a number is that of an edge so far from the first
   pub record IsNumberFrom (number : ℕ) (edges : List Edge) (n : ℕ) : Type 0 where
@@ -55,66 +54,66 @@ module _ (marks : List Bool) where
     pub at : n ≡ number + offset
     pub edge : Edge
     pub numbered : slice_get edges offset ≡ Some edge
-    pub marked : mark_at marks edge.child ≡ true
+    pub reached : is_reached distances edge.child ≡ true
 
-  sound_from : (edges : List Edge) (number n : ℕ) → Contains (numbers_from marks number edges) n → IsNumberFrom number edges n
+  sound_from : (edges : List Edge) (number n : ℕ) → Contains (numbers_from distances number edges) n → IsNumberFrom number edges n
   sound_from [] number n is = absurd (no_member n is)
   sound_from (e ∷ edges) number n is =
-      by_mark (mark_at marks e.child) refl is (sound_from edges (number + 1) n)
+      by_reached (is_reached distances e.child) refl is (sound_from edges (number + 1) n)
     where
       later : IsNumberFrom (number + 1) edges n → IsNumberFrom number (e ∷ edges) n
-      later of = record { offset = suc of.offset; at = omega (arith, of.at); edge = of.edge; numbered = of.numbered; marked = of.marked }
+      later of = record { offset = suc of.offset; at = omega (arith, of.at); edge = of.edge; numbered = of.numbered; reached = of.reached }
 
-      by_mark : (b : Bool) → mark_at marks e.child ≡ b → Contains (cond b (number ∷ numbers_from marks (number + 1) edges) (numbers_from marks (number + 1) edges)) n
-          → (Contains (numbers_from marks (number + 1) edges) n → IsNumberFrom (number + 1) edges n) → IsNumberFrom number (e ∷ edges) n
-      by_mark true marked is rest = Contains-cases number (numbers_from marks (number + 1) edges) n is
-          (λ here. record { offset = 0; at = omega (arith, here); edge = e; numbered = refl; marked = marked })
+      by_reached : (b : Bool) → is_reached distances e.child ≡ b → Contains (cond b (number ∷ numbers_from distances (number + 1) edges) (numbers_from distances (number + 1) edges)) n
+          → (Contains (numbers_from distances (number + 1) edges) n → IsNumberFrom (number + 1) edges n) → IsNumberFrom number (e ∷ edges) n
+      by_reached true reached is rest = Contains-cases number (numbers_from distances (number + 1) edges) n is
+          (λ here. record { offset = 0; at = omega (arith, here); edge = e; numbered = refl; reached = reached })
           (λ there. later (rest there))
-      by_mark false marked is rest = later (rest is)
+      by_reached false reached is rest = later (rest is)
 
-  whole_from : (edges : List Edge) (number offset : ℕ) (edge : Edge) → slice_get edges offset ≡ Some edge → mark_at marks edge.child ≡ true → Contains (numbers_from marks number edges) (number + offset)
-  whole_from [] number offset edge numbered marked = cc
-  whole_from (e ∷ edges) number zero edge numbered marked =
+  whole_from : (edges : List Edge) (number offset : ℕ) (edge : Edge) → slice_get edges offset ≡ Some edge → is_reached distances edge.child ≡ true → Contains (numbers_from distances number edges) (number + offset)
+  whole_from [] number offset edge numbered reached = cc
+  whole_from (e ∷ edges) number zero edge numbered reached =
       let same : e ≡ edge = cc in
-      let here : mark_at marks e.child ≡ true = ap (λ (d : Edge). mark_at marks d.child) same ∙ marked in
+      let here : is_reached distances e.child ≡ true = ap (λ (d : Edge). is_reached distances d.child) same ∙ reached in
       let first : number ≡ number + 0 = omega arith in
-      subst (λ (ns : List ℕ). Contains ns (number + 0)) (sym (cond-true (mark_at marks e.child) (number ∷ numbers_from marks (number + 1) edges) (numbers_from marks (number + 1) edges) here))
-      (subst (Contains (number ∷ numbers_from marks (number + 1) edges)) first (Contains-first number (numbers_from marks (number + 1) edges)))
-  whole_from (e ∷ edges) number (suc offset) edge numbered marked =
-      by_mark (mark_at marks e.child) (whole_from edges (number + 1) offset edge numbered marked)
+      subst (λ (ns : List ℕ). Contains ns (number + 0)) (sym (cond-true (is_reached distances e.child) (number ∷ numbers_from distances (number + 1) edges) (numbers_from distances (number + 1) edges) here))
+      (subst (Contains (number ∷ numbers_from distances (number + 1) edges)) first (Contains-first number (numbers_from distances (number + 1) edges)))
+  whole_from (e ∷ edges) number (suc offset) edge numbered reached =
+      by_reached (is_reached distances e.child) (whole_from edges (number + 1) offset edge numbered reached)
     where
       same : (number + 1) + offset ≡ number + suc offset
       same = omega arith
 
-      by_mark : (b : Bool) → Contains (numbers_from marks (number + 1) edges) ((number + 1) + offset) → Contains (cond b (number ∷ numbers_from marks (number + 1) edges) (numbers_from marks (number + 1) edges)) (number + suc offset)
-      by_mark true rest = Contains-rest number (numbers_from marks (number + 1) edges) (number + suc offset) (subst (Contains (numbers_from marks (number + 1) edges)) same rest)
-      by_mark false rest = subst (Contains (numbers_from marks (number + 1) edges)) same rest
+      by_reached : (b : Bool) → Contains (numbers_from distances (number + 1) edges) ((number + 1) + offset) → Contains (cond b (number ∷ numbers_from distances (number + 1) edges) (numbers_from distances (number + 1) edges)) (number + suc offset)
+      by_reached true rest = Contains-rest number (numbers_from distances (number + 1) edges) (number + suc offset) (subst (Contains (numbers_from distances (number + 1) edges)) same rest)
+      by_reached false rest = subst (Contains (numbers_from distances (number + 1) edges)) same rest
 
-  pub numbers_listed : (edges : List Edge) → Lists nat_cmp (IsMarkedNumber marks edges) (numbers_from marks 0 edges)
+  pub numbers_listed : (edges : List Edge) → Lists nat_cmp (IsReachedNumber distances edges) (numbers_from distances 0 edges)
   numbers_listed edges = record {
     ascending = ascending edges 0;
     whole = λ n is.
         let same : 0 + n ≡ n = omega arith in
-        subst (Contains (numbers_from marks 0 edges)) same (whole_from edges 0 n is.edge is.numbered is.marked);
+        subst (Contains (numbers_from distances 0 edges)) same (whole_from edges 0 n is.edge is.numbered is.reached);
     sound = λ n is.
         let of = sound_from edges 0 n is in
         let same : of.offset ≡ n = omega (arith, of.at) in
-        record { edge = of.edge; numbered = ap (slice_get edges) (sym same) ∙ of.numbered; marked = of.marked };
+        record { edge = of.edge; numbered = ap (slice_get edges) (sym same) ∙ of.numbered; reached = of.reached };
   }
 
 -- ---- the set of one crate
 
-pub set_numbers : (g : Graph) (edges : List Edge) (place : ℕ) (marks : List Bool) (numbers : List ℕ) → IsOrderly g → All (λ e. Contains g.edges e) edges → AreAbove g (place ∷ []) marks
-    → Lists nat_cmp (IsMarkedNumber marks edges) numbers → Lists nat_cmp (IsNumberOf g edges place) numbers
-set_numbers g edges place marks numbers orderly all above listed = record {
+pub set_numbers : (g : Graph) (edges : List Edge) (place : ℕ) (distances : List (Option ℕ)) (reached : List ℕ) (numbers : List ℕ) → IsOrderly g → All (λ e. Contains g.edges e) edges → AreAbove g (place ∷ []) distances reached
+    → Lists nat_cmp (IsReachedNumber distances edges) numbers → Lists nat_cmp (IsNumberOf g edges place) numbers
+set_numbers g edges place distances reached numbers orderly all above listed = record {
   ascending = listed.ascending;
   whole = λ n is.
       let inside = child_stands g orderly is.edge is.above.stands in
-      listed.whole n record { edge = is.edge; numbered = is.numbered; marked = (above.each is.edge.child inside).1 record { place = place; is_one = Contains-first place []; leads = is.above.leads } };
+      listed.whole n record { edge = is.edge; numbered = is.numbered; reached = (above.each is.edge.child inside).1 record { place = place; is_one = Contains-first place []; leads = is.above.leads } };
   sound = λ n is.
       let of = listed.sound n is in
       let stands = All-contains (λ e. Contains g.edges e) edges of.edge all (from_there edges n of.edge of.numbered) in
-      let leads = (above.each of.edge.child (child_stands g orderly of.edge stands)).0 of.marked in
+      let leads = (above.each of.edge.child (child_stands g orderly of.edge stands)).0 of.reached in
       let here : place ≡ leads.place = Contains-cases place [] leads.place leads.is_one (λ same. same) (λ none. absurd (no_member leads.place none)) in
       record { edge = of.edge; numbered = of.numbered; above = record { stands = stands; leads = record { length = leads.leads.length; chain = subst (λ (to : ℕ). Chain g.edges of.edge.child to leads.leads.length) (sym here) leads.leads.chain } } };
 }

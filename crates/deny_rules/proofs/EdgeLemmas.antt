@@ -1,10 +1,9 @@
 -- Edges of a graph, gathered by the crates that they lead to.
-use Rattle.std.proofs.Common.{◌≡◌, ◌⊎◌, ◌<◌, ◌≤◌, ◌+◌, ◌++◌, ℕ, List, [], ◌∷◌, Bool, true, false, Contains, length, take, map, refl, sym, ap, ◌∙◌, subst, inl, inr, arith, add-one}
-use Rattle.std.specs.Prelude.{slice_index_or}
+use Rattle.std.proofs.Common.{◌≡◌, ◌⊎◌, ◌<◌, ◌≤◌, ◌+◌, ◌++◌, ℕ, List, [], ◌∷◌, Option, Contains, length, take, map, refl, sym, ap, ◌∙◌, subst, inl, inr, add-one}
+use Rattle.std.specs.Prelude.{All, slice_index_or}
 use Rattle.std.proofs.Math.Seq.{take-suc}
-use Rattle.std.proofs.lemmas.Bool.{false≢true, cases_lt}
-use Rattle.std.proofs.lemmas.List.{map-append, take_all}
-use Rattle.std.proofs.lemmas.List.Elements.{Contains-append_left, Contains-push, Contains-push_cases}
+use Rattle.std.proofs.lemmas.List.{map-append, take_all, take_more}
+use Rattle.std.proofs.lemmas.List.Elements.{All-contains_itself, All-weaker, Contains-append_left, Contains-push, Contains-push_cases}
 use Rattle.deny_base.specs.Ascending.{Adds, Lists}
 use Rattle.deny_base.specs.Edge.{edge_cmp}
 use Rattle.deny_base.specs.declared.edge.DepKind.{DepKind}
@@ -16,11 +15,11 @@ use Rattle.deny_krates.specs.declared.krate.DirectDependent.{DirectDependent}
 use Rattle.deny_model.specs.Graph.{Graph}
 use Rattle.deny_rules.specs.Above.{AreAbove}
 use Rattle.deny_rules.specs.DupEdges.{IsAboveOne}
-use Rattle.deny_rules.specs.EdgeLists.{IsBetween, IsEdge, IsTo, IsToMarked}
-use Rattle.deny_rules.specs.Marks.{mark_at}
+use Rattle.deny_rules.specs.EdgeLists.{IsBetween, IsEdge, IsTo, IsToOne}
 use Rattle.deny_rules.specs.Placed.{ArePlaced}
-use Rattle.deny_rules.proofs.AddsLemmas.{adds_same, adds_then, lists_added}
+use Rattle.deny_rules.proofs.AddsLemmas.{adds_same, adds_then}
 use Rattle.deny_rules.proofs.DependencyLemmas.{child_stands}
+use Rattle.deny_rules.proofs.MemberLemmas.{no_member}
 use Rattle.deny_rules.proofs.TurnedLemmas.{no_dependent_is_missed}
 
 -- ---- the edges from one crate to another: one of each kind at most
@@ -101,53 +100,47 @@ from_all g child ds i old new placed orderly are past adds =
       from = subst (λ (xs : List DirectDependent). Contains (map (λ d. d.place) xs) e.parent) (sym (take_all i ds past)) (no_dependent_is_missed g child ds placed orderly are e is.stands is.to);
     })
 
--- ---- the edges to crates that are marked, crate by crate
+-- ---- the edges to some crates, crate by crate
 
-pub record IsToMarkedBelow (g : Graph) (marks : List Bool) (end : ℕ) (e : Edge) : Type 0 where
-  pub is : IsToMarked g marks e
-  pub below : e.child < end
-
-pub below_marked : (g : Graph) (marks : List Bool) (place : ℕ) (old mid new : List Edge) → mark_at marks place ≡ true → Adds (IsToMarkedBelow g marks place) old mid → Adds (IsTo g place) mid new
-    → Adds (IsToMarkedBelow g marks (place + 1)) old new
-below_marked g marks place old mid new marked before here =
-    adds_same (λ e. IsToMarkedBelow g marks place e ⊎ IsTo g place e) (IsToMarkedBelow g marks (place + 1)) old new
-    (adds_then (IsToMarkedBelow g marks place) (IsTo g place) old mid new before here)
-    (λ e is. elim is as (λ _. IsToMarkedBelow g marks (place + 1) e) [
-      | inl of ↦ record { is = of.is; below = omega (arith, of.below) }
-      | inr of ↦ record { is = record { stands = of.stands; marked = ap (λ n. mark_at marks n) of.to ∙ marked }; below = omega (arith, of.to) }
+to_push : (g : Graph) (child : ℕ) (children : List ℕ) (old mid new : List Edge) → Adds (IsToOne g children) old mid → Adds (IsTo g child) mid new → Adds (IsToOne g (children ++ child ∷ [])) old new
+to_push g child children old mid new before here =
+    adds_same (λ e. IsToOne g children e ⊎ IsTo g child e) (IsToOne g (children ++ child ∷ [])) old new
+    (adds_then (IsToOne g children) (IsTo g child) old mid new before here)
+    (λ e is. elim is as (λ _. IsToOne g (children ++ child ∷ []) e) [
+      | inl of ↦ record { stands = of.stands; to = Contains-append_left children (child ∷ []) e.child of.to }
+      | inr of ↦ record { stands = of.stands; to = subst (Contains (children ++ child ∷ [])) (sym of.to) (Contains-push children child) }
     ])
-    (λ e is. elim (cases_lt e.child place) as (λ _. IsToMarkedBelow g marks place e ⊎ IsTo g place e) [
-      | inl below ↦ inl record { is = is.is; below = below }
-      | inr past ↦ inr record { stands = is.is.stands; to = omega (arith, is.below, past) }
+    (λ e is. elim (Contains-push_cases children child e.child is.to) as (λ _. IsToOne g children e ⊎ IsTo g child e) [
+      | inl before ↦ inl record { stands = is.stands; to = before }
+      | inr last ↦ inr record { stands = is.stands; to = sym last }
     ])
 
-pub below_unmarked : (g : Graph) (marks : List Bool) (place : ℕ) (old new : List Edge) → mark_at marks place ≡ false → Adds (IsToMarkedBelow g marks place) old new → Adds (IsToMarkedBelow g marks (place + 1)) old new
-below_unmarked g marks place old new unmarked adds =
-    adds_same (IsToMarkedBelow g marks place) (IsToMarkedBelow g marks (place + 1)) old new adds
-    (λ e is. record { is = is.is; below = omega (arith, is.below) })
-    (λ e is. elim (cases_lt e.child place) as (λ _. IsToMarkedBelow g marks place e) [
-      | inl below ↦ record { is = is.is; below = below }
-      | inr past ↦
-          let here : e.child ≡ place = omega (arith, is.below, past) in
-          absurd (false≢true (sym unmarked ∙ (ap (λ n. mark_at marks n) (sym here) ∙ is.is.marked)))
-    ])
+pub to_more : (g : Graph) (children : List ℕ) (i : ℕ) (child : ℕ) (old mid new : List Edge) → i < length children → child ≡ slice_index_or children i child
+    → Adds (IsToOne g (take i children)) old mid → Adds (IsTo g child) mid new → Adds (IsToOne g (take (i + 1) children)) old new
+to_more g children i child old mid new inside is before here =
+    let more : take (i + 1) children ≡ take i children ++ child ∷ [] = take_more children i child inside ∙ ap (λ c. take i children ++ c ∷ []) (sym is) in
+    subst (λ (cs : List ℕ). Adds (IsToOne g cs) old new) (sym more) (to_push g child (take i children) old mid new before here)
 
-pub below_all : (g : Graph) (marks : List Bool) (end : ℕ) (old new : List Edge) → IsOrderly g → length g.crates ≤ end → Adds (IsToMarkedBelow g marks end) old new → Adds (IsToMarked g marks) old new
-below_all g marks end old new orderly past adds =
-    adds_same (IsToMarkedBelow g marks end) (IsToMarked g marks) old new adds
-    (λ e is. is.is)
-    (λ e is. record { is = is; below = omega (arith, past, child_stands g orderly e is.stands) })
+pub to_all : (g : Graph) (children : List ℕ) (i : ℕ) (old new : List Edge) → length children ≤ i → Adds (IsToOne g (take i children)) old new → Adds (IsToOne g children) old new
+to_all g children i old new past adds = subst (λ (cs : List ℕ). Adds (IsToOne g cs) old new) (take_all i children past) adds
 
--- ---- put in order, these are the edges above the crates that the marks are of
+-- ---- put in order, these are the edges above the crates that were followed
 
-pub edges_listed : (g : Graph) (places : List ℕ) (marks : List Bool) (old new : List Edge) → IsOrderly g → AreAbove g places marks → Adds (IsToMarked g marks) [] old → Lists edge_cmp (Contains old) new
+pub edges_listed : (g : Graph) (places : List ℕ) (distances : List (Option ℕ)) (reached : List ℕ) (old new : List Edge) → IsOrderly g → AreAbove g places distances reached → Adds (IsToOne g reached) [] old → Lists edge_cmp (Contains old) new
     → Lists edge_cmp (IsAboveOne g places) new
-edges_listed g places marks old new orderly above adds = lists_added edge_cmp (IsAboveOne g places) old new
-    (adds_same (IsToMarked g marks) (IsAboveOne g places) [] old adds
-    (λ e to.
-    let leads = (above.each e.child (child_stands g orderly e to.stands)).0 to.marked in
-    record { place = leads.place; is_one = leads.is_one; above = record { stands = to.stands; leads = leads.leads } })
-    (λ e is. record {
-      stands = is.above.stands;
-      marked = (above.each e.child (child_stands g orderly e is.above.stands)).1 record { place = is.place; is_one = is.is_one; leads = is.above.leads };
-    }))
+edges_listed g places distances reached old new orderly above adds listed = record {
+  ascending = listed.ascending;
+  whole = λ e is.
+      let marked = (above.each e.child (child_stands g orderly e is.above.stands)).1 record { place = is.place; is_one = is.is_one; leads = is.above.leads } in
+      listed.whole e (adds.whole e record { stands = is.above.stands; to = (above.those.each e.child).0 marked });
+  sound = λ e is. elim (adds.sound e (listed.sound e is)) as (λ _. IsAboveOne g places e) [
+    | inl none ↦ absurd (no_member e none)
+    | inr to ↦
+        let leads = (above.each e.child (child_stands g orderly e to.stands)).0 ((above.those.each e.child).1 to.to) in
+        record { place = leads.place; is_one = leads.is_one; above = record { stands = to.stands; leads = leads.leads } }
+  ];
+}
+
+-- they are edges of the graph
+pub above_stand : (g : Graph) (places : List ℕ) (edges : List Edge) → Lists edge_cmp (IsAboveOne g places) edges → All (λ e. Contains g.edges e) edges
+above_stand g places edges listed = All-weaker (Contains edges) (λ e. Contains g.edges e) (λ e is. (listed.sound e is).above.stands) edges (All-contains_itself edges)

@@ -1,9 +1,8 @@
 -- Chains that are followed from their ends: chains of the graph whose edges lead the other way.
-use Rattle.std.proofs.Common.{◌≡◌, ◌<◌, ℕ, zero, suc, List, [], ◌∷◌, true, Option, Some, None, length, map, filter, refl, sym, ap, ◌∙◌, subst}
+use Rattle.std.proofs.Common.{◌≡◌, ◌<◌, ℕ, zero, suc, List, [], ◌∷◌, true, Option, Some, None, length, map, filter, refl, sym, ap, subst}
 use Rattle.std.specs.Prelude.{IsTrue, All, Contains, is_some, nat_lt}
 use Rattle.std.specs.List.{list_any}
 use Rattle.std.proofs.lemmas.Bool.{false≢true, lt-ltb}
-use Rattle.std.proofs.lemmas.List.{length-map}
 use Rattle.std.proofs.lemmas.List.Elements.{All-contains, All-map, All-weaker, All-contains_itself}
 use Rattle.deny_base.specs.declared.edge.Edge.{Edge}
 use Rattle.deny_krates.specs.Dependents.{AreDirectDependents, IsLeastKind}
@@ -13,12 +12,11 @@ use Rattle.deny_krates.proofs.DependentsLemmas.{filter_keeps}
 use Rattle.deny_krates.proofs.ListLemmas.{contains_map}
 use Rattle.deny_model.specs.Counting.{Chain}
 use Rattle.deny_model.specs.Graph.{Graph, dependents, leads}
-use Rattle.deny_rules.specs.Above.{AreAbove, LeadsToOne, turned, turned_edge}
+use Rattle.deny_rules.specs.Above.{AreAbove, AreThose, LeadsToOne, turned, turned_edge}
 use Rattle.deny_rules.specs.Distances.{AreDistances, IsDistance, distance_at}
-use Rattle.deny_rules.specs.Marks.{mark_at}
 use Rattle.deny_rules.specs.Placed.{ArePlaced}
 use Rattle.deny_rules.proofs.DependencyLemmas.{EdgeTo, child_stands, leads_over, parent_stands}
-use Rattle.deny_rules.proofs.DistancesLemmas.{chain_more}
+use Rattle.deny_rules.proofs.DistancesLemmas.{chain_more, those_inside}
 use Rattle.deny_rules.proofs.MemberLemmas.{Contains-from_map, Contains-from_filter, Contains-filter, any_from}
 use Rattle.deny_rules.proofs.PlaceLemmas.{stands_at}
 
@@ -82,12 +80,7 @@ chain_stays : (g : Graph) (a b n : ℕ) → IsOrderly g → a < length g.crates 
 chain_stays g a b zero orderly inside chain = subst (λ (m : ℕ). m < length g.crates) chain inside
 chain_stays g a b (suc n) orderly inside chain = chain_stays g chain.0.child b n orderly (child_stands g orderly chain.0 chain.1) chain.3
 
--- ---- marks for the crates that have a distance
-
-mark-is : (ds : List (Option ℕ)) (n : ℕ) → mark_at (map is_some ds) n ≡ is_some (distance_at ds n)
-mark-is [] n = refl
-mark-is (d ∷ ds) zero = refl
-mark-is (d ∷ ds) (suc n) = mark-is ds n
+-- ---- the crates that have a distance are those that lead to one of the places
 
 leads_by : (g : Graph) (end : ℕ) (places known : List ℕ) (n : ℕ) (d : Option ℕ) → known ≡ filter (λ place. nat_lt place end) places → IsDistance (turned g) known n d → IsTrue (is_some d) → LeadsToOne g places n
 leads_by g end places known n None are is marked = absurd (false≢true marked)
@@ -108,12 +101,17 @@ led_by g places known n None orderly inside are is leads =
     let is_known : Contains known leads.place = subst (λ (xs : List ℕ). Contains xs leads.place) (sym are) (Contains-filter (λ place. nat_lt place (length g.crates)) places leads.place leads.is_one below) in
     absurd (is leads.leads.length (record { root = leads.place; is_root = is_known; chain = turned_chain g.edges n leads.place leads.leads.length chain }))
 
-pub are_above : (g : Graph) (places known : List ℕ) (ds : List (Option ℕ)) → IsOrderly g → known ≡ filter (λ place. nat_lt place (length g.crates)) places → AreDistances (turned g) known ds → AreAbove g places (map is_some ds)
-are_above g places known ds orderly are distances = record {
-  long = length-map ds is_some ∙ distances.long;
-  each = λ n inside.
-      let is = distances.each n inside in (
-        λ marked. leads_by g (length g.crates) places known n (distance_at ds n) are is (sym (mark-is ds n) ∙ marked),
-        λ leads. mark-is ds n ∙ led_by g places known n (distance_at ds n) orderly inside are is leads,
-      );
+pub are_above : (g : Graph) (places known : List ℕ) (ds : List (Option ℕ)) (reached : List ℕ) → IsOrderly g → known ≡ filter (λ place. nat_lt place (length g.crates)) places → AreDistances (turned g) known ds → AreThose ds reached
+    → AreAbove g places ds reached
+are_above g places known ds reached orderly are distances those = record {
+  long = distances.long;
+  those = those;
+  each = λ n inside. (
+    λ marked. leads_by g (length g.crates) places known n (distance_at ds n) are (distances.each n inside) marked,
+    λ leads. led_by g places known n (distance_at ds n) orderly inside are (distances.each n inside) leads,
+  );
 }
+
+-- such a list names crates
+pub above_inside : (g : Graph) (places : List ℕ) (ds : List (Option ℕ)) (reached : List ℕ) → AreAbove g places ds reached → All (λ place. place < length g.crates) reached
+above_inside g places ds reached above = subst (λ (n : ℕ). All (λ place. place < n) reached) above.long (those_inside ds reached above.those)

@@ -1,8 +1,8 @@
 -- Edges of a graph, by the crates that they lead to.
-use Rattle.std.specs.Prelude.{◌≡◌, ℕ, Bool, true, List, Some, slice_get, Contains}
+use Rattle.std.specs.Prelude.{◌≡◌, ℕ, IsTrue, List, Option, Some, slice_get, Contains}
 use Rattle.deny_base.specs.declared.edge.Edge.{Edge}
 use Rattle.deny_model.specs.Graph.{Graph}
-use Rattle.deny_rules.specs.Marks.{mark_at}
+use Rattle.deny_rules.specs.Above.{is_reached}
 
 -- the edge is this one, which the graph has
 pub record IsEdge (g : Graph) (edge : Edge) (e : Edge) : Type 0 where
@@ -20,13 +20,13 @@ pub record IsTo (g : Graph) (child : ℕ) (e : Edge) : Type 0 where
   pub stands : Contains g.edges e
   pub to : e.child ≡ child
 
--- the edge leads to a crate that is marked
-pub record IsToMarked (g : Graph) (marks : List Bool) (e : Edge) : Type 0 where
+-- the edge leads to one of these crates
+pub record IsToOne (g : Graph) (children : List ℕ) (e : Edge) : Type 0 where
   pub stands : Contains g.edges e
-  pub marked : mark_at marks e.child ≡ true
+  pub to : Contains children e.child
 
--- the edge of this number leads to a crate that is marked
-pub record IsMarkedNumber (marks : List Bool) (edges : List Edge) (number : ℕ) : Type 0 where
+-- the edge of this number leads to a crate that has a distance
+pub record IsReachedNumber (distances : List (Option ℕ)) (edges : List Edge) (number : ℕ) : Type 0 where
   pub edge : Edge
   pub numbered : slice_get edges number ≡ Some edge
-  pub marked : mark_at marks edge.child ≡ true
+  pub reached : IsTrue (is_reached distances edge.child)

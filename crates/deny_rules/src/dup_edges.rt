@@ -1,16 +1,16 @@
 //! What is shown of duplicates: the edges that lead to their crates.
-ghost use Rattle.std.specs.Prelude.{◌≡◌, ◌<◌, [], true, false, All, Contains, IfOk, OnOk, filter, length, slice_index_or};
+ghost use Rattle.std.specs.Prelude.{◌≡◌, ◌<◌, [], true, All, Contains, IfOk, OnOk, filter, length};
 ghost use Rattle.std.specs.List.{AllZip};
 ghost use Rattle.std.specs.Ordering.{nat_cmp};
 ghost use Rattle.deny_base.specs.Ascending.{Adds, Lists};
 ghost use Rattle.deny_base.specs.Edge.{edge_cmp};
 ghost use Rattle.deny_cfg.specs.PolicyView.{policy_view};
+ghost use Rattle.deny_rules.specs.Above.{AreUnset};
 ghost use Rattle.deny_rules.specs.DupEdges.{AreEdgesOf, IsAboveOne, IsSetOf, IsSimplest, ShowsEach, Simplest, edge_count, is_of_duplicate};
-ghost use Rattle.deny_rules.specs.EdgeLists.{IsBetween, IsEdge, IsMarkedNumber, IsTo, IsToMarked};
+ghost use Rattle.deny_rules.specs.EdgeLists.{IsBetween, IsEdge, IsReachedNumber, IsTo, IsToOne};
 
-use crate::above::marks_above;
+use crate::above::{is_reached, no_distances, reach_above, take_back};
 use crate::krate_at::krate_name;
-use crate::marking::mark_at;
 use deny_base::{
     Code, DepKind, DiagnosticCode, Edge, Key, List, NoMemory, Text, edge_order, put_in_order,
 };
@@ -55,9 +55,10 @@ pub fn dup_edges(
     ensures { IfOk result (ShowsEach (policy_view cfg.now) krates.now (filter is_of_duplicate keys.now)) }
 {
     let mut shown = List::new(alloc);
+    let mut distances = no_distances(alloc, krates)?;
     for key in keys {
         if is_of_duplicate(key) {
-            shown.push(edges_of(alloc, cfg, krates, key)?)?;
+            shown.push(edges_of(alloc, cfg, krates, key, &mut distances)?)?;
         }
     }
     Ok(shown)
@@ -70,17 +71,22 @@ fn is_of_duplicate(key: &Key) -> bool
     matches!(key.code, DiagnosticCode::Bans(Code::Duplicate))
 }
 
+// What is shown of a duplicate. The distances are lent from one duplicate to the next, since to make
+// them takes a step for each crate of the graph.
 fn edges_of(
     alloc: Global,
     cfg: &ValidConfig,
     krates: &Krates,
     key: &Key,
+    distances: &mut List<Option<u32>>,
 ) -> Result<DupEdges, NoMemory>
-    ensures { IfOk result (AreEdgesOf (policy_view cfg.now) krates.now key.now) }
+    requires { AreUnset krates.now distances.old }
+    ensures shown { IfOk result (AreEdgesOf (policy_view cfg.now) krates.now key.now) }
+    ensures unset { OnOk result (AreUnset krates.now distances.new) }
 {
     let places = key.places.as_slice();
-    let edges = edges_above(alloc, krates, places)?;
-    let sets = sets_of(alloc, krates, edges.as_slice(), places)?;
+    let edges = edges_above(alloc, krates, places, distances)?;
+    let sets = sets_of(alloc, krates, edges.as_slice(), places, distances)?;
     let simplest = if cfg.highlight.simplest() {
         simplest_of(sets.as_slice())?
     } else {
@@ -101,27 +107,33 @@ fn edges_of(
 }
 
 // The edges that lead to one of the crates, at any distance.
-fn edges_above(alloc: Global, krates: &Krates, places: &[u32]) -> Result<List<Edge>, NoMemory>
-    ensures { IfOk result (Lists edge_cmp (IsAboveOne krates.now places.now)) }
+fn edges_above(
+    alloc: Global,
+    krates: &Krates,
+    places: &[u32],
+    distances: &mut List<Option<u32>>,
+) -> Result<List<Edge>, NoMemory>
+    requires { AreUnset krates.now distances.old }
+    ensures above { IfOk result (Lists edge_cmp (IsAboveOne krates.now places.now)) }
+    ensures unset { OnOk result (AreUnset krates.now distances.new) }
 {
     let _standing = krates.krates();
-    let marks = marks_above(alloc, krates, places)?;
-    let mut edges = edges_to(alloc, krates, marks.as_slice())?;
+    let reached = reach_above(alloc, krates, places, distances)?;
+    let mut edges = edges_to(alloc, krates, reached.as_slice())?;
+    take_back(distances, reached.as_slice());
     edge_order();
     put_in_order(&mut edges)?;
     Ok(edges)
 }
 
-// The edges to the crates that are marked.
-fn edges_to(alloc: Global, krates: &Krates, marks: &[bool]) -> Result<List<Edge>, NoMemory>
-    requires { length marks.now ≡ length krates.now.crates }
-    ensures { IfOk result (Adds (IsToMarked krates.now marks.now) []) }
+// The edges to some crates.
+fn edges_to(alloc: Global, krates: &Krates, children: &[u32]) -> Result<List<Edge>, NoMemory>
+    requires { All (λ child. child < length krates.now.crates) children.now }
+    ensures { IfOk result (Adds (IsToOne krates.now children.now) []) }
 {
     let mut edges = List::new(alloc);
-    for place in 0..krates.krates().len() as u32 {
-        if mark_at(marks, place) {
-            add_edges_to(krates, place, &mut edges)?;
-        }
+    for child in children {
+        add_edges_to(krates, *child, &mut edges)?;
     }
     Ok(edges)
 }
@@ -183,37 +195,54 @@ fn sets_of(
     krates: &Krates,
     edges: &[Edge],
     places: &[u32],
+    distances: &mut List<Option<u32>>,
 ) -> Result<List<DupSet>, NoMemory>
-    requires { All (λ e. Contains krates.now.edges e) edges.now }
-    ensures { IfOk result (AllZip (IsSetOf krates.now edges.now) places.now) }
+    requires stand { All (λ e. Contains krates.now.edges e) edges.now }
+    requires unset { AreUnset krates.now distances.old }
+    ensures sets { IfOk result (AllZip (IsSetOf krates.now edges.now) places.now) }
+    ensures unset { OnOk result (AreUnset krates.now distances.new) }
 {
     let mut sets = List::new(alloc);
     for place in places {
-        sets.push(set_of(alloc, krates, edges, *place)?)?;
+        sets.push(set_of(alloc, krates, edges, *place, distances)?)?;
     }
     Ok(sets)
 }
 
 // The numbers of those edges that lead to a crate.
-fn set_of(alloc: Global, krates: &Krates, edges: &[Edge], place: u32) -> Result<DupSet, NoMemory>
-    requires { All (λ e. Contains krates.now.edges e) edges.now }
-    ensures { IfOk result (IsSetOf krates.now edges.now place) }
+fn set_of(
+    alloc: Global,
+    krates: &Krates,
+    edges: &[Edge],
+    place: u32,
+    distances: &mut List<Option<u32>>,
+) -> Result<DupSet, NoMemory>
+    requires stand { All (λ e. Contains krates.now.edges e) edges.now }
+    requires unset { AreUnset krates.now distances.old }
+    ensures set { IfOk result (IsSetOf krates.now edges.now place) }
+    ensures unset { OnOk result (AreUnset krates.now distances.new) }
 {
     let _standing = krates.krates();
-    let marks = marks_above(alloc, krates, &[place])?;
+    let reached = reach_above(alloc, krates, &[place], distances)?;
+    let numbers = numbers_of(alloc, distances.as_slice(), edges)?;
+    take_back(distances, reached.as_slice());
     Ok(DupSet {
         place,
-        edges: numbers_of(alloc, marks.as_slice(), edges)?,
+        edges: numbers,
     })
 }
 
-// The numbers of the edges to crates that are marked.
-fn numbers_of(alloc: Global, marks: &[bool], edges: &[Edge]) -> Result<List<u32>, NoMemory>
-    ensures { IfOk result (Lists nat_cmp (IsMarkedNumber marks.now edges.now)) }
+// The numbers of the edges to crates that have a distance.
+fn numbers_of(
+    alloc: Global,
+    distances: &[Option<u32>],
+    edges: &[Edge],
+) -> Result<List<u32>, NoMemory>
+    ensures { IfOk result (Lists nat_cmp (IsReachedNumber distances.now edges.now)) }
 {
     let mut numbers = List::new(alloc);
     for (number, edge) in edges.iter().enumerate() {
-        if mark_at(marks, edge.child) {
+        if is_reached(distances, edge.child) {
             numbers.push(short(number)?)?;
         }
     }
@@ -283,7 +312,8 @@ mod tests {
 
     fn are_above(alloc: Global, places: &[u32], wanted: &[Edge]) -> Result<bool, MetadataFault> {
         let krates = Krates::build(alloc, GRAPH)?;
-        let edges = edges_above(alloc, &krates, places)?;
+        let mut distances = no_distances(alloc, &krates)?;
+        let edges = edges_above(alloc, &krates, places, &mut distances)?;
         Ok(edges.as_slice() == wanted)
     }
 

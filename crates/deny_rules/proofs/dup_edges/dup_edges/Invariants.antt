@@ -1,8 +1,12 @@
 use Rattle.std.proofs.Common.{take, filter}
 use Rattle.std.specs.List.{AllZip}
 use Rattle.deny_cfg.specs.PolicyView.{policy_view}
+use Rattle.deny_rules.specs.Above.{AreUnset}
 use Rattle.deny_rules.specs.DupEdges.{AreEdgesOf, is_of_duplicate}
 use Rattle.deny_rules.proofs.dup_edges.dup_edges.Given as goal
 
 abbrev pub invariant-loop-key : goal.invariant-loop-key
-invariant-loop-key l = AllZip (AreEdgesOf (policy_view l.cfg) l.krates) (filter is_of_duplicate (take l.key-index l.keys)) l.shown
+invariant-loop-key l = record {
+  shown : AllZip (AreEdgesOf (policy_view l.cfg) l.krates) (filter is_of_duplicate (take l.key-index l.keys)) l.shown;
+  unset : AreUnset l.krates l.distances;
+}

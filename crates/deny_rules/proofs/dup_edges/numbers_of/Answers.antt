@@ -4,16 +4,16 @@ use Rattle.std.proofs.Math.ListN.{drop_of_length-le}
 use Rattle.std.proofs.lemmas.List.{append-nil}
 use Rattle.deny_base.specs.Ascending.{Lists}
 use Rattle.deny_base.specs.declared.edge.Edge.{Edge}
-use Rattle.deny_rules.specs.EdgeLists.{IsMarkedNumber}
+use Rattle.deny_rules.specs.EdgeLists.{IsReachedNumber}
 use Rattle.deny_rules.proofs.DupSetLemmas.{numbers_from, numbers_listed}
 use Rattle.deny_rules.proofs.dup_edges.numbers_of.Goals as goal
 
 pub returns : goal.returns
 returns c =
-    let marks = c.args.marks.now in
+    let distances = c.args.distances.now in
     let edges = c.args.edges.now in
     let number = c.loop-number.number in
-    let done : numbers_from marks number (drop number edges) ≡ [] = ap (λ (es : List Edge). numbers_from marks number es) (drop_of_length-le edges c.loop-number-test.false) in
-    let all : c.loop-number.numbers ≡ numbers_from marks 0 edges =
+    let done : numbers_from distances number (drop number edges) ≡ [] = ap (λ (es : List Edge). numbers_from distances number es) (drop_of_length-le edges c.loop-number-test.false) in
+    let all : c.loop-number.numbers ≡ numbers_from distances 0 edges =
     sym (append-nil c.loop-number.numbers) ∙ (ap (λ (ns : List ℕ). c.loop-number.numbers ++ ns) (sym done) ∙ c.loop-number.invariant) in
-    subst (Lists nat_cmp (IsMarkedNumber marks edges)) (sym all) (numbers_listed marks edges)
+    subst (Lists nat_cmp (IsReachedNumber distances edges)) (sym all) (numbers_listed distances edges)

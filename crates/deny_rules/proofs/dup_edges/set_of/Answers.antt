@@ -1,15 +1,24 @@
-use Rattle.std.proofs.Common.{List, Bool, refl, subst}
+use Rattle.std.proofs.Common.{◌∙◌, List, Option, ℕ, refl, ap, subst, sym}
 use Rattle.std.specs.Ordering.{nat_cmp}
 use Rattle.deny_base.specs.Ascending.{Lists}
-use Rattle.deny_rules.specs.EdgeLists.{IsMarkedNumber}
+use Rattle.deny_rules.specs.Above.{AreThose}
+use Rattle.deny_rules.specs.EdgeLists.{IsReachedNumber}
+use Rattle.deny_rules.proofs.DistancesLemmas.{nowhere}
 use Rattle.deny_rules.proofs.DupSetLemmas.{set_numbers}
 use Rattle.deny_rules.proofs.dup_edges.set_of.Goals as goal
 
-pub returns : goal.returns
-returns c =
-    let numbers = c.in_ok-numbers_of.field-0 in
+pub take_back-requires : goal.take_back-requires
+take_back-requires c = subst (AreThose c.reach_above.new.distances) (sym c.as_slice-2.ensures) c.in_ok-reached.ensures.those
+
+pub returns-clause-set : goal.returns-clause-set
+returns-clause-set c =
+    let numbers = c.in_ok-numbers.numbers in
+    let distances = c.reach_above.new.distances in
     record {
       of_crate = refl;
-      numbers = set_numbers c.args.krates.now c.args.edges.now c.args.place c.in_ok-marks.marks numbers c.krates-standing.ensures.orderly c.requires c.in_ok-marks.ensures
-          (subst (λ (marks : List Bool). Lists nat_cmp (IsMarkedNumber marks c.args.edges.now) numbers) c.as_slice.ensures c.in_ok-numbers_of.ensures);
+      numbers = set_numbers c.args.krates.now c.args.edges.now c.args.place distances c.in_ok-reached.reached numbers c.krates-standing.ensures.orderly c.requires.stand c.in_ok-reached.ensures
+          (subst (λ (ds : List (Option ℕ)). Lists nat_cmp (IsReachedNumber ds c.args.edges.now) numbers) c.as_slice.ensures c.in_ok-numbers.ensures);
     }
+
+pub returns-clause-unset : goal.returns-clause-unset
+returns-clause-unset c = c.take_back.ensures ∙ ap nowhere c.in_ok-reached.ensures.long

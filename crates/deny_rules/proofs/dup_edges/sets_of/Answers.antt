@@ -13,5 +13,8 @@ loop-place-preserved c =
     let places = c.args.places.now in
     let i = c.loop-place.place-index in
     let place = get_or places i 0 in
-    subst (λ (sets : List DupSet). AllZip (IsSetOf g edges) (take (i + 1) places) sets) (sym c.in_ok-push.ensures.ok)
-    (zip_more (IsSetOf g edges) places c.loop-place.sets i place c.in_ok-set_of.field-0 c.loop-place-test.true (get_or_default places i 0 place c.loop-place-test.true) c.loop-place.invariant c.in_ok-set_of.ensures)
+    record {
+      sets = subst (λ (sets : List DupSet). AllZip (IsSetOf g edges) (take (i + 1) places) sets) (sym c.in_ok-push.ensures.ok)
+          (zip_more (IsSetOf g edges) places c.loop-place.sets i place c.in_ok-set_of.field-0 c.loop-place-test.true (get_or_default places i 0 place c.loop-place-test.true) c.loop-place.invariant.sets c.in_ok-set_of.ensures.set);
+      unset = c.in_ok-set_of.ensures.unset;
+    }
