@@ -317,6 +317,15 @@ mod tests {
         Ok(edges.as_slice() == wanted)
     }
 
+    // Whether the set of the crate at a place has these numbers, among the edges above both of `c`.
+    fn is_set(alloc: Global, place: u32, wanted: &[u32]) -> Result<bool, MetadataFault> {
+        let krates = Krates::build(alloc, GRAPH)?;
+        let mut distances = no_distances(alloc, &krates)?;
+        let edges = edges_above(alloc, &krates, &[2, 3], &mut distances)?;
+        let set = set_of(alloc, &krates, edges.as_slice(), place, &mut distances)?;
+        Ok(set.edges.as_slice() == wanted)
+    }
+
     #[test]
     fn edges_ascend_by_parent_child_and_kind(rt: HostRuntime) {
         let wanted = [
@@ -326,5 +335,11 @@ mod tests {
             edge(1, 2, DepKind::Normal),
         ];
         assert!(rt; matches!(are_above(rt.alloc(), &[2, 3], &wanted), Ok(true)));
+    }
+
+    #[test]
+    fn a_set_has_the_edges_above_its_crate(rt: HostRuntime) {
+        assert!(rt; matches!(is_set(rt.alloc(), 2, &[3]), Ok(true)));
+        assert!(rt; matches!(is_set(rt.alloc(), 3, &[0, 1, 2]), Ok(true)));
     }
 }
