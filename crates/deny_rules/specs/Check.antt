@@ -1,5 +1,5 @@
 -- What the bans check hands out.
-use Rattle.std.specs.Prelude.{◌≡◌, ◌++◌, ℕ, List, filter, map}
+use Rattle.std.specs.Prelude.{◌≡◌, ◌++◌, ◌⊎◌, ℕ, List, filter, map, take}
 use Rattle.deny_base.specs.declared.finding.Pack.{Pack}
 use Rattle.deny_base.specs.declared.key.Key.{Key}
 use Rattle.deny_cfg.specs.PolicyView.{policy_view}
@@ -24,3 +24,17 @@ pub record IsChecked (p : Policy) (g : Graph) (file : ℕ) (old new : List Pack)
 -- the same of a configuration
 abbrev pub IsCheckOf : ValidConfig → Graph → List Pack → List Pack → BansEnd → Type 0
 IsCheckOf cfg g old new end = IsChecked (policy_view cfg) g cfg.file_id old new end
+
+-- what is told of the first of these keys was appended
+abbrev pub TellsFront : Policy → Graph → ℕ → List Key → List Pack → List Pack → Type 0
+TellsFront p g file keys old new = (n : ℕ) × (new ≡ old ++ map (pack_told p g file) (take n keys))
+
+-- a front of what stands was told
+pub record IsFrontTold (p : Policy) (g : Graph) (file : ℕ) (old new : List Pack) : Type 0 where
+  pub keys : List Key
+  pub listed : AreKeys p g keys
+  pub told : TellsFront p g file keys old new
+
+-- nothing was told, or a front of what stands by a configuration
+abbrev pub IsFrontOf : ValidConfig → Graph → List Pack → List Pack → Type 0
+IsFrontOf cfg g old new = (new ≡ old) ⊎ IsFrontTold (policy_view cfg) g cfg.file_id old new

@@ -1,11 +1,11 @@
 //! The bans check.
-ghost use Rattle.std.specs.Prelude.{IfOk};
+ghost use Rattle.std.specs.Prelude.{IfOk, OnErr};
 ghost use Rattle.deny_base.specs.Ascending.{Lists};
 ghost use Rattle.deny_base.specs.Disk.{Disk, IsLater};
 ghost use Rattle.deny_base.specs.KeyOrder.{key_cmp};
 ghost use Rattle.deny_cfg.specs.PolicyView.{policy_view};
 ghost use Rattle.deny_model.specs.Rules.{Stands};
-ghost use Rattle.deny_rules.specs.Check.{IsCheckOf};
+ghost use Rattle.deny_rules.specs.Check.{IsCheckOf, IsFrontOf};
 ghost use Rattle.deny_rules.specs.Marks.{facts_of};
 
 use crate::ban_keys::add_ban_keys;
@@ -56,7 +56,8 @@ fn keys_of(
 
 /// Appends the findings of the crate rules, one a pack, in the order of their keys.
 ///
-/// Nothing is read from the disk.
+/// Where memory runs out, `sink` holds what it held before and then a front of what stands, which may
+/// be empty. Nothing is read from the disk.
 pub fn check<D: PackageFiles>(
     alloc: Global,
     ctx: &CheckCtx<'_>,
@@ -64,6 +65,7 @@ pub fn check<D: PackageFiles>(
     sink: &mut List<Pack>,
 ) -> Result<BansEnd, NoMemory>
     ensures checked { IfOk result (IsCheckOf ctx.now.cfg.now ctx.now.krates.now sink.old sink.new) }
+    ensures front { OnErr result (IsFrontOf ctx.now.cfg.now ctx.now.krates.now sink.old sink.new) }
     ensures disk { IsLater (D.seen disk.old) (D.seen disk.new) }
 {
     let marks = marks_of(alloc, ctx.cfg, ctx.krates)?;

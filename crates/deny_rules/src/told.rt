@@ -1,8 +1,9 @@
 //! What a report tells of each key.
-ghost use Rattle.std.specs.Prelude.{◌≡◌, ◌++◌, IfOk, OnOk, map};
+ghost use Rattle.std.specs.Prelude.{◌≡◌, ◌++◌, IfOk, OnErr, OnOk, map};
 ghost use Rattle.deny_cfg.specs.PolicyView.{policy_view};
 ghost use Rattle.deny_model.specs.Duplicates.{duplicate_level};
 ghost use Rattle.deny_model.specs.Told.{check_told, crates_at, diag_told, kid_told, node_of, nodes_told, pack_told, severity_told};
+ghost use Rattle.deny_rules.specs.Check.{TellsFront};
 
 use crate::krate_at::krate_at;
 use crate::labels::labels_of;
@@ -16,7 +17,8 @@ use deny_cfg::bans::cfg::ValidConfig;
 use deny_krates::Krates;
 use std::alloc::Global;
 
-/// Appends what is told of keys, in their order, one pack a key.
+/// Appends what is told of keys, in their order, one pack a key. Where memory runs out, it has
+/// appended what is told of the first of them, or nothing.
 pub fn tell_all(
     alloc: Global,
     cfg: &ValidConfig,
@@ -24,7 +26,8 @@ pub fn tell_all(
     keys: &[Key],
     sink: &mut List<Pack>,
 ) -> Result<(), NoMemory>
-    ensures { OnOk result (sink.new ≡ sink.old ++ map (pack_told (policy_view cfg.now) krates.now cfg.now.file_id) keys.now) }
+    ensures ok { OnOk result (sink.new ≡ sink.old ++ map (pack_told (policy_view cfg.now) krates.now cfg.now.file_id) keys.now) }
+    ensures front { OnErr result (TellsFront (policy_view cfg.now) krates.now cfg.now.file_id keys.now sink.old sink.new) }
 {
     let teller = Teller::new(alloc, cfg, krates)?;
     add_packs(alloc, &teller, keys, sink)
@@ -36,7 +39,8 @@ fn add_packs(
     keys: &[Key],
     sink: &mut List<Pack>,
 ) -> Result<(), NoMemory>
-    ensures { OnOk result (sink.new ≡ sink.old ++ map (pack_told (policy_view teller.now.cfg.now) teller.now.krates.now teller.now.cfg.now.file_id) keys.now) }
+    ensures ok { OnOk result (sink.new ≡ sink.old ++ map (pack_told (policy_view teller.now.cfg.now) teller.now.krates.now teller.now.cfg.now.file_id) keys.now) }
+    ensures front { OnErr result (TellsFront (policy_view teller.now.cfg.now) teller.now.krates.now teller.now.cfg.now.file_id keys.now sink.old sink.new) }
 {
     for key in keys {
         sink.push(tell(alloc, teller, key)?)?;

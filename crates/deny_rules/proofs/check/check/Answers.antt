@@ -15,7 +15,7 @@ returns-clause-checked g c =
     record {
       keys = keys;
       listed = record { facts = facts_of c.in_ok-marks.marks; true_facts = c.in_ok-marks.ensures; listed = c.in_ok-keys.ensures };
-      told = c.in_ok-tell_all.ensures ∙ ap (λ (ks : List Key). c.args.sink.now ++ map (pack_told p ctx.krates.now ctx.cfg.now.file_id) ks) c.as_slice-2.ensures;
+      told = c.in_ok-tell_all.ensures.ok ∙ ap (λ (ks : List Key). c.args.sink.now ++ map (pack_told p ctx.krates.now ctx.cfg.now.file_id) ks) c.as_slice-2.ensures;
       hits = c.in_ok-hits.ensures;
       dup_edges = subst (λ (ks : List Key). ShowsEach p ctx.krates.now (filter is_of_duplicate ks) c.in_ok-dup_edges.dup_edges) c.as_slice.ensures c.in_ok-dup_edges.ensures;
     }
