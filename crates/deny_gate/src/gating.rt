@@ -1,5 +1,4 @@
 ghost use Rattle.std.specs.Prelude.{◌≡◌, ◌<◌, ◌^◌, [], ◌∷◌, length, IfOk, IfErr, OnOk};
-ghost use Rattle.deny_base.specs.Disk.{Disk, IsLater};
 ghost use Rattle.deny_cfg.specs.LabelRanges.{AreLabels, word_labels};
 ghost use Rattle.deny_cfg.specs.PolicyText.{policy_file};
 ghost use Rattle.deny_cfg.specs.PolicyView.{policy_view};
@@ -61,7 +60,7 @@ fn told<D: PackageFiles>(
 ) -> Result<(List<Finding>, List<DupEdges>), NoMemory>
     requires { cfg.now.file_id ≡ 0 }
     ensures told { IfOk result (λ told. IsTold (policy_view cfg.now) krates.now told.0 told.1) }
-    ensures disk { IsLater (D.seen disk.old) (D.seen disk.new) }
+    ensures untouched { disk.new ≡ disk.old }
 {
     let mut packs = List::new(alloc);
     let end = bans::check(alloc, &CheckCtx { cfg, krates }, disk, &mut packs)?;
@@ -80,7 +79,7 @@ fn report_on<D: PackageFiles>(
     requires { cfg.now.file_id ≡ 0 }
     ensures report { IfOk result (IsReport (policy_view cfg.now) krates.now) }
     ensures files { IfOk result (λ report. report.files ≡ files) }
-    ensures disk { IsLater (D.seen disk.old) (D.seen disk.new) }
+    ensures untouched { disk.new ≡ disk.old }
 {
     let (findings, dup_edges) = told(alloc, cfg, krates, disk)?;
     let verdict = verdict_of(findings.as_slice());
@@ -105,7 +104,7 @@ fn report_of<D: PackageFiles>(
     ensures report { IfOk result (IsReportOn (policy_view cfg.now) metadata.now) }
     ensures files { IfOk result (λ report. report.files ≡ files) }
     ensures cause { IfErr result (IsMetadataCause metadata.now) }
-    ensures disk { IsLater (D.seen disk.old) (D.seen disk.new) }
+    ensures untouched { disk.new ≡ disk.old }
 {
     let krates = read_graph(alloc, metadata)?;
     Ok(report_on(alloc, files, cfg, &krates, disk)?)
@@ -130,7 +129,7 @@ pub fn gate<D: PackageFiles>(
     ensures headline { IfOk result (IsHeadlineOf inputs.now.policy.items inputs.now.metadata.items) }
     ensures labels { IfOk result (λ report. AreLabelled report.files report.findings) }
     ensures clash_labels { IfErr result (IsLabelledCause inputs.now.policy.items) }
-    ensures disk { IsLater (D.seen disk.old) (D.seen disk.new) }
+    ensures untouched { disk.new ≡ disk.old }
 {
     let mut files = Files::new(alloc);
     let policy = built_policy(alloc, inputs.policy.as_slice(), &mut files)?;

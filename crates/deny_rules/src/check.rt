@@ -1,7 +1,6 @@
 //! The bans check.
-ghost use Rattle.std.specs.Prelude.{IfOk, OnErr};
+ghost use Rattle.std.specs.Prelude.{◌≡◌, IfOk, OnErr};
 ghost use Rattle.deny_base.specs.Ascending.{Lists};
-ghost use Rattle.deny_base.specs.Disk.{Disk, IsLater};
 ghost use Rattle.deny_base.specs.KeyOrder.{key_cmp};
 ghost use Rattle.deny_cfg.specs.PolicyView.{policy_view};
 ghost use Rattle.deny_model.specs.Rules.{Stands};
@@ -57,7 +56,7 @@ fn keys_of(
 /// Appends the findings of the crate rules, one a pack, in the order of their keys.
 ///
 /// Where memory runs out, `sink` holds what it held before and then a front of what stands, which may
-/// be empty. Nothing is read from the disk.
+/// be empty. The disk is left as it was: nothing is read from it.
 pub fn check<D: PackageFiles>(
     alloc: Global,
     ctx: &CheckCtx<'_>,
@@ -66,7 +65,7 @@ pub fn check<D: PackageFiles>(
 ) -> Result<BansEnd, NoMemory>
     ensures checked { IfOk result (IsCheckOf ctx.now.cfg.now ctx.now.krates.now sink.old sink.new) }
     ensures front { OnErr result (IsFrontOf ctx.now.cfg.now ctx.now.krates.now sink.old sink.new) }
-    ensures disk { IsLater (D.seen disk.old) (D.seen disk.new) }
+    ensures untouched { disk.new ≡ disk.old }
 {
     let marks = marks_of(alloc, ctx.cfg, ctx.krates)?;
     let keys = keys_of(alloc, ctx.cfg, ctx.krates, &marks)?;
