@@ -145,3 +145,7 @@ found_on f g p (x ∷ xs) agree = elim (cases_Bool (p x)) as (λ _. option_and_t
 pub map-and_then : {X A : Type 0} (f : X → A) (o : Option X) → option_map f o ≡ option_and_then (λ x. Some (f x)) o
 map-and_then f None = refl
 map-and_then f (Some x) = refl
+
+pub and_then-and_then : {X Y Z : Type 0} (f : Y → Option Z) (h : X → Option Y) (o : Option X) → option_and_then f (option_and_then h o) ≡ option_and_then (λ x. option_and_then f (h x)) o
+and_then-and_then f h None = refl
+and_then-and_then f h (Some x) = refl

@@ -1,8 +1,9 @@
 -- The first witnesses of entries, and the meetings of wrappers that give theirs.
-use Rattle.std.proofs.Common.{◌≡◌, ◌++◌, ◌+◌, ◌<◌, ℕ, zero, suc, List, [], ◌∷◌, Bool, true, false, not, Option, None, Some, Contains, length, filter, find, map, refl, sym, ap, ◌∙◌, subst, inl, inr, arith, rules, tests}
+use Rattle.std.proofs.Common.{◌≡◌, ◌+◌, ◌<◌, ℕ, zero, suc, List, [], ◌∷◌, Bool, true, false, not, Option, None, Some, Contains, length, filter, find, map, refl, sym, ap, ◌∙◌, subst, inl, inr, arith, rules, tests}
 use Rattle.std.specs.Prelude.{◌&&◌, filter_map, option_and_then, option_map, slice_get}
+use Rattle.std.specs.BTreeMap.{BTreeMap}
 use Rattle.std.specs.Cmp.{nat_cmp_total}
-use Rattle.std.specs.List.{AllByRecursion, flat_map, list_any, range_with_len}
+use Rattle.std.specs.List.{AllByRecursion, list_any, range_with_len}
 use Rattle.std.specs.List.Sorted.{IsStrictlySortedBy}
 use Rattle.std.specs.Option.{option_map_or}
 use Rattle.std.specs.Ordering.{nat_cmp}
@@ -15,8 +16,8 @@ use Rattle.std.proofs.lemmas.Option.{slice_get-map}
 use Rattle.deny_base.specs.Ascending.{Lists}
 use Rattle.deny_base.proofs.AscendingLemmas.{one_list}
 use Rattle.deny_base.specs.declared.entry.EntryKind.TheVariants.{Wrapper}
-use Rattle.deny_base.specs.declared.entry.Hit.{Hit}
 use Rattle.deny_base.specs.declared.entry.Witness.TheVariants.{Parent}
+use Rattle.deny_base.specs.TextMap.{TextFinMap}
 use Rattle.deny_base.specs.declared.span.Span.{Span}
 use Rattle.deny_krates.specs.Dependents.{AreDirectDependents}
 use Rattle.deny_krates.specs.declared.krate.DirectDependent.{DirectDependent}
@@ -29,10 +30,13 @@ use Rattle.deny_model.specs.Policy.{Ban, Policy, Words}
 use Rattle.deny_model.specs.Told.{crate_at}
 use Rattle.deny_model.specs.Wrappers.{hits_wrapper, same_span, wraps}
 use Rattle.deny_model.proofs.Kept.{list_any_on}
+use Rattle.deny_rules.specs.Banned.{AreFirst, range_at, range_of}
 use Rattle.deny_rules.specs.Marks.{mark_at, marked}
-use Rattle.deny_rules.specs.Meetings.{first_meeting, meeting, meeting_at, meetings_at, meetings_of, wrapper_hits_of}
+use Rattle.deny_rules.specs.Meetings.{LeadToFirsts, first_meeting, hit_at, hit_by, meeting_at, meetings_at, meetings_of, wrapper_hits}
+use Rattle.deny_rules.specs.declared.hits.Meeting.{Meeting}
 use Rattle.deny_rules.proofs.DependentLemmas.{dependent_stands}
-use Rattle.deny_rules.proofs.FilterLemmas.{any-filter_map, filter-map, filter_map-map, filter_map_on, find-filter, find-filter_map, find-flat_map, find-map, find_on, first-filter, found_on, map-and_then, passes}
+use Rattle.deny_rules.proofs.FilterLemmas.{and_then-and_then, any-filter_map, filter-map, filter_map-map, filter_map_on, find-filter, find-filter_map, find-flat_map, find-map, find_on, first-filter, found_on, map-and_then, passes}
+use Rattle.deny_rules.proofs.FirstLemmas.{range-wrapper}
 use Rattle.deny_rules.specs.Placed.{ArePlaced}
 use Rattle.deny_rules.proofs.MarkLemmas.{marked-is}
 use Rattle.deny_rules.proofs.MemberLemmas.{Contains-first, Contains-rest}
@@ -94,91 +98,107 @@ by_place g place ds placed direct places listed = one_list nat_cmp_total places 
     leads_here : ℕ → Bool
     leads_here = λ n. list_any (leads n place) g.edges
 
--- a dependent meets the wrapper of its name
-abbrev met : List Words → Crate → Crate → Option Hit
-met wrappers c d = meeting wrappers (kid_of c) d.name (kid_of d)
+-- a dependent meets the wrapper whose range its name has
+abbrev meeting_of : Crate → Crate → Span → Meeting
+meeting_of c d range = record { range = range; place = c.place; parent = d.place }
+
+abbrev met : TextFinMap Span → Crate → Crate → Option Meeting
+met ranges c d = option_map (meeting_of c d) (range_of ranges d)
 
 -- crates at their places meet as they do
-met-at : (g : Graph) (wrappers : List Words) (c d : Crate) → ArePlaced g.crates → Contains g.crates c → Contains g.crates d → meeting_at g wrappers c.place d.place ≡ met wrappers c d
-unfolding meeting_at
-met-at g wrappers c d placed c_stands d_stands =
-    ap (option_and_then (λ (b : Crate). option_and_then (met wrappers b) (crate_at g d.place))) (placed.at c c_stands)
-    ∙ ap (option_and_then (met wrappers c)) (placed.at d d_stands)
+met-at : (g : Graph) (ranges : TextFinMap Span) (c d : Crate) → ArePlaced g.crates → Contains g.crates d → meeting_at g ranges c.place d.place ≡ met ranges c d
+unfolding meeting_at range_at
+met-at g ranges c d placed stands = ap (λ (o : Option Crate). option_map (meeting_of c d) (option_and_then (range_of ranges) o)) (placed.at d stands)
 
-met-dependents : (g : Graph) (wrappers : List Words) (c : Crate) → ArePlaced g.crates → Contains g.crates c → meetings_at g wrappers c.place ≡ filter_map (met wrappers c) (dependents g c.place)
+met-dependents : (g : Graph) (ranges : TextFinMap Span) (c : Crate) → ArePlaced g.crates → meetings_at g ranges c.place ≡ filter_map (met ranges c) (dependents g c.place)
 unfolding meetings_at
-met-dependents g wrappers c placed stands =
-    filter_map-map (meeting_at g wrappers c.place) place_of (dependents g c.place)
-    ∙ filter_map_on (λ d. meeting_at g wrappers c.place d.place) (met wrappers c) (dependents g c.place)
-    (λ d is. met-at g wrappers c d placed stands (dependent_stands g c.place d is))
+met-dependents g ranges c placed =
+    filter_map-map (meeting_at g ranges c.place) place_of (dependents g c.place)
+    ∙ filter_map_on (λ d. meeting_at g ranges c.place d.place) (met ranges c) (dependents g c.place)
+    (λ d is. met-at g ranges c d placed (dependent_stands g c.place d is))
 
 -- a meeting is of a wrapper's range where the wrapper stands for the dependent
-abbrev is_of : Words → Hit → Bool
-is_of w hit = same_span hit.entry.range w.span
+abbrev is_of : Words → Meeting → Bool
+is_of w m = same_span m.range w.span
 
-range-wraps : (wrappers : List Words) (w : Words) (c d : Crate) → passes (is_of w) (met wrappers c) d ≡ wraps wrappers w d
-unfolding meeting wraps wrapper_of
-range-wraps wrappers w c d = by_first (wrapper_of wrappers d)
+range-wraps : (wrappers : List Words) (ranges : TextFinMap Span) (w : Words) (c d : Crate) → AreFirst wrappers ranges → passes (is_of w) (met ranges c) d ≡ wraps wrappers w d
+unfolding wraps
+range-wraps wrappers ranges w c d first =
+    ap (λ (o : Option Span). option_map_or (is_of w) (option_map (meeting_of c d) o) false) (range-wrapper wrappers ranges d first) ∙ by_first (wrapper_of wrappers d)
   where
-    by_first : (first : Option Words) → option_map_or (is_of w) (option_map (λ (f : Words). hit_of Wrapper f.span (Parent (kid_of c) (kid_of d))) first) false ≡ option_map_or (λ (f : Words). same_span f.span w.span) first false
+    by_first : (o : Option Words) → option_map_or (is_of w) (option_map (meeting_of c d) (option_map (λ (f : Words). f.span) o)) false ≡ option_map_or (λ (f : Words). same_span f.span w.span) o false
     by_first None = refl
     by_first (Some f) = refl
 
--- where the wrapper stands for a dependent, their meeting is the wrapper's hit
-meets-as : (wrappers : List Words) (w : Words) (c d : Crate) → wraps wrappers w d ≡ true → met wrappers c d ≡ Some (hit_of Wrapper w.span (Parent (kid_of c) (kid_of d)))
-unfolding meeting wraps wrapper_of
-meets-as wrappers w c d is = by_first (wrapper_of wrappers d) is
+-- what a meeting of two crates hits
+hit-by : (g : Graph) (c d : Crate) (range : Span) → ArePlaced g.crates → Contains g.crates c → Contains g.crates d → hit_by g (meeting_of c d range) ≡ Some (hit_of Wrapper range (Parent (kid_of c) (kid_of d)))
+unfolding hit_by
+hit-by g c d range placed c_stands d_stands =
+    ap (option_and_then (λ (b : Crate). option_map (λ (e : Crate). hit_of Wrapper range (Parent (kid_of b) (kid_of e))) (crate_at g d.place))) (placed.at c c_stands)
+    ∙ ap (option_map (λ (e : Crate). hit_of Wrapper range (Parent (kid_of c) (kid_of e)))) (placed.at d d_stands)
+
+-- where the wrapper stands for a dependent, their meeting makes the wrapper's hit
+meets-as : (g : Graph) (wrappers : List Words) (ranges : TextFinMap Span) (w : Words) (c d : Crate) → ArePlaced g.crates → AreFirst wrappers ranges → Contains g.crates c → Contains g.crates d
+    → wraps wrappers w d ≡ true → option_and_then (hit_by g) (met ranges c d) ≡ Some (hit_of Wrapper w.span (Parent (kid_of c) (kid_of d)))
+unfolding wraps
+meets-as g wrappers ranges w c d placed first c_stands d_stands is =
+    ap (λ (o : Option Span). option_and_then (hit_by g) (option_map (meeting_of c d) o)) (range-wrapper wrappers ranges d first) ∙ by_first (wrapper_of wrappers d) is
   where
-    by_first : (first : Option Words) → option_map_or (λ (f : Words). same_span f.span w.span) first false ≡ true
-        → option_map (λ (f : Words). hit_of Wrapper f.span (Parent (kid_of c) (kid_of d))) first ≡ Some (hit_of Wrapper w.span (Parent (kid_of c) (kid_of d)))
+    by_first : (o : Option Words) → option_map_or (λ (f : Words). same_span f.span w.span) o false ≡ true
+        → option_and_then (hit_by g) (option_map (meeting_of c d) (option_map (λ (f : Words). f.span) o)) ≡ Some (hit_of Wrapper w.span (Parent (kid_of c) (kid_of d)))
     by_first None is = cc
-    by_first (Some f) is = ap (λ (span : Span). Some (hit_of Wrapper span (Parent (kid_of c) (kid_of d)))) (same-span f.span w.span is)
+    by_first (Some f) is = ap (λ (span : Span). hit_by g (meeting_of c d span)) (same-span f.span w.span is) ∙ hit-by g c d w.span placed c_stands d_stands
 
 -- the first meeting of a wrapper at a crate
-first-at : (g : Graph) (ban : Ban) (w : Words) (c : Crate) → ArePlaced g.crates → Contains g.crates c → find (is_of w) (meetings_at g ban.wrappers c.place) ≡ wrapper_hit_at g ban w c
+first-at : (g : Graph) (ban : Ban) (ranges : TextFinMap Span) (w : Words) (c : Crate) → ArePlaced g.crates → AreFirst ban.wrappers ranges → Contains g.crates c
+    → option_and_then (hit_by g) (find (is_of w) (meetings_at g ranges c.place)) ≡ wrapper_hit_at g ban w c
 unfolding wrapper_hit_at
-first-at g ban w c placed stands =
-    ap (find (is_of w)) (met-dependents g ban.wrappers c placed stands)
-    ∙ (find-filter_map (is_of w) (met ban.wrappers c) (dependents g c.place)
-    ∙ (ap (option_and_then (met ban.wrappers c)) (find_on (passes (is_of w) (met ban.wrappers c)) (wraps ban.wrappers w) (dependents g c.place) (λ d _. range-wraps ban.wrappers w c d))
-    ∙ (found_on (met ban.wrappers c) (λ (d : Crate). Some (hit_of Wrapper w.span (Parent (kid_of c) (kid_of d)))) (wraps ban.wrappers w) (dependents g c.place) (λ d _ is. meets-as ban.wrappers w c d is)
+first-at g ban ranges w c placed first stands =
+    ap (λ (ms : List Meeting). option_and_then (hit_by g) (find (is_of w) ms)) (met-dependents g ranges c placed)
+    ∙ (ap (option_and_then (hit_by g)) (find-filter_map (is_of w) (met ranges c) (dependents g c.place)
+    ∙ ap (option_and_then (met ranges c)) (find_on (passes (is_of w) (met ranges c)) (wraps ban.wrappers w) (dependents g c.place) (λ d _. range-wraps ban.wrappers ranges w c d first)))
+    ∙ (and_then-and_then (hit_by g) (met ranges c) (find (wraps ban.wrappers w) (dependents g c.place))
+    ∙ (found_on (λ d. option_and_then (hit_by g) (met ranges c d)) (λ (d : Crate). Some (hit_of Wrapper w.span (Parent (kid_of c) (kid_of d)))) (wraps ban.wrappers w) (dependents g c.place)
+    (λ d is wrapped. meets-as g ban.wrappers ranges w c d placed first stands (dependent_stands g c.place d is) wrapped)
     ∙ sym (map-and_then (λ (d : Crate). hit_of Wrapper w.span (Parent (kid_of c) (kid_of d))) (find (wraps ban.wrappers w) (dependents g c.place))))))
 
-any-at : (g : Graph) (ban : Ban) (w : Words) (c : Crate) → ArePlaced g.crates → Contains g.crates c → list_any (is_of w) (meetings_at g ban.wrappers c.place) ≡ list_any (wraps ban.wrappers w) (dependents g c.place)
-any-at g ban w c placed stands =
-    ap (list_any (is_of w)) (met-dependents g ban.wrappers c placed stands)
-    ∙ (any-filter_map (is_of w) (met ban.wrappers c) (dependents g c.place)
-    ∙ list_any_on (passes (is_of w) (met ban.wrappers c)) (wraps ban.wrappers w) (dependents g c.place) (λ d _. range-wraps ban.wrappers w c d))
+any-at : (g : Graph) (ban : Ban) (ranges : TextFinMap Span) (w : Words) (c : Crate) → ArePlaced g.crates → AreFirst ban.wrappers ranges
+    → list_any (is_of w) (meetings_at g ranges c.place) ≡ list_any (wraps ban.wrappers w) (dependents g c.place)
+any-at g ban ranges w c placed first =
+    ap (list_any (is_of w)) (met-dependents g ranges c placed)
+    ∙ (any-filter_map (is_of w) (met ranges c) (dependents g c.place)
+    ∙ list_any_on (passes (is_of w) (met ranges c)) (wraps ban.wrappers w) (dependents g c.place) (λ d _. range-wraps ban.wrappers ranges w c d first))
 
--- a wrapper's first meeting is its hit
+-- a wrapper's first meeting makes its hit
 module _ (p : Policy) (g : Graph) (exempt : List Bool) (placed : ArePlaced g.crates) (told : exempt ≡ map (is_exempt p g) g.crates) where
   concerned : (ban : Ban) (c : Crate) → Contains g.crates c → (matches ban.spec c && not (marked exempt c)) ≡ concerns p g ban c
   unfolding concerns
   concerned ban c stands =
       ap (λ b. matches ban.spec c && not b) (marked-is g.crates placed (is_exempt p g) exempt told c stands)
 
-  tested : (ban : Ban) (w : Words) (c : Crate) → Contains g.crates c
-      → (list_any (is_of w) (meetings_at g ban.wrappers c.place) && (matches ban.spec c && not (marked exempt c))) ≡ hits_wrapper p g ban w c
+  tested : (ban : Ban) (ranges : TextFinMap Span) (w : Words) → AreFirst ban.wrappers ranges → (c : Crate) → Contains g.crates c
+      → (list_any (is_of w) (meetings_at g ranges c.place) && (matches ban.spec c && not (marked exempt c))) ≡ hits_wrapper p g ban w c
   unfolding hits_wrapper
-  tested ban w c stands =
-      ap (λ b. b && (matches ban.spec c && not (marked exempt c))) (any-at g ban w c placed stands)
+  tested ban ranges w first c stands =
+      ap (λ b. b && (matches ban.spec c && not (marked exempt c))) (any-at g ban ranges w c placed first)
       ∙ (ap (λ b. list_any (wraps ban.wrappers w) (dependents g c.place) && b) (concerned ban c stands)
       ∙ and_comm (list_any (wraps ban.wrappers w) (dependents g c.place)) (concerns p g ban c))
 
-  first-meeting : (ban : Ban) (w : Words) → first_meeting (meetings_of g exempt ban) w ≡ wrapper_hit p g ban w
-  unfolding first_meeting meetings_of wrapper_hit
-  first-meeting ban w =
-      let met_by = λ (c : Crate). meetings_at g ban.wrappers c.place in
-      let any = λ (c : Crate). list_any (is_of w) (meetings_at g ban.wrappers c.place) in
-      find-flat_map (is_of w) met_by (filter (λ c. matches ban.spec c && not (marked exempt c)) g.crates)
-      ∙ (ap (option_and_then (λ (c : Crate). find (is_of w) (met_by c))) (find-filter any (λ c. matches ban.spec c && not (marked exempt c)) g.crates
-      ∙ find_on (λ c. any c && (matches ban.spec c && not (marked exempt c))) (hits_wrapper p g ban w) g.crates (tested ban w))
-      ∙ found_on (λ (c : Crate). find (is_of w) (met_by c)) (wrapper_hit_at g ban w) (hits_wrapper p g ban w) g.crates (λ c stands _. first-at g ban w c placed stands))
+  first-hit : (ban : Ban) (ranges : TextFinMap Span) (w : Words) → AreFirst ban.wrappers ranges → option_and_then (hit_by g) (first_meeting (meetings_of g ranges exempt ban) w.span) ≡ wrapper_hit p g ban w
+  unfolding meetings_of wrapper_hit
+  first-hit ban ranges w first =
+      let met_by = λ (c : Crate). meetings_at g ranges c.place in
+      let any = λ (c : Crate). list_any (is_of w) (meetings_at g ranges c.place) in
+      ap (option_and_then (hit_by g)) (find-flat_map (is_of w) met_by (filter (λ c. matches ban.spec c && not (marked exempt c)) g.crates)
+      ∙ ap (option_and_then (λ (c : Crate). find (is_of w) (met_by c))) (find-filter any (λ c. matches ban.spec c && not (marked exempt c)) g.crates
+      ∙ find_on (λ c. any c && (matches ban.spec c && not (marked exempt c))) (hits_wrapper p g ban w) g.crates (tested ban ranges w first)))
+      ∙ (and_then-and_then (hit_by g) (λ (c : Crate). find (is_of w) (met_by c)) (find (hits_wrapper p g ban w) g.crates)
+      ∙ found_on (λ (c : Crate). option_and_then (hit_by g) (find (is_of w) (met_by c))) (wrapper_hit_at g ban w) (hits_wrapper p g ban w) g.crates (λ c stands _. first-at g ban ranges w c placed first stands))
 
-  pub wrapper-hits : (bans : List Ban) → flat_map (wrapper_hits_of g exempt) bans ≡ flat_map (λ ban. filter_map (wrapper_hit p g ban) ban.wrappers) bans
-  unfolding wrapper_hits_of
-  wrapper-hits [] = refl
-  wrapper-hits (ban ∷ bans) =
-      ap (λ (hits : List Hit). hits ++ flat_map (wrapper_hits_of g exempt) bans)
-      (filter_map_on (first_meeting (meetings_of g exempt ban)) (wrapper_hit p g ban) ban.wrappers (λ w _. first-meeting ban w))
-      ∙ ap (λ (hits : List Hit). filter_map (wrapper_hit p g ban) ban.wrappers ++ hits) (wrapper-hits bans)
+  -- the hits of a ban's wrappers
+  pub hits-made : (ban : Ban) (ranges : TextFinMap Span) (firsts : BTreeMap Span Meeting) → AreFirst ban.wrappers ranges → LeadToFirsts (meetings_of g ranges exempt ban) firsts
+      → filter_map (hit_at g firsts) ban.wrappers ≡ wrapper_hits p g ban
+  unfolding hit_at
+  hits-made ban ranges firsts first leads =
+      filter_map_on (hit_at g firsts) (wrapper_hit p g ban) ban.wrappers
+      (λ w _. ap (option_and_then (hit_by g)) (leads.at w.span) ∙ first-hit ban ranges w first)

@@ -1,6 +1,6 @@
 -- Ranges: when two are one, and the first meeting of each, kept as meetings come.
-use Rattle.std.proofs.Common.{◌≡◌, ◌++◌, ◌+◌, ◌<◌, ℕ, List, [], ◌∷◌, Bool, true, false, Option, None, Some, Bor, cond, find, get_or, is_some, length, take, refl, sym, ap, ◌∙◌, subst}
-use Rattle.std.specs.Prelude.{◌==◌, ◌&&◌, option_copied}
+use Rattle.std.proofs.Common.{◌≡◌, ◌++◌, ◌+◌, ◌<◌, ℕ, List, [], ◌∷◌, Bool, true, false, Option, None, Some, cond, find, get_or, is_some, length, take, refl, sym, ap, ◌∙◌, subst}
+use Rattle.std.specs.Prelude.{◌==◌, ◌&&◌}
 use Rattle.std.specs.BTreeMap.{BTreeMap}
 use Rattle.std.specs.BTreeMap as tree
 use Rattle.std.specs.Cmp.{Equal-is, tied_then, unsigned_ties}
@@ -10,12 +10,12 @@ use Rattle.std.proofs.lemmas.List.{take_more}
 use Rattle.std.proofs.lemmas.List.Folds.{find-append}
 use Rattle.deny_base.proofs.KeyEqual.{span_cmp-exact}
 use Rattle.deny_base.specs.KeyOrder.{span_cmp}
-use Rattle.deny_base.specs.declared.entry.Hit.{Hit}
 use Rattle.deny_base.specs.declared.span.Span.{Span}
 use Rattle.deny_model.specs.Wrappers.{same_span}
-use Rattle.deny_rules.specs.Meetings.{LeadToFirsts}
+use Rattle.deny_rules.specs.Meetings.{LeadToFirsts, first_meeting}
+use Rattle.deny_rules.specs.declared.hits.Meeting.{Meeting}
 
-ties : (a b : Span) → is_eq (span_cmp a b) ≡ same_span a b
+pub ties : (a b : Span) → is_eq (span_cmp a b) ≡ same_span a b
 ties a b =
     sym (tied_then (nat_cmp a.start b.start) (nat_cmp a.end b.end))
     ∙ (ap (λ (start : Bool). start && is_eq (nat_cmp a.end b.end)) (sym (unsigned_ties a.start b.start))
@@ -24,47 +24,45 @@ ties a b =
 pub same-span : (a b : Span) → same_span a b ≡ true → a ≡ b
 same-span a b same = span_cmp-exact a b ((Equal-is (span_cmp a b)).0 (ties a b ∙ same))
 
-new_at : (o : Option (Bor Hit)) (found : Option Hit) (same : Bool) (value : Bor Hit) (hit : Hit) → value.now ≡ hit → option_copied o ≡ found → (same ≡ true → is_some o ≡ false)
-    → option_copied (cond same (Some value) o) ≡ option_or found (cond same (Some hit) None)
-new_at None None true value hit now is free = ap Some now
-new_at None None false value hit now is free = refl
-new_at None (Some f) same value hit now is free = cc
-new_at (Some b) found true value hit now is free = absurd (cc (free refl))
-new_at (Some b) None false value hit now is free = cc
-new_at (Some b) (Some f) false value hit now is free = is
+new_at : (o found : Option Meeting) (same : Bool) (m : Meeting) → o ≡ found → (same ≡ true → is_some o ≡ false) → cond same (Some m) o ≡ option_or found (cond same (Some m) None)
+new_at None None true m is free = refl
+new_at None None false m is free = refl
+new_at None (Some f) same m is free = cc
+new_at (Some b) found true m is free = absurd (cc (free refl))
+new_at (Some b) None false m is free = cc
+new_at (Some b) (Some f) false m is free = is
 
-kept_at : (o : Option (Bor Hit)) (found : Option Hit) (same : Bool) (hit : Hit) → option_copied o ≡ found → (same ≡ true → is_some o ≡ true)
-    → option_copied o ≡ option_or found (cond same (Some hit) None)
-kept_at None found true hit is known = absurd (cc (known refl))
-kept_at None None false hit is known = refl
-kept_at None (Some f) false hit is known = cc
-kept_at (Some b) None same hit is known = cc
-kept_at (Some b) (Some f) same hit is known = is
+kept_at : (o found : Option Meeting) (same : Bool) (m : Meeting) → o ≡ found → (same ≡ true → is_some o ≡ true) → o ≡ option_or found (cond same (Some m) None)
+kept_at None found true m is known = absurd (cc (known refl))
+kept_at None None false m is known = refl
+kept_at None (Some f) false m is known = cc
+kept_at (Some b) None same m is known = cc
+kept_at (Some b) (Some f) same m is known = is
 
-one_more : (met : List Hit) (i : ℕ) (hit : Hit) (range : Span) → i < length met → hit ≡ get_or met i hit
-    → find (λ h. same_span h.entry.range range) (take (i + 1) met) ≡ option_or (find (λ h. same_span h.entry.range range) (take i met)) (cond (same_span hit.entry.range range) (Some hit) None)
-one_more met i hit range inside is =
-    ap (find (λ h. same_span h.entry.range range)) (take_more met i hit inside ∙ ap (λ h. take i met ++ h ∷ []) (sym is))
-    ∙ find-append (λ h. same_span h.entry.range range) (take i met) (hit ∷ [])
+one_more : (met : List Meeting) (i : ℕ) (m other : Meeting) (range : Span) → i < length met → m ≡ get_or met i other
+    → first_meeting (take (i + 1) met) range ≡ option_or (first_meeting (take i met) range) (cond (same_span m.range range) (Some m) None)
+one_more met i m other range inside is =
+    ap (find (λ (n : Meeting). same_span n.range range)) (take_more met i other inside ∙ ap (λ n. take i met ++ n ∷ []) (sym is))
+    ∙ find-append (λ n. same_span n.range range) (take i met) (m ∷ [])
 
-module _ (met : List Hit) (i : ℕ) (hit : Hit) (old : BTreeMap Span (Bor Hit)) (inside : i < length met) (is : hit ≡ get_or met i hit) (leads : LeadToFirsts (take i met) old) where
+module _ (met : List Meeting) (i : ℕ) (m other : Meeting) (old : BTreeMap Span Meeting) (inside : i < length met) (is : m ≡ get_or met i other) (leads : LeadToFirsts (take i met) old) where
   -- a range that was met before
-  pub firsts_kept : is_some (tree.get span_cmp old hit.entry.range) ≡ true → LeadToFirsts (take (i + 1) met) old
+  pub firsts_kept : is_some (tree.get span_cmp old m.range) ≡ true → LeadToFirsts (take (i + 1) met) old
   firsts_kept known = record {
     at = λ range.
-        kept_at (tree.get span_cmp old range) (find (λ h. same_span h.entry.range range) (take i met)) (same_span hit.entry.range range) hit (leads.at range)
-        (λ same. subst (λ (r : Span). is_some (tree.get span_cmp old r) ≡ true) (same-span hit.entry.range range same) known)
-        ∙ sym (one_more met i hit range inside is);
+        kept_at (tree.get span_cmp old range) (first_meeting (take i met) range) (same_span m.range range) m (leads.at range)
+        (λ same. subst (λ (r : Span). is_some (tree.get span_cmp old r) ≡ true) (same-span m.range range same) known)
+        ∙ sym (one_more met i m other range inside is);
   }
 
   -- a new one
-  pub firsts_more : (new : BTreeMap Span (Bor Hit)) (value : Bor Hit) → value.now ≡ hit → is_some (tree.get span_cmp old hit.entry.range) ≡ false
-      → ((range : Span) → tree.get span_cmp new range ≡ cond (is_eq (span_cmp hit.entry.range range)) (Some value) (tree.get span_cmp old range))
+  pub firsts_more : (new : BTreeMap Span Meeting) → is_some (tree.get span_cmp old m.range) ≡ false
+      → ((range : Span) → tree.get span_cmp new range ≡ cond (is_eq (span_cmp m.range range)) (Some m) (tree.get span_cmp old range))
       → LeadToFirsts (take (i + 1) met) new
-  firsts_more new value now free updates = record {
+  firsts_more new free updates = record {
     at = λ range.
-        ap option_copied (updates range ∙ ap (λ b. cond b (Some value) (tree.get span_cmp old range)) (ties hit.entry.range range))
-        ∙ (new_at (tree.get span_cmp old range) (find (λ h. same_span h.entry.range range) (take i met)) (same_span hit.entry.range range) value hit now (leads.at range)
-        (λ same. subst (λ (r : Span). is_some (tree.get span_cmp old r) ≡ false) (same-span hit.entry.range range same) free)
-        ∙ sym (one_more met i hit range inside is));
+        (updates range ∙ ap (λ b. cond b (Some m) (tree.get span_cmp old range)) (ties m.range range))
+        ∙ (new_at (tree.get span_cmp old range) (first_meeting (take i met) range) (same_span m.range range) m (leads.at range)
+        (λ same. subst (λ (r : Span). is_some (tree.get span_cmp old r) ≡ false) (same-span m.range range same) free)
+        ∙ sym (one_more met i m other range inside is));
   }

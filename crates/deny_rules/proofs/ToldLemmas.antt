@@ -1,18 +1,23 @@
 -- What is looked up for a finding: entries by their ranges, and crates by their places.
 use Rattle.std.proofs.Common.{◌≡◌, ◌+◌, ◌<◌, ◌≤◌, ◌||◌, ℕ, Bool, true, false, List, [], ◌∷◌, Option, Some, None, MatchOption, Bor, length, map, filter_map, slice_get, option_map, refl, sym, ap, ◌∙◌, subst}
-use Rattle.std.specs.Prelude.{cond, find, unwrap_or}
+use Rattle.std.specs.Prelude.{codes, cond, find, option_and_then, unwrap_or}
 use Rattle.std.specs.List.{HoldsAt, cons_option, list_any}
+use Rattle.std.specs.Option.{option_map_or}
 use Rattle.std.proofs.lemmas.Option.{slice_get_past, slice_get-get_or, slice_get-map, unwrap_or-slice_get}
+use Rattle.deny_base.specs.declared.label.Label.{Label}
 use Rattle.deny_base.specs.declared.span.Span.{Span}
 use Rattle.deny_cfg.specs.PolicyView.{root_view, roots_from}
 use Rattle.deny_cfg.specs.declared.bans.cfg.tree_skip.TreeSkipExtended.{TreeSkipExtended}
 use Rattle.deny_cfg.specs.declared.spec_or_extended.PackageSpecOrExtended.{PackageSpecOrExtended}
+use Rattle.deny_model.specs.Bans.{wrapper_of}
 use Rattle.deny_model.specs.Graph.{Crate, Graph}
-use Rattle.deny_model.specs.Policy.{Root}
-use Rattle.deny_model.specs.Told.{crate_at, crates_at}
+use Rattle.deny_model.specs.Policy.{Ban, Policy, Root, Words}
+use Rattle.deny_model.specs.Told.{ban_at, crate_at, crates_at, primary, wrapper_labels}
 use Rattle.deny_model.specs.Wrappers.{same_span}
+use Rattle.deny_rules.specs.Banned as banned
 use Rattle.deny_rules.specs.ByRange.{first_of}
 use Rattle.deny_rules.specs.Marks.{mark_at}
+use Rattle.deny_rules.specs.WrapperRanges.{wrapper_range}
 use Rattle.deny_rules.proofs.FilterLemmas.{find-map}
 
 -- what `get` gives
@@ -62,3 +67,25 @@ one_marked g t marks (place ∷ places) is = ap (λ b. b || list_any (mark_at ma
     joined : (o : Option Crate) → (unwrap_or (option_map t o) false || list_any t (filter_map (crate_at g) places)) ≡ list_any t (cons_option o (filter_map (crate_at g) places))
     joined None = refl
     joined (Some c) = refl
+
+-- the labels of a ban, and of its wrapper of the name of the crate at a place
+pub wrapper_told : (p : Policy) (g : Graph) (file : ℕ) (range : Span) (place : ℕ) (b : Ban) (found : Option Span) → ban_at p range ≡ Some b → found ≡ option_and_then (λ c. wrapper_range p.deny range c.name) (crate_at g place)
+    → option_map_or (λ ban. wrapper_labels file ban (option_and_then (wrapper_of ban.wrappers) (crate_at g place))) (ban_at p range) []
+    ≡ option_map_or (λ span. primary file b.spec.range (codes "banned here") ∷ primary file span (codes "allowed wrapper") ∷ []) found []
+unfolding wrapper_of banned.first_of
+wrapper_told p g file range place b found is at =
+    ap (λ (o : Option Ban). option_map_or (λ ban. wrapper_labels file ban (option_and_then (wrapper_of ban.wrappers) (crate_at g place))) o []) is
+    ∙ (by_crate (crate_at g place) ∙ ap told (sym at))
+  where
+    told : Option Span → List Label
+    told = λ o. option_map_or (λ span. primary file b.spec.range (codes "banned here") ∷ primary file span (codes "allowed wrapper") ∷ []) o []
+
+    by_wrapper : (o : Option Words) → wrapper_labels file b o ≡ told (option_map (λ (w : Words). w.span) o)
+    by_wrapper None = refl
+    by_wrapper (Some w) = refl
+
+    by_crate : (o : Option Crate) → wrapper_labels file b (option_and_then (wrapper_of b.wrappers) o) ≡ told (option_and_then (λ c. wrapper_range p.deny range c.name) o)
+    by_crate None = refl
+    by_crate (Some c) =
+        by_wrapper (wrapper_of b.wrappers c)
+        ∙ ap (λ (o : Option Ban). told (option_and_then (λ (ban : Ban). option_map (λ (w : Words). w.span) (banned.first_of ban.wrappers c.name)) o)) (sym is)

@@ -13,3 +13,4 @@ pub mod Matching
 pub mod Meetings
 pub mod Placed
 pub mod Skipping
+pub mod WrapperRanges

@@ -124,7 +124,7 @@ fn add_wrapped_keys(
 }
 
 /// The range of the first wrapper of each name.
-fn ranges_by_name(alloc: Global, wrappers: &[Spanned<Text>]) -> Result<TextMap<Span>, NoMemory>
+pub fn ranges_by_name(alloc: Global, wrappers: &[Spanned<Text>]) -> Result<TextMap<Span>, NoMemory>
     ensures { IfOk result (AreFirst wrappers.now) }
 {
     let mut ranges = TextMap::new(alloc);
@@ -137,7 +137,7 @@ fn ranges_by_name(alloc: Global, wrappers: &[Spanned<Text>]) -> Result<TextMap<S
 }
 
 /// The range at the name of the crate at a place.
-fn range_at(krates: &Krates, ranges: &TextMap<Span>, place: u32) -> Option<Span>
+pub fn range_at(krates: &Krates, ranges: &TextMap<Span>, place: u32) -> Option<Span>
     ensures { result ≡ range_at krates.now ranges.now place }
 {
     let krate = krate_at(krates, place)?;

@@ -5,15 +5,16 @@ ghost use Rattle.deny_base.specs.declared.entry.EntryKind.TheVariants as kind;
 ghost use Rattle.deny_base.specs.declared.entry.Witness.TheVariants as witness;
 ghost use Rattle.deny_cfg.specs.PolicyView.{ban_view, entry_view, policy_view, roots_from};
 ghost use Rattle.deny_cfg.specs.SpecView.{spec_view};
+ghost use Rattle.deny_model.specs.Bans.{is_exempt};
 ghost use Rattle.deny_model.specs.Graph.{dependents, kid_of};
 ghost use Rattle.deny_model.specs.Hits.{all_hits, hit_of, root_hit, skip_hit};
 ghost use Rattle.deny_model.specs.Match.{matches};
-ghost use Rattle.deny_model.specs.Text.{same_text};
+ghost use Rattle.deny_model.specs.Policy.{Policy};
 ghost use Rattle.deny_model.specs.Told.{crate_at};
 ghost use Rattle.deny_rules.specs.Marks.{facts_of, mark_at};
-ghost use Rattle.deny_rules.specs.Meetings.{LeadToFirsts, meeting, meeting_at, meeting_of, meetings_at, meetings_of, wrapper_hits_of};
+ghost use Rattle.deny_rules.specs.Meetings.{LeadToFirsts, hit_at, hit_by, meeting_at, meetings_at, meetings_of, wrapper_hits};
 
-use crate::banned::{concerned, wrappers_of};
+use crate::banned::{concerned, range_at, ranges_by_name, wrappers_of};
 use crate::exempt::exempt_marks;
 use crate::facts::Marks;
 use crate::krate_at::krate_at;
@@ -21,7 +22,7 @@ use crate::marking::mark_at;
 use crate::matching::matched;
 use crate::placed::are_placed;
 use deny_base::{
-    EntryId, EntryKind, Hit, List, NoMemory, Span, Spanned, Text, Witness, put_in_order,
+    EntryId, EntryKind, Hit, List, NoMemory, Span, Spanned, Text, TextMap, Witness, put_in_order,
 };
 use deny_cfg::bans::cfg::{KrateBan, SpecAndReason, ValidConfig, ValidTreeSkip};
 use deny_cfg::{PackageSpec, PackageSpecOrExtended};
@@ -39,18 +40,11 @@ pub fn hits_of(
 ) -> Result<List<Hit>, NoMemory>
     ensures { IfOk result (λ hits. hits ≡ all_hits (policy_view cfg.now) krates.now (facts_of marks.now)) }
 {
-    are_placed(krates);
     let mut hits = List::new(alloc);
     let exempt = exempt_marks(alloc, cfg, krates)?;
     add_skip_hits(alloc, krates, marks, cfg.skipped.as_slice(), &mut hits)?;
     add_root_hits(alloc, krates, cfg.tree_skipped.as_slice(), &mut hits)?;
-    add_wrapper_hits(
-        alloc,
-        krates,
-        exempt.as_slice(),
-        cfg.denied.as_slice(),
-        &mut hits,
-    )?;
+    add_wrapper_hits(alloc, cfg, krates, exempt.as_slice(), &mut hits)?;
     Ok(hits)
 }
 
@@ -154,15 +148,26 @@ fn add_root_hits(
     Ok(())
 }
 
+/// A direct dependent of a crate that bears the name of a wrapper: the wrapper's range, and the places
+/// of the two.
+#[derive(Clone, Copy, Debug)]
+pub struct Meeting {
+    pub range: Span,
+    pub place: u32,
+    pub parent: u32,
+}
+
 fn add_wrapper_hits(
     alloc: Global,
+    cfg: &ValidConfig,
     krates: &Krates,
     exempt: &[bool],
-    bans: &[PackageSpecOrExtended<KrateBan>],
     hits: &mut List<Hit>,
 ) -> Result<(), NoMemory>
-    ensures { OnOk result (hits.new ≡ hits.old ++ flat_map (wrapper_hits_of krates.now exempt.now) (map ban_view bans.now)) }
+    requires { exempt.now ≡ map (is_exempt (policy_view cfg.now) krates.now) krates.now.crates }
+    ensures { OnOk result (hits.new ≡ hits.old ++ flat_map (wrapper_hits (policy_view cfg.now) krates.now) (map ban_view cfg.now.denied)) }
 {
+    let bans = cfg.denied.as_slice();
     for ban in bans {
         add_hits_of_ban(alloc, krates, exempt, ban, hits)?;
     }
@@ -170,7 +175,6 @@ fn add_wrapper_hits(
 }
 
 /// Adds the hits of a ban's wrappers.
-#[tactic(auto, unfolding(crate::specs::Meetings::wrapper_hits_of))]
 fn add_hits_of_ban(
     alloc: Global,
     krates: &Krates,
@@ -178,59 +182,87 @@ fn add_hits_of_ban(
     ban: &PackageSpecOrExtended<KrateBan>,
     hits: &mut List<Hit>,
 ) -> Result<(), NoMemory>
-    ensures { OnOk result (hits.new ≡ hits.old ++ wrapper_hits_of krates.now exempt.now (ban_view ban.now)) }
+    ensures { (p : Policy) → exempt.now ≡ map (is_exempt p krates.now) krates.now.crates
+        → OnOk result (hits.new ≡ hits.old ++ wrapper_hits p krates.now (ban_view ban.now)) }
 {
+    are_placed(krates);
     let wrappers = wrappers_of(ban);
     if wrappers.is_empty() {
         return Ok(());
     }
-    let met = meetings_of(alloc, krates, exempt, ban)?;
+    let ranges = ranges_by_name(alloc, wrappers)?;
+    let met = meetings_of(alloc, krates, &ranges, exempt, ban)?;
     let firsts = firsts_by_range(alloc, met.as_slice())?;
-    add_first_meetings(&firsts, wrappers, hits)?;
+    add_first_hits(krates, &firsts, wrappers, hits)?;
     Ok(())
 }
 
 /// The first meeting of each range.
-fn firsts_by_range<'m>(alloc: Global, met: &'m [Hit]) -> Result<BTreeMap<Span, &'m Hit>, NoMemory>
+fn firsts_by_range(alloc: Global, met: &[Meeting]) -> Result<BTreeMap<Span, Meeting>, NoMemory>
     ensures { IfOk result (LeadToFirsts met.now) }
 {
     let mut firsts = BTreeMap::new(alloc);
-    for hit in met {
-        if !firsts.contains_key(&hit.entry.range) {
-            firsts.insert(hit.entry.range, hit)?;
+    for meeting in met {
+        if !firsts.contains_key(&meeting.range) {
+            firsts.insert(meeting.range, *meeting)?;
         }
     }
     Ok(firsts)
 }
 
-/// Adds the first meeting of each wrapper.
-fn add_first_meetings(
-    firsts: &BTreeMap<Span, &Hit>,
+/// Adds the hit of each wrapper by its first meeting.
+fn add_first_hits(
+    krates: &Krates,
+    firsts: &BTreeMap<Span, Meeting>,
     wrappers: &[Spanned<Text>],
     hits: &mut List<Hit>,
 ) -> Result<(), NoMemory>
-    ensures { OnOk result (hits.new ≡ hits.old ++ filter_map (meeting_of firsts.now) wrappers.now) }
+    ensures { OnOk result (hits.new ≡ hits.old ++ filter_map (hit_at krates.now firsts.now) wrappers.now) }
 {
     for wrapper in wrappers {
-        if let Some(hit) = meeting_of(firsts, wrapper)? {
+        if let Some(hit) = hit_at(krates, firsts, wrapper)? {
             hits.push(hit)?;
         }
     }
     Ok(())
 }
 
-/// The first meeting of a wrapper.
-#[tactic(auto, unfolding(crate::specs::Meetings::meeting_of))]
-fn meeting_of(
-    firsts: &BTreeMap<Span, &Hit>,
+/// The hit of a wrapper by its first meeting.
+#[tactic(auto, unfolding(crate::specs::Meetings::hit_at))]
+fn hit_at(
+    krates: &Krates,
+    firsts: &BTreeMap<Span, Meeting>,
     wrapper: &Spanned<Text>,
 ) -> Result<Option<Hit>, NoMemory>
-    ensures { IfOk result (λ hit. hit ≡ meeting_of firsts.now wrapper.now) }
+    ensures { IfOk result (λ hit. hit ≡ hit_at krates.now firsts.now wrapper.now) }
 {
     match firsts.get(&wrapper.span) {
-        Some(hit) => Ok(Some((*hit).clone()?)),
+        Some(meeting) => hit_by(krates, meeting),
         None => Ok(None),
     }
+}
+
+/// The hit by a meeting.
+#[tactic(auto, unfolding(crate::specs::Meetings::hit_by))]
+fn hit_by(krates: &Krates, meeting: &Meeting) -> Result<Option<Hit>, NoMemory>
+    ensures { IfOk result (λ hit. hit ≡ hit_by krates.now meeting.now) }
+{
+    let Some(krate) = krate_at(krates, meeting.place) else {
+        return Ok(None);
+    };
+    let Some(parent) = krate_at(krates, meeting.parent) else {
+        return Ok(None);
+    };
+    Ok(Some(Hit {
+        entry: EntryId {
+            kind: EntryKind::Wrapper,
+            range: meeting.range,
+        },
+        witness: Witness::Parent {
+            krate: krate.id.clone()?,
+            parent: parent.id.clone()?,
+        },
+    }))
 }
 
 /// The meetings of a ban's wrappers with the dependents of the crates that it concerns, by the places
@@ -239,36 +271,31 @@ fn meeting_of(
 fn meetings_of(
     alloc: Global,
     krates: &Krates,
+    ranges: &TextMap<Span>,
     exempt: &[bool],
     ban: &PackageSpecOrExtended<KrateBan>,
-) -> Result<List<Hit>, NoMemory>
-    ensures { IfOk result (λ met. met ≡ meetings_of krates.now exempt.now (ban_view ban.now)) }
+) -> Result<List<Meeting>, NoMemory>
+    ensures { IfOk result (λ met. met ≡ meetings_of krates.now ranges.now exempt.now (ban_view ban.now)) }
 {
     are_placed(krates);
     let mut met = List::new(alloc);
     let concerned = concerned(alloc, krates, &ban.spec, exempt)?;
-    add_all_meetings(
-        alloc,
-        krates,
-        wrappers_of(ban),
-        concerned.as_slice(),
-        &mut met,
-    )?;
+    add_all_meetings(alloc, krates, ranges, concerned.as_slice(), &mut met)?;
     Ok(met)
 }
 
 fn add_all_meetings(
     alloc: Global,
     krates: &Krates,
-    wrappers: &[Spanned<Text>],
+    ranges: &TextMap<Span>,
     places: &[u32],
-    met: &mut List<Hit>,
+    met: &mut List<Meeting>,
 ) -> Result<(), NoMemory>
     requires { All (λ place. place < length krates.now.crates) places.now }
-    ensures { OnOk result (met.new ≡ met.old ++ flat_map (meetings_at krates.now wrappers.now) places.now) }
+    ensures { OnOk result (met.new ≡ met.old ++ flat_map (meetings_at krates.now ranges.now) places.now) }
 {
     for place in places {
-        add_meetings_at(alloc, krates, wrappers, *place, met)?;
+        add_meetings_at(alloc, krates, ranges, *place, met)?;
     }
     Ok(())
 }
@@ -278,30 +305,30 @@ fn add_all_meetings(
 fn add_meetings_at(
     alloc: Global,
     krates: &Krates,
-    wrappers: &[Spanned<Text>],
+    ranges: &TextMap<Span>,
     place: u32,
-    met: &mut List<Hit>,
+    met: &mut List<Meeting>,
 ) -> Result<(), NoMemory>
     requires { place < length krates.now.crates }
-    ensures { OnOk result (met.new ≡ met.old ++ meetings_at krates.now wrappers.now place) }
+    ensures { OnOk result (met.new ≡ met.old ++ meetings_at krates.now ranges.now place) }
 {
     let parents = dependents_by_place(alloc, krates, place)?;
-    add_meetings(krates, wrappers, place, parents.as_slice(), met)
+    add_meetings(krates, ranges, place, parents.as_slice(), met)
 }
 
 /// Adds the meetings of wrappers with some dependents of the crate at a place.
 fn add_meetings(
     krates: &Krates,
-    wrappers: &[Spanned<Text>],
+    ranges: &TextMap<Span>,
     place: u32,
     parents: &[u32],
-    met: &mut List<Hit>,
+    met: &mut List<Meeting>,
 ) -> Result<(), NoMemory>
-    ensures { OnOk result (met.new ≡ met.old ++ filter_map (meeting_at krates.now wrappers.now place) parents.now) }
+    ensures { OnOk result (met.new ≡ met.old ++ filter_map (meeting_at krates.now ranges.now place) parents.now) }
 {
     for parent in parents {
-        if let Some(hit) = meeting_at(krates, wrappers, place, *parent)? {
-            met.push(hit)?;
+        if let Some(meeting) = meeting_at(krates, ranges, place, *parent) {
+            met.push(meeting)?;
         }
     }
     Ok(())
@@ -328,57 +355,15 @@ fn places_of(alloc: Global, dependents: &[DirectDependent]) -> Result<List<u32>,
     Ok(places)
 }
 
-/// The range of the first wrapper of a name.
-fn wrapper_span(wrappers: &[Spanned<Text>], name: &Text) -> Option<Span>
-    ensures { result ≡ option_map (λ w. w.span) (find (λ w. same_text w.value name.now) wrappers.now) }
-{
-    for wrapper in wrappers {
-        if wrapper.value == *name {
-            return Some(wrapper.span);
-        }
-    }
-    None
-}
-
-/// The hit of the first wrapper of the name of a crate's dependent.
-#[tactic(auto, unfolding(crate::specs::Meetings::meeting))]
-fn meeting(
-    wrappers: &[Spanned<Text>],
-    krate: &Krate,
-    parent: &Krate,
-) -> Result<Option<Hit>, NoMemory>
-    ensures { IfOk result (λ hit. hit ≡ meeting wrappers.now krate.now.id parent.now.name parent.now.id) }
-{
-    let Some(range) = wrapper_span(wrappers, &parent.name) else {
-        return Ok(None);
-    };
-    Ok(Some(Hit {
-        entry: EntryId {
-            kind: EntryKind::Wrapper,
-            range,
-        },
-        witness: Witness::Parent {
-            krate: krate.id.clone()?,
-            parent: parent.id.clone()?,
-        },
-    }))
-}
-
-/// The same of the crates at two places.
+/// The meeting of a dependent, where its name is a wrapper's.
 #[tactic(auto, unfolding(crate::specs::Meetings::meeting_at))]
-fn meeting_at(
-    krates: &Krates,
-    wrappers: &[Spanned<Text>],
-    place: u32,
-    parent: u32,
-) -> Result<Option<Hit>, NoMemory>
-    ensures { IfOk result (λ hit. hit ≡ meeting_at krates.now wrappers.now place parent) }
+fn meeting_at(krates: &Krates, ranges: &TextMap<Span>, place: u32, parent: u32) -> Option<Meeting>
+    ensures { result ≡ meeting_at krates.now ranges.now place parent }
 {
-    let Some(krate) = krate_at(krates, place) else {
-        return Ok(None);
-    };
-    let Some(parent) = krate_at(krates, parent) else {
-        return Ok(None);
-    };
-    meeting(wrappers, krate, parent)
+    let range = range_at(krates, ranges, parent)?;
+    Some(Meeting {
+        range,
+        place,
+        parent,
+    })
 }

@@ -1,12 +1,12 @@
 //! The labels of findings.
-ghost use Rattle.std.specs.Prelude.{◌≡◌, ◌++◌, ◌∷◌, [], IfOk, OnOk, codes, option_map, option_and_then, find};
+ghost use Rattle.std.specs.Prelude.{◌≡◌, ◌++◌, ◌∷◌, [], IfOk, OnOk, codes, option_map, option_and_then};
 ghost use Rattle.std.specs.Option.{option_map_or, option_copied};
 ghost use Rattle.deny_base.specs.declared.span.Spanned.{Spanned};
 ghost use Rattle.deny_cfg.specs.PolicyView.{ban_view, entry_view, policy_view, root_view, words_or_none};
 ghost use Rattle.deny_cfg.specs.SpecView.{spec_view};
 ghost use Rattle.deny_model.specs.Bans.{wrapper_of};
-ghost use Rattle.deny_model.specs.Text.{same_text};
-ghost use Rattle.deny_model.specs.Told.{ban_labels, entry_labels, label_at, labels_told, primary, root_at, root_labels, secondary, spec_labels, wrapper_labels, crate_at};
+ghost use Rattle.deny_model.specs.Told.{ban_at, ban_labels, entry_labels, label_at, labels_told, primary, root_at, root_labels, secondary, spec_labels, wrapper_labels, crate_at};
+ghost use Rattle.deny_rules.specs.WrapperRanges.{wrapper_range};
 
 use crate::krate_at::krate_at;
 use crate::teller::Teller;
@@ -53,7 +53,7 @@ fn bans_labels(alloc: Global, teller: &Teller<'_>, key: &Key, code: Code) -> Lab
             "unnecessary skip configuration",
             teller.skip(key.entry),
         ),
-        Code::AllowedByWrapper => wrapper_labels(alloc, teller, teller.ban(key.entry), key.other),
+        Code::AllowedByWrapper => wrapper_labels(alloc, teller, key.entry, key.other),
         Code::SkippedByRoot => root_labels(alloc, teller, "matched skip root", key.entry),
         Code::UnmatchedSkipRoot => {
             lone_label(alloc, file, key.entry, "no crate matched these criteria")
@@ -208,43 +208,26 @@ fn reason_of_root(root: &PackageSpecOrExtended<TreeSkipExtended>) -> Option<&Spa
     }
 }
 
-// The name of a ban, and its wrapper of the name of the crate at a place.
-fn wrapper_labels(
-    alloc: Global,
-    teller: &Teller<'_>,
-    ban: Option<&PackageSpecOrExtended<KrateBan>>,
-    parent: u32,
-) -> Labels
-    ensures { IfOk result (λ labels. labels ≡ option_map_or (λ b. wrapper_labels teller.now.cfg.now.file_id b (option_and_then (wrapper_of b.wrappers) (crate_at teller.now.krates.now parent))) (option_map (λ e. ban_view e.now) ban.entry) []) }
+// The name of the ban of a range, and its wrapper of the name of the crate at a place.
+fn wrapper_labels(alloc: Global, teller: &Teller<'_>, range: Span, parent: u32) -> Labels
+    ensures { IfOk result (λ labels. labels ≡ option_map_or (λ b. wrapper_labels teller.now.cfg.now.file_id b (option_and_then (wrapper_of b.wrappers) (crate_at teller.now.krates.now parent))) (ban_at (policy_view teller.now.cfg.now) range) []) }
 {
-    let Some(ban) = ban else {
+    let Some(ban) = teller.ban(range) else {
         return Ok(List::new(alloc));
     };
-    let Some(wrapper) = wrapper_of(teller, ban, parent) else {
+    let Some(wrapper) = wrapper_at(teller, range, parent) else {
         return Ok(List::new(alloc));
     };
     let file = teller.file();
     let mut labels = lone_label(alloc, file, ban.spec.name.span, "banned here")?;
-    labels.push(primary(alloc, file, wrapper.span, "allowed wrapper")?)?;
+    labels.push(primary(alloc, file, wrapper, "allowed wrapper")?)?;
     Ok(labels)
 }
 
-// The first wrapper of the name of the crate at a place.
-#[tactic(auto, unfolding(deny_model::specs::Bans::wrapper_of))]
-fn wrapper_of<'b>(
-    teller: &Teller<'_>,
-    ban: &'b PackageSpecOrExtended<KrateBan>,
-    place: u32,
-) -> Option<&'b Spanned<Text>>
-    ensures { option_map (λ w. w.now) result ≡ option_and_then (wrapper_of (ban_view ban.entry.now).wrappers) (crate_at teller.now.krates.now place) }
+// The range of the first wrapper of the name of the crate at a place, of the ban of a range.
+fn wrapper_at(teller: &Teller<'_>, range: Span, place: u32) -> Option<Span>
+    ensures { result ≡ option_and_then (λ c. wrapper_range (policy_view teller.now.cfg.now).deny range c.name) (crate_at teller.now.krates.now place) }
 {
     let krate = krate_at(teller.krates, place)?;
-    let wrappers = ban.inner.as_ref()?.wrappers.as_ref()?;
-    first_named(wrappers.as_slice(), krate.name.as_str())
-}
-
-fn first_named<'b>(words: &'b [Spanned<Text>], name: &str) -> Option<&'b Spanned<Text>>
-    ensures { option_map (λ w. w.now) result ≡ find (λ w. same_text w.value name.now) words.entry.now }
-{
-    words.iter().find(|word| word.value.as_str() == name)
+    teller.wrapper(range, krate.name.as_str())
 }

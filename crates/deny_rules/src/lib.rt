@@ -25,6 +25,7 @@ mod placed;
 mod skips;
 mod teller;
 mod told;
+mod wrapper_ranges;
 
 pub use check::{BansEnd, CheckCtx};
 pub use distances::distances_from;

@@ -6,10 +6,12 @@ ghost use Rattle.deny_model.specs.Duplicates.{is_denied_multiple};
 ghost use Rattle.deny_model.specs.Told.{allow_at, ban_at, crates_at, root_at, skip_at};
 ghost use Rattle.deny_rules.specs.ByRange.{IsByRange};
 ghost use Rattle.deny_rules.specs.Marks.{mark_at};
+ghost use Rattle.deny_rules.specs.WrapperRanges.{FindsWrappers, wrapper_range};
 
 use crate::by_range::ByRange;
 use crate::groups::spoken_of;
 use crate::marking::mark_at;
+use crate::wrapper_ranges::WrapperRanges;
 use deny_base::{FileId, List, NoMemory, Span};
 use deny_cfg::bans::cfg::{KrateBan, TreeSkipExtended, ValidConfig};
 use deny_cfg::{PackageSpecOrExtended, Reason};
@@ -25,11 +27,13 @@ pub struct Teller<'c> {
     allowed: ByRange<'c, Reason>,
     skipped: ByRange<'c, Reason>,
     roots: ByRange<'c, TreeSkipExtended>,
+    wrappers: WrapperRanges,
     several: List<bool>,
     ghost banned_found: { IsByRange cfg.now.denied banned },
     ghost allowed_found: { IsByRange cfg.now.allowed allowed },
     ghost skipped_found: { IsByRange cfg.now.skipped skipped },
     ghost roots_found: { IsByRange cfg.now.tree_skipped roots },
+    ghost wrappers_found: { FindsWrappers (map ban_view cfg.now.denied) wrappers },
     ghost several_marked: { several ≡ map (is_denied_multiple (policy_view cfg.now)) krates.now.crates },
 }
 
@@ -50,6 +54,7 @@ impl<'c> Teller<'c> {
             allowed: ByRange::new(alloc, cfg.allowed.as_slice())?,
             skipped: ByRange::new(alloc, cfg.skipped.as_slice())?,
             roots: ByRange::new(alloc, cfg.tree_skipped.as_slice())?,
+            wrappers: WrapperRanges::new(alloc, cfg.denied.as_slice())?,
             several: spoken_of(alloc, krates, cfg.denied_multiple_versions.as_slice())?,
         })
     }
@@ -87,6 +92,13 @@ impl<'c> Teller<'c> {
         ensures { MatchOption result (root_at (policy_view self.now.cfg.now) range ≡ None) (λ e. (number : ℕ) × (root_at (policy_view self.now.cfg.now) range ≡ Some (root_view number e.now))) }
     {
         self.roots.at(range)
+    }
+
+    /// The range of the first wrapper of a name, of the ban of a range.
+    pub fn wrapper(&self, range: Span, name: &str) -> Option<Span>
+        ensures { result ≡ wrapper_range (policy_view self.now.cfg.now).deny range name.now }
+    {
+        self.wrappers.at(range, name)
     }
 
     /// Whether several versions are denied of a crate at these places.

@@ -5,4 +5,4 @@ use Rattle.deny_rules.proofs.hits.add_all_meetings.Given as goal
 
 abbrev pub invariant-loop-place : goal.invariant-loop-place
 invariant-loop-place l =
-    l.met ++ flat_map (meetings_at l.krates l.wrappers) (drop l.place-index l.places) ≡ l.fn.met ++ flat_map (meetings_at l.krates l.wrappers) l.places
+    l.met ++ flat_map (meetings_at l.krates l.ranges) (drop l.place-index l.places) ≡ l.fn.met ++ flat_map (meetings_at l.krates l.ranges) l.places

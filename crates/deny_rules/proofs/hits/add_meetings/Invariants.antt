@@ -5,4 +5,4 @@ use Rattle.deny_rules.proofs.hits.add_meetings.Given as goal
 
 abbrev pub invariant-loop-parent : goal.invariant-loop-parent
 invariant-loop-parent l =
-    l.met ++ filter_map (meeting_at l.krates l.wrappers l.place) (drop l.parent-index l.parents) ≡ l.fn.met ++ filter_map (meeting_at l.krates l.wrappers l.place) l.parents
+    l.met ++ filter_map (meeting_at l.krates l.ranges l.place) (drop l.parent-index l.parents) ≡ l.fn.met ++ filter_map (meeting_at l.krates l.ranges l.place) l.parents

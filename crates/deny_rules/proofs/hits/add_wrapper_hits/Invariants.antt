@@ -1,9 +1,10 @@
 use Rattle.std.proofs.Common.{◌≡◌, ◌++◌, drop, map}
 use Rattle.std.specs.List.{flat_map}
-use Rattle.deny_cfg.specs.PolicyView.{ban_view}
-use Rattle.deny_rules.specs.Meetings.{wrapper_hits_of}
+use Rattle.deny_cfg.specs.PolicyView.{ban_view, policy_view}
+use Rattle.deny_rules.specs.Meetings.{wrapper_hits}
 use Rattle.deny_rules.proofs.hits.add_wrapper_hits.Given as goal
 
 abbrev pub invariant-loop-ban : goal.invariant-loop-ban
 invariant-loop-ban l =
-    l.hits ++ flat_map (wrapper_hits_of l.krates l.exempt) (map ban_view (drop l.ban-index l.bans)) ≡ l.fn.hits ++ flat_map (wrapper_hits_of l.krates l.exempt) (map ban_view l.bans)
+    l.hits ++ flat_map (wrapper_hits (policy_view l.cfg) l.krates) (map ban_view (drop l.ban-index l.bans))
+    ≡ l.fn.hits ++ flat_map (wrapper_hits (policy_view l.cfg) l.krates) (map ban_view l.bans)

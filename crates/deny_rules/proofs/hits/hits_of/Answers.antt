@@ -1,12 +1,9 @@
 use Rattle.std.proofs.Common.{◌≡◌, ◌++◌, List, [], map, ap, ◌∙◌, append_assoc}
-use Rattle.std.specs.List.{flat_map}
 use Rattle.std.specs.Prelude.{filter_map}
 use Rattle.deny_base.specs.declared.entry.Hit.{Hit}
-use Rattle.deny_cfg.specs.PolicyView.{ban_view, entry_view, policy_view, roots_from}
+use Rattle.deny_cfg.specs.PolicyView.{entry_view, policy_view, roots_from}
 use Rattle.deny_model.specs.Hits.{root_hit, skip_hit}
 use Rattle.deny_rules.specs.Marks.{facts_of}
-use Rattle.deny_rules.specs.Meetings.{wrapper_hits_of}
-use Rattle.deny_rules.proofs.HitLemmas.{wrapper-hits}
 use Rattle.deny_rules.proofs.hits.hits_of.Goals as goal
 
 three : (old first second third a b d : List Hit) → old ≡ [] → first ≡ old ++ a → second ≡ first ++ b → third ≡ second ++ d → third ≡ a ++ (b ++ d)
@@ -20,7 +17,4 @@ returns c =
     c.new-hits.ensures
     (c.in_ok-add_skip_hits.ensures ∙ ap (λ es. c.new-hits.result ++ filter_map (skip_hit g (facts_of c.args.marks.now)) (map entry_view es)) c.as_slice.ensures)
     (c.in_ok-add_root_hits.ensures ∙ ap (λ es. c.add_skip_hits.new.hits ++ filter_map (root_hit g) (roots_from 0 es)) c.as_slice-2.ensures)
-    (c.in_ok-add_wrapper_hits.ensures
-    ∙ (ap (λ exempt. c.add_root_hits.new.hits ++ flat_map (wrapper_hits_of g exempt) (map ban_view c.as_slice-4.result.now)) c.as_slice-3.ensures
-    ∙ (ap (λ es. c.add_root_hits.new.hits ++ flat_map (wrapper_hits_of g c.in_ok-exempt.exempt) (map ban_view es)) c.as_slice-4.ensures
-    ∙ ap (λ hits. c.add_root_hits.new.hits ++ hits) (wrapper-hits p g c.in_ok-exempt.exempt c.are_placed.ensures c.in_ok-exempt.ensures (map ban_view c.args.cfg.now.denied)))))
+    c.in_ok-add_wrapper_hits.ensures

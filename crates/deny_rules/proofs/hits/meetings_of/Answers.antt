@@ -2,12 +2,12 @@ use Rattle.std.proofs.Common.{◌≡◌, ◌++◌, List, not, filter, length, ma
 use Rattle.std.specs.List.{flat_map}
 use Rattle.std.specs.Prelude.{◌&&◌}
 use Rattle.std.proofs.lemmas.List.Folds.{flat_map-map}
-use Rattle.deny_base.specs.declared.entry.Hit.{Hit}
 use Rattle.deny_cfg.specs.PolicyView.{ban_view}
 use Rattle.deny_model.specs.Graph.{Crate}
 use Rattle.deny_model.specs.Match.{matches}
 use Rattle.deny_rules.specs.Marks.{marked}
 use Rattle.deny_rules.specs.Meetings.{meetings_at, meetings_of}
+use Rattle.deny_rules.specs.declared.hits.Meeting.{Meeting}
 use Rattle.deny_rules.proofs.MarkLemmas.{places_within}
 use Rattle.deny_rules.proofs.PlaceLemmas.{place_of}
 use Rattle.deny_rules.proofs.hits.meetings_of.Goals as goal
@@ -25,10 +25,10 @@ returns c =
     let g = c.args.krates.now in
     let exempt = c.args.exempt.now in
     let ban = ban_view c.args.ban.now in
+    let ranges = c.args.ranges.now in
     let kept = filter (λ d. matches ban.spec d && not (marked exempt d)) g.crates in
     let concerned : c.as_slice.result.now ≡ map place_of kept = c.as_slice.ensures ∙ c.in_ok-concerned.ensures in
     c.in_ok-add_all_meetings.ensures
-    ∙ (ap (λ (hits : List Hit). hits ++ flat_map (meetings_at g c.wrappers_of.result.now) c.as_slice.result.now) c.new-met.ensures
-    ∙ (ap (λ wrappers. flat_map (meetings_at g wrappers) c.as_slice.result.now) c.wrappers_of.ensures
-    ∙ (ap (flat_map (meetings_at g ban.wrappers)) concerned
-    ∙ flat_map-map (meetings_at g ban.wrappers) place_of kept)))
+    ∙ (ap (λ (met : List Meeting). met ++ flat_map (meetings_at g ranges) c.as_slice.result.now) c.new-met.ensures
+    ∙ (ap (flat_map (meetings_at g ranges)) concerned
+    ∙ flat_map-map (meetings_at g ranges) place_of kept))
