@@ -4,7 +4,7 @@ use Rattle.std.specs.List.{position_or_len}
 use Rattle.std.specs.Str.{bytes_eq}
 use Rattle.std.specs.Cmp.{IsTotalOrder, nat_cmp_total, on_total}
 use Rattle.std.specs.FinMap.{IsAntisymmetric, nat_cmp-IsAntisymmetric}
-use Rattle.deny_base.specs.Code.{code_name, code_number, code_cmp, diagnostic_code_name, diagnostic_code_number, diagnostic_code_cmp}
+use Rattle.deny_base.specs.Code.{first_license, code_name, code_number, code_cmp, diagnostic_code_name, diagnostic_code_number, diagnostic_code_cmp}
 use Rattle.deny_base.specs.LicenseCode.{license_code_name, license_code_number, license_code_cmp}
 use Rattle.deny_base.specs.declared.code.Code.TheVariants as bans
 use Rattle.deny_base.specs.declared.code.DiagnosticCode.{DiagnosticCode}
@@ -117,18 +117,21 @@ pub diagnostic_code_cmp-total : IsTotalOrder diagnostic_code_cmp
 diagnostic_code_cmp-total = on_total diagnostic_code_number nat_cmp_total
 
 pub diagnostic_code_cmp-exact : IsAntisymmetric diagnostic_code_cmp
-diagnostic_code_cmp-exact a b e = same_number a b (nat_cmp-IsAntisymmetric (diagnostic_code_number a) (diagnostic_code_number b) e)
+diagnostic_code_cmp-exact a b e = same_number a b
+    (nat_cmp-IsAntisymmetric (diagnostic_code_number a) (diagnostic_code_number b) e)
 
 pub code_cmp-exact : IsAntisymmetric code_cmp
 unfolding diagnostic_code_number
 code_cmp-exact a b e =
-    let same : Bans a ≡ Bans b = same_number (Bans a) (Bans b) (ap (λ n. 1 + n) (nat_cmp-IsAntisymmetric (code_number a) (code_number b) e)) in
+    let same : Bans a ≡ Bans b = same_number (Bans a) (Bans b)
+    (ap (λ n. 1 + n) (nat_cmp-IsAntisymmetric (code_number a) (code_number b) e)) in
     cc
 
 pub license_code_cmp-exact : IsAntisymmetric license_code_cmp
 unfolding diagnostic_code_number
 license_code_cmp-exact a b e =
-    let same : License a ≡ License b = same_number (License a) (License b) (ap (λ n. 37 + n) (nat_cmp-IsAntisymmetric (license_code_number a) (license_code_number b) e)) in
+    let same : License a ≡ License b = same_number (License a) (License b)
+    (ap (λ n. first_license + n) (nat_cmp-IsAntisymmetric (license_code_number a) (license_code_number b) e)) in
     cc
 
 -- the place of a word among those of all codes

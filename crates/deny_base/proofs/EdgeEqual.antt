@@ -3,7 +3,7 @@ use Rattle.std.proofs.Common.{◌≡◌, ℕ, [], ◌∷◌, slice_index_or, ref
 use Rattle.std.specs.Ordering.{nat_cmp}
 use Rattle.std.specs.Cmp.{IsTotalOrder, nat_cmp_total, on_total, then_total}
 use Rattle.std.specs.FinMap.{IsAntisymmetric, nat_cmp-IsAntisymmetric}
-use Rattle.deny_base.proofs.KeyEqual.{then_first, then_second}
+use Rattle.deny_lists.proofs.Orders.{then_first, then_second}
 use Rattle.deny_base.specs.Edge.{kind_number, kind_cmp, edge_cmp}
 use Rattle.deny_base.specs.declared.edge.DepKind.{DepKind}
 use Rattle.deny_base.specs.declared.edge.DepKind.TheVariants.{Normal, Dev, Build}
@@ -19,7 +19,8 @@ kind_at-number Dev = refl
 kind_at-number Build = refl
 
 pub kind_cmp-exact : IsAntisymmetric kind_cmp
-kind_cmp-exact a b e = sym (kind_at-number a) ∙ (ap kind_at (nat_cmp-IsAntisymmetric (kind_number a) (kind_number b) e) ∙ kind_at-number b)
+kind_cmp-exact a b e = sym (kind_at-number a)
+    ∙ (ap kind_at (nat_cmp-IsAntisymmetric (kind_number a) (kind_number b) e) ∙ kind_at-number b)
 
 edge_from : ℕ → ℕ → DepKind → Edge
 edge_from parent child kind = record { parent = parent; child = child; kind = kind }
@@ -33,7 +34,8 @@ edge_cmp-exact a b e =
     let after_parent = then_second (nat_cmp a.parent b.parent) _ e in
     let parent : a.parent ≡ b.parent = nat_cmp-IsAntisymmetric a.parent b.parent (then_first _ _ e) in
     let child : a.child ≡ b.child = nat_cmp-IsAntisymmetric a.child b.child (then_first _ _ after_parent) in
-    let kind : a.kind ≡ b.kind = kind_cmp-exact a.kind b.kind (then_second (nat_cmp a.child b.child) (kind_cmp a.kind b.kind) after_parent) in
+    let kind : a.kind ≡ b.kind = kind_cmp-exact a.kind b.kind
+    (then_second (nat_cmp a.child b.child) (kind_cmp a.kind b.kind) after_parent) in
     cc (edge_from-is a, edge_from-is b)
 
 pub edge_cmp-total : IsTotalOrder edge_cmp

@@ -2,7 +2,8 @@
 use Rattle.std.proofs.Common.{◌≡◌, ℕ, List, [], ◌∷◌, slice_index_or, refl, sym, ap, ◌∙◌}
 use Rattle.std.specs.Cmp.{IsTotalOrder, nat_cmp_total, on_total, then_total}
 use Rattle.std.specs.FinMap.{IsAntisymmetric, nat_cmp-IsAntisymmetric}
-use Rattle.deny_base.proofs.KeyEqual.{then_first, then_second, span_cmp-exact, span_cmp-total}
+use Rattle.deny_base.proofs.KeyEqual.{span_cmp-exact, span_cmp-total}
+use Rattle.deny_lists.proofs.Orders.{then_first, then_second}
 use Rattle.deny_base.specs.Entry.{entry_kind_number, entry_kind_cmp, entry_cmp}
 use Rattle.deny_base.specs.KeyOrder.{span_cmp}
 use Rattle.deny_base.specs.declared.entry.EntryId.{EntryId}
@@ -41,7 +42,9 @@ entry_kind_at-number kind.LicenseException = refl
 
 entry_kind_cmp-exact : IsAntisymmetric entry_kind_cmp
 entry_kind_cmp-exact a b e =
-    sym (entry_kind_at-number a) ∙ (ap entry_kind_at (nat_cmp-IsAntisymmetric (entry_kind_number a) (entry_kind_number b) e) ∙ entry_kind_at-number b)
+    sym (entry_kind_at-number a)
+    ∙ (ap entry_kind_at (nat_cmp-IsAntisymmetric (entry_kind_number a) (entry_kind_number b) e)
+    ∙ entry_kind_at-number b)
 
 entry_from : EntryKind → Span → EntryId
 entry_from kind range = record { kind = kind; range = range }
@@ -53,9 +56,11 @@ entry_from-is e = refl
 pub entry_cmp-exact : IsAntisymmetric entry_cmp
 entry_cmp-exact a b e =
     let range : a.range ≡ b.range = span_cmp-exact a.range b.range (then_first _ _ e) in
-    let kind : a.kind ≡ b.kind = entry_kind_cmp-exact a.kind b.kind (then_second (span_cmp a.range b.range) (entry_kind_cmp a.kind b.kind) e) in
+    let kind : a.kind ≡ b.kind = entry_kind_cmp-exact a.kind b.kind
+    (then_second (span_cmp a.range b.range) (entry_kind_cmp a.kind b.kind) e) in
     cc (entry_from-is a, entry_from-is b)
 
 pub entry_cmp-total : IsTotalOrder entry_cmp
 entry_cmp-total =
-    then_total (on_total (λ (e : EntryId). e.range) span_cmp-total) (on_total (λ (e : EntryId). e.kind) (on_total entry_kind_number nat_cmp_total))
+    then_total (on_total (λ (e : EntryId). e.range) span_cmp-total)
+    (on_total (λ (e : EntryId). e.kind) (on_total entry_kind_number nat_cmp_total))

@@ -1,4 +1,5 @@
 -- Only equal keys tie.
+use Rattle.deny_lists.proofs.Orders.{text_cmp-exact, then_first, then_second}
 use Rattle.std.proofs.Common.{◌≡◌, ℕ, List, [], ◌∷◌, slice_index_or, refl, sym, ap, ◌∙◌}
 use Rattle.std.specs.Ordering.{nat_cmp, ordering_then}
 use Rattle.std.specs.Cmp.{IsTotalOrder, nat_cmp_total, on_total, then_total}
@@ -14,16 +15,6 @@ use Rattle.deny_base.specs.declared.key.Key.{Key}
 use Rattle.deny_base.specs.declared.key.Section.{Section}
 use Rattle.deny_base.specs.declared.key.Section.TheVariants as section
 use Rattle.deny_base.specs.declared.span.Span.{Span}
-
-pub then_first : (r s : Ordering) → ordering_then r s ≡ Equal → r ≡ Equal
-then_first Less s e = cc e
-then_first Equal s e = refl
-then_first Greater s e = cc e
-
-pub then_second : (r s : Ordering) → ordering_then r s ≡ Equal → s ≡ Equal
-then_second Less s e = cc e
-then_second Equal s e = e
-then_second Greater s e = cc e
 
 -- what stands at a number of the order of declaration
 sections : List Section
@@ -45,10 +36,8 @@ section_at-number section.LicensesUnused = refl
 
 section_cmp-exact : IsAntisymmetric section_cmp
 section_cmp-exact a b e =
-    sym (section_at-number a) ∙ (ap section_at (nat_cmp-IsAntisymmetric (section_number a) (section_number b) e) ∙ section_at-number b)
-
-text_cmp-exact : IsAntisymmetric (slice_cmp nat_cmp)
-text_cmp-exact = slice_cmp-IsAntisymmetric nat_cmp-IsAntisymmetric
+    sym (section_at-number a)
+    ∙ (ap section_at (nat_cmp-IsAntisymmetric (section_number a) (section_number b) e) ∙ section_at-number b)
 
 span_from : ℕ → ℕ → Span
 span_from start end = record { start = start; end = end }
@@ -60,7 +49,8 @@ span_from-is s = refl
 pub span_cmp-exact : IsAntisymmetric span_cmp
 span_cmp-exact a b e =
     let starts : a.start ≡ b.start = nat_cmp-IsAntisymmetric a.start b.start (then_first _ _ e) in
-    let ends : a.end ≡ b.end = nat_cmp-IsAntisymmetric a.end b.end (then_second (nat_cmp a.start b.start) (nat_cmp a.end b.end) e) in
+    let ends : a.end ≡ b.end = nat_cmp-IsAntisymmetric a.end b.end
+    (then_second (nat_cmp a.start b.start) (nat_cmp a.end b.end) e) in
     cc (span_from-is a, span_from-is b)
 
 key_from : Section → ℕ → DiagnosticCode → Span → List ℕ → ℕ → List ℕ → Key
@@ -92,7 +82,8 @@ section_cmp-total : IsTotalOrder section_cmp
 section_cmp-total = on_total section_number nat_cmp_total
 
 pub span_cmp-total : IsTotalOrder span_cmp
-span_cmp-total = then_total (on_total (λ (s : Span). s.start) nat_cmp_total) (on_total (λ (s : Span). s.end) nat_cmp_total)
+span_cmp-total = then_total (on_total (λ (s : Span). s.start) nat_cmp_total)
+    (on_total (λ (s : Span). s.end) nat_cmp_total)
 
 pub key_cmp-total : IsTotalOrder key_cmp
 key_cmp-total =

@@ -1,9 +1,5 @@
-pub mod AscendingLemmas
 pub mod CodeEqual
 pub mod EdgeEqual
 pub mod EntryEqual
 pub mod KeyEqual
 pub mod LocationLemmas
-pub mod PieceLemmas
-pub mod TextMapLemmas
-pub mod WritingLemmas

@@ -93,11 +93,15 @@ code_number bans.UnusedWorkspaceDependency = 33
 code_number bans.ReplacedInStd = 34
 code_number bans.UnmatchedReplacementIgnore = 35
 
+-- the number behind those of the bans, the last of which is this one
+abbrev pub first_license : ℕ
+first_license = 2 + code_number bans.UnmatchedReplacementIgnore
+
 -- deprecated keys come first, then the codes of bans, then those of licences
 unfoldable pub diagnostic_code_number : DiagnosticCode → ℕ
 diagnostic_code_number Deprecated = 0
 diagnostic_code_number (Bans code) = 1 + code_number code
-diagnostic_code_number (License code) = 37 + license_code_number code
+diagnostic_code_number (License code) = first_license + license_code_number code
 
 -- sections are ordered as they are declared
 unfoldable pub section_number : Section → ℕ

@@ -1,7 +1,4 @@
-pub mod Ascending
 pub mod Code
-pub mod Count
-pub mod Disk
 pub mod Edge
 pub mod Entry
 pub mod Files
@@ -9,9 +6,3 @@ pub mod KeyOrder
 pub mod Level
 pub mod LicenseCode
 pub mod Marks
-pub mod MemoryDisk
-pub mod MemoryOut
-pub mod Out
-pub mod Read
-pub mod TextMap
-pub mod formers

@@ -1,6 +1,6 @@
 ghost use Rattle.std.proofs.Common.{rules};
 
-use crate::list::Plain;
+use deny_lists::Plain;
 
 /// The check that a finding belongs to.
 #[derive(Debug, Clone, Copy, PartialEq, Eq)]

@@ -10,7 +10,7 @@ ghost use Rattle.deny_base.specs.declared.code.DiagnosticCode.{DiagnosticCode};
 ghost use Rattle.deny_base.specs.declared.license_code.LicenseCode.{LicenseCode};
 
 use crate::license_code::LicenseCode;
-use crate::list::Plain;
+use deny_lists::Plain;
 use std::cmp::Ordering;
 use std::fmt;
 
@@ -193,7 +193,10 @@ impl DiagnosticCode {
         match self {
             DiagnosticCode::Deprecated => 0,
             DiagnosticCode::Bans(code) => 1 + u32::from(code.number()),
-            DiagnosticCode::License(code) => 37 + u32::from(code.number()),
+            DiagnosticCode::License(code) => {
+                let last = Code::UnmatchedReplacementIgnore.number();
+                2 + u32::from(last) + u32::from(code.number())
+            },
         }
     }
 }
@@ -254,24 +257,3 @@ pub fn code_order()
     ensures licenses { IsAntisymmetric license_code_cmp }
     ensures words { (a b : DiagnosticCode) → diagnostic_code_name a ≡ diagnostic_code_name b → a ≡ b }
 {}
-
-#[cfg(test)]
-mod tests {
-    use super::*;
-    use crate::memory::NoMemory;
-
-    fn prints(rt: &HostRuntime, code: DiagnosticCode, word: &str) -> Result<bool, NoMemory> {
-        let printed = format!(in rt.alloc(); "{code}")?;
-        Ok(printed.as_str() == word)
-    }
-
-    #[test]
-    fn a_code_prints_its_word(rt: HostRuntime) -> Result<(), NoMemory> {
-        let script = DiagnosticCode::Bans(Code::BuildScriptNotAllowed);
-        let license = DiagnosticCode::License(LicenseCode::ParseError);
-        assert!(rt; prints(&rt, DiagnosticCode::Deprecated, "deprecated")?);
-        assert!(rt; prints(&rt, script, "build-script-not-allowed")?);
-        assert!(rt; prints(&rt, license, "parse-error")?);
-        Ok(())
-    }
-}

@@ -6,7 +6,7 @@ ghost use Rattle.std.specs.FinMap.{IsAntisymmetric};
 ghost use Rattle.deny_base.specs.Edge.{kind_number, kind_cmp, edge_cmp};
 ghost use Rattle.deny_base.specs.declared.edge.Edge.{Edge};
 
-use crate::list::Plain;
+use deny_lists::Plain;
 use std::cmp::Ordering;
 
 /// How a crate is needed: by the crate itself, by its tests and examples, or by its build script.

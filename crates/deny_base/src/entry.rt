@@ -8,9 +8,8 @@ ghost use Rattle.std.specs.Cmp.Rules.{comparing};
 ghost use Rattle.deny_base.specs.Entry.{entry_kind_number, entry_kind_cmp, entry_cmp};
 ghost use Rattle.deny_base.specs.declared.entry.EntryId.{EntryId};
 
-use crate::list::Plain;
 use crate::span::{Kid, Span};
-use crate::text::Text;
+use deny_lists::{Plain, Text};
 use std::cmp::Ordering;
 
 /// The kinds of entry of a policy that allow something, and so are of use only where they meet it.

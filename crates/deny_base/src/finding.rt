@@ -5,9 +5,8 @@ use crate::code::DiagnosticCode;
 use crate::key::Key;
 use crate::label::Label;
 use crate::level::Severity;
-use crate::list::{List, Plain};
 use crate::span::Kid;
-use crate::text::Text;
+use deny_lists::{List, Plain, Text};
 
 /// What a report says of a finding.
 #[derive(Debug, Clone, PartialEq, Eq, Drop)]

@@ -8,9 +8,8 @@ ghost use Rattle.deny_base.specs.KeyOrder.{key_cmp};
 ghost use Rattle.deny_base.specs.declared.key.Key.{Key};
 
 use crate::code::DiagnosticCode;
-use crate::list::{List, Plain};
 use crate::span::Span;
-use crate::text::Text;
+use deny_lists::{List, Plain, Text};
 use std::cmp::Ordering;
 
 /// The part of a report that a finding stands in; reports show sections in this order.

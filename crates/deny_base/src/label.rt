@@ -1,8 +1,7 @@
 ghost use Rattle.std.proofs.Common.{rules};
 
-use crate::list::Plain;
 use crate::span::Span;
-use crate::text::Text;
+use deny_lists::{Plain, Text};
 
 /// The number of a file among the files of a run, from 0 in the order in which they were added.
 pub type FileId = u32;

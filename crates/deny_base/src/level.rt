@@ -2,7 +2,7 @@ ghost use Rattle.std.proofs.Common.{rules};
 ghost use Rattle.std.specs.Prelude.{◌≡◌};
 ghost use Rattle.deny_base.specs.Level.{severity_of};
 
-use crate::list::Plain;
+use deny_lists::Plain;
 
 /// The level that a policy gives a rule.
 #[derive(Debug, Clone, Copy, PartialEq, Eq)]

@@ -4,7 +4,7 @@ ghost use Rattle.std.specs.Cmp.{nat_cmp_total, on_total, on_per, on_equiv, nat_e
 ghost use Rattle.std.proofs.Common.{rules};
 ghost use Rattle.deny_base.specs.LicenseCode.{license_code_name, license_code_number, license_code_cmp};
 
-use crate::list::Plain;
+use deny_lists::Plain;
 use std::cmp::Ordering;
 use std::fmt;
 

@@ -1,7 +1,6 @@
 ghost use Rattle.std.proofs.Common.{rules};
 
-use crate::list::Plain;
-use crate::text::Text;
+use deny_lists::{Plain, Text};
 
 /// A range of a text in byte offsets: from `start` to before `end`.
 #[derive(Debug, Clone, Copy, PartialEq, Eq, PartialOrd, Ord)]

@@ -1,7 +1,7 @@
 -- Facts that are true of one policy and graph tell the same, so what stands by them is the same.
 use Rattle.std.proofs.Common.{◌≡◌, ◌==◌, ◌&&◌, ◌||◌, inl, inr, ℕ, List, not, ap, ◌∙◌, subst}
 use Rattle.std.specs.Prelude.{Contains, filter, map, length, nat_le, if◌then◌else◌}
-use Rattle.deny_base.specs.Ascending.{Lists}
+use Rattle.deny_lists.specs.Ascending.{Lists}
 use Rattle.deny_base.specs.declared.key.Key.{Key}
 use Rattle.deny_model.specs.VersionOrder.{version_cmp}
 use Rattle.deny_model.specs.Duplicates.{IsDuplicate}
@@ -12,40 +12,52 @@ use Rattle.deny_model.specs.Match.{matches}
 use Rattle.deny_model.specs.Policy.{Entry, Policy, Root}
 use Rattle.deny_model.specs.Rules.{skip_keys, Stands}
 use Rattle.deny_model.specs.Skips.{is_skipped, is_skipped_by_root, is_hit_skip, is_needless, skipped_keys_of, skipped_by_root_keys_of, unmatched_skip_keys, unnecessary_skip_keys}
-use Rattle.deny_model.proofs.Kept.{AgreeOn, filter_on, flat_map_on, list_any_on, same_test}
+use Rattle.deny_lists.proofs.Agreement.{AgreeOn, filter_on, flat_map_on, list_any_on, same_test}
 
 -- two facts of one policy and graph
 pub record TwoFacts (p : Policy) (g : Graph) (these those : Facts) : Type 0 where
   pub left : AreFacts p g these
   pub right : AreFacts p g those
 
-count_alike : (p : Policy) (g : Graph) (these those : Facts) → TwoFacts p g these those → AgreeOn g.crates these.counts those.counts
-count_alike p g these those both = λ c known. same_test (these.counts c) (those.counts c) (both.left.counts c known) (both.right.counts c known)
+count_alike : (p : Policy) (g : Graph) (these those : Facts) → TwoFacts p g these those
+    → AgreeOn g.crates these.counts those.counts
+count_alike p g these those both = λ c known. same_test (these.counts c) (those.counts c) (both.left.counts c known)
+    (both.right.counts c known)
 
-root_alike : (p : Policy) (g : Graph) (these those : Facts) → TwoFacts p g these those → AgreeOn g.crates (is_rooted p these) (is_rooted p those)
+root_alike : (p : Policy) (g : Graph) (these those : Facts) → TwoFacts p g these those
+    → AgreeOn g.crates (is_rooted p these) (is_rooted p those)
 unfolding is_rooted
 root_alike p g these those both = λ c known. list_any_on (λ t. these.in_tree t c) (λ t. those.in_tree t c) p.skip_tree
-    (λ t written. same_test (these.in_tree t c) (those.in_tree t c) (both.left.in_tree t written c known) (both.right.in_tree t written c known))
+    (λ t written. same_test (these.in_tree t c) (those.in_tree t c) (both.left.in_tree t written c known)
+    (both.right.in_tree t written c known))
 
-may_stand_alike : (p : Policy) (g : Graph) (these those : Facts) → TwoFacts p g these those → AgreeOn g.crates (may_stand p these) (may_stand p those)
+may_stand_alike : (p : Policy) (g : Graph) (these those : Facts) → TwoFacts p g these those
+    → AgreeOn g.crates (may_stand p these) (may_stand p those)
 unfolding may_stand
 may_stand_alike p g these those both = λ c known.
     ap (λ b. b && (is_marked p c || not (is_rooted p these c))) (count_alike p g these those both c known)
     ∙ ap (λ b. those.counts c && (is_marked p c || not b)) (root_alike p g these those both c known)
 
-in_group_alike : (p : Policy) (g : Graph) (these those : Facts) (name : List ℕ) → TwoFacts p g these those → AgreeOn g.crates (is_in_group p these name) (is_in_group p those name)
+in_group_alike : (p : Policy) (g : Graph) (these those : Facts) (name : List ℕ) → TwoFacts p g these those
+    → AgreeOn g.crates (is_in_group p these name) (is_in_group p those name)
 unfolding is_in_group
-in_group_alike p g these those name both = λ c known. ap (λ b. has_name name c && b) (may_stand_alike p g these those both c known)
+in_group_alike p g these those name both = λ c known. ap (λ b. has_name name c && b)
+    (may_stand_alike p g these those both c known)
 
-groups_alike : (p : Policy) (g : Graph) (these those : Facts) (name : List ℕ) → TwoFacts p g these those → group p g these name ≡ group p g those name
-groups_alike p g these those name both = filter_on (is_in_group p these name) (is_in_group p those name) g.crates (in_group_alike p g these those name both)
+groups_alike : (p : Policy) (g : Graph) (these those : Facts) (name : List ℕ) → TwoFacts p g these those
+    → group p g these name ≡ group p g those name
+groups_alike p g these those name both = filter_on (is_in_group p these name) (is_in_group p those name) g.crates
+    (in_group_alike p g these those name both)
 
-reduced_alike : (p : Policy) (g : Graph) (these those : Facts) (name : List ℕ) → TwoFacts p g these those → reduced p g these name ≡ reduced p g those name
+reduced_alike : (p : Policy) (g : Graph) (these those : Facts) (name : List ℕ) → TwoFacts p g these those
+    → reduced p g these name ≡ reduced p g those name
 unfolding reduced
 reduced_alike p g these those name both =
-    ap (λ (crates : List Crate). if length crates == 1 then crates else filter (λ c. not (is_internal g name c)) crates) (groups_alike p g these those name both)
+    ap (λ (crates : List Crate). if length crates == 1 then crates else filter (λ c. not (is_internal g name c)) crates)
+    (groups_alike p g these those name both)
 
-duplicates_alike : (p : Policy) (g : Graph) (these those : Facts) (key : Key) → TwoFacts p g these those → IsDuplicate p g these key → IsDuplicate p g those key
+duplicates_alike : (p : Policy) (g : Graph) (these those : Facts) (key : Key) → TwoFacts p g these those
+    → IsDuplicate p g these key → IsDuplicate p g those key
 duplicates_alike p g these those key both found =
     let c = found.0 in
     let d = found.2 in (
@@ -53,63 +65,86 @@ duplicates_alike p g these those key both found =
       found.1,
       record {
         crates = d.crates;
-        listed = subst (λ (kept : List Crate). Lists version_cmp (Contains (filter (λ c. not (is_marked p c)) kept)) d.crates) (reduced_alike p g these those c.name both) d.listed;
+        listed = subst (λ (kept : List Crate). Lists version_cmp (Contains (filter (λ c. not (is_marked p c)) kept))
+            d.crates) (reduced_alike p g these those c.name both) d.listed;
         several = d.several;
         minded = d.minded;
         is = d.is;
       },
     )
 
-skipped_alike : (p : Policy) (g : Graph) (these those : Facts) (s : Entry) → TwoFacts p g these those → AgreeOn g.crates (is_skipped these s) (is_skipped those s)
+skipped_alike : (p : Policy) (g : Graph) (these those : Facts) (s : Entry) → TwoFacts p g these those
+    → AgreeOn g.crates (is_skipped these s) (is_skipped those s)
 unfolding is_skipped
-skipped_alike p g these those s both = λ c known. ap (λ b. b && matches s.spec c) (count_alike p g these those both c known)
+skipped_alike p g these those s both = λ c known. ap (λ b. b && matches s.spec c)
+    (count_alike p g these those both c known)
 
-rooted_alike : (p : Policy) (g : Graph) (these those : Facts) (t : Root) → TwoFacts p g these those → Contains p.skip_tree t → AgreeOn g.crates (is_skipped_by_root p these t) (is_skipped_by_root p those t)
+rooted_alike : (p : Policy) (g : Graph) (these those : Facts) (t : Root) → TwoFacts p g these those
+    → Contains p.skip_tree t → AgreeOn g.crates (is_skipped_by_root p these t) (is_skipped_by_root p those t)
 unfolding is_skipped_by_root
 rooted_alike p g these those t both written = λ c known.
     ap (λ b. b && (not (is_marked p c) && these.in_tree t c)) (count_alike p g these those both c known)
-    ∙ ap (λ b. those.counts c && (not (is_marked p c) && b)) (same_test (these.in_tree t c) (those.in_tree t c) (both.left.in_tree t written c known) (both.right.in_tree t written c known))
+    ∙ ap (λ b. those.counts c && (not (is_marked p c) && b))
+    (same_test (these.in_tree t c) (those.in_tree t c) (both.left.in_tree t written c known)
+    (both.right.in_tree t written c known))
 
-skipped_keys_alike : (p : Policy) (g : Graph) (these those : Facts) → TwoFacts p g these those → AgreeOn p.skip (skipped_keys_of g these) (skipped_keys_of g those)
+skipped_keys_alike : (p : Policy) (g : Graph) (these those : Facts) → TwoFacts p g these those
+    → AgreeOn p.skip (skipped_keys_of g these) (skipped_keys_of g those)
 unfolding skipped_keys_of
 skipped_keys_alike p g these those both = λ s written.
     ap (map _) (filter_on (is_skipped these s) (is_skipped those s) g.crates (skipped_alike p g these those s both))
 
-rooted_keys_alike : (p : Policy) (g : Graph) (these those : Facts) → TwoFacts p g these those → AgreeOn p.skip_tree (skipped_by_root_keys_of p g these) (skipped_by_root_keys_of p g those)
+rooted_keys_alike : (p : Policy) (g : Graph) (these those : Facts) → TwoFacts p g these those
+    → AgreeOn p.skip_tree (skipped_by_root_keys_of p g these) (skipped_by_root_keys_of p g those)
 unfolding skipped_by_root_keys_of
 rooted_keys_alike p g these those both = λ t written.
-    ap (map _) (filter_on (is_skipped_by_root p these t) (is_skipped_by_root p those t) g.crates (rooted_alike p g these those t both written))
+    ap (map _) (filter_on (is_skipped_by_root p these t) (is_skipped_by_root p those t) g.crates
+    (rooted_alike p g these those t both written))
 
-hit_alike : (p : Policy) (g : Graph) (these those : Facts) (s : Entry) → TwoFacts p g these those → is_hit_skip g these s ≡ is_hit_skip g those s
+hit_alike : (p : Policy) (g : Graph) (these those : Facts) (s : Entry) → TwoFacts p g these those
+    → is_hit_skip g these s ≡ is_hit_skip g those s
 unfolding is_hit_skip
-hit_alike p g these those s both = list_any_on (is_skipped these s) (is_skipped those s) g.crates (skipped_alike p g these those s both)
+hit_alike p g these those s both = list_any_on (is_skipped these s) (is_skipped those s) g.crates
+    (skipped_alike p g these those s both)
 
-needless_alike : (p : Policy) (g : Graph) (these those : Facts) (s : Entry) → TwoFacts p g these those → is_needless p g these s ≡ is_needless p g those s
+needless_alike : (p : Policy) (g : Graph) (these those : Facts) (s : Entry) → TwoFacts p g these those
+    → is_needless p g these s ≡ is_needless p g those s
 unfolding is_needless
 needless_alike p g these those s both =
     ap (λ b. b && nat_le (length (reduced p g these s.spec.name)) 1) (hit_alike p g these those s both)
-    ∙ ap (λ (crates : List Crate). is_hit_skip g those s && nat_le (length crates) 1) (reduced_alike p g these those s.spec.name both)
+    ∙ ap (λ (crates : List Crate). is_hit_skip g those s && nat_le (length crates) 1)
+    (reduced_alike p g these those s.spec.name both)
 
-unmatched_alike : (p : Policy) (g : Graph) (these those : Facts) → TwoFacts p g these those → unmatched_skip_keys p g these ≡ unmatched_skip_keys p g those
+unmatched_alike : (p : Policy) (g : Graph) (these those : Facts) → TwoFacts p g these those
+    → unmatched_skip_keys p g these ≡ unmatched_skip_keys p g those
 unfolding unmatched_skip_keys
 unmatched_alike p g these those both =
-    ap (map _) (filter_on (λ s. not (is_hit_skip g these s)) (λ s. not (is_hit_skip g those s)) p.skip (λ s written. ap (λ b. not b) (hit_alike p g these those s both)))
+    ap (map _) (filter_on (λ s. not (is_hit_skip g these s)) (λ s. not (is_hit_skip g those s)) p.skip
+    (λ s written. ap (λ b. not b) (hit_alike p g these those s both)))
 
-unnecessary_alike : (p : Policy) (g : Graph) (these those : Facts) → TwoFacts p g these those → unnecessary_skip_keys p g these ≡ unnecessary_skip_keys p g those
+unnecessary_alike : (p : Policy) (g : Graph) (these those : Facts) → TwoFacts p g these those
+    → unnecessary_skip_keys p g these ≡ unnecessary_skip_keys p g those
 unfolding unnecessary_skip_keys
 unnecessary_alike p g these those both =
-    ap (map _) (filter_on (is_needless p g these) (is_needless p g those) p.skip (λ s written. needless_alike p g these those s both))
+    ap (map _) (filter_on (is_needless p g these) (is_needless p g those) p.skip
+    (λ s written. needless_alike p g these those s both))
 
-skip_keys_alike : (p : Policy) (g : Graph) (these those : Facts) → TwoFacts p g these those → skip_keys p g these ≡ skip_keys p g those
+skip_keys_alike : (p : Policy) (g : Graph) (these those : Facts) → TwoFacts p g these those
+    → skip_keys p g these ≡ skip_keys p g those
 unfolding skip_keys
 skip_keys_alike p g these those both =
-    let skipped = flat_map_on (skipped_keys_of g these) (skipped_keys_of g those) p.skip (skipped_keys_alike p g these those both) in
-    let rooted = flat_map_on (skipped_by_root_keys_of p g these) (skipped_by_root_keys_of p g those) p.skip_tree (rooted_keys_alike p g these those both) in
+    let skipped = flat_map_on (skipped_keys_of g these) (skipped_keys_of g those) p.skip
+    (skipped_keys_alike p g these those both) in
+    let rooted = flat_map_on (skipped_by_root_keys_of p g these) (skipped_by_root_keys_of p g those) p.skip_tree
+    (rooted_keys_alike p g these those both) in
     let unmatched = unmatched_alike p g these those both in
     let unnecessary = unnecessary_alike p g these those both in
     cc (skipped, rooted, unmatched, unnecessary)
 
-pub stands_alike : (p : Policy) (g : Graph) (these those : Facts) (key : Key) → TwoFacts p g these those → Stands p g these key → Stands p g those key
+pub stands_alike : (p : Policy) (g : Graph) (these those : Facts) (key : Key) → TwoFacts p g these those
+    → Stands p g these key → Stands p g those key
 stands_alike p g these those key both (inl banned) = inl banned
-stands_alike p g these those key both (inr (inl skipped)) = inr (inl (subst (λ (keys : List Key). Contains keys key) (skip_keys_alike p g these those both) skipped))
-stands_alike p g these those key both (inr (inr duplicate)) = inr (inr (duplicates_alike p g these those key both duplicate))
+stands_alike p g these those key both (inr (inl skipped)) = inr
+    (inl (subst (λ (keys : List Key). Contains keys key) (skip_keys_alike p g these those both) skipped))
+stands_alike p g these those key both (inr (inr duplicate)) = inr
+    (inr (duplicates_alike p g these those key both duplicate))

@@ -46,7 +46,8 @@ is_wrapped p g ban c = has_wrappers ban && concerns p g ban c
 -- each direct dependent of such a crate is told: as a wrapper ..
 unfoldable pub allowed_by_wrapper_keys_at : Graph → Ban → Crate → List Key
 allowed_by_wrapper_keys_at g ban c =
-    map (λ parent. dependent_key AllowedByWrapper c.place ban.spec.range parent.place) (filter (is_wrapper ban.wrappers) (dependents g c.place))
+    map (λ parent. dependent_key AllowedByWrapper c.place ban.spec.range parent.place)
+    (filter (is_wrapper ban.wrappers) (dependents g c.place))
 
 unfoldable pub allowed_by_wrapper_keys_of : Policy → Graph → Ban → List Key
 allowed_by_wrapper_keys_of p g ban = flat_map (allowed_by_wrapper_keys_at g ban) (filter (is_wrapped p g ban) g.crates)
@@ -54,7 +55,8 @@ allowed_by_wrapper_keys_of p g ban = flat_map (allowed_by_wrapper_keys_at g ban)
 -- .. or as none
 unfoldable pub unmatched_wrapper_keys_at : Graph → Ban → Crate → List Key
 unmatched_wrapper_keys_at g ban c =
-    map (λ parent. dependent_key UnmatchedWrapper c.place ban.spec.range parent.place) (filter (λ parent. not (is_wrapper ban.wrappers parent)) (dependents g c.place))
+    map (λ parent. dependent_key UnmatchedWrapper c.place ban.spec.range parent.place)
+    (filter (λ parent. not (is_wrapper ban.wrappers parent)) (dependents g c.place))
 
 unfoldable pub unmatched_wrapper_keys_of : Policy → Graph → Ban → List Key
 unmatched_wrapper_keys_of p g ban = flat_map (unmatched_wrapper_keys_at g ban) (filter (is_wrapped p g ban) g.crates)
@@ -65,7 +67,8 @@ allowed_keys_of g e = map (λ c. crate_key Allowed c.place e.spec.range) (filter
 
 -- there is an allow list, no entry of it speaks of the crate, and the crate is not exempt
 unfoldable pub is_not_allowed : Policy → Graph → Crate → Bool
-is_not_allowed p g c = not (length p.allow == 0) && (not (list_any (λ e. matches e.spec c) p.allow) && not (is_exempt p g c))
+is_not_allowed p g c = not (length p.allow == 0) &&
+    (not (list_any (λ e. matches e.spec c) p.allow) && not (is_exempt p g c))
 
 unfoldable pub not_allowed_keys : Policy → Graph → List Key
 not_allowed_keys p g = map (λ c. crate_key NotAllowed c.place no_span) (filter (is_not_allowed p g) g.crates)

@@ -1,7 +1,7 @@
 -- Crates of one name that stand side by side.
 use Rattle.std.specs.Prelude.{◌≡◌, ◌≢◌, ◌≤◌, ℕ, Bool, List, map, length, Contains, if◌then◌else◌}
 use Rattle.std.specs.List.{list_any}
-use Rattle.deny_base.specs.Ascending.{Lists}
+use Rattle.deny_lists.specs.Ascending.{Lists}
 use Rattle.deny_base.specs.declared.key.Key.{Key}
 use Rattle.deny_base.specs.declared.level.LintLevel.{LintLevel}
 use Rattle.deny_base.specs.declared.level.LintLevel.TheVariants.{Allow, Deny}

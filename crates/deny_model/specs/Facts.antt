@@ -13,4 +13,5 @@ pub record Facts : Type 0 where
 
 pub record AreFacts (p : Policy) (g : Graph) (facts : Facts) : Type 0 where
   pub counts : (c : Crate) → Contains g.crates c → IsTrue (facts.counts c) ↔ Counts p.include_dev g c
-  pub in_tree : (t : Root) → Contains p.skip_tree t → (c : Crate) → Contains g.crates c → IsTrue (facts.in_tree t c) ↔ IsInTree g t c
+  pub in_tree : (t : Root) → Contains p.skip_tree t → (c : Crate) → Contains g.crates c
+      → IsTrue (facts.in_tree t c) ↔ IsInTree g t c

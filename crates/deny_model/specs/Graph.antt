@@ -3,7 +3,7 @@ use Rattle.std.specs.Prelude.{ℕ, ◌&&◌, ◌==◌, ◌++◌, Bool, List, Opt
 use Rattle.std.specs.List.{list_any}
 use Rattle.semver.specs.Identifiers.{parts_text}
 use Rattle.semver.specs.Parse.{Held, Parts}
-use Rattle.deny_base.specs.TextMap.{TextFinMap}
+use Rattle.deny_lists.specs.TextMap.{TextFinMap}
 use Rattle.deny_base.specs.declared.edge.DepKind.{DepKind}
 use Rattle.deny_base.specs.declared.edge.Edge.{Edge}
 use Rattle.deny_base.specs.declared.span.Kid.{Kid}

@@ -25,7 +25,8 @@ root_hit g t = option_map (λ c. hit_of SkipRoot t.spec.range (Krate (kid_of c))
 
 -- the first dependent of a crate for which the wrapper stands
 unfoldable pub wrapper_hit_at : Graph → Ban → Words → Crate → Option Hit
-wrapper_hit_at g ban w c = option_map (λ parent. hit_of Wrapper w.span (Parent (kid_of c) (kid_of parent))) (find (wraps ban.wrappers w) (dependents g c.place))
+wrapper_hit_at g ban w c = option_map (λ parent. hit_of Wrapper w.span (Parent (kid_of c) (kid_of parent)))
+    (find (wraps ban.wrappers w) (dependents g c.place))
 
 unfoldable pub wrapper_hit : Policy → Graph → Ban → Words → Option Hit
 wrapper_hit p g ban w = option_and_then (wrapper_hit_at g ban w) (find (hits_wrapper p g ban w) g.crates)

@@ -1,7 +1,7 @@
 -- The crate rules: which keys stand.
 use Rattle.std.specs.Prelude.{◌⊎◌, ◌++◌, List, Contains}
 use Rattle.std.specs.List.{flat_map}
-use Rattle.deny_base.specs.Ascending.{Lists}
+use Rattle.deny_lists.specs.Ascending.{Lists}
 use Rattle.deny_base.specs.KeyOrder.{key_cmp}
 use Rattle.deny_base.specs.declared.key.Key.{Key}
 use Rattle.deny_model.specs.Bans.{banned_keys_of, allowed_keys_of, not_allowed_keys, allowed_by_wrapper_keys_of, unmatched_wrapper_keys_of}

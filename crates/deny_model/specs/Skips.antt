@@ -22,25 +22,29 @@ unfoldable pub is_skipped_by_root : Policy → Facts → Root → Crate → Bool
 is_skipped_by_root p facts t c = facts.counts c && (not (is_marked p c) && facts.in_tree t c)
 
 unfoldable pub skipped_by_root_keys_of : Policy → Graph → Facts → Root → List Key
-skipped_by_root_keys_of p g facts t = map (λ c. crate_key SkippedByRoot c.place t.spec.range) (filter (is_skipped_by_root p facts t) g.crates)
+skipped_by_root_keys_of p g facts t = map (λ c. crate_key SkippedByRoot c.place t.spec.range)
+    (filter (is_skipped_by_root p facts t) g.crates)
 
 -- a skip is hit by a counting crate that it speaks of
 unfoldable pub is_hit_skip : Graph → Facts → Entry → Bool
 is_hit_skip g facts s = list_any (is_skipped facts s) g.crates
 
 unfoldable pub unmatched_skip_keys : Policy → Graph → Facts → List Key
-unmatched_skip_keys p g facts = map (λ s. unused_key UnmatchedSkip s.spec.range) (filter (λ s. not (is_hit_skip g facts s)) p.skip)
+unmatched_skip_keys p g facts = map (λ s. unused_key UnmatchedSkip s.spec.range)
+    (filter (λ s. not (is_hit_skip g facts s)) p.skip)
 
 -- a skip that is hit is needless where at most one crate of its name may stand
 unfoldable pub is_needless : Policy → Graph → Facts → Entry → Bool
 is_needless p g facts s = is_hit_skip g facts s && nat_le (length (reduced p g facts s.spec.name)) 1
 
 unfoldable pub unnecessary_skip_keys : Policy → Graph → Facts → List Key
-unnecessary_skip_keys p g facts = map (λ s. unused_key UnnecessarySkip s.spec.range) (filter (is_needless p g facts) p.skip)
+unnecessary_skip_keys p g facts = map (λ s. unused_key UnnecessarySkip s.spec.range)
+    (filter (is_needless p g facts) p.skip)
 
 -- a skipped tree has a root where the entry speaks of a crate, counting or not
 unfoldable pub has_root : Graph → Root → Bool
 has_root g t = list_any (matches t.spec) g.crates
 
 unfoldable pub unmatched_skip_root_keys : Policy → Graph → List Key
-unmatched_skip_root_keys p g = map (λ t. unused_key UnmatchedSkipRoot t.spec.range) (filter (λ t. not (has_root g t)) p.skip_tree)
+unmatched_skip_root_keys p g = map (λ t. unused_key UnmatchedSkipRoot t.spec.range)
+    (filter (λ t. not (has_root g t)) p.skip_tree)

@@ -75,7 +75,8 @@ label_at file message (Some words) = secondary file words.span message ∷ []
 -- an entry's name, and what it gives as a reason and in place of the crate
 unfoldable pub spec_labels : ℕ → List ℕ → Spec → Option Words → Option Words → List Label
 spec_labels file message spec reason use_instead =
-    primary file spec.range message ∷ (label_at file (codes "reason") reason ++ label_at file (codes "use instead") use_instead)
+    primary file spec.range
+    message ∷ (label_at file (codes "reason") reason ++ label_at file (codes "use instead") use_instead)
 
 abbrev pub ban_labels : ℕ → List ℕ → Ban → List Label
 ban_labels file message ban = spec_labels file message ban.spec ban.reason ban.use_instead
@@ -89,18 +90,29 @@ root_labels file message t = spec_labels file message t.spec t.reason None
 -- the name of a ban, and its wrapper of a crate's name
 abbrev pub wrapper_labels : ℕ → Ban → Option Words → List Label
 wrapper_labels file ban None = []
-wrapper_labels file ban (Some wrapper) = primary file ban.spec.range (codes "banned here") ∷ primary file wrapper.span (codes "allowed wrapper") ∷ []
+wrapper_labels file ban (Some wrapper) = primary file ban.spec.range (codes "banned here") ∷ primary file wrapper.span
+    (codes "allowed wrapper") ∷ []
 
 unfoldable pub labels_told : DiagnosticCode → Policy → Graph → ℕ → Key → List Label
-labels_told (Bans code.Banned) p g file key = option_map_or (ban_labels file (codes "banned here")) (ban_at p key.entry) []
-labels_told (Bans code.Allowed) p g file key = option_map_or (entry_labels file (codes "allowed here")) (allow_at p key.entry) []
-labels_told (Bans code.Skipped) p g file key = option_map_or (entry_labels file (codes "skipped here")) (skip_at p key.entry) []
-labels_told (Bans code.UnmatchedSkip) p g file key = option_map_or (entry_labels file (codes "unmatched skip configuration")) (skip_at p key.entry) []
-labels_told (Bans code.UnnecessarySkip) p g file key = option_map_or (entry_labels file (codes "unnecessary skip configuration")) (skip_at p key.entry) []
-labels_told (Bans code.AllowedByWrapper) p g file key = option_map_or (λ ban. wrapper_labels file ban (option_and_then (wrapper_of ban.wrappers) (crate_at g key.other))) (ban_at p key.entry) []
-labels_told (Bans code.UnmatchedWrapper) p g file key = option_map_or (ban_labels file (codes "banned here")) (ban_at p key.entry) []
-labels_told (Bans code.SkippedByRoot) p g file key = option_map_or (root_labels file (codes "matched skip root")) (root_at p key.entry) []
-labels_told (Bans code.UnmatchedSkipRoot) p g file key = primary file key.entry (codes "no crate matched these criteria") ∷ []
+labels_told (Bans code.Banned) p g file key = option_map_or (ban_labels file (codes "banned here")) (ban_at p key.entry)
+    []
+labels_told (Bans code.Allowed) p g file key = option_map_or (entry_labels file (codes "allowed here"))
+    (allow_at p key.entry) []
+labels_told (Bans code.Skipped) p g file key = option_map_or (entry_labels file (codes "skipped here"))
+    (skip_at p key.entry) []
+labels_told (Bans code.UnmatchedSkip) p g file key = option_map_or
+    (entry_labels file (codes "unmatched skip configuration")) (skip_at p key.entry) []
+labels_told (Bans code.UnnecessarySkip) p g file key = option_map_or
+    (entry_labels file (codes "unnecessary skip configuration")) (skip_at p key.entry) []
+labels_told (Bans code.AllowedByWrapper) p g file key = option_map_or
+    (λ ban. wrapper_labels file ban (option_and_then (wrapper_of ban.wrappers) (crate_at g key.other)))
+    (ban_at p key.entry) []
+labels_told (Bans code.UnmatchedWrapper) p g file key = option_map_or (ban_labels file (codes "banned here"))
+    (ban_at p key.entry) []
+labels_told (Bans code.SkippedByRoot) p g file key = option_map_or (root_labels file (codes "matched skip root"))
+    (root_at p key.entry) []
+labels_told (Bans code.UnmatchedSkipRoot) p g file key = primary file key.entry
+    (codes "no crate matched these criteria") ∷ []
 labels_told (Bans code.UnusedWrapper) p g file key = primary file key.entry (codes "unmatched wrapper") ∷ []
 labels_told _ p g file key = []
 
@@ -126,12 +138,19 @@ message_told (Bans code.Banned) p g key = of_crate (codes "crate '") g key (code
 message_told (Bans code.Allowed) p g key = of_crate (codes "crate '") g key (codes "' is explicitly allowed")
 message_told (Bans code.NotAllowed) p g key = of_crate (codes "crate '") g key (codes "' is not explicitly allowed")
 message_told (Bans code.Duplicate) p g key =
-    codes "found " ++ (decimal (length key.places) ++ (codes " duplicate entries for crate '" ++ (crate_name_at g key.place ++ codes "'")))
-message_told (Bans code.Skipped) p g key = of_crate (codes "crate '") g key (codes "' skipped when checking for duplicates")
-message_told (Bans code.UnmatchedSkip) p g key = codes "skipped crate '" ++ (skip_text_at p key.entry ++ codes "' was not encountered")
-message_told (Bans code.UnnecessarySkip) p g key = codes "skip '" ++ (skip_text_at p key.entry ++ codes "' applied to a crate with only one version")
-message_told (Bans code.AllowedByWrapper) p g key = of_crate (codes "banned crate '") g key (codes "' allowed by wrapper '" ++ (crate_text_at g key.other ++ codes "'"))
-message_told (Bans code.UnmatchedWrapper) p g key = codes "direct parent '" ++ (crate_text_at g key.other ++ of_crate (codes "' of banned crate '") g key (codes "' was not marked as a wrapper"))
+    codes "found " ++ (decimal (length key.places)
+    ++ (codes " duplicate entries for crate '" ++ (crate_name_at g key.place ++ codes "'")))
+message_told (Bans code.Skipped) p g key = of_crate (codes "crate '") g key
+    (codes "' skipped when checking for duplicates")
+message_told (Bans code.UnmatchedSkip) p g key = codes "skipped crate '"
+    ++ (skip_text_at p key.entry ++ codes "' was not encountered")
+message_told (Bans code.UnnecessarySkip) p g key = codes "skip '"
+    ++ (skip_text_at p key.entry ++ codes "' applied to a crate with only one version")
+message_told (Bans code.AllowedByWrapper) p g key = of_crate (codes "banned crate '") g key
+    (codes "' allowed by wrapper '" ++ (crate_text_at g key.other ++ codes "'"))
+message_told (Bans code.UnmatchedWrapper) p g key = codes "direct parent '"
+    ++ (crate_text_at g key.other ++ of_crate (codes "' of banned crate '") g key
+    (codes "' was not marked as a wrapper"))
 message_told (Bans code.SkippedByRoot) p g key = of_crate (codes "skipping crate '") g key (codes "' due to root skip")
 message_told (Bans code.UnmatchedSkipRoot) p g key = codes "skip tree root was not found in the dependency graph"
 message_told (Bans code.UnusedWrapper) p g key = codes "wrapper for banned crate was not encountered"

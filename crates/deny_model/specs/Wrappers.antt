@@ -25,4 +25,5 @@ unfoldable pub is_hit_wrapper : Policy → Graph → Ban → Words → Bool
 is_hit_wrapper p g ban w = list_any (hits_wrapper p g ban w) g.crates
 
 unfoldable pub unused_wrapper_keys_of : Policy → Graph → Ban → List Key
-unused_wrapper_keys_of p g ban = map (λ w. unused_key UnusedWrapper w.span) (filter (λ w. not (is_hit_wrapper p g ban w)) ban.wrappers)
+unused_wrapper_keys_of p g ban = map (λ w. unused_key UnusedWrapper w.span)
+    (filter (λ w. not (is_hit_wrapper p g ban w)) ban.wrappers)

@@ -1,5 +1,5 @@
 ghost use Rattle.std.specs.Prelude.{◌≡◌, ℕ, List, Contains};
-ghost use Rattle.deny_base.specs.Ascending.{Lists};
+ghost use Rattle.deny_lists.specs.Ascending.{Lists};
 ghost use Rattle.deny_base.specs.declared.key.Key.{Key};
 ghost use Rattle.deny_model.specs.Facts.{Facts};
 ghost use Rattle.deny_model.specs.Graph.{Crate, Graph};

@@ -1,8 +1,8 @@
 use Rattle.std.proofs.Common.{List}
-use Rattle.deny_base.specs.Ascending.{Lists}
+use Rattle.deny_lists.specs.Ascending.{Lists}
 use Rattle.deny_base.specs.KeyOrder.{key_cmp}
 use Rattle.deny_base.specs.declared.key.Key.{Key}
-use Rattle.deny_base.proofs.AscendingLemmas.{one_list}
+use Rattle.deny_lists.proofs.Sorted.{one_list}
 use Rattle.deny_model.specs.Graph.{Graph}
 use Rattle.deny_model.specs.Policy.{Policy}
 use Rattle.deny_model.specs.Rules.{AreKeys, Stands}
@@ -10,7 +10,8 @@ use Rattle.deny_model.proofs.Agreement.{TwoFacts, stands_alike}
 use Rattle.deny_model.proofs.laws.one_report.Goals as goal
 
 -- the second list is one of what stands by the first list's facts, too
-by_these : (p : Policy) (g : Graph) (xs ys : List Key) (these : AreKeys p g xs) → AreKeys p g ys → Lists key_cmp (Stands p g these.facts) ys
+by_these : (p : Policy) (g : Graph) (xs ys : List Key) (these : AreKeys p g xs) → AreKeys p g ys
+    → Lists key_cmp (Stands p g these.facts) ys
 by_these p g xs ys these those =
     let here : TwoFacts p g these.facts those.facts = record { left = these.true_facts; right = those.true_facts } in
     let back : TwoFacts p g those.facts these.facts = record { left = those.true_facts; right = these.true_facts } in
@@ -21,4 +22,5 @@ by_these p g xs ys these those =
     }
 
 pub returns : goal.returns
-returns c = λ p g xs ys these those. one_list c.key_order.ensures.total xs ys these.listed (by_these p g xs ys these those)
+returns c = λ p g xs ys these those. one_list c.key_order.ensures.total xs ys these.listed
+    (by_these p g xs ys these those)

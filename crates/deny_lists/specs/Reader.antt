@@ -1,0 +1,36 @@
+-- How the answer of a reader stands to what is to be read: that, or a fault of it, or want of memory, which may come anywhere.
+use Rattle.std.specs.Prelude.{◌≡◌, ◌⊎◌, List, [], ◌∷◌, Result, Ok, Err, MatchResult}
+
+-- memory ran out, or what was to be read has this fault
+abbrev pub Fails : {E : Type 0} → E → (E → Type 0) → E → Type 0
+Fails memory P e = (e ≡ memory) ⊎ P e
+
+-- a value as it is to be, or a failure
+abbrev pub Gives : {A E : Type 0} → E → (A → Type 0) → (E → Type 0) → Result A E → Type 0
+Gives memory Is P r = MatchResult r Is (Fails memory P)
+
+-- the same where a function on values says what is to be read: a value, or the first fault
+abbrev pub IsValue : {A E : Type 0} → Result A E → A → Type 0
+IsValue read x = read ≡ Ok x
+
+abbrev pub IsFault : {A E : Type 0} → Result A E → E → Type 0
+IsFault read e = read ≡ Err e
+
+abbrev pub Answers : {A E : Type 0} → E → Result A E → Result A E → Type 0
+Answers memory read r = Gives memory (IsValue read) (IsFault read) r
+
+-- the second step, if the first gave a value
+infixl 10 ◌>>=◌
+abbrev pub ◌>>=◌ : {A B E : Type 0} → Result A E → (A → Result B E) → Result B E
+Ok x >>= f = f x
+Err e >>= f = Err e
+
+-- what a check of each in turn answers: the first fault
+unfoldable pub each_passes : {A E : Type 0} → (A → Result (Unit {0}) E) → List A → Result (Unit {0}) E
+each_passes check [] = Ok tt
+each_passes check (x ∷ xs) = check x >>= (λ _. each_passes check xs)
+
+-- what each in turn reads to, or the first fault
+unfoldable pub each : {A B E : Type 0} → (A → Result B E) → List A → Result (List B) E
+each read [] = Ok []
+each read (x ∷ xs) = read x >>= (λ y. each read xs >>= (λ ys. Ok (y ∷ ys)))

@@ -1,0 +1,3 @@
+pub mod PathsLemmas
+pub mod PieceLemmas
+pub mod WritingLemmas

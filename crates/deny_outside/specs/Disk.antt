@@ -1,0 +1,56 @@
+-- A disk as contracts see it: what stands at each path, where that is told, and its counts.
+use Rattle.std.specs.Prelude.{◌≡◌, ℕ, ◌-◌, ◌<◌, ◌≤◌, List, [], length, take, drop, Option, Some, None}
+use Rattle.std.specs.Ordering.{nat_cmp}
+use Rattle.std.specs.Cmp.Lexicographic.{slice_cmp}
+use Rattle.std.specs.FinMap as map
+use Rattle.deny_outside.specs.Count.{Rose}
+use Rattle.deny_outside.specs.declared.disk.Call.{Call}
+use Rattle.deny_outside.specs.declared.disk.Place.{Place}
+use Rattle.deny_outside.specs.declared.disk.Place.TheVariants.{Folder, File}
+
+-- what stands at each path
+abbrev pub Files : Type 0
+Files = map.FinMap (slice_cmp nat_cmp) Place
+
+pub record Disk : Type 0 where
+  -- none where the disk does not tell
+  pub files : Option Files
+  -- the calls that failed
+  pub faults : ℕ
+  -- the calls of this kind on this path that failed
+  pub faults_at : Call → List ℕ → ℕ
+  -- the bytes that reading gave
+  pub given : ℕ
+
+-- a disk that tells nothing of what it holds, and has one count of failures for every call and path
+abbrev pub untold : ℕ → ℕ → Disk
+untold faults given = record { files = None; faults = faults; faults_at = λ _ _. faults; given = given }
+
+-- the same disk later: what it holds stays, and no count falls
+pub record IsLater (old new : Disk) : Type 0 where
+  pub files : new.files ≡ old.files
+  pub faults : old.faults ≤ new.faults
+  pub faults_at : (call : Call) (path : List ℕ) → old.faults_at call path ≤ new.faults_at call path
+  pub given : old.given ≤ new.given
+
+-- a call of this kind on this path failed in between
+pub record FailedAt (old new : Disk) (call : Call) (path : List ℕ) : Type 0 where
+  pub faults : Rose old.faults new.faults
+  pub faults_at : Rose (old.faults_at call path) (new.faults_at call path)
+
+-- the text of the file that stands there, if any
+abbrev pub text_of : Option Place → List ℕ
+text_of None = []
+text_of (Some Folder) = []
+text_of (Some (File bytes)) = bytes
+
+-- what reading the path gives: the empty text where no file stands there
+abbrev pub bytes_at : Files → List ℕ → List ℕ
+bytes_at files path = text_of (map.get files path)
+
+-- the first `n` bytes of the buffer are the text's from `offset` on; they are none only for an
+-- empty buffer or where the text has ended
+pub record IsPieceOf (text : List ℕ) (offset n : ℕ) (buf : List ℕ) : Type 0 where
+  pub within : n ≤ length text - offset
+  pub bytes : take n buf ≡ take n (drop offset text)
+  pub ends : n ≡ 0 → 0 < length buf → length text ≤ offset

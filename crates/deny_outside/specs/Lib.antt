@@ -1,0 +1,7 @@
+pub mod Count
+pub mod Disk
+pub mod MemoryDisk
+pub mod MemoryOut
+pub mod Out
+pub mod Paths
+pub mod Read

@@ -1,0 +1,23 @@
+-- Reading a text to its end.
+use Rattle.std.specs.Prelude.{◌≡◌, ℕ, List, length, take, IfSome}
+use Rattle.deny_outside.specs.Count.{RoseBy}
+use Rattle.deny_outside.specs.Disk.{Disk, IsLater, bytes_at}
+use Rattle.deny_outside.specs.declared.disk.DiskError.{DiskError}
+use Rattle.deny_outside.specs.declared.disk.DiskError.TheVariants.{Failed, Memory}
+use Rattle.deny_outside.specs.declared.read.ReadEnd.{ReadEnd}
+use Rattle.deny_outside.specs.declared.read.ReadEnd.TheVariants.{Fault, Memory as OutOfMemory}
+
+-- the bytes are what was read of the path's text so far, from a disk that stood at `start`
+pub record IsReading (start now : Disk) (path bytes : List ℕ) : Type 0 where
+  pub later : IsLater start now
+  pub given : RoseBy (length bytes) start.given now.given
+  pub text : IfSome start.files (λ files. bytes ≡ take (length bytes) (bytes_at files path))
+
+-- the bytes are all of the path's text
+abbrev pub IsWhole : Disk → List ℕ → List ℕ → Type 0
+IsWhole start path bytes = IfSome start.files (λ files. bytes ≡ bytes_at files path)
+
+-- what reading ends with where the disk answers this
+abbrev pub read_end_of : DiskError → ReadEnd
+read_end_of Failed = Fault
+read_end_of Memory = OutOfMemory

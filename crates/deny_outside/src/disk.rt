@@ -1,0 +1,95 @@
+ghost use Rattle.std.specs.Prelude.{◌≡◌, ◌≤◌, length, IfOk, IfSome, IsErrOf, MatchResult};
+ghost use Rattle.deny_outside.specs.Count.{counted};
+ghost use Rattle.deny_outside.specs.Disk.{Disk, IsLater, FailedAt, IsPieceOf, bytes_at};
+
+use deny_lists::{List, NoMemory};
+use std::alloc::{AllocError, AllocFailed};
+use thiserror::Error;
+
+/// What stands at a path of a disk.
+#[derive(Debug, Drop)]
+pub enum Place {
+    Folder,
+    File(List<u8>),
+}
+
+/// The kinds of call that a disk can fail. Contracts count the failures of each kind at each path.
+#[derive(Debug, Clone, Copy, PartialEq, Eq)]
+pub enum Call {
+    List,
+    Read,
+}
+
+/// Why a disk did not answer.
+#[derive(Debug, Clone, Copy, PartialEq, Eq, Error)]
+pub enum DiskError {
+    /// The disk failed the call, and counted that.
+    #[error("the disk failed")]
+    Failed,
+    /// Memory ran out.
+    #[error("memory ran out")]
+    Memory,
+}
+
+impl From<NoMemory> for DiskError {
+    ghost use Rattle.std.specs.Prelude.{◌≡◌};
+    ghost use Rattle.deny_outside.specs.declared.disk.DiskError.TheVariants.{Memory};
+
+    ghost from_gives = { λ _ e. e ≡ Memory };
+
+    fn from(_error: NoMemory) -> DiskError {
+        DiskError::Memory
+    }
+}
+
+impl From<AllocError> for DiskError {
+    ghost use Rattle.std.specs.Prelude.{◌≡◌};
+    ghost use Rattle.deny_outside.specs.declared.disk.DiskError.TheVariants.{Memory};
+
+    ghost from_gives = { λ _ e. e ≡ Memory };
+
+    fn from(_error: AllocError) -> DiskError {
+        DiskError::Memory
+    }
+}
+
+impl<T> From<AllocFailed<T>> for DiskError
+where
+    T: Drop,
+{
+    ghost use Rattle.std.specs.Prelude.{◌≡◌};
+    ghost use Rattle.deny_outside.specs.declared.disk.DiskError.TheVariants.{Memory};
+
+    ghost from_gives = { λ _ e. e ≡ Memory };
+
+    fn from(_error: AllocFailed<T>) -> DiskError {
+        DiskError::Memory
+    }
+}
+
+/// The files that are read. `seen` is what contracts know of them: what stands at each path, where
+/// the disk tells that, and counts of failed calls and of bytes given, which never fall.
+///
+/// A failed call raises the count of its own kind and path, and no clause says that a call raises
+/// the count of another: so code over any disk shows such a rise only by a failed call on that
+/// path.
+pub trait PackageFiles {
+    ghost seen: { Self → Disk };
+
+    /// Reads bytes of the file at `path`, from `offset` on, into the front of `buf`, and says how
+    /// many. There are none only for an empty buffer or where the text has ended. Where a disk
+    /// answers for a path that holds no file, the text is empty.
+    ///
+    /// It takes no memory, and so answers no error but `Failed`.
+    fn read_at(&mut self, path: &str, offset: u64, buf: &mut [u8]) -> Result<usize, DiskError>
+        ensures bound { IfOk result (λ n. n ≤ length buf.new) }
+        ensures bytes { IfOk result (λ n. IfSome (seen self.old).files
+            (λ files. IsPieceOf (bytes_at files path.now) offset n buf.new)) }
+        ensures later { IsLater (seen self.old) (seen self.new) }
+        ensures given { MatchResult result
+            (λ n. (seen self.new).given ≡ counted (seen self.old).given n)
+            (λ _. (seen self.new).given ≡ (seen self.old).given) }
+        ensures failed { IsErrOf result DiskError.Failed →
+            FailedAt (seen self.old) (seen self.new) Call.Read path.now }
+        ensures no_memory { IsErrOf result DiskError.Memory → ⊥ };
+}

@@ -1,0 +1,21 @@
+//! The outside world as traits: a disk that is read and an output that is written, in memory and
+//! on the real system.
+#![tactic(auto)]
+
+mod disk;
+mod memory_disk;
+mod memory_out;
+mod out;
+mod path;
+mod read;
+mod real_disk;
+mod real_out;
+
+pub use disk::{Call, DiskError, PackageFiles, Place};
+pub use memory_disk::MemoryDisk;
+pub use memory_out::MemoryOut;
+pub use out::{Out, OutFault};
+pub use path::is_path;
+pub use read::{ReadEnd, read_whole};
+pub use real_disk::RealDisk;
+pub use real_out::RealOut;

@@ -1,0 +1,254 @@
+ghost use Rattle.std.specs.Prelude.{◌≡◌, ◌-◌, ◌<◌, ◌≤◌, ◌++◌, ◌∷◌, [], length, min, slice_index, Option, Ok, Err, Some, None, IfOk, IsSomeAnd, IsErrOf, IsTrue, OnOk, OnErr, MatchOption, MatchResult};
+ghost use Rattle.std.specs.Option.{option_copied};
+ghost use Rattle.std.specs.List.{list_any};
+ghost use Rattle.std.specs.FinMap as finite;
+ghost use Rattle.deny_outside.specs.Count.{counted};
+ghost use Rattle.deny_outside.specs.Disk.{IsLater, FailedAt, IsPieceOf, bytes_at};
+ghost use Rattle.deny_outside.specs.MemoryDisk.{Memory, memory_seen, is_failing, text_to_read, folder_before, folders_of, with_folders, with_file, is_file, is_folder, takes_file};
+ghost use Rattle.deny_outside.specs.declared.disk.Place.TheVariants.{File};
+
+use crate::disk::{Call, DiskError, PackageFiles, Place};
+use crate::path::is_path;
+use deny_lists::{List, NoMemory, Text, TextMap};
+use std::alloc::Global;
+use std::marker::Model;
+
+/// Files in memory, which fail where they are told to, and give their bytes in small pieces.
+#[derive(Debug, Drop)]
+pub struct MemoryDisk {
+    alloc: Global,
+    files: TextMap<Place>,
+    failing: List<Text>,
+    piece: usize,
+    faults: u64,
+    given: u64,
+}
+
+impl Model for MemoryDisk {
+    ghost use Rattle.std.specs.Prelude.{◌≤◌};
+    ghost use Rattle.std.specs.Coded.{codes, coded_ℕ, coded_list};
+    ghost use Rattle.std.specs.Ordering.{nat_cmp};
+    ghost use Rattle.std.specs.Cmp.Lexicographic.{slice_cmp};
+    ghost use Rattle.std.specs.FinMap as finite;
+    ghost use Rattle.deny_outside.specs.contracts.disk.Place as place;
+    ghost use Rattle.deny_outside.specs.MemoryDisk.{HoldsPaths, Memory};
+
+    ghost Value = { Memory };
+
+    ghost coded = { Prim.hlevel (codes, finite.code {R = slice_cmp nat_cmp} (coded_list coded_ℕ) place.the_row.coded) };
+
+    ghost view = { λ d. record {
+      files = d.files;
+      failing = d.failing;
+      piece = d.piece;
+      faults = d.faults;
+      given = d.given;
+    } };
+
+    ghost invariant = { λ d. (1 ≤ d.piece) × HoldsPaths d.files };
+}
+
+/// The path of the folder whose name ends before the slash at `place`.
+fn folder_before(path: &str, place: usize) -> &str
+    requires slash { slice_index path.now place ≡ 47 }
+    requires within { place < length path.now }
+    ensures { result.now ≡ folder_before path.now place }
+{
+    if place == 0 { "/" } else { &path[..place] }
+}
+
+/// The folders that the path goes through, the outermost first.
+fn folders_of(alloc: Global, path: &str) -> Result<List<Text>, NoMemory>
+    ensures { IfOk result (λ folders. folders ≡ folders_of path.now) }
+{
+    let mut folders = List::new(alloc);
+    for (place, byte) in path.as_bytes().iter().enumerate() {
+        if *byte == b'/' {
+            folders.push(Text::from_str(alloc, folder_before(path, place))?)?;
+        }
+    }
+    Ok(folders)
+}
+
+/// Puts the folders that are not there yet, and then the file.
+fn put_below(
+    files: &mut TextMap<Place>,
+    folders: &[Text],
+    path: Text,
+    file: Place,
+) -> Result<(), NoMemory>
+    ensures ok { OnOk result
+        (files.new ≡ finite.insert (with_folders files.old folders.now) path file) }
+    ensures err { OnErr result (files.new ≡ files.old) }
+{
+    let Some((folder, rest)) = folders.split_first() else {
+        return files.insert(path, file);
+    };
+    if files.contains_key(folder.as_str()) {
+        return put_below(files, rest, path, file);
+    }
+    files.insert(folder.clone()?, Place::Folder)?;
+    match put_below(files, rest, path, file) {
+        Ok(()) => Ok(()),
+        Err(error) => {
+            files.remove(folder.as_str());
+            Err(error)
+        }
+    }
+}
+
+/// Copies the text from `offset` on to the front of `buf`, at most `piece` bytes of it.
+fn copy_piece(text: &[u8], offset: u64, piece: usize, buf: &mut [u8]) -> usize
+    requires { 1 ≤ piece }
+    ensures count { result ≡ min (min piece (length buf.new)) (length text.now - offset) }
+    ensures bytes { IsPieceOf text.now offset result buf.new }
+{
+    let start = offset.min(text.len() as u64) as usize;
+    let rest = &text[start..];
+    let count = piece.min(buf.len()).min(rest.len());
+    buf[..count].copy_from_slice(&rest[..count]);
+    count
+}
+
+impl MemoryDisk {
+    /// No files, counts of 0, no paths that fail, and at most `piece` bytes for each call.
+    pub fn new(alloc: Global, piece: usize) -> MemoryDisk
+        requires { 1 ≤ piece }
+        ensures { result ≡ record {
+          files = finite.empty;
+          failing = [];
+          piece = piece;
+          faults = 0;
+          given = 0;
+        } }
+    {
+        MemoryDisk {
+            alloc,
+            files: TextMap::new(alloc),
+            failing: List::new(alloc),
+            piece,
+            faults: 0,
+            given: 0,
+        }
+    }
+
+    /// Puts a file at `path`, in place of what stood there, and a folder for each slash of the path
+    /// where nothing stood. Where memory runs out nothing has changed. `takes` is the test of the path.
+    pub fn put_file(&mut self, path: &str, bytes: &[u8]) -> Result<(), NoMemory>
+        requires { IsTrue (takes_file self.old.files path.now) }
+        ensures ok { OnOk result
+            (self.new ≡ record self.old { files = with_file self.old.files path.now bytes.now }) }
+        ensures err { OnErr result (self.new ≡ self.old) }
+    {
+        let folders = folders_of(self.alloc, path)?;
+        let key = Text::from_str(self.alloc, path)?;
+        let file = Place::File(List::from_vec(Vec::from_slice(self.alloc, bytes)?));
+        put_below(&mut self.files, folders.as_slice(), key, file)
+    }
+
+    /// Whether a file can be put at `path`: the path has the form of a file's, no folder stands at it,
+    /// and no file stands where it goes through a folder.
+    pub fn takes(&self, path: &str) -> Result<bool, NoMemory>
+        ensures { IfOk result (λ takes. takes ≡ takes_file self.now.files path.now) }
+    {
+        let folders = folders_of(self.alloc, path)?;
+        Ok(is_path(path) && !self.is_folder(path) && !self.is_any_file(folders.as_slice()))
+    }
+
+    fn is_folder(&self, path: &str) -> bool
+        ensures { result ≡ is_folder (finite.get self.now.files path.now) }
+    {
+        matches!(self.files.get(path), Some(Place::Folder))
+    }
+
+    fn is_file(&self, path: &str) -> bool
+        ensures { result ≡ is_file (finite.get self.now.files path.now) }
+    {
+        matches!(self.files.get(path), Some(Place::File(_)))
+    }
+
+    fn is_any_file(&self, paths: &[Text]) -> bool
+        ensures { result ≡ list_any (λ path. is_file (finite.get self.now.files path)) paths.now }
+    {
+        paths.iter().any(|path| self.is_file(path.as_str()))
+    }
+
+    /// From now on each call on `path` fails.
+    pub fn fail_path(&mut self, path: &str) -> Result<(), NoMemory>
+        ensures ok { OnOk result
+            (self.new ≡ record self.old { failing = self.old.failing ++ path.now ∷ [] }) }
+        ensures err { OnErr result (self.new ≡ self.old) }
+    {
+        self.failing.push(Text::from_str(self.alloc, path)?)
+    }
+
+    /// Whether each call on `path` is to fail.
+    fn is_failing(&self, path: &str) -> bool
+        ensures { result ≡ is_failing self.now.failing path.now }
+    {
+        self.failing
+            .as_slice()
+            .iter()
+            .any(|other| other.as_str() == path)
+    }
+
+    /// The text that a call on `path` reads. There is none where the call fails.
+    fn text_to_read(&self, path: &str) -> Option<&[u8]>
+        ensures { option_copied result ≡ text_to_read self.now path.now }
+    {
+        if self.is_failing(path) {
+            return None;
+        }
+        match self.files.get(path) {
+            Some(Place::File(bytes)) => Some(bytes.as_slice()),
+            _ => None,
+        }
+    }
+
+    /// Copies a piece of the text to `buf`, and says how many bytes, unless the call fails.
+    fn piece_of(&self, path: &str, offset: u64, buf: &mut [u8]) -> Option<usize>
+        ensures { MatchOption (text_to_read self.now path.now) (result ≡ None) (λ text.
+            (result ≡ Some (min (min self.now.piece (length buf.new)) (length text - offset)))
+            × IsPieceOf text offset (min (min self.now.piece (length buf.new)) (length text - offset)) buf.new) }
+    {
+        let text = self.text_to_read(path)?;
+        Some(copy_piece(text, offset, self.piece, buf))
+    }
+}
+
+impl PackageFiles for MemoryDisk {
+    ghost seen = { memory_seen };
+
+    /// Fails exactly where the path is to fail, or no file stands there. It gives as many bytes as
+    /// the piece, the buffer and the rest of the text allow.
+    fn read_at(&mut self, path: &str, offset: u64, buf: &mut [u8]) -> Result<usize, DiskError>
+        ensures bound { IfOk result (λ n. n ≤ length buf.new) }
+        ensures bytes { IfOk result
+            (λ n. IsPieceOf (bytes_at self.old.files path.now) offset n buf.new) }
+        ensures later { IsLater (memory_seen self.old) (memory_seen self.new) }
+        ensures given { MatchResult result
+            (λ n. self.new.given ≡ counted self.old.given n)
+            (λ _. self.new.given ≡ self.old.given) }
+        ensures failed { IsErrOf result DiskError.Failed →
+            FailedAt (memory_seen self.old) (memory_seen self.new) Call.Read path.now }
+        ensures no_memory { IsErrOf result DiskError.Memory → ⊥ }
+
+        ensures exact { MatchOption (text_to_read self.old path.now)
+            (result ≡ Err DiskError.Failed)
+            (λ text. result ≡ Ok (min (min self.old.piece (length buf.new)) (length text - offset))) }
+        ensures after { MatchResult result
+            (λ n. self.new ≡ record self.old { given = counted self.old.given n })
+            (λ _. self.new ≡ record self.old { faults = counted self.old.faults 1 }) }
+    {
+        match self.piece_of(path, offset, buf) {
+            Some(count) => {
+                self.given = self.given.saturating_add(count as u64);
+                Ok(count)
+            }
+            None => {
+                self.faults = self.faults.saturating_add(1);
+                Err(DiskError::Failed)
+            }
+        }
+    }
+}
