@@ -1,5 +1,6 @@
 -- A place is in a tree no more often than in what its lines put.
-use Rattle.std.proofs.Common.{◌≡◌, ℕ, zero, suc, ◌+◌, ◌≤◌, Bool, true, false, cond, List, [], ◌∷◌, ◌++◌, map, refl, sym, ap, subst, ◌∙◌, inl, inr, arith}
+use Rattle.std.proofs.Common.{◌≡◌, ℕ, zero, suc, ◌+◌, ◌≤◌, Bool, true, false, cond, List, [], ◌∷◌, ◌++◌, map, refl, sym}
+use Rattle.std.proofs.Common.{ap, subst, ◌∙◌, inl, inr, arith}
 use Rattle.std.proofs.lemmas.Bool.{cases_Bool}
 use Rattle.std.proofs.lemmas.Cmp.{tied_itself}
 use Rattle.std.specs.Prelude.{nat_eq}
@@ -9,18 +10,18 @@ use Rattle.std.specs.Ordering.{nat_cmp}
 use Rattle.std.specs.declared.cmp.Ordering.TheVariants.{Less, Equal}
 use Rattle.std.specs.Cmp.Lexicographic.{slice_cmp, pointwise, same_text, nat_list_cmp_total}
 use Rattle.deny_base.specs.declared.span.Span.{Span}
-use Rattle.deny_toml.specs.declared.value.Key.{Key}
+use Rattle.deny_toml_grammar.specs.declared.parts.Key.{Key}
 use Rattle.deny_toml.specs.declared.value.Value.{Value}
 use Rattle.deny_toml.specs.declared.value.Table.{Table}
 use Rattle.deny_toml.specs.declared.value.Content.TheVariants as content
-use Rattle.deny_toml.specs.declared.expression.Expression.{Expression}
-use Rattle.deny_toml.specs.declared.expression.Expression.TheVariants as expression
+use Rattle.deny_toml_grammar.specs.declared.expression.Expression.{Expression}
+use Rattle.deny_toml_grammar.specs.declared.expression.Expression.TheVariants as expression
 use Rattle.deny_toml.specs.declared.tree.Line.{Line}
 use Rattle.deny_toml.specs.declared.tree.Member.{Member}
-use Rattle.deny_toml.specs.declared.tree.Put.{Put}
-use Rattle.deny_toml.specs.declared.tree.Put.TheVariants as put
+use Rattle.deny_toml.specs.declared.tree.PathEnd.{PathEnd}
+use Rattle.deny_toml.specs.declared.tree.PathEnd.TheVariants as path_end
 use Rattle.deny_toml.specs.Value.{value_with, table_with, entries_in}
-use Rattle.deny_toml.specs.Expression.{assigned_value}
+use Rattle.deny_toml_grammar.specs.Expression.{assigned_value}
 use Rattle.deny_toml.specs.Tree as tree
 use Rattle.deny_toml.specs.Apart.{starts_in}
 use Rattle.deny_toml.proofs.ApartLaws.{times, times-append, starts_of_array, starts_of_table, starts_of_entries}
@@ -47,13 +48,13 @@ module _ (x : ℕ) where
   members_weight [] = 0
   members_weight (m ∷ ms) = weight m.value + members_weight ms
 
-  abbrev put_weight : Put → ℕ
-  put_weight (put.Value v) = weight v
-  put_weight (put.Table ms) = members_weight ms
-  put_weight (put.Element ms) = members_weight ms
+  abbrev end_weight : PathEnd → ℕ
+  end_weight (path_end.Value v) = weight v
+  end_weight (path_end.Table ms) = members_weight ms
+  end_weight (path_end.Element ms) = members_weight ms
 
   abbrev line_weight : Line → ℕ
-  line_weight l = put_weight l.put
+  line_weight l = end_weight l.path_end
 
   abbrev lines_weight : List Line → ℕ
   lines_weight [] = 0
@@ -72,11 +73,13 @@ module _ (x : ℕ) where
 
   values_times : (vs : List Value) → times x (flat_map starts_in vs) ≡ values_weight vs
   values_times [] = refl
-  values_times (v ∷ vs) = times-append x (starts_in v) (flat_map starts_in vs) ∙ ap (λ n. weight v + n) (values_times vs)
+  values_times (v ∷ vs) = times-append x (starts_in v) (flat_map starts_in vs)
+      ∙ ap (λ n. weight v + n) (values_times vs)
 
   entries_times : (es : List (Key × Value)) → times x (starts_of_entries es) ≡ entries_weight es
   entries_times [] = refl
-  entries_times (e ∷ es) = times-append x (starts_in e.1) (starts_of_entries es) ∙ ap (λ n. weight e.1 + n) (entries_times es)
+  entries_times (e ∷ es) = times-append x (starts_in e.1) (starts_of_entries es)
+      ∙ ap (λ n. weight e.1 + n) (entries_times es)
 
   pub array_weight : (span : Span) (vs : List Value) → weight (value_with span (content.Array vs)) ≡ values_weight vs
   array_weight span vs = ap (times x) (starts_of_array span vs) ∙ values_times vs
@@ -90,18 +93,19 @@ module _ (x : ℕ) where
 
   -- ---- the lines of an array of tables
 
-  as_table_weight : (p : Put) → put_weight (tree.put_as_table p) ≡ put_weight p
-  as_table_weight (put.Value v) = refl
-  as_table_weight (put.Table ms) = refl
-  as_table_weight (put.Element ms) = refl
+  as_table_weight : (p : PathEnd) → end_weight (tree.end_as_table p) ≡ end_weight p
+  as_table_weight (path_end.Value v) = refl
+  as_table_weight (path_end.Table ms) = refl
+  as_table_weight (path_end.Element ms) = refl
 
   -- each line goes to one element at most
-  elements_weight : (ls : List Line) → parts_weight (tree.elements ls) + lines_weight (tree.until_element ls) ≤ lines_weight ls
+  elements_weight : (ls : List Line) → parts_weight (tree.elements ls) + lines_weight (tree.until_element ls) ≤
+      lines_weight ls
   unfolding tree.elements tree.until_element
   elements_weight [] = omega arith
   elements_weight (l ∷ ls) =
       let more = elements_weight ls in
-      let same = as_table_weight l.put in
+      let same = as_table_weight l.path_end in
       elim (cases_Bool (tree.is_element l)) [
         | inl is ↦ rw is (omega arith)
         | inr other ↦ rw other (omega arith)
@@ -124,16 +128,20 @@ module _ (x : ℕ) where
   through_none (n ∷ ns) = omega (arith, through_none ns)
 
   through_step : (n : List ℕ) (s : List ℕ × Line) (ss : List (List ℕ × Line))
-      → lines_weight (tree.lines_through n (s ∷ ss)) ≡ cond (pointwise nat_eq s.0 n) (line_weight s.1) 0 + lines_weight (tree.lines_through n ss)
+      → lines_weight (tree.lines_through n (s ∷ ss)) ≡ cond (pointwise nat_eq s.0 n) (line_weight s.1) 0 + lines_weight
+      (tree.lines_through n ss)
   unfolding tree.lines_through
-  through_step n s ss = elim (cases_Bool (pointwise nat_eq s.0 n)) [ inl same ↦ rw same refl | inr other ↦ rw other (omega arith) ]
+  through_step n s ss = elim (cases_Bool (pointwise nat_eq s.0 n))
+      [ inl same ↦ rw same refl | inr other ↦ rw other (omega arith) ]
 
-  through_more : (ns : List (List ℕ)) (s : List ℕ × Line) (ss : List (List ℕ × Line)) → through_weight ns (s ∷ ss) ≡ led_weight s ns + through_weight ns ss
+  through_more : (ns : List (List ℕ)) (s : List ℕ × Line) (ss : List (List ℕ × Line))
+      → through_weight ns (s ∷ ss) ≡ led_weight s ns + through_weight ns ss
   through_more [] s ss = refl
   through_more (n ∷ ns) s ss = omega (arith, through_step n s ss, through_more ns s ss)
 
   -- a name that differs from all others
-  led_none : (s : List ℕ × Line) (n : List ℕ) (ns : List (List ℕ)) → pointwise nat_eq s.0 n ≡ true → AllByRecursion (λ m. slice_cmp nat_cmp n m ≡ Less) ns → led_weight s ns ≡ 0
+  led_none : (s : List ℕ × Line) (n : List ℕ) (ns : List (List ℕ)) → pointwise nat_eq s.0 n ≡ true
+      → AllByRecursion (λ m. slice_cmp nat_cmp n m ≡ Less) ns → led_weight s ns ≡ 0
   led_none s n [] same below = refl
   led_none s n (m ∷ ns) same below =
       elim (cases_Bool (pointwise nat_eq s.0 m)) [
@@ -147,7 +155,8 @@ module _ (x : ℕ) where
           let below_itself : slice_cmp nat_cmp n n ≡ Less = subst (λ k. slice_cmp nat_cmp n k ≡ Less) (sym e) less in
           equal_less (sym tied ∙ below_itself)
 
-  led_once : (s : List ℕ × Line) (ns : List (List ℕ)) → IsStrictlySortedBy (slice_cmp nat_cmp) ns → led_weight s ns ≤ line_weight s.1
+  led_once : (s : List ℕ × Line) (ns : List (List ℕ)) → IsStrictlySortedBy (slice_cmp nat_cmp) ns
+      → led_weight s ns ≤ line_weight s.1
   unfolding IsStrictlySortedBy
   led_once s [] ascend = omega arith
   led_once s (n ∷ ns) ascend =
@@ -156,7 +165,8 @@ module _ (x : ℕ) where
         | inr other ↦ let more = led_once s ns ascend.1 in rw other (omega arith)
       ]
 
-  names_weight : (ns : List (List ℕ)) (ss : List (List ℕ × Line)) → IsStrictlySortedBy (slice_cmp nat_cmp) ns → through_weight ns ss ≤ steps_weight ss
+  names_weight : (ns : List (List ℕ)) (ss : List (List ℕ × Line)) → IsStrictlySortedBy (slice_cmp nat_cmp) ns
+      → through_weight ns ss ≤ steps_weight ss
   names_weight ns [] ascend = omega (arith, through_none ns)
   names_weight ns (s ∷ ss) ascend = omega (arith, through_more ns s ss, led_once s ns ascend, names_weight ns ss ascend)
 
@@ -166,22 +176,36 @@ module _ (x : ℕ) where
   member_steps_weight v [] = omega arith
   member_steps_weight v (key ∷ path) = omega arith
 
-  members_steps_weight : (ms : List Member) → steps_weight (flat_map (λ m. tree.member_steps m.value m.path) ms) ≤ members_weight ms
+  members_steps_weight : (ms : List Member) → steps_weight (flat_map (λ m. tree.member_steps m.value m.path) ms) ≤
+      members_weight ms
   members_steps_weight [] = omega arith
   members_steps_weight (m ∷ ms) =
-      omega (arith, steps_weight-append (tree.member_steps m.value m.path) (flat_map (λ n. tree.member_steps n.value n.path) ms), member_steps_weight m.value m.path, members_steps_weight ms)
+      omega (
+        arith,
+        steps_weight-append (tree.member_steps m.value m.path)
+            (flat_map (λ n. tree.member_steps n.value n.path) ms),
+        member_steps_weight m.value m.path,
+        members_steps_weight ms,
+      )
 
-  line_steps_weight : (p : Put) (path : List Key) → steps_weight (tree.line_steps p path) ≤ put_weight p
+  line_steps_weight : (p : PathEnd) (path : List Key) → steps_weight (tree.line_steps p path) ≤ end_weight p
   line_steps_weight p (key ∷ path) = omega arith
-  line_steps_weight (put.Value v) [] = omega arith
-  line_steps_weight (put.Table ms) [] = members_steps_weight ms
-  line_steps_weight (put.Element ms) [] = omega arith
+  line_steps_weight (path_end.Value v) [] = omega arith
+  line_steps_weight (path_end.Table ms) [] = members_steps_weight ms
+  line_steps_weight (path_end.Element ms) [] = omega arith
 
   all_steps_weight : (ls : List Line) → steps_weight (tree.steps ls) ≤ lines_weight ls
   unfolding tree.steps
   all_steps_weight [] = omega arith
   all_steps_weight (l ∷ ls) =
-      omega (arith, steps_weight-append (tree.line_steps l.put l.path) (flat_map (λ m. tree.line_steps m.put m.path) ls), line_steps_weight l.put l.path, all_steps_weight ls)
+      omega (
+        arith,
+        steps_weight-append (tree.line_steps l.path_end l.path)
+            (flat_map (λ m. tree.line_steps m.path_end m.path) ls),
+        line_steps_weight l.path_end l.path,
+        all_steps_weight
+            ls,
+      )
 
   -- ---- tables
 
@@ -199,36 +223,52 @@ module _ (x : ℕ) where
 
     array_no_more : (ls : List Line) → weight (tree.array_value make ls) ≤ lines_weight ls
     array_no_more ls =
-        omega (arith, array_weight (tree.place_of ls) (map (tree.table_value make) (tree.elements ls)), each_no_more (tree.elements ls), elements_weight ls)
+        omega (
+          arith,
+          array_weight (tree.place_of ls) (map (tree.table_value make) (tree.elements ls)),
+          each_no_more
+              (tree.elements ls),
+          elements_weight ls,
+        )
 
-    container_no_more : (b : Bool) (ls : List Line) → weight (cond b (tree.array_value make ls) (tree.table_value make ls)) ≤ lines_weight ls
+    container_no_more : (b : Bool) (ls : List Line) → weight
+        (cond b (tree.array_value make ls) (tree.table_value make ls)) ≤ lines_weight ls
     container_no_more true ls = array_no_more ls
     container_no_more false ls = table_no_more ls
 
-    first_no_more : (p : Put) (path : List Key) (ls : List Line) → put_weight p ≤ lines_weight ls → weight (tree.value_or make (tree.put_value p path) ls) ≤ lines_weight ls
-    first_no_more (put.Value v) [] ls le = le
-    first_no_more (put.Value v) (key ∷ path) ls le = container_no_more (tree.starts_array ls) ls
-    first_no_more (put.Table ms) [] ls le = container_no_more (tree.starts_array ls) ls
-    first_no_more (put.Table ms) (key ∷ path) ls le = container_no_more (tree.starts_array ls) ls
-    first_no_more (put.Element ms) [] ls le = container_no_more (tree.starts_array ls) ls
-    first_no_more (put.Element ms) (key ∷ path) ls le = container_no_more (tree.starts_array ls) ls
+    first_no_more : (p : PathEnd) (path : List Key) (ls : List Line) → end_weight p ≤ lines_weight ls
+        → weight (tree.value_or make (tree.end_value p path) ls) ≤ lines_weight ls
+    first_no_more (path_end.Value v) [] ls le = le
+    first_no_more (path_end.Value v) (key ∷ path) ls le = container_no_more (tree.starts_array ls) ls
+    first_no_more (path_end.Table ms) [] ls le = container_no_more (tree.starts_array ls) ls
+    first_no_more (path_end.Table ms) (key ∷ path) ls le = container_no_more (tree.starts_array ls) ls
+    first_no_more (path_end.Element ms) [] ls le = container_no_more (tree.starts_array ls) ls
+    first_no_more (path_end.Element ms) (key ∷ path) ls le = container_no_more (tree.starts_array ls) ls
 
     value_no_more : (ls : List Line) → weight (tree.value_of_lines make ls) ≤ lines_weight ls
     unfolding tree.value_of_lines
     value_no_more [] = container_no_more false []
-    value_no_more (l ∷ ls) = first_no_more l.put l.path (l ∷ ls) (omega arith)
+    value_no_more (l ∷ ls) = first_no_more l.path_end l.path (l ∷ ls) (omega arith)
 
     entries_no_more : (ns : List (List ℕ)) (ss : List (List ℕ × Line))
         → entries_weight (map (tree.entry_of make) (map (λ n. (n, tree.lines_through n ss)) ns)) ≤ through_weight ns ss
     entries_no_more [] ss = omega arith
     entries_no_more (n ∷ ns) ss = omega (arith, value_no_more (tree.lines_through n ss), entries_no_more ns ss)
 
-    groups_no_more : (ls : List Line) → table_weight (table_with (map (tree.entry_of make) (tree.groups (tree.steps ls)))) ≤ lines_weight ls
+    groups_no_more : (ls : List Line) → table_weight (table_with
+        (map (tree.entry_of make) (tree.groups (tree.steps ls)))) ≤ lines_weight ls
     unfolding tree.groups
     groups_no_more ls =
         let ss = tree.steps ls in
         let es = map (tree.entry_of make) (map (λ n. (n, tree.lines_through n ss)) (tree.names ss)) in
-        omega (arith, ap entries_weight (entries_are es), entries_no_more (tree.names ss) ss, names_weight (tree.names ss) ss (names_ascend ss), all_steps_weight ls)
+        omega (
+          arith,
+          ap entries_weight (entries_are es),
+          entries_no_more (tree.names ss) ss,
+          names_weight
+              (tree.names ss) ss (names_ascend ss),
+          all_steps_weight ls,
+        )
 
   tables_no_more : (n : ℕ) → IsNoMore (tree.table n)
   unfolding tree.table
@@ -240,8 +280,9 @@ module _ (x : ℕ) where
   table_of_no_more ls = tables_no_more (tree.depth ls) ls
 
   -- the keys of an inline table
-  pub members_no_more : (span : Span) (ms : List Member) → table_weight (tree.table_of_members span ms) ≤ members_weight ms
-  members_no_more span ms = omega (arith, table_of_no_more (tree.line_at span [] (put.Table ms) ∷ []))
+  pub members_no_more : (span : Span) (ms : List Member) → table_weight (tree.table_of_members span ms) ≤ members_weight
+      ms
+  members_no_more span ms = omega (arith, table_of_no_more (tree.line_at span [] (path_end.Table ms) ∷ []))
 
   -- ---- a document
 
@@ -253,16 +294,26 @@ module _ (x : ℕ) where
   document_weight [] = 0
   document_weight (e ∷ es) = assigned_weight e + document_weight es
 
-  header_put_weight : (b : Bool) (ms : List Member) → put_weight (tree.header_put b ms) ≡ members_weight ms
-  header_put_weight true ms = refl
-  header_put_weight false ms = refl
+  header_end_weight : (b : Bool) (ms : List Member) → end_weight (tree.header_end b ms) ≡ members_weight ms
+  header_end_weight true ms = refl
+  header_end_weight false ms = refl
 
   -- each assignment goes to one line
-  lines_no_more : (span : Span) (es : List Expression) → members_weight (tree.leading es) + lines_weight (tree.header_lines span es) ≤ document_weight es
+  lines_no_more : (span : Span) (es : List Expression) → members_weight (tree.leading es) + lines_weight
+      (tree.header_lines span es) ≤ document_weight es
   unfolding tree.leading tree.header_lines
   lines_no_more span [] = omega arith
   lines_no_more span (expression.Assignment a ∷ es) = omega (arith, lines_no_more span es)
-  lines_no_more span (expression.Header h ∷ es) = omega (arith, header_put_weight h.is_array (tree.leading es), lines_no_more span es)
+  lines_no_more span (expression.Header h ∷ es) = omega (
+    arith,
+    header_end_weight h.is_array (tree.leading es),
+    lines_no_more span es,
+  )
 
   pub tree_no_more : (span : Span) (es : List Expression) → weight (tree.tree span es) ≤ document_weight es
-  tree_no_more span es = omega (arith, table_no_more tree.table_of table_of_no_more (tree.lines span es), lines_no_more span es)
+  tree_no_more span es = omega (
+    arith,
+    table_no_more tree.table_of table_of_no_more (tree.lines span es),
+    lines_no_more
+        span es,
+  )

@@ -1,5 +1,6 @@
 -- The elements of an array, as a loop reads them.
-use Rattle.std.proofs.Common.{◌≡◌, ℕ, suc, ◌+◌, List, [], ◌∷◌, ◌++◌, length, append_assoc, append-nil, refl, sym, ap, subst, ◌∙◌, arith}
+use Rattle.std.proofs.Common.{◌≡◌, ℕ, suc, ◌+◌, List, [], ◌∷◌, ◌++◌, length, append_assoc, append-nil, refl, sym, ap}
+use Rattle.std.proofs.Common.{subst, ◌∙◌, arith}
 use Rattle.std.specs.Fmt.{decimal}
 use Rattle.deny_toml.specs.declared.error.ConfigFault.{ConfigFault}
 use Rattle.deny_toml.specs.declared.value.Value.{Value}
@@ -7,15 +8,18 @@ use Rattle.deny_toml.specs.Faults.{under}
 use Rattle.deny_toml.specs.Deserialize.{faults_from, ReadsEach, Adds}
 
 pub faults_from-push : (faults_of : Value → List ConfigFault) (vs : List Value) (v : Value) (place : ℕ)
-    → faults_from faults_of place (vs ++ v ∷ []) ≡ faults_from faults_of place vs ++ under (decimal (place + length vs)) (faults_of v)
+    → faults_from faults_of place (vs ++ v ∷ []) ≡ faults_from faults_of place vs ++ under (decimal (place + length vs))
+    (faults_of v)
 faults_from-push faults_of [] v place =
     let same : place ≡ place + 0 = omega arith in
     append-nil (under (decimal place) (faults_of v)) ∙ ap (λ n. under (decimal n) (faults_of v)) same
 faults_from-push faults_of (w ∷ vs) v place =
     let next : place + 1 + length vs ≡ place + suc (length vs) = omega arith in
     ap (λ rest. under (decimal place) (faults_of w) ++ rest) (faults_from-push faults_of vs v (place + 1))
-    ∙ sym (append_assoc (under (decimal place) (faults_of w)) (faults_from faults_of (place + 1) vs) (under (decimal (place + 1 + length vs)) (faults_of v)))
-    ∙ ap (λ n. (under (decimal place) (faults_of w) ++ faults_from faults_of (place + 1) vs) ++ under (decimal n) (faults_of v)) next
+    ∙ sym (append_assoc (under (decimal place) (faults_of w)) (faults_from faults_of (place + 1) vs)
+    (under (decimal (place + 1 + length vs)) (faults_of v)))
+    ∙ ap (λ n. (under (decimal place) (faults_of w) ++ faults_from faults_of (place + 1) vs) ++ under (decimal n)
+    (faults_of v)) next
 
 pub ReadsEach-push : {T : Type 0} (Reads : Value → T → Type 0) (vs : List Value) (xs : List T) (v : Value) (x : T)
     → ReadsEach Reads vs xs → Reads v x → ReadsEach Reads (vs ++ v ∷ []) (xs ++ x ∷ [])
@@ -24,9 +28,9 @@ ReadsEach-push Reads [] (y ∷ xs) v x each one = absurd each
 ReadsEach-push Reads (w ∷ vs) [] v x each one = absurd each
 ReadsEach-push Reads (w ∷ vs) (y ∷ xs) v x each one = (each.0, ReadsEach-push Reads vs xs v x each.1 one)
 
-empty_front : {A : Type 0} (xs ys : List A) → xs ++ ys ≡ [] → xs ≡ []
-empty_front [] ys e = refl
-empty_front (x ∷ xs) ys e = cc e
+empty_prefix : {A : Type 0} (xs ys : List A) → xs ++ ys ≡ [] → xs ≡ []
+empty_prefix [] ys e = refl
+empty_prefix (x ∷ xs) ys e = cc e
 
 empty_back : {A : Type 0} (xs ys : List A) → xs ++ ys ≡ [] → ys ≡ []
 empty_back [] ys e = e
@@ -37,17 +41,20 @@ empty_under name [] e = refl
 empty_under name (f ∷ fs) e = cc e
 
 -- the turn of the loop that reads one element
-pub read_more : {T : Type 0} (faults_of : Value → List ConfigFault) (Reads : Value → T → Type 0) (vs : List Value) (place : ℕ) (v : Value)
+pub read_more : {T : Type 0} (faults_of : Value → List ConfigFault) (Reads : Value → T → Type 0) (vs : List Value)
+    (place : ℕ) (v : Value)
     (kept faults : List ConfigFault) (items more : List T) → faults ≡ kept ++ under (decimal place) (faults_of v)
     → (kept ≡ [] → ReadsEach Reads vs items) → (faults_of v ≡ [] → Adds Reads v items more)
     → faults ≡ [] → ReadsEach Reads (vs ++ v ∷ []) more
 read_more faults_of Reads vs place v kept faults items more e each one none =
     let joined : kept ++ under (decimal place) (faults_of v) ≡ [] = sym e ∙ none in
-    let (x, added, read) = one (empty_under (decimal place) (faults_of v) (empty_back kept (under (decimal place) (faults_of v)) joined)) in
+    let (x, added, read) = one (empty_under (decimal place) (faults_of v)
+    (empty_back kept (under (decimal place) (faults_of v)) joined)) in
     subst (λ xs. ReadsEach Reads (vs ++ v ∷ []) xs) (sym added)
-    (ReadsEach-push Reads vs items v x (each (empty_front kept (under (decimal place) (faults_of v)) joined)) read)
+    (ReadsEach-push Reads vs items v x (each (empty_prefix kept (under (decimal place) (faults_of v)) joined)) read)
 
-pub faults_more : (faults_of : Value → List ConfigFault) (vs : List Value) (place : ℕ) (v : Value) (kept faults : List ConfigFault)
+pub faults_more : (faults_of : Value → List ConfigFault) (vs : List Value) (place : ℕ) (v : Value)
+    (kept faults : List ConfigFault)
     → place ≡ length vs → faults ≡ kept ++ under (decimal place) (faults_of v) → kept ≡ faults_from faults_of 0 vs
     → faults ≡ faults_from faults_of 0 (vs ++ v ∷ [])
 faults_more faults_of vs place v kept faults count e so_far =

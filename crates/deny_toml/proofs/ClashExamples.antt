@@ -1,16 +1,16 @@
 -- Documents, and where they clash. Each segment here is one byte long, with a span of its own.
 use Rattle.std.proofs.Common.{◌≡◌, ℕ, true, false, List, [], ◌∷◌, refl, Option, Some, None, codes}
 use Rattle.deny_base.specs.declared.span.Span.{Span}
-use Rattle.deny_toml.specs.declared.value.Key.{Key}
-use Rattle.deny_toml.specs.declared.value.Scalar.TheVariants.{Boolean}
-use Rattle.deny_toml.specs.declared.expression.Expression.{Expression}
-use Rattle.deny_toml.specs.declared.expression.Expression.TheVariants as expression
-use Rattle.deny_toml.specs.declared.expression.Assignment.{Assignment}
-use Rattle.deny_toml.specs.declared.expression.Written.{Written}
-use Rattle.deny_toml.specs.declared.expression.WrittenContent.TheVariants.{Scalar, Array, InlineTable}
-use Rattle.deny_toml.specs.Lines.{header_with}
-use Rattle.deny_toml.specs.Expression.{written_with, assignment_with}
-use Rattle.deny_toml.specs.Value.{span_of}
+use Rattle.deny_toml_grammar.specs.declared.parts.Key.{Key}
+use Rattle.deny_toml_grammar.specs.declared.parts.Scalar.TheVariants.{Boolean}
+use Rattle.deny_toml_grammar.specs.declared.expression.Expression.{Expression}
+use Rattle.deny_toml_grammar.specs.declared.expression.Expression.TheVariants as expression
+use Rattle.deny_toml_grammar.specs.declared.expression.Assignment.{Assignment}
+use Rattle.deny_toml_grammar.specs.declared.expression.Written.{Written}
+use Rattle.deny_toml_grammar.specs.declared.expression.WrittenContent.TheVariants.{Scalar, Array, InlineTable}
+use Rattle.deny_toml_grammar.specs.Expression.{header_with}
+use Rattle.deny_toml_grammar.specs.Expression.{written_with, assignment_with}
+use Rattle.deny_toml_grammar.specs.Expression.{span_of}
 use Rattle.deny_toml.specs.Clash.{clash, clash_in, clash_after, walk, stand}
 use Rattle.deny_toml.proofs.ClashLaws.{clash_in-scalar, clash_in-array, clash_in-table}
 
@@ -82,22 +82,26 @@ unfolding clash_after walk stand
 inner_table_that_a_key_entered = rw yes-none refl
 
 -- [a], b.c = true, [a.b.a]
-header_through_a_table_that_a_key_entered : clash (table (a 1 ∷ []) ∷ key (b 2 ∷ c 3 ∷ []) ∷ table (a 4 ∷ b 5 ∷ a 6 ∷ []) ∷ []) ≡ None
+header_through_a_table_that_a_key_entered : clash (table (a 1 ∷ []) ∷ key (b 2 ∷ c 3 ∷ []) ∷ table
+    (a 4 ∷ b 5 ∷ a 6 ∷ []) ∷ []) ≡ None
 unfolding clash_after walk stand
 header_through_a_table_that_a_key_entered = rw yes-none refl
 
 -- [a.b], [a], b.c = true
-key_into_a_table_that_a_header_named : clash (table (a 1 ∷ b 2 ∷ []) ∷ table (a 3 ∷ []) ∷ key (b 4 ∷ c 5 ∷ []) ∷ []) ≡ at 4
+key_into_a_table_that_a_header_named : clash (table (a 1 ∷ b 2 ∷ []) ∷ table (a 3 ∷ []) ∷ key (b 4 ∷ c 5 ∷ []) ∷ []) ≡
+    at 4
 unfolding clash_after walk stand
 key_into_a_table_that_a_header_named = refl
 
 -- [a.b.c], [a], b.a = true
-key_into_a_table_that_headers_went_through : clash (table (a 1 ∷ b 2 ∷ c 3 ∷ []) ∷ table (a 4 ∷ []) ∷ key (b 5 ∷ a 6 ∷ []) ∷ []) ≡ None
+key_into_a_table_that_headers_went_through : clash (table (a 1 ∷ b 2 ∷ c 3 ∷ []) ∷ table (a 4 ∷ []) ∷ key
+    (b 5 ∷ a 6 ∷ []) ∷ []) ≡ None
 unfolding clash_after walk stand
 key_into_a_table_that_headers_went_through = rw yes-none refl
 
 -- [a.b.c], [a], b.a = true, [a.b]
-that_table_named_after_it : clash (table (a 1 ∷ b 2 ∷ c 3 ∷ []) ∷ table (a 4 ∷ []) ∷ key (b 5 ∷ a 6 ∷ []) ∷ table (a 7 ∷ b 8 ∷ []) ∷ []) ≡ at 8
+that_table_named_after_it : clash (table (a 1 ∷ b 2 ∷ c 3 ∷ []) ∷ table (a 4 ∷ []) ∷ key (b 5 ∷ a 6 ∷ []) ∷ table
+    (a 7 ∷ b 8 ∷ []) ∷ []) ≡ at 8
 unfolding clash_after walk stand
 that_table_named_after_it = rw yes-none refl
 
@@ -122,7 +126,8 @@ unfolding clash_after walk stand
 array_at_a_table_that_a_header_went_through = refl
 
 -- [[a]], [a.b], [[a]], [a.b]
-same_table_in_two_elements : clash (array (a 1 ∷ []) ∷ table (a 2 ∷ b 3 ∷ []) ∷ array (a 4 ∷ []) ∷ table (a 5 ∷ b 6 ∷ []) ∷ []) ≡ None
+same_table_in_two_elements : clash (array (a 1 ∷ []) ∷ table (a 2 ∷ b 3 ∷ []) ∷ array (a 4 ∷ []) ∷ table
+    (a 5 ∷ b 6 ∷ []) ∷ []) ≡ None
 unfolding clash_after walk stand
 same_table_in_two_elements = refl
 
@@ -132,7 +137,8 @@ unfolding clash_after walk stand
 table_twice_in_an_element = refl
 
 -- [[a]], b = true, [[a]], b = true, b = true
-key_twice_in_an_element : clash (array (a 1 ∷ []) ∷ key (b 2 ∷ []) ∷ array (a 3 ∷ []) ∷ key (b 4 ∷ []) ∷ key (b 5 ∷ []) ∷ []) ≡ at 5
+key_twice_in_an_element : clash (array (a 1 ∷ []) ∷ key (b 2 ∷ []) ∷ array (a 3 ∷ []) ∷ key (b 4 ∷ []) ∷ key (b 5 ∷ [])
+    ∷ []) ≡ at 5
 unfolding clash_after walk stand
 key_twice_in_an_element = rw yes-none refl
 
@@ -166,9 +172,11 @@ unfolding clash_after walk stand
 array_at_a_value = rw (clash_in-array (span_of 0 0) []) refl
 
 -- a = { b = true, b = true }
-key_twice_in_an_inline_table : clash (assigned (a 1 ∷ []) (inline (member (b 2 ∷ []) ∷ member (b 3 ∷ []) ∷ [])) ∷ []) ≡ at 3
+key_twice_in_an_inline_table : clash (assigned (a 1 ∷ []) (inline (member (b 2 ∷ []) ∷ member (b 3 ∷ []) ∷ [])) ∷ []) ≡
+    at 3
 unfolding clash_after walk stand
-key_twice_in_an_inline_table = rw (clash_in-table (span_of 0 0) (member (b 2 ∷ []) ∷ member (b 3 ∷ []) ∷ []), yes-none) refl
+key_twice_in_an_inline_table = rw (clash_in-table (span_of 0 0) (member (b 2 ∷ []) ∷ member (b 3 ∷ []) ∷ []), yes-none)
+    refl
 
 -- a = { a = true }
 same_name_in_an_inline_table : clash (assigned (a 1 ∷ []) (inline (member (a 2 ∷ []) ∷ [])) ∷ []) ≡ None
@@ -176,7 +184,8 @@ unfolding clash_after walk stand
 same_name_in_an_inline_table = rw (clash_in-table (span_of 0 0) (member (a 2 ∷ []) ∷ []), yes-none) refl
 
 -- a = [{ b = true }, { b = true }]
-key_in_two_inline_tables : clash (assigned (a 1 ∷ []) (elements (inline (member (b 2 ∷ []) ∷ []) ∷ inline (member (b 3 ∷ []) ∷ []) ∷ [])) ∷ []) ≡ None
+key_in_two_inline_tables : clash (assigned (a 1 ∷ []) (elements
+    (inline (member (b 2 ∷ []) ∷ []) ∷ inline (member (b 3 ∷ []) ∷ []) ∷ [])) ∷ []) ≡ None
 unfolding clash_after walk stand
 key_in_two_inline_tables =
     rw (
@@ -187,7 +196,8 @@ key_in_two_inline_tables =
     ) refl
 
 -- a = [{ b.c = true, b = true }]
-key_at_a_table_in_an_array : clash (assigned (a 1 ∷ []) (elements (inline (member (b 2 ∷ c 3 ∷ []) ∷ member (b 4 ∷ []) ∷ []) ∷ [])) ∷ []) ≡ at 4
+key_at_a_table_in_an_array : clash (assigned (a 1 ∷ []) (elements
+    (inline (member (b 2 ∷ c 3 ∷ []) ∷ member (b 4 ∷ []) ∷ []) ∷ [])) ∷ []) ≡ at 4
 unfolding clash_after walk stand
 key_at_a_table_in_an_array =
     rw (
@@ -197,6 +207,7 @@ key_at_a_table_in_an_array =
     ) refl
 
 -- a = true, a = { b = true, b = true }: the key's own segments come first
-own_segments_first : clash (key (a 1 ∷ []) ∷ assigned (a 2 ∷ []) (inline (member (b 3 ∷ []) ∷ member (b 4 ∷ []) ∷ [])) ∷ []) ≡ at 2
+own_segments_first : clash (key (a 1 ∷ []) ∷ assigned (a 2 ∷ []) (inline (member (b 3 ∷ []) ∷ member (b 4 ∷ []) ∷ [])) ∷
+    []) ≡ at 2
 unfolding clash_after walk stand
 own_segments_first = rw yes-none refl

@@ -3,29 +3,45 @@ use Rattle.std.proofs.Common.{◌≡◌, ℕ, List, IsUtf8, IfSome, Option, Some
 use Rattle.std.proofs.lemmas.Str.{IsCharBoundary-start, IsCharBoundary-end}
 use Rattle.deny_base.specs.declared.span.Span.{Span}
 use Rattle.deny_toml.specs.declared.value.Value.{Value}
-use Rattle.deny_toml.specs.declared.expression.Expression.{Expression}
-use Rattle.deny_toml.specs.Value.{span_of}
+use Rattle.deny_toml_grammar.specs.declared.expression.Expression.{Expression}
+use Rattle.deny_toml_grammar.specs.Expression.{span_of}
 use Rattle.deny_toml.specs.Ranges.{IsRange, KeyStands, Stands, StandsIn}
 use Rattle.deny_toml.specs.Clash.{clash}
 use Rattle.deny_toml.specs.Tree.{tree}
 use Rattle.deny_toml.specs.Parser.{IsDocumentOf, whole}
-use Rattle.deny_toml.proofs.RangesLaws.{all_stand, keys_placed}
+use Rattle.deny_toml_grammar.proofs.RangesLaws.{all_stand, keys_placed}
 use Rattle.deny_toml.proofs.ClashRanges.{clash_placed}
 use Rattle.deny_toml.proofs.TreeRanges.{tree_ok}
 
-pub clash_range : (text : List ℕ) (es : List Expression) (found : Option Span) (span : Span) → IsUtf8 text → IsDocumentOf text es → found ≡ clash es → found ≡ Some span
+pub clash_range : (text : List ℕ) (es : List Expression) (found : Option Span) (span : Span) → IsUtf8 text
+    → IsDocumentOf text es → found ≡ clash es → found ≡ Some span
     → IsRange text span
 clash_range text es found span utf8 of exact is =
-    subst (λ o. IfSome o (IsRange text)) (sym exact ∙ is) (clash_placed (IsRange text) (λ w. Unit {0}) es (keys_placed text utf8 es of.written))
+    subst (λ o. IfSome o (IsRange text)) (sym exact ∙ is) (clash_placed (IsRange text) (λ w. Unit {0}) es
+    (keys_placed text utf8 es of.written))
 
 empty_range : (text : List ℕ) → IsUtf8 text → IsRange text (span_of 0 0)
-empty_range text utf8 = record { ordered = omega arith; within = omega arith; starts = IsCharBoundary-start text utf8; ends = IsCharBoundary-start text utf8 }
+empty_range text utf8 = record {
+  ordered = omega arith;
+  within = omega arith;
+  starts =
+      IsCharBoundary-start text utf8;
+  ends = IsCharBoundary-start text utf8;
+}
 
 whole_range : (text : List ℕ) → IsUtf8 text → IsRange text (whole text)
-whole_range text utf8 = record { ordered = omega arith; within = omega arith; starts = IsCharBoundary-start text utf8; ends = IsCharBoundary-end text }
+whole_range text utf8 = record {
+  ordered = omega arith;
+  within = omega arith;
+  starts =
+      IsCharBoundary-start text utf8;
+  ends = IsCharBoundary-end text;
+}
 
-pub tree_stands : (text : List ℕ) (es : List Expression) (span : Span) (v : Value) → IsUtf8 text → IsDocumentOf text es → span ≡ whole text → v ≡ tree span es → StandsIn text v
+pub tree_stands : (text : List ℕ) (es : List Expression) (span : Span) (v : Value) → IsUtf8 text → IsDocumentOf text es
+    → span ≡ whole text → v ≡ tree span es → StandsIn text v
 tree_stands text es span v utf8 of range exact =
     subst (StandsIn text) (sym (exact ∙ (λ i. tree (range i) es)))
-    (tree_ok (KeyStands text) (Stands text) (λ key here. record { placed = here.placed; written = tt }) (record { placed = empty_range text utf8; written = tt })
+    (tree_ok (KeyStands text) (Stands text) (λ key here. record { placed = here.placed; written = tt })
+    (record { placed = empty_range text utf8; written = tt })
     (whole text) (record { placed = whole_range text utf8; written = tt }) es (all_stand text utf8 es of.written))

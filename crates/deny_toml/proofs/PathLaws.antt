@@ -1,5 +1,7 @@
 -- Places, and the parts of a path.
-use Rattle.std.proofs.Common.{◌≡◌, ℕ, zero, suc, ◌+◌, ◌-◌, ◌*◌, ◌<◌, ◌≤◌, Bool, true, false, List, [], ◌∷◌, length, drop, take, length-drop, get_or, Some, None, nat_lt, cond, ◌==◌, position, refl, inl, inr, arith}
+use Rattle.std.proofs.Common.{◌≡◌, ℕ, zero, suc, ◌+◌, ◌-◌, ◌*◌, ◌<◌, ◌≤◌, Bool, true, false, List, [], ◌∷◌, length}
+use Rattle.std.proofs.Common.{drop, take, length-drop, get_or, Some, None, nat_lt, cond, ◌==◌, position, refl, inl, inr}
+use Rattle.std.proofs.Common.{arith}
 use Rattle.std.specs.List.{slice_get, slice_split, position_or_len}
 use Rattle.std.proofs.lemmas.List.{take_all}
 use Rattle.std.proofs.lemmas.Bool.Decides.{nat_tests}
@@ -18,11 +20,13 @@ place_after-past count place (byte ∷ bytes) past =
       | inr other ↦ rw other tt
     ]
 
-pub place_after-digit : (place next byte : ℕ) (bytes : List ℕ) → is_decimal_digit byte ≡ true → next ≡ place * 10 + (byte - 48)
+pub place_after-digit : (place next byte : ℕ) (bytes : List ℕ) → is_decimal_digit byte ≡ true
+    → next ≡ place * 10 + (byte - 48)
     → place_after place (byte ∷ bytes) ≡ place_after next bytes
 place_after-digit place next byte bytes digit is = rw (digit, is)
 
-pub place_after-end : (count place byte : ℕ) (bytes : List ℕ) → (is_decimal_digit byte ≡ true → count ≤ place * 10 + (byte - 48))
+pub place_after-end : (count place byte : ℕ) (bytes : List ℕ)
+    → (is_decimal_digit byte ≡ true → count ≤ place * 10 + (byte - 48))
     → IsPast count (place_after place (byte ∷ bytes))
 place_after-end count place byte bytes past =
     elim (cases_Bool (is_decimal_digit byte)) [
@@ -30,26 +34,25 @@ place_after-end count place byte bytes past =
       | inr other ↦ rw other tt
     ]
 
-pub slice_get-past : {X : Type 0} (xs : List X) (i : ℕ) → length xs ≤ i → slice_get xs i ≡ None
-slice_get-past [] i past = refl
-slice_get-past (x ∷ xs) zero past = absurd (omega (arith, past))
-slice_get-past (x ∷ xs) (suc i) past = slice_get-past xs i (omega arith)
-
 -- a path without a slash is one part
-pub no_slash : (p : ℕ → Bool) (path : List ℕ) → ((k : ℕ) (d : ℕ) → k < length path → p (get_or path k d) ≡ false) → slice_split p path ≡ path ∷ []
+pub no_slash : (p : ℕ → Bool) (path : List ℕ) → ((k : ℕ) (d : ℕ) → k < length path → p (get_or path k d) ≡ false)
+    → slice_split p path ≡ path ∷ []
 no_slash p [] fails = refl
 no_slash p (b ∷ path) fails =
     rw (fails 0 b (omega arith), no_slash p path (λ k d below. fails (suc k) d (omega arith)))
 
 at_position : (p : ℕ → Bool) (path : List ℕ) (end : ℕ) (b : Bool) → nat_lt (position_or_len p path) (length path) ≡ b
-    → cond b (Some (position_or_len p path)) None ≡ Some end → (position_or_len p path < length path) × (position_or_len p path ≡ end)
+    → cond b (Some (position_or_len p path)) None ≡ Some end → (position_or_len p path < length path)
+    × (position_or_len p path ≡ end)
 at_position p path end true is at = (grind (arith, nat_tests), cc at)
 at_position p path end false is at = cc at
 
 -- and the first slash divides the first part from the others
-pub first_slash : (path : List ℕ) (end : ℕ) → position (λ b. b == 47) path ≡ Some end → parts_of path ≡ take end path ∷ parts_of (drop (end + 1) path)
+pub first_slash : (path : List ℕ) (end : ℕ) → position (λ b. b == 47) path ≡ Some end
+    → parts_of path ≡ take end path ∷ parts_of (drop (end + 1) path)
 first_slash path end at =
-    let (below, is) = at_position (λ b. b == 47) path end (nat_lt (position_or_len (λ b. b == 47) path) (length path)) refl at in
+    let (below, is) = at_position (λ b. b == 47) path end (nat_lt (position_or_len (λ b. b == 47) path) (length path))
+    refl at in
     rw (← is) (slice_split_first (λ b. b == 47) path 0 below)
 
 pub slash_below : (path : List ℕ) (end : ℕ) → position (λ b. b == 47) path ≡ Some end → end < length path

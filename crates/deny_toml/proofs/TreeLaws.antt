@@ -1,7 +1,10 @@
 -- The loops of the tree, a turn at a time.
-use Rattle.std.proofs.Common.{◌≡◌, ℕ, Bool, true, false, cond, List, [], ◌∷◌, ◌++◌, map, filter, fold, append_assoc, append-nil, length, length-append, ◌<◌, ◌+◌, arith, Some, None, unwrap_or, Ordering, refl, sym, ap, subst, ◌∙◌}
+use Rattle.deny_lists.proofs.Orders.{text_cmp-exact}
+use Rattle.std.proofs.Common.{◌≡◌, ℕ, Bool, true, false, cond, List, [], ◌∷◌, ◌++◌, map, filter, fold, append_assoc}
+use Rattle.std.proofs.Common.{append-nil, length, length-append, ◌<◌, ◌+◌, arith, Some, None, unwrap_or, Ordering, refl}
+use Rattle.std.proofs.Common.{sym, ap, subst, ◌∙◌}
 use Rattle.std.proofs.lemmas.Bool.{cond-true, cond-false}
-use Rattle.std.proofs.lemmas.List.{map-append}
+use Rattle.std.proofs.lemmas.List.{map-append, nil_from_length}
 use Rattle.std.proofs.lemmas.List.Elements.{filter-append}
 use Rattle.std.proofs.lemmas.List.Sums.{fold-append}
 use Rattle.std.specs.Cmp.{IsTotalOrder, Equal-is}
@@ -19,52 +22,64 @@ use Rattle.std.specs.Bool.{nat_eq}
 use Rattle.std.specs.Ordering.{nat_cmp, is_eq, ordering_reverse, match_ordering}
 use Rattle.std.specs.declared.cmp.Ordering.TheVariants.{Less, Equal, Greater}
 use Rattle.deny_base.specs.declared.span.Span.{Span}
-use Rattle.deny_toml.specs.declared.expression.Assignment.{Assignment}
-use Rattle.deny_toml.specs.declared.expression.Header.{Header}
-use Rattle.deny_toml.specs.declared.expression.Expression.{Expression}
-use Rattle.deny_toml.specs.declared.expression.Expression.TheVariants as expression
+use Rattle.deny_toml_grammar.specs.declared.expression.Assignment.{Assignment}
+use Rattle.deny_toml_grammar.specs.declared.expression.Header.{Header}
+use Rattle.deny_toml_grammar.specs.declared.expression.Expression.{Expression}
+use Rattle.deny_toml_grammar.specs.declared.expression.Expression.TheVariants as expression
 use Rattle.deny_toml.specs.declared.tree.Line.{Line}
 use Rattle.deny_toml.specs.declared.tree.Member.{Member}
-use Rattle.deny_toml.specs.Tree.{lines, leading, header_lines, header_line, written_member, until_element, elements, is_element, as_table, names, lines_through, groups}
+use Rattle.deny_toml.specs.Tree.{lines, leading, header_lines, header_line, written_member, until_element, elements}
+use Rattle.deny_toml.specs.Tree.{is_element, as_table, names, lines_through, groups}
 
--- The lines of a document of which these expressions were read: those found, then that of the last header, which goes on.
+-- The lines of a document of which these expressions were read: those found, then that of the last header, which goes
+-- on.
 abbrev pub LinesSoFar : Span → List Expression → List Line → Header → List Member → Type 0
 LinesSoFar span seen found h members =
-    (rest : List Expression) → lines span (seen ++ rest) ≡ found ++ header_line span h (members ++ leading rest) ∷ header_lines span rest
+    (rest : List Expression) → lines span (seen ++ rest) ≡ found ++ header_line span h (members ++ leading rest) ∷
+    header_lines span rest
 
-pub lines_member : (span : Span) (seen : List Expression) (found : List Line) (h : Header) (members : List Member) (a : Assignment) (more : List Member)
-    → more ≡ members ++ written_member a ∷ [] → LinesSoFar span seen found h members → LinesSoFar span (seen ++ expression.Assignment a ∷ []) found h more
+pub lines_member : (span : Span) (seen : List Expression) (found : List Line) (h : Header) (members : List Member)
+    (a : Assignment) (more : List Member)
+    → more ≡ members ++ written_member a ∷ [] → LinesSoFar span seen found h members
+    → LinesSoFar span (seen ++ expression.Assignment a ∷ []) found h more
 unfolding leading header_lines
 lines_member span seen found h members a more is so rest =
     rw is
     (ap (lines span) (append_assoc seen (expression.Assignment a ∷ []) rest) ∙ so (expression.Assignment a ∷ rest)
-    ∙ ap (λ ms. found ++ header_line span h ms ∷ header_lines span rest) (sym (append_assoc members (written_member a ∷ []) (leading rest))))
+    ∙ ap (λ ms. found ++ header_line span h ms ∷ header_lines span rest)
+    (sym (append_assoc members (written_member a ∷ []) (leading rest))))
 
-pub lines_header : (span : Span) (seen : List Expression) (found : List Line) (h : Header) (members : List Member) (next : Header) (more : List Line) (none : List Member)
+pub lines_header : (span : Span) (seen : List Expression) (found : List Line) (h : Header) (members : List Member)
+    (next : Header) (more : List Line) (none : List Member)
     → more ≡ found ++ header_line span h members ∷ [] → none ≡ [] → LinesSoFar span seen found h members
     → LinesSoFar span (seen ++ expression.Header next ∷ []) more next none
 unfolding leading header_lines
 lines_header span seen found h members next more none is empty so rest =
     rw (is, empty)
     (ap (lines span) (append_assoc seen (expression.Header next ∷ []) rest) ∙ so (expression.Header next ∷ rest)
-    ∙ ap (λ ms. found ++ header_line span h ms ∷ header_line span next (leading rest) ∷ header_lines span rest) (append-nil members)
-    ∙ sym (append_assoc found (header_line span h members ∷ []) (header_line span next (leading rest) ∷ header_lines span rest)))
+    ∙ ap (λ ms. found ++ header_line span h ms ∷ header_line span next (leading rest) ∷ header_lines span rest)
+    (append-nil members)
+    ∙ sym (append_assoc found (header_line span h members ∷ [])
+    (header_line span next (leading rest) ∷ header_lines span rest)))
 
 pub lines_all : (span : Span) (seen : List Expression) (found : List Line) (h : Header) (members : List Member)
     → LinesSoFar span seen found h members → found ++ header_line span h members ∷ [] ≡ lines span seen
 unfolding leading header_lines
 lines_all span seen found h members so =
-    ap (λ ms. found ++ header_line span h ms ∷ []) (sym (append-nil members)) ∙ sym (so []) ∙ ap (lines span) (append-nil seen)
+    ap (λ ms. found ++ header_line span h ms ∷ []) (sym (append-nil members)) ∙ sym (so [])
+    ∙ ap (lines span) (append-nil seen)
 
 -- The tables of an array of which these lines were read: those found, then the last, which goes on.
 abbrev pub ElementsSoFar : List Line → List (List Line) → List Line → Type 0
 ElementsSoFar seen found table =
-    (rest : List Line) → until_element (seen ++ rest) ∷ elements (seen ++ rest) ≡ found ++ (table ++ until_element rest) ∷ elements rest
+    (rest : List Line) → until_element (seen ++ rest) ∷ elements (seen ++ rest) ≡ found ++ (table ++ until_element rest)
+    ∷ elements rest
 
 abbrev cut : List Line → List (List Line)
 cut ls = until_element ls ∷ elements ls
 
-pub elements_next : (seen : List Line) (found : List (List Line)) (table : List Line) (line : Line) (more : List (List Line)) (begun : List Line)
+pub elements_next : (seen : List Line) (found : List (List Line)) (table : List Line) (line : Line)
+    (more : List (List Line)) (begun : List Line)
     → is_element line ≡ true → more ≡ found ++ table ∷ [] → begun ≡ as_table line ∷ []
     → ElementsSoFar seen found table → ElementsSoFar (seen ++ line ∷ []) more begun
 unfolding until_element elements
@@ -100,43 +115,47 @@ elements_cut seen found table so =
 -- the lines before the first header are left out
 pub elements_all : (seen : List Line) (found : List (List Line)) (table : List Line) (whole rest : List (List Line))
     → whole ≡ found ++ table ∷ [] → rest ≡ remove whole 0 → ElementsSoFar seen found table → rest ≡ elements seen
-elements_all seen found table whole rest is left so = left ∙ ap (λ es. remove es 0) (is ∙ elements_cut seen found table so)
+elements_all seen found table whole rest is left so = left ∙ ap (λ es. remove es 0)
+    (is ∙ elements_cut seen found table so)
 
 -- there is something to leave out
-pub elements_some : (found : List (List Line)) (table : List Line) (whole : List (List Line)) → whole ≡ found ++ table ∷ [] → 0 < length whole
+pub elements_some : (found : List (List Line)) (table : List Line) (whole : List (List Line))
+    → whole ≡ found ++ table ∷ [] → 0 < length whole
 elements_some found table whole is = omega (arith, ap length is, length-append found (table ∷ []))
 
--- what a vector's iterator has given is a front of its items
-taken_front : {X A : Type 0} (s : IntoIter X A) (xs : List X) (t : IntoIter X A) → Yields into_iter_steps s xs t → into_iter_items s ≡ xs ++ into_iter_items t
-taken_front s [] t y = ap into_iter_items y
-taken_front s (x ∷ xs) t y = y.1.0 ∙ ap (λ ys. x ∷ ys) (taken_front y.0 xs t y.2)
+-- what a vector's iterator has given is a prefix of its items
+taken_prefix : {X A : Type 0} (s : IntoIter X A) (xs : List X) (t : IntoIter X A) → Yields into_iter_steps s xs t
+    → into_iter_items s ≡ xs ++ into_iter_items t
+taken_prefix s [] t y = ap into_iter_items y
+taken_prefix s (x ∷ xs) t y = y.1.0 ∙ ap (λ ys. x ∷ ys) (taken_prefix y.0 xs t y.2)
 
-taken_len : {X A : Type 0} (s : IntoIter X A) (xs : List X) (t : IntoIter X A) → Yields into_iter_steps s xs t → length xs + into_iter_len t ≡ into_iter_len s
+taken_len : {X A : Type 0} (s : IntoIter X A) (xs : List X) (t : IntoIter X A) → Yields into_iter_steps s xs t
+    → length xs + into_iter_len t ≡ into_iter_len s
 taken_len s [] t y = let same : into_iter_len s ≡ into_iter_len t = ap into_iter_len y in omega arith
 taken_len s (x ∷ xs) t y = let more = taken_len y.0 xs t y.2 in let one = y.1.1 in omega arith
 
-nothing_left : {X : Type 0} (xs : List X) → length xs ≡ 0 → xs ≡ []
-nothing_left [] none = refl
-nothing_left (x ∷ xs) none = absurd (omega arith)
-
 -- a loop over a vector that came to its end has seen all of it
-pub taken_all : {X A : Type 0} (s : IntoIter X A) (xs : List X) (t : IntoIter X A) (all : List X) → Yields into_iter_steps s xs t
+pub taken_all : {X A : Type 0} (s : IntoIter X A) (xs : List X) (t : IntoIter X A) (all : List X)
+    → Yields into_iter_steps s xs t
     → into_iter_items s ≡ all → into_iter_len s ≡ length all → into_iter_len t ≡ 0 → xs ≡ all
 taken_all s xs t all y is long none =
-    let front = taken_front s xs t y in
+    let prefix = taken_prefix s xs t y in
     let taken = taken_len s xs t y in
-    let empty : into_iter_items t ≡ [] = nothing_left _ (omega (arith, ap length front, length-append xs (into_iter_items t), ap length is)) in
-    sym (append-nil xs) ∙ ap (λ ys. xs ++ ys) (sym empty) ∙ sym front ∙ is
+    let empty : into_iter_items t ≡ [] = nil_from_length _ (omega
+    (arith, ap length prefix, length-append xs (into_iter_items t), ap length is)) in
+    sym (append-nil xs) ∙ ap (λ ys. xs ++ ys) (sym empty) ∙ sym prefix ∙ is
 
 module _ {K : Type 0} {cmp : K → K → Ordering} (total : IsTotalOrder cmp) (exact : IsAntisymmetric cmp) where
-  above : (k x : K) (xs : List K) → cmp k x ≡ Less → AllByRecursion (λ y. cmp x y ≡ Less) xs → AllByRecursion (λ y. cmp k y ≡ Less) xs
+  above : (k x : K) (xs : List K) → cmp k x ≡ Less → AllByRecursion (λ y. cmp x y ≡ Less) xs
+      → AllByRecursion (λ y. cmp k y ≡ Less) xs
   above k x [] below all = tt
   above k x (y ∷ ys) below all = (total.trans k x y below all.0, above k x ys below all.1)
 
   turned : (k x : K) → cmp k x ≡ Greater → cmp x k ≡ Less
   turned k x e = total.antisymm x k ∙ ap ordering_reverse e
 
-  all_by : (P : K → Type 0) (k x : K) (xs ys : List K) (r : Ordering) → P k → P x → AllByRecursion P xs → AllByRecursion P ys
+  all_by : (P : K → Type 0) (k x : K) (xs ys : List K) (r : Ordering) → P k → P x → AllByRecursion P xs
+      → AllByRecursion P ys
       → AllByRecursion P (match_ordering r (k ∷ x ∷ xs) (x ∷ xs) (x ∷ ys))
   all_by P k x xs ys Less here first rest more = (here, (first, rest))
   all_by P k x xs ys Equal here first rest more = (first, rest)
@@ -144,7 +163,8 @@ module _ {K : Type 0} {cmp : K → K → Ordering} (total : IsTotalOrder cmp) (e
 
   all_with : (P : K → Type 0) (k : K) (xs : List K) → P k → AllByRecursion P xs → AllByRecursion P (insert_key cmp xs k)
   all_with P k [] here all = (here, tt)
-  all_with P k (x ∷ xs) here all = all_by P k x xs (insert_key cmp xs k) (cmp k x) here all.0 all.1 (all_with P k xs here all.1)
+  all_with P k (x ∷ xs) here all = all_by P k x xs (insert_key cmp xs k) (cmp k x) here all.0 all.1
+      (all_with P k xs here all.1)
 
   sorted_by : (k x : K) (xs ys : List K) (r : Ordering) → cmp k x ≡ r → IsStrictlySortedBy cmp (x ∷ xs)
       → (cmp x k ≡ Less → AllByRecursion (λ y. cmp x y ≡ Less) ys) → IsStrictlySortedBy cmp ys
@@ -158,7 +178,8 @@ module _ {K : Type 0} {cmp : K → K → Ordering} (total : IsTotalOrder cmp) (e
   unfolding IsStrictlySortedBy
   sorted_with k [] up = (tt, tt)
   sorted_with k (x ∷ xs) up =
-      sorted_by k x xs (insert_key cmp xs k) (cmp k x) refl up (λ below. all_with (λ y. cmp x y ≡ Less) k xs below up.0) (sorted_with k xs up.1)
+      sorted_by k x xs (insert_key cmp xs k) (cmp k x) refl up (λ below. all_with (λ y. cmp x y ≡ Less) k xs below up.0)
+      (sorted_with k xs up.1)
 
   module _ {X : Type 0} (f g : K → X) (k : K) (others : (n : K) → is_eq (cmp k n) ≡ false → f n ≡ g n) where
     abbrev pairs : (K → X) → List K → List (K × X)
@@ -173,27 +194,34 @@ module _ {K : Type 0} {cmp : K → K → Ordering} (total : IsTotalOrder cmp) (e
     kept_above (n ∷ ns) all =
         ap (λ v. (n, v) ∷ pairs f ns) (others n (less_is n all.0)) ∙ ap (λ es. (n, g n) ∷ es) (kept_above ns all.1)
 
-    none_above : (ns : List K) → AllByRecursion (λ y. cmp k y ≡ Less) ns → remove_entry (is_at (cmp k)) (pairs f ns) ≡ pairs f ns
+    none_above : (ns : List K) → AllByRecursion (λ y. cmp k y ≡ Less) ns
+        → remove_entry (is_at (cmp k)) (pairs f ns) ≡ pairs f ns
     none_above [] all = refl
     none_above (n ∷ ns) all = let e = less_is n all.0 in rw e (ap (λ es. (n, f n) ∷ es) (none_above ns all.1))
 
-    first_above : (ns : List K) (v : X) → AllByRecursion (λ y. cmp k y ≡ Less) ns → insert_entry cmp (pairs f ns) k v ≡ (k, v) ∷ pairs f ns
+    first_above : (ns : List K) (v : X) → AllByRecursion (λ y. cmp k y ≡ Less) ns
+        → insert_entry cmp (pairs f ns) k v ≡ (k, v) ∷ pairs f ns
     first_above [] v all = refl
     first_above (n ∷ ns) v all = let e = all.0 in rw e
 
     put_by : (n : K) (ns : List K) (r : Ordering) → cmp k n ≡ r → AllByRecursion (λ y. cmp n y ≡ Less) ns
         → insert_entry cmp (remove_entry (is_at (cmp k)) (pairs f ns)) k (g k) ≡ pairs g (insert_key cmp ns k)
-        → insert_entry cmp (remove_entry (is_at (cmp k)) (pairs f (n ∷ ns))) k (g k) ≡ pairs g (insert_key cmp (n ∷ ns) k)
+        → insert_entry cmp (remove_entry (is_at (cmp k)) (pairs f (n ∷ ns))) k (g k) ≡ pairs g
+        (insert_key cmp (n ∷ ns) k)
     put_by n ns Less e up rest =
         let all = above k n ns e up in
-        rw (e, e) (ap (λ es. (k, g k) ∷ (n, f n) ∷ es) (none_above ns all) ∙ ap (λ es. (k, g k) ∷ es) (kept_above (n ∷ ns) (e, all)))
+        rw (e, e) (ap (λ es. (k, g k) ∷ (n, f n) ∷ es) (none_above ns all)
+        ∙ ap (λ es. (k, g k) ∷ es) (kept_above (n ∷ ns) (e, all)))
     put_by n ns Equal e up rest =
         let same : k ≡ n = exact k n e in
-        let all : AllByRecursion (λ y. cmp k y ≡ Less) ns = subst (λ z. AllByRecursion (λ y. cmp z y ≡ Less) ns) (sym same) up in
-        rw e (first_above ns (g k) all ∙ ap (λ es. (k, g k) ∷ es) (kept_above ns all) ∙ ap (λ z. (z, g z) ∷ pairs g ns) same)
+        let all : AllByRecursion (λ y. cmp k y ≡ Less) ns = subst (λ z. AllByRecursion (λ y. cmp z y ≡ Less) ns)
+        (sym same) up in
+        rw e (first_above ns (g k) all ∙ ap (λ es. (k, g k) ∷ es) (kept_above ns all)
+        ∙ ap (λ z. (z, g z) ∷ pairs g ns) same)
     put_by n ns Greater e up rest =
         let other : is_eq (cmp k n) ≡ false = rw e in
-        rw (e, e) (ap (λ v. (n, v) ∷ insert_entry cmp (remove_entry (is_at (cmp k)) (pairs f ns)) k (g k)) (others n other) ∙ ap (λ es. (n, g n) ∷ es) rest)
+        rw (e, e) (ap (λ v. (n, v) ∷ insert_entry cmp (remove_entry (is_at (cmp k)) (pairs f ns)) k (g k))
+        (others n other) ∙ ap (λ es. (n, g n) ∷ es) rest)
 
     -- an entry that is taken out and put back with another value
     put_back : (ns : List K) → IsStrictlySortedBy cmp ns
@@ -203,20 +231,16 @@ module _ {K : Type 0} {cmp : K → K → Ordering} (total : IsTotalOrder cmp) (e
     put_back (n ∷ ns) up = put_by n ns (cmp k n) refl up.0 (put_back ns up.1)
 
 -- names, by their bytes
-name_total : IsTotalOrder (slice_cmp nat_cmp)
-name_total = nat_list_cmp_total
-
-name_exact : IsAntisymmetric (slice_cmp nat_cmp)
-name_exact = slice_cmp-IsAntisymmetric nat_cmp-IsAntisymmetric
-
-names_more : (seen : List (List ℕ × Line)) (name : List ℕ) (line : Line) → names (seen ++ (name, line) ∷ []) ≡ insert_key (slice_cmp nat_cmp) (names seen) name
+names_more : (seen : List (List ℕ × Line)) (name : List ℕ) (line : Line)
+    → names (seen ++ (name, line) ∷ []) ≡ insert_key (slice_cmp nat_cmp) (names seen) name
 unfolding names
 names_more seen name line = fold-append _ [] seen ((name, line) ∷ [])
 
 ascending_from : (found : List (List ℕ)) (seen : List (List ℕ × Line)) → IsStrictlySortedBy (slice_cmp nat_cmp) found
     → IsStrictlySortedBy (slice_cmp nat_cmp) (fold (λ found s. insert_key (slice_cmp nat_cmp) found s.0) found seen)
 ascending_from found [] up = up
-ascending_from found (s ∷ seen) up = ascending_from (insert_key (slice_cmp nat_cmp) found s.0) seen (sorted_with name_total name_exact s.0 found up)
+ascending_from found (s ∷ seen) up = ascending_from (insert_key (slice_cmp nat_cmp) found s.0) seen
+    (sorted_with nat_list_cmp_total text_cmp-exact s.0 found up)
 
 -- the names of a table ascend
 pub names_ascend : (seen : List (List ℕ × Line)) → IsStrictlySortedBy (slice_cmp nat_cmp) (names seen)
@@ -226,17 +250,20 @@ names_ascend seen = ascending_from [] seen tt
 abbrev lines_if : Bool → Line → List Line
 lines_if b line = cond b (line ∷ []) []
 
-lines_of_one : (q name : List ℕ) (line : Line) (b : Bool) → pointwise nat_eq name q ≡ b → lines_through q ((name, line) ∷ []) ≡ lines_if b line
+lines_of_one : (q name : List ℕ) (line : Line) (b : Bool) → pointwise nat_eq name q ≡ b
+    → lines_through q ((name, line) ∷ []) ≡ lines_if b line
 unfolding lines_through
 lines_of_one q name line true e = rw e
 lines_of_one q name line false e = rw e
 
-lines_through_more : (q : List ℕ) (seen : List (List ℕ × Line)) (name : List ℕ) (line : Line) (b : Bool) → is_at (slice_cmp nat_cmp name) q ≡ b
+lines_through_more : (q : List ℕ) (seen : List (List ℕ × Line)) (name : List ℕ) (line : Line) (b : Bool)
+    → is_at (slice_cmp nat_cmp name) q ≡ b
     → lines_through q (seen ++ (name, line) ∷ []) ≡ lines_through q seen ++ lines_if b line
 unfolding lines_through
 lines_through_more q seen name line b e =
     ap (map (λ s. s.1)) (filter-append (λ s. pointwise nat_eq s.0 q) seen ((name, line) ∷ []))
-    ∙ map-append (λ s. s.1) (filter (λ s. pointwise nat_eq s.0 q) seen) (filter (λ s. pointwise nat_eq s.0 q) ((name, line) ∷ []))
+    ∙ map-append (λ s. s.1) (filter (λ s. pointwise nat_eq s.0 q) seen)
+    (filter (λ s. pointwise nat_eq s.0 q) ((name, line) ∷ []))
     ∙ ap (λ ls. lines_through q seen ++ ls) (lines_of_one q name line b (texts_ties name q ∙ e))
 
 -- The entries of the map that groups lines by their names.
@@ -248,48 +275,59 @@ pub grouped_none : IsGrouped [] []
 unfolding groups names lines_through
 grouped_none = record { is = refl; whole = λ q. refl }
 
-module _ (seen : List (List ℕ × Line)) (name : List ℕ) (line : Line) (old mid new : List (List ℕ × List Line)) (put : List Line) where
+module _ (seen : List (List ℕ × Line)) (name : List ℕ) (line : Line) (old mid new : List (List ℕ × List Line))
+    (path_end : List Line) where
   -- the lines of the other names stay
-  others_stay : (n : List ℕ) → is_eq (slice_cmp nat_cmp name n) ≡ false → lines_through n seen ≡ lines_through n (seen ++ (name, line) ∷ [])
+  others_stay : (n : List ℕ) → is_eq (slice_cmp nat_cmp name n) ≡ false
+      → lines_through n seen ≡ lines_through n (seen ++ (name, line) ∷ [])
   others_stay n e = sym (append-nil (lines_through n seen)) ∙ sym (lines_through_more n seen name line false e)
 
   same_name : is_at (slice_cmp nat_cmp name) name ≡ true
   same_name = sym (texts_ties name name) ∙ nat_list_eq_equiv.refl name
 
-  put_is : put ≡ lines_through name seen ++ line ∷ [] → put ≡ lines_through name (seen ++ (name, line) ∷ [])
+  put_is : path_end ≡ lines_through name seen ++ line ∷ [] → path_end ≡ lines_through name (seen ++ (name, line) ∷ [])
   put_is e = e ∙ sym (lines_through_more name seen name line true same_name)
 
-  grouped_is : old ≡ groups seen → mid ≡ remove_entry (is_at (slice_cmp nat_cmp name)) old → new ≡ insert_entry (slice_cmp nat_cmp) mid name put
-      → put ≡ lines_through name seen ++ line ∷ [] → new ≡ groups (seen ++ (name, line) ∷ [])
+  grouped_is : old ≡ groups seen → mid ≡ remove_entry (is_at (slice_cmp nat_cmp name)) old
+      → new ≡ insert_entry (slice_cmp nat_cmp) mid name path_end
+      → path_end ≡ lines_through name seen ++ line ∷ [] → new ≡ groups (seen ++ (name, line) ∷ [])
   unfolding groups
   grouped_is was removed inserted is =
       inserted
-      ∙ ap (λ es. insert_entry (slice_cmp nat_cmp) es name put) (removed ∙ ap (remove_entry (is_at (slice_cmp nat_cmp name))) was)
-      ∙ ap (λ ls. insert_entry (slice_cmp nat_cmp) (remove_entry (is_at (slice_cmp nat_cmp name)) (groups seen)) name ls) (put_is is)
-      ∙ put_back name_total name_exact (λ n. lines_through n seen) (λ n. lines_through n (seen ++ (name, line) ∷ [])) name others_stay (names seen) (names_ascend seen)
+      ∙ ap (λ es. insert_entry (slice_cmp nat_cmp) es name path_end)
+      (removed ∙ ap (remove_entry (is_at (slice_cmp nat_cmp name))) was)
+      ∙ ap (λ ls. insert_entry (slice_cmp nat_cmp) (remove_entry (is_at (slice_cmp nat_cmp name)) (groups seen)) name
+      ls) (put_is is)
+      ∙ put_back nat_list_cmp_total text_cmp-exact (λ n. lines_through n seen)
+      (λ n. lines_through n (seen ++ (name, line) ∷ [])) name others_stay (names seen) (names_ascend seen)
       ∙ ap (map (λ n. (n, lines_through n (seen ++ (name, line) ∷ [])))) (sym (names_more seen name line))
 
   found_by : (q : List ℕ) (b : Bool) → is_at (slice_cmp nat_cmp name) q ≡ b
       → unwrap_or (lookup (is_at (slice_cmp nat_cmp q)) old) [] ≡ lines_through q seen
-      → lookup (is_at (slice_cmp nat_cmp q)) mid ≡ cond (is_at (slice_cmp nat_cmp name) q) None (lookup (is_at (slice_cmp nat_cmp q)) old)
-      → lookup (is_at (slice_cmp nat_cmp q)) new ≡ cond (is_at (slice_cmp nat_cmp name) q) (Some put) (lookup (is_at (slice_cmp nat_cmp q)) mid)
-      → put ≡ lines_through name seen ++ line ∷ []
+      → lookup (is_at (slice_cmp nat_cmp q)) mid ≡ cond (is_at (slice_cmp nat_cmp name) q) None
+      (lookup (is_at (slice_cmp nat_cmp q)) old)
+      → lookup (is_at (slice_cmp nat_cmp q)) new ≡ cond (is_at (slice_cmp nat_cmp name) q) (Some path_end)
+      (lookup (is_at (slice_cmp nat_cmp q)) mid)
+      → path_end ≡ lines_through name seen ++ line ∷ []
       → unwrap_or (lookup (is_at (slice_cmp nat_cmp q)) new) [] ≡ lines_through q (seen ++ (name, line) ∷ [])
   found_by q true e was removed inserted is =
-      let same : name ≡ q = name_exact name q ((Equal-is (slice_cmp nat_cmp name q)).0 e) in
-      ap (λ o. unwrap_or o []) (inserted ∙ cond-true _ _ _ e) ∙ put_is is ∙ ap (λ n. lines_through n (seen ++ (name, line) ∷ [])) same
+      let same : name ≡ q = text_cmp-exact name q ((Equal-is (slice_cmp nat_cmp name q)).0 e) in
+      ap (λ o. unwrap_or o []) (inserted ∙ cond-true _ _ _ e) ∙ put_is is
+      ∙ ap (λ n. lines_through n (seen ++ (name, line) ∷ [])) same
   found_by q false e was removed inserted is =
       ap (λ o. unwrap_or o []) (inserted ∙ cond-false _ _ _ e ∙ (removed ∙ cond-false _ _ _ e)) ∙ was ∙ others_stay q e
 
   pub grouped_more : IsGrouped seen old
       → mid ≡ remove_entry (is_at (slice_cmp nat_cmp name)) old
-      → ((q : List ℕ) → lookup (is_at (slice_cmp nat_cmp q)) mid ≡ cond (is_at (slice_cmp nat_cmp name) q) None (lookup (is_at (slice_cmp nat_cmp q)) old))
-      → new ≡ insert_entry (slice_cmp nat_cmp) mid name put
-      → ((q : List ℕ) → lookup (is_at (slice_cmp nat_cmp q)) new ≡ cond (is_at (slice_cmp nat_cmp name) q) (Some put) (lookup (is_at (slice_cmp nat_cmp q)) mid))
-      → put ≡ unwrap_or (lookup (is_at (slice_cmp nat_cmp name)) old) [] ++ line ∷ []
+      → ((q : List ℕ) → lookup (is_at (slice_cmp nat_cmp q)) mid ≡ cond (is_at (slice_cmp nat_cmp name) q) None
+      (lookup (is_at (slice_cmp nat_cmp q)) old))
+      → new ≡ insert_entry (slice_cmp nat_cmp) mid name path_end
+      → ((q : List ℕ) → lookup (is_at (slice_cmp nat_cmp q)) new ≡ cond (is_at (slice_cmp nat_cmp name) q)
+      (Some path_end) (lookup (is_at (slice_cmp nat_cmp q)) mid))
+      → path_end ≡ unwrap_or (lookup (is_at (slice_cmp nat_cmp name)) old) [] ++ line ∷ []
       → IsGrouped (seen ++ (name, line) ∷ []) new
   grouped_more was removed without inserted with is =
-      let put_at : put ≡ lines_through name seen ++ line ∷ [] = is ∙ ap (λ ls. ls ++ line ∷ []) (was.whole name) in
+      let put_at : path_end ≡ lines_through name seen ++ line ∷ [] = is ∙ ap (λ ls. ls ++ line ∷ []) (was.whole name) in
       record {
         is = grouped_is was.is removed inserted put_at;
         whole = λ q. found_by q (is_at (slice_cmp nat_cmp name) q) refl (was.whole q) (without q) (with q) put_at;

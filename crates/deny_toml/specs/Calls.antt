@@ -1,16 +1,17 @@
 -- What a value is, and what stands below it.
-use Rattle.std.specs.Prelude.{ℕ, ◌+◌, ◌*◌, ◌-◌, ℤ, Bool, ◌&&◌, ◌==◌, false, not, List, [], ◌∷◌, Option, None, Some, nat_le, ◌≤◌, ⊤, option_map, option_and_then, find, length, slice_get, if◌then◌else◌}
+use Rattle.std.specs.Prelude.{ℕ, ◌+◌, ◌*◌, ◌-◌, ℤ, Bool, ◌&&◌, ◌==◌, false, not, List, [], ◌∷◌, Option, None, Some}
+use Rattle.std.specs.Prelude.{nat_le, ◌≤◌, ⊤, option_map, option_and_then, find, length, slice_get, if◌then◌else◌}
 use Rattle.std.specs.List.{slice_split}
 use Rattle.std.specs.Option.{option_map_or}
 use Rattle.std.specs.Cmp.Lexicographic.{pointwise}
 use Rattle.std.specs.Prelude.{nat_eq}
-use Rattle.deny_toml.specs.declared.value.Key.{Key}
+use Rattle.deny_toml_grammar.specs.declared.parts.Key.{Key}
 use Rattle.deny_toml.specs.declared.value.Value.{Value}
 use Rattle.deny_toml.specs.declared.value.Table.{Table}
 use Rattle.deny_toml.specs.declared.value.Content.{Content, out-Content}
 use Rattle.deny_toml.specs.declared.value.Content.TheOpen.{Content-F}
-use Rattle.deny_toml.specs.declared.value.Scalar.{Scalar}
-use Rattle.deny_toml.specs.declared.value.Scalar.TheVariants as scalar
+use Rattle.deny_toml_grammar.specs.declared.parts.Scalar.{Scalar}
+use Rattle.deny_toml_grammar.specs.declared.parts.Scalar.TheVariants as scalar
 use Rattle.deny_toml.specs.Value.{span_in, content_in, entries_in}
 
 -- one level of what a value is

@@ -1,20 +1,21 @@
 -- Where a document clashes: the first segment of its headers and keys, in text order, that may not
 -- stand at its place.
-use Rattle.std.specs.Prelude.{ℕ, ◌+◌, ◌==◌, Bool, true, false, ◌&&◌, if◌then◌else◌, not, List, [], ◌∷◌, ◌++◌, length, map, reverse, Option, Some, None, Result, Ok, Err}
+use Rattle.std.specs.Prelude.{ℕ, ◌+◌, ◌==◌, Bool, true, false, ◌&&◌, if◌then◌else◌, not, List, [], ◌∷◌, ◌++◌, length}
+use Rattle.std.specs.Prelude.{map, reverse, Option, Some, None, Result, Ok, Err}
 use Rattle.std.specs.List.{filter, find, list_all, list_any, slice_get}
 use Rattle.std.specs.Option.{option_or, option_map_or}
 use Rattle.std.specs.Str.{bytes_eq}
 use Rattle.deny_base.specs.declared.span.Span.{Span}
 use Rattle.deny_toml.specs.declared.clash.Role.{Role}
 use Rattle.deny_toml.specs.declared.clash.Role.TheVariants.{HeaderPasses, HeaderNames, ArrayNames, KeyPasses, KeySets}
-use Rattle.deny_toml.specs.declared.value.Key.{Key}
-use Rattle.deny_toml.specs.declared.expression.Header.{Header}
-use Rattle.deny_toml.specs.declared.expression.Expression.{Expression}
-use Rattle.deny_toml.specs.declared.expression.Expression.TheVariants as expression
-use Rattle.deny_toml.specs.declared.expression.Written.{Written, fold-Written}
-use Rattle.deny_toml.specs.declared.expression.Assignment.{Assignment, Assignment-F}
-use Rattle.deny_toml.specs.declared.expression.WrittenContent.{WrittenContent-F}
-use Rattle.deny_toml.specs.Expression.{assigned_path, assigned_value}
+use Rattle.deny_toml_grammar.specs.declared.parts.Key.{Key}
+use Rattle.deny_toml_grammar.specs.declared.expression.Header.{Header}
+use Rattle.deny_toml_grammar.specs.declared.expression.Expression.{Expression}
+use Rattle.deny_toml_grammar.specs.declared.expression.Expression.TheVariants as expression
+use Rattle.deny_toml_grammar.specs.declared.expression.Written.{Written, fold-Written}
+use Rattle.deny_toml_grammar.specs.declared.expression.Assignment.{Assignment, Assignment-F}
+use Rattle.deny_toml_grammar.specs.declared.expression.WrittenContent.{WrittenContent-F}
+use Rattle.deny_toml_grammar.specs.Expression.{assigned_path, assigned_value}
 
 -- A segment of a header or of a key, in a table. A table is known by the number of the segment that
 -- made it, and the root by 0.
@@ -86,7 +87,8 @@ unfoldable pub stand : List Segment → ℕ → Role → Key → Result (List Se
 stand before table role key =
     let there = at_place table key.name before in
     let segment = segment_after before table role key.name in
-    if may_stand role (roles_of there) then Ok (before ++ segment ∷ [], table_of (there ++ segment ∷ [])) else Err key.span
+    if may_stand role (roles_of there) then Ok (before ++ segment ∷ [], table_of (there ++ segment ∷ [])) else Err
+    key.span
 
 -- what follows segments that stand, or what the span of their clash gives
 abbrev pub follow : {A : Type 0} → Result (List Segment × ℕ) Span → (Span → A) → (List Segment → ℕ → A) → A
@@ -97,7 +99,8 @@ follow (Err span) clashing following = clashing span
 unfoldable pub walk : List Segment → ℕ → Role → Role → List Key → Result (List Segment × ℕ) Span
 walk before table passing last [] = Ok (before, table)
 walk before table passing last (key ∷ path) =
-    follow (stand before table (if is_empty path then last else passing) key) Err (λ now entered. walk now entered passing last path)
+    follow (stand before table (if is_empty path then last else passing) key) Err
+    (λ now entered. walk now entered passing last path)
 
 abbrev pub walk_header : List Segment → Header → Result (List Segment × ℕ) Span
 walk_header before header = walk before 0 HeaderPasses (if header.is_array then ArrayNames else HeaderNames) header.path
@@ -113,8 +116,10 @@ pub data Line : Type 0 where
 -- the first clash of lines after these segments, where keys stand in a table
 unfoldable pub clash_after : List Segment → ℕ → List Line → Option Span
 clash_after before table [] = None
-clash_after before table (header_line h ∷ lines) = follow (walk_header before h) Some (λ now entered. clash_after now entered lines)
-clash_after before table (key_line path inner ∷ lines) = follow (walk_key before table path) Some (λ now _. option_or inner (clash_after now table lines))
+clash_after before table (header_line h ∷ lines) = follow (walk_header before h) Some
+    (λ now entered. clash_after now entered lines)
+clash_after before table (key_line path inner ∷ lines) = follow (walk_key before table path) Some
+    (λ now _. option_or inner (clash_after now table lines))
 
 -- the first of what is found, in order
 abbrev pub first_of : List (Option Span) → Option Span

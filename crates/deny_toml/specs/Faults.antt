@@ -1,9 +1,9 @@
 -- The faults of a value: how they are named, how they are listed, and in which order.
-use Rattle.std.specs.Prelude.{◌≡◌, ◌≢◌, ℕ, Bool, true, false, List, [], ◌∷◌, ◌++◌, map, ⊤}
+use Rattle.std.specs.Prelude.{◌≡◌, ◌≢◌, ℕ, Bool, true, false, not, ◌&&◌, ◌||◌, List, [], ◌∷◌, ◌++◌, map, ⊤}
 use Rattle.std.specs.Cmp.Lexicographic.{slice_cmp}
 use Rattle.std.specs.BTreeSet.{insert_key}
 use Rattle.std.specs.List.Sorted.{IsStrictlySortedBy}
-use Rattle.std.specs.Ordering.{nat_cmp, on, then_cmp}
+use Rattle.std.specs.Ordering.{bool_cmp, nat_cmp, on, then_cmp}
 use Rattle.std.specs.declared.cmp.Ordering.{Ordering}
 use Rattle.deny_base.specs.KeyOrder.{span_cmp}
 use Rattle.deny_base.specs.declared.span.Span.{Span}
@@ -26,9 +26,12 @@ kind_number kind.Unreadable = 6
 abbrev pub kind_cmp : FaultKind → FaultKind → Ordering
 kind_cmp = on kind_number nat_cmp
 
--- faults are ordered by span, kind and key
+-- faults are ordered by span, kind and key, and last by whether they are of a value whose own name is empty
 abbrev pub fault_cmp : ConfigFault → ConfigFault → Ordering
-fault_cmp = then_cmp (on (λ f. f.span) span_cmp) (then_cmp (on (λ f. f.kind) kind_cmp) (on (λ f. f.key) (slice_cmp nat_cmp)))
+fault_cmp =
+    then_cmp (on (λ f. f.span) span_cmp)
+    (then_cmp (on (λ f. f.kind) kind_cmp) (then_cmp (on (λ f. f.key) (slice_cmp nat_cmp))
+    (on (λ f. f.is_nameless) bool_cmp)))
 
 -- the faults in ascending order, each once
 unfoldable pub in_order : List ConfigFault → List ConfigFault
@@ -36,7 +39,7 @@ in_order [] = []
 in_order (f ∷ fs) = insert_key fault_cmp (in_order fs) f
 
 abbrev pub fault_at : FaultKind → List ℕ → Span → ConfigFault
-fault_at kind key span = record { span = span; kind = kind; key = key }
+fault_at kind key span = record { span = span; kind = kind; key = key; is_nameless = false }
 
 -- the only fault of a value of another kind than the one that is read, and of one that says nothing that can be read
 abbrev pub wrong_kind : Span → List ConfigFault
@@ -51,18 +54,35 @@ names_key kind.Unknown = true
 names_key kind.Missing = true
 names_key _ = false
 
--- a path from the value that holds, under this name, the value of the path. The empty path is that value itself,
--- unless the path names a key, which may be empty too
+-- whether a path stands for the value itself: it is empty, names no key, and is not that of a value whose own name is
+-- empty
+abbrev pub is_own_path : Bool → Bool → List ℕ → Bool
+is_own_path names nameless [] = not names && not nameless
+is_own_path names nameless (c ∷ cs) = false
+
+abbrev pub is_of_itself : ConfigFault → Bool
+is_of_itself f = is_own_path (names_key f.kind) f.is_nameless f.key
+
+-- A path from the value that holds, under this name, the value of the path: the name alone for that value itself, and
+-- else both parts, of which either may be empty.
 abbrev pub path_of : List ℕ → Bool → List ℕ → List ℕ
-path_of name false [] = name
-path_of name false (c ∷ cs) = name ++ 46 ∷ c ∷ cs
-path_of name true path = name ++ 46 ∷ path
+path_of name true path = name
+path_of name false path = name ++ 46 ∷ path
 
 abbrev pub path_under : List ℕ → ConfigFault → List ℕ
-path_under name f = path_of name (names_key f.kind) f.key
+path_under name f = path_of name (is_of_itself f) f.key
+
+abbrev pub is_empty : List ℕ → Bool
+is_empty [] = true
+is_empty (c ∷ cs) = false
 
 abbrev pub fault_under : List ℕ → ConfigFault → ConfigFault
-fault_under name f = fault_at f.kind (path_under name f) f.span
+fault_under name f = record {
+  span = f.span;
+  kind = f.kind;
+  key = path_under name f;
+  is_nameless = f.is_nameless || (is_of_itself f && is_empty name);
+}
 
 -- the faults of a value as those of the value that holds it under this name
 abbrev pub under : List ℕ → List ConfigFault → List ConfigFault

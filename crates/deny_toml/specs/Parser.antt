@@ -6,8 +6,8 @@ use Rattle.deny_toml.specs.declared.error.TomlKind.{TomlKind}
 use Rattle.deny_toml.specs.declared.error.TomlKind.TheVariants as kind
 use Rattle.deny_toml.specs.declared.error.TomlError.{TomlError}
 use Rattle.deny_toml.specs.declared.error.TomlError.TheVariants as error
-use Rattle.deny_toml.specs.declared.expression.Expression.{Expression}
-use Rattle.deny_toml.specs.Grammar.{IsDocument}
+use Rattle.deny_toml_grammar.specs.declared.expression.Expression.{Expression}
+use Rattle.deny_toml_grammar.specs.Grammar.{IsDocument}
 use Rattle.deny_toml.specs.Ranges.{IsRange}
 use Rattle.deny_toml.specs.Clash.{clash}
 use Rattle.deny_toml.specs.Tree.{tree}

@@ -3,7 +3,7 @@ use Rattle.std.specs.Prelude.{◌≡◌, ◌≢◌, ℕ, List, [], ◌∷◌, �
 use Rattle.deny_base.specs.declared.span.Span.{Span}
 use Rattle.deny_toml.specs.declared.error.FaultKind.TheVariants as kind
 use Rattle.deny_toml.specs.declared.error.ConfigFault.{ConfigFault}
-use Rattle.deny_toml.specs.declared.value.Key.{Key}
+use Rattle.deny_toml_grammar.specs.declared.parts.Key.{Key}
 use Rattle.deny_toml.specs.declared.value.Value.{Value}
 use Rattle.deny_toml.specs.Faults.{fault_at, under, in_order}
 
@@ -23,7 +23,8 @@ optional_faults faults_of name None = []
 optional_faults faults_of name (Some v) = under name (faults_of v)
 
 -- what is read from such a key: nothing where it is not there, and where its value has faults
-abbrev pub ReadsOptional : {T : Type 0} → (Value → List ConfigFault) → (Value → T → Type 0) → Option Value → Option T → Type 0
+abbrev pub ReadsOptional : {T : Type 0} → (Value → List ConfigFault) → (Value → T → Type 0) → Option Value → Option T
+    → Type 0
 ReadsOptional faults_of Reads None read = read ≡ None
 ReadsOptional faults_of Reads (Some v) None = faults_of v ≢ []
 ReadsOptional faults_of Reads (Some v) (Some x) = (faults_of v ≡ []) × Reads v x

@@ -3,7 +3,7 @@ use Rattle.std.specs.Prelude.{List, [], ◌∷◌, map}
 use Rattle.std.specs.Cmp.Lexicographic.{slice_cmp}
 use Rattle.std.specs.List.Sorted.{IsStrictlySortedBy}
 use Rattle.std.specs.Ordering.{nat_cmp}
-use Rattle.deny_toml.specs.declared.value.Scalar.{Scalar}
+use Rattle.deny_toml_grammar.specs.declared.parts.Scalar.{Scalar}
 use Rattle.deny_toml.specs.declared.value.Table.{Table}
 use Rattle.deny_toml.specs.declared.value.Value.{Value}
 use Rattle.deny_toml.specs.declared.value.Content.TheOpen.{Content-F}
@@ -22,7 +22,8 @@ mutual
   pub data IsOrderlyLayer : Layer → Type 0 where
     scalar : (s : Scalar) → IsOrderlyLayer (Content-F.Scalar s)
     array : (vs : List Value) → AreOrderly vs → IsOrderlyLayer (Content-F.Array vs)
-    table : (t : Table) → NamesAscend t → AreOrderly (map (λ e. e.1) (entries_in t)) → IsOrderlyLayer (Content-F.Table t)
+    table : (t : Table) → NamesAscend t → AreOrderly (map (λ e. e.1) (entries_in t))
+        → IsOrderlyLayer (Content-F.Table t)
 
   pub data AreOrderly : List Value → Type 0 where
     none : AreOrderly []

@@ -1,14 +1,11 @@
 -- How definitions name the parts of a value and build one.
-use Rattle.std.specs.Prelude.{ℕ, ◌+◌, List}
+use Rattle.std.specs.Prelude.{List}
 use Rattle.deny_base.specs.declared.span.Span.{Span}
-use Rattle.deny_toml.specs.declared.value.Key.{Key}
+use Rattle.deny_toml_grammar.specs.declared.parts.Key.{Key}
+pub use Rattle.deny_toml_grammar.specs.Expression.{span_of}
 use Rattle.deny_toml.specs.declared.value.Value.{Value, out-Value, roll-Value}
 use Rattle.deny_toml.specs.declared.value.Table.{Table, out-Table, roll-Table}
 use Rattle.deny_toml.specs.declared.value.Content.{Content}
-
--- the range that begins at a place and is so long
-abbrev pub span_of : ℕ → ℕ → Span
-span_of at len = record { start = at; end = at + len }
 
 abbrev pub value_with : Span → Content → Value
 value_with span content = roll-Value (record { span = span; content = content })

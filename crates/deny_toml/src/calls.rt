@@ -8,10 +8,11 @@ ghost use Rattle.deny_toml.specs.Calls as spec;
 ghost use Rattle.deny_toml.specs.Faults.{Reports};
 ghost use Rattle.deny_toml.specs.Deserialize.{faults_of_kind};
 
-use crate::cow_str::CowStr;
 use crate::error::DeserError;
-use crate::value::{Content, Key, Scalar, Table, Value};
-use deny_base::{Span, Text};
+use crate::value::{Content, Table, Value};
+use deny_base::Span;
+use deny_lists::Text;
+use deny_toml_grammar::{CowStr, Key, Scalar};
 use std::alloc::Global;
 use std::mem;
 
@@ -153,12 +154,10 @@ impl<'t> Table<'t> {
     }
 }
 
-impl<'t> Key<'t> {
-    fn has_name(&self, name: &[u8]) -> bool
-        ensures { result ≡ pointwise nat_eq self.now.name name.now }
-    {
-        self.name.as_str().as_bytes() == name
-    }
+fn is_named(key: &Key<'_>, name: &[u8]) -> bool
+    ensures { result ≡ pointwise nat_eq key.now.name name.now }
+{
+    key.name.as_str().as_bytes() == name
 }
 
 /// Whether a range is so long.
@@ -172,7 +171,7 @@ fn is_so_long(span: Span, len: usize) -> bool
 pub(crate) fn place_of(entries: &[(Key<'_>, Value<'_>)], name: &[u8]) -> Option<usize>
     ensures { result ≡ position (has_name name.now) entries.now }
 {
-    entries.iter().position(|entry| entry.0.has_name(name))
+    entries.iter().position(|entry| is_named(&entry.0, name))
 }
 
 fn entry_at<'v, 't>(

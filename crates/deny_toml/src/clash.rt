@@ -2,12 +2,12 @@
 ghost use Rattle.std.specs.Prelude.{◌≡◌, ℕ, ◌+◌, ◌==◌, ◌&&◌, List, [], map, option_map, Option, Some, None, Result, OnOk, IfOk, if◌then◌else◌};
 ghost use Rattle.std.specs.Str.{bytes_eq};
 ghost use Rattle.deny_toml.specs.Clash.{Segment, stand, walk, walk_header, walk_key, clash_in, first_of, member_line, clash_after, clash};
-ghost use Rattle.deny_toml.specs.Places.{Tells, Takes, TakesKey, Finds, standing_at, standing_after, admits};
-ghost use Rattle.deny_toml.specs.Expression.{assigned_path, assigned_value};
+ghost use Rattle.deny_toml.specs.private.Places.{Tells, Takes, TakesKey, Finds, standing_at, standing_after, admits};
+ghost use Rattle.deny_toml_grammar.specs.Expression.{assigned_path, assigned_value};
 
-use crate::expression::{Assignment, Expression, Header, Written, WrittenContent};
-use crate::value::Key;
-use deny_base::{List, NoMemory, Span};
+use deny_base::Span;
+use deny_lists::{List, NoMemory};
+use deny_toml_grammar::{Assignment, Expression, Header, Key, Written, WrittenContent};
 use std::alloc::Global;
 use std::collections::BTreeMap;
 

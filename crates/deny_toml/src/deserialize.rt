@@ -11,7 +11,8 @@ ghost use Rattle.deny_toml.specs.Deserialize.{faults_of_kind, faults_of_small, f
 use crate::error::{ConfigFault, DeserError};
 use crate::faults::{keep_faults, put_faults_in_order, put_under};
 use crate::value::{Content, Value};
-use deny_base::{List, NoMemory, Spanned, Text};
+use deny_base::Spanned;
+use deny_lists::{List, NoMemory, Text};
 use std::alloc::Global;
 use std::mem;
 

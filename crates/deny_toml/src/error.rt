@@ -1,5 +1,10 @@
-use deny_base::{List, NoMemory, Span, Text};
+ghost use Rattle.std.specs.Prelude.{◌≡◌};
+ghost use Rattle.deny_toml.specs.Faults.{fault_at};
+
+use deny_base::Span;
+use deny_lists::{List, NoMemory, Text};
 use std::alloc::{AllocError, AllocFailed};
+use thiserror::Error;
 
 /// Why a text is no TOML.
 #[derive(Debug, Clone, Copy, PartialEq, Eq)]
@@ -10,12 +15,24 @@ pub enum TomlKind {
     Clash,
 }
 
+impl TomlKind {
+    /// The cause in words.
+    fn text(self) -> &'static str {
+        match self {
+            TomlKind::Grammar => "outside the grammar of TOML",
+            TomlKind::Clash => "defined before",
+        }
+    }
+}
+
 /// What `parse` answers in place of a tree.
-#[derive(Debug, Drop)]
+#[derive(Debug, Drop, Error)]
 pub enum TomlError {
     /// The text is no TOML. Of a clash the span is the first clashing key.
+    #[error("{} at bytes {}..{}", .kind.text(), .span.start, .span.end)]
     Fault { kind: TomlKind, span: Span },
     /// The memory did not suffice.
+    #[error("the memory did not suffice")]
     Memory,
 }
 
@@ -26,28 +43,6 @@ impl From<NoMemory> for TomlError {
     ghost from_gives = { λ _ e. e ≡ Memory };
 
     fn from(_error: NoMemory) -> TomlError {
-        TomlError::Memory
-    }
-}
-
-impl From<AllocError> for TomlError {
-    ghost use Rattle.std.specs.Prelude.{◌≡◌};
-    ghost use Rattle.deny_toml.specs.declared.error.TomlError.TheVariants.{Memory};
-
-    ghost from_gives = { λ _ e. e ≡ Memory };
-
-    fn from(_error: AllocError) -> TomlError {
-        TomlError::Memory
-    }
-}
-
-impl<T: Drop> From<AllocFailed<T>> for TomlError {
-    ghost use Rattle.std.specs.Prelude.{◌≡◌};
-    ghost use Rattle.deny_toml.specs.declared.error.TomlError.TheVariants.{Memory};
-
-    ghost from_gives = { λ _ e. e ≡ Memory };
-
-    fn from(_error: AllocFailed<T>) -> TomlError {
         TomlError::Memory
     }
 }
@@ -79,14 +74,33 @@ pub struct ConfigFault {
     pub kind: FaultKind,
     /// The path from the value that was read, its parts divided by dots; empty for that value itself.
     pub key: Text,
+    /// Whether it is of a value whose own name is empty. Its path is then not that of the value that
+    /// holds it, also where both are empty.
+    pub is_nameless: bool,
+}
+
+impl ConfigFault {
+    /// A fault of the value that was read, or of a key of it, which an unknown or a missing one names.
+    pub fn new(kind: FaultKind, key: Text, span: Span) -> ConfigFault
+        ensures { result ≡ fault_at kind key span }
+    {
+        ConfigFault {
+            span,
+            kind,
+            key,
+            is_nameless: false,
+        }
+    }
 }
 
 /// Why a value was not read.
-#[derive(Debug, Drop)]
+#[derive(Debug, Drop, Error)]
 pub enum DeserError {
     /// All faults of the value, in ascending order of span, kind and key. There is at least one.
+    #[error("the value has {} faults", .0.len())]
     Faults(List<ConfigFault>),
     /// The memory did not suffice.
+    #[error("the memory did not suffice")]
     Memory,
 }
 

@@ -4,12 +4,13 @@ ghost use Rattle.std.specs.Prelude.{◌≡◌, ◌==◌, ◌∷◌, ◌++◌, []
 ghost use Rattle.std.specs.Ordering.{nat_cmp, on};
 ghost use Rattle.std.specs.Cmp.{IsTotalOrder, nat_cmp_total, on_total, on_per, on_equiv, nat_eq_equiv, partial_equiv_from_equiv, partial_order_from_own_ties, partial_order_from_total, unsigned_ties};
 ghost use Rattle.std.specs.FinMap.{IsAntisymmetric};
-ghost use Rattle.deny_toml.specs.Faults.{kind_number, kind_cmp, fault_cmp, fault_at, in_order, names_key, path_under, under, Reports};
+ghost use Rattle.deny_toml.specs.Faults.{kind_number, kind_cmp, fault_cmp, fault_at, in_order, is_of_itself, names_key, path_under, under, Reports};
 ghost use Rattle.deny_toml.specs.Faults as spec;
 ghost use Rattle.deny_toml.specs.declared.error.ConfigFault.{ConfigFault};
 
 use crate::error::{ConfigFault, DeserError, FaultKind};
-use deny_base::{List, NoMemory, Span, Text, put_in_order};
+use deny_base::Span;
+use deny_lists::{List, NoMemory, Text, put_in_order};
 use std::alloc::Global;
 use std::cmp::Ordering;
 
@@ -76,6 +77,15 @@ impl Ord for FaultKind {
     }
 }
 
+impl ConfigFault {
+    /// Whether it is one of the value itself that was read.
+    fn is_of_itself(&self) -> bool
+        ensures { result ≡ is_of_itself self.now }
+    {
+        self.key.as_str().is_empty() && !self.kind.names_key() && !self.is_nameless
+    }
+}
+
 /// Puts faults in ascending order of span, kind and key, each once.
 pub fn put_faults_in_order(faults: &mut List<ConfigFault>) -> Result<(), NoMemory>
     ensures { OnOk result (faults.new ≡ in_order faults.old) }
@@ -102,11 +112,7 @@ impl DeserError {
     {
         DeserError::of(
             alloc,
-            ConfigFault {
-                span,
-                kind: FaultKind::WrongKind,
-                key: Text::new(alloc),
-            },
+            ConfigFault::new(FaultKind::WrongKind, Text::new(alloc), span),
         )
     }
 
@@ -116,11 +122,7 @@ impl DeserError {
     {
         DeserError::of(
             alloc,
-            ConfigFault {
-                span,
-                kind: FaultKind::Unreadable,
-                key: Text::new(alloc),
-            },
+            ConfigFault::new(FaultKind::Unreadable, Text::new(alloc), span),
         )
     }
 }
@@ -136,10 +138,12 @@ pub(crate) fn put_under(
     let mut all = List::new(alloc);
     'faults: for fault in faults.vec {
         let key = path_under(alloc, name, &fault)?;
+        let is_nameless = fault.is_nameless || (fault.is_of_itself() && name.is_empty());
         all.push(ConfigFault {
             span: fault.span,
             kind: fault.kind,
             key,
+            is_nameless,
         })?;
     }
     Ok(all)
@@ -149,7 +153,7 @@ fn path_under(alloc: Global, name: &str, fault: &ConfigFault) -> Result<Text, No
     ensures { IfOk result (λ path. path ≡ spec.path_under name.now fault.now) }
 {
     let mut path = Text::from_str(alloc, name)?;
-    if !fault.key.as_str().is_empty() || fault.kind.names_key() {
+    if !fault.is_of_itself() {
         path.push_str(".")?;
         path.push_str(fault.key.as_str())?;
     }

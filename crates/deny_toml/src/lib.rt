@@ -1,34 +1,40 @@
-//! TOML 1.0.0 with the place of every key and value: the reader, its tree, and the calls that take
-//! values out of the tree and gather what is wrong with them.
+//! TOML 1.0.0 with the place of every key and value: where the expressions of a text clash, the tree of the
+//! others, and the calls that take values out of the tree and gather what is wrong with them.
+//!
+//! | Syntax | Meaning |
+//! |---|---|
+//! | `key = 1`, `a.b = 1` | a value under a key; a table in a table |
+//! | `[a.b]`, `[[a]]` | the table, or one more table of the array, that the lines below fill |
+//! | `"text"`, `'text'`, with three delimiters on several lines | a string with escapes, and as it is written |
+//! | `1`, `0xff`, `1.5`, `true`, `1979-05-27T07:32:00Z` | whole numbers, floats, flags, dates and times |
+//! | `[1, 2]`, `{ a = 1 }` | an array, a table on one line; brackets and braces nest to 64, a key has 64 parts |
+//!
+//! Whether a text has a key (a test over this call is proved):
+//!
+//! ```rust
+//! pub fn names(alloc: Global, text: &str, key: &str) -> Result<bool, TomlError> {
+//!     let value = parse(alloc, text)?;
+//!     Ok(value.has_key(key))
+//! }
+//! ```
 #![tactic(auto)]
 
 mod calls;
 mod clash;
-mod cow_str;
-mod dates;
 mod deserialize;
-mod document;
 mod error;
-mod expression;
-mod failure;
 mod faults;
-mod keys;
-mod lexical;
-mod lines;
-mod numbers;
 mod parser;
-mod strings;
 mod table_helper;
 mod tree;
 mod value;
-mod values;
-mod words;
 
-pub use cow_str::CowStr;
+pub use deny_toml_grammar::{
+    Assignment, CowStr, Expression, Header, Key, Scalar, Written, WrittenContent,
+};
 pub use deserialize::Deserialize;
 pub use error::{ConfigFault, DeserError, FaultKind, TomlError, TomlKind};
-pub use expression::{Assignment, Expression, Header, Written, WrittenContent};
 pub use faults::put_faults_in_order;
 pub use parser::parse;
 pub use table_helper::TableHelper;
-pub use value::{Content, Key, Scalar, Table, Value};
+pub use value::{Content, Table, Value};

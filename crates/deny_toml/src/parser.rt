@@ -8,13 +8,12 @@ ghost use Rattle.deny_toml.specs.Parser.{IsDocumentOf, IsTreeOf, IsCauseOf, IsPl
 ghost use Rattle.deny_toml.specs.Parser as spec;
 
 use crate::clash::first_clash;
-use crate::document::document;
 use crate::error::{TomlError, TomlKind};
-use crate::expression::Expression;
-use crate::failure::Failure;
 use crate::tree::{names_of_trees_ascend, tree};
 use crate::value::Value;
-use deny_base::{List, Span};
+use deny_base::Span;
+use deny_lists::List;
+use deny_toml_grammar::{Expression, ReadError, read_document};
 use std::alloc::Global;
 
 /// The tree of a text.
@@ -50,13 +49,13 @@ fn expressions<'t>(alloc: Global, text: &'t str) -> Result<List<Expression<'t>>,
     ensures cause { IfErr result (IsCauseOf text.now) }
     ensures placed { IfErr result (IsPlaced text.now) }
 {
-    match document(alloc, text) {
+    match read_document(alloc, text) {
         Ok(expressions) => Ok(expressions),
-        Err(Failure::Grammar(left)) => Err(TomlError::Fault {
+        Err(ReadError::Grammar(left)) => Err(TomlError::Fault {
             kind: TomlKind::Grammar,
             span: stop(text, left),
         }),
-        Err(Failure::Memory) => Err(TomlError::Memory),
+        Err(ReadError::Memory) => Err(TomlError::Memory),
     }
 }
 

@@ -9,8 +9,10 @@ use crate::calls::place_of;
 use crate::deserialize::Deserialize;
 use crate::error::{ConfigFault, DeserError, FaultKind};
 use crate::faults::{keep_faults, put_faults_in_order, put_under};
-use crate::value::{Content, Key, Table, Value};
-use deny_base::{List, NoMemory, Span, Spanned, Text};
+use crate::value::{Content, Value};
+use deny_base::{Span, Spanned};
+use deny_lists::{List, NoMemory, Text};
+use deny_toml_grammar::Key;
 use std::alloc::Global;
 use std::mem;
 
@@ -161,14 +163,7 @@ fn missing(alloc: Global, name: &str, table: Span) -> DeserError
     ensures { Reports (fault_at FaultKind.Missing name.now table ∷ []) result }
 {
     match Text::from_str(alloc, name) {
-        Ok(key) => DeserError::of(
-            alloc,
-            ConfigFault {
-                span: table,
-                kind: FaultKind::Missing,
-                key,
-            },
-        ),
+        Ok(key) => DeserError::of(alloc, ConfigFault::new(FaultKind::Missing, key, table)),
         Err(_) => DeserError::Memory,
     }
 }
@@ -183,117 +178,8 @@ fn with_unknown(
 {
     let mut faults = kept;
     'left: for (key, _) in left.vec {
-        faults.push(ConfigFault {
-            span: key.span,
-            kind: FaultKind::Unknown,
-            key: key.name.into_text(alloc)?,
-        })?;
+        let name = key.name.into_text(alloc)?;
+        faults.push(ConfigFault::new(FaultKind::Unknown, name, key.span))?;
     }
     Ok(faults)
-}
-
-#[cfg(test)]
-mod tests {
-    use super::*;
-    use crate::cow_str::CowStr;
-    use crate::value::Scalar;
-
-    fn entry(
-        name: &'static str,
-        start: u32,
-        content: Content<'static>,
-    ) -> (Key<'static>, Value<'static>) {
-        let span = Span { start, end: start };
-        let key = Key {
-            name: CowStr::borrowed(name),
-            span,
-        };
-        (key, Value { span, content })
-    }
-
-    fn text(text: &'static str) -> Content<'static> {
-        Content::Scalar(Scalar::Text(CowStr::borrowed(text)))
-    }
-
-    /// The table `float = 1.5`, `list = [7, "y"]`, `name = "x"`, `other = true`.
-    fn table(alloc: Global) -> Result<Value<'static>, NoMemory> {
-        let (_, seven) = entry("", 21, Content::Scalar(Scalar::Integer(7)));
-        let (_, letter) = entry("", 24, text("y"));
-        let mut list = List::new(alloc);
-        list.push(seven)?;
-        list.push(letter)?;
-        let mut entries = List::new(alloc);
-        entries.push(entry(
-            "float",
-            1,
-            Content::Scalar(Scalar::Float(CowStr::borrowed("1.5"))),
-        ))?;
-        entries.push(entry("list", 20, Content::Array(list)))?;
-        entries.push(entry("name", 30, text("x")))?;
-        entries.push(entry("other", 40, Content::Scalar(Scalar::Boolean(true))))?;
-        let (_, table) = entry("", 0, Content::Table(Table { entries }));
-        Ok(table)
-    }
-
-    fn is_fault(
-        faults: &[ConfigFault],
-        place: usize,
-        kind: FaultKind,
-        key: &str,
-        start: u32,
-    ) -> bool {
-        match faults.get(place) {
-            Some(fault) => fault.kind == kind
-                && fault.key.as_str() == key
-                && fault.span.start == start,
-            None => false,
-        }
-    }
-
-    fn faults_of(read: Result<(), DeserError>, alloc: Global) -> List<ConfigFault> {
-        match read {
-            Err(DeserError::Faults(faults)) => faults,
-            _ => List::new(alloc),
-        }
-    }
-
-    #[test]
-    fn reads_keys_and_gathers_faults(rt: HostRuntime) -> Result<(), NoMemory> {
-        let mut value = table(rt.alloc())?;
-        let Ok(mut helper) = TableHelper::new(rt.alloc(), &mut value) else {
-            return Err(NoMemory);
-        };
-        let name = helper.required_s::<Text>("name");
-        assert!(rt;
-            matches!(&name, Ok(spanned) if spanned.value.as_str() == "x" && spanned.span.start == 30)
-        );
-        let missing = faults_of(helper.required::<u32>("gone").map(|_| ()), rt.alloc());
-        assert!(rt; is_fault(missing.as_slice(), 0, FaultKind::Missing, "gone", 0));
-        assert!(rt; helper.optional::<List<i64>>("list")?.is_none());
-        assert!(rt; helper.optional::<i64>("float")?.is_none());
-        let faults = faults_of(helper.finalize(), rt.alloc());
-        assert!(rt; faults.len() == 3);
-        assert!(rt; is_fault(faults.as_slice(), 0, FaultKind::WrongKind, "float", 1));
-        assert!(rt; is_fault(faults.as_slice(), 1, FaultKind::WrongKind, "list.1", 24));
-        assert!(rt; is_fault(faults.as_slice(), 2, FaultKind::Unknown, "other", 40));
-        Ok(())
-    }
-
-    #[test]
-    fn paths_lead_to_values(rt: HostRuntime) -> Result<(), NoMemory> {
-        let value = table(rt.alloc())?;
-        for (path, start) in [("", 0u32), ("/list/0", 21), ("/list/1", 24), ("/name", 30)] {
-            let found = value.pointer(path);
-            assert!(rt;
-                matches!(found, Some(found) if found.span.start == start),
-                "at {path}"
-            );
-        }
-        for path in [
-            "name", "/", "/list/2", "/list/01", "/list/+1", "/list/", "/name/0", "/list/0/",
-        ] {
-            assert!(rt; value.pointer(path).is_none(), "at {path}");
-        }
-        Ok(())
-    }
 }

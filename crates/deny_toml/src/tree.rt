@@ -1,14 +1,14 @@
 //! The tree of a document: the value that its headers and assignments write.
 ghost use Rattle.std.specs.Prelude.{◌≡◌, ◌<◌, ◌^◌, ◌∷◌, ◌++◌, [], IfOk, OnOk, MatchOption, is_some, None, List, map, ℕ, ◌≤◌};
 ghost use Rattle.deny_base.specs.declared.span.Span.{Span};
-ghost use Rattle.deny_toml.specs.declared.expression.Expression.{Expression};
+ghost use Rattle.deny_toml_grammar.specs.declared.expression.Expression.{Expression};
 ghost use Rattle.deny_toml.specs.Tree as spec;
 ghost use Rattle.deny_toml.specs.TreeOrder.{IsOrderly};
 
-use crate::cow_str::CowStr;
-use crate::expression::{Assignment, Expression, Header, Written, WrittenContent};
-use crate::value::{Content, Key, Table, Value};
-use deny_base::{List, NoMemory, Span};
+use crate::value::{Content, Table, Value};
+use deny_base::Span;
+use deny_lists::{List, NoMemory};
+use deny_toml_grammar::{Assignment, CowStr, Expression, Header, Key, Written, WrittenContent};
 use std::alloc::Global;
 use std::collections::BTreeMap;
 use std::mem;
@@ -22,7 +22,7 @@ struct Member<'t> {
 
 /// What a line puts at the end of its path.
 #[derive(Drop)]
-enum Put<'t> {
+enum PathEnd<'t> {
     /// The value of a key.
     Value(Value<'t>),
     /// The keys below a header `[path]`.
@@ -38,7 +38,7 @@ struct Line<'t> {
     at: Span,
     /// The parts after it.
     path: List<Key<'t>>,
-    put: Put<'t>,
+    path_end: PathEnd<'t>,
 }
 
 /// The names of each table of a tree ascend, at any depth, so that a look-up by name finds the one
@@ -99,15 +99,15 @@ fn lines<'t>(
 fn header_line<'t>(span: Span, header: Header<'t>, members: List<Member<'t>>) -> Line<'t>
     ensures { result ≡ spec.header_line span header.entry members.entry }
 {
-    let put = if header.is_array {
-        Put::Element(members)
+    let path_end = if header.is_array {
+        PathEnd::Element(members)
     } else {
-        Put::Table(members)
+        PathEnd::Table(members)
     };
     Line {
         at: span,
         path: header.path,
-        put,
+        path_end,
     }
 }
 
@@ -184,7 +184,7 @@ fn inline_table<'t>(
     lines.push(Line {
         at: span,
         path: List::new(alloc),
-        put: Put::Table(members),
+        path_end: PathEnd::Table(members),
     })?;
     table_of(alloc, lines)
 }
@@ -205,18 +205,18 @@ fn depth(lines: &[Line<'_>]) -> u128
 {
     let mut most = 0;
     for line in lines {
-        most = most.max(line.path.len() as u128 + put_depth(&line.put) as u128);
+        most = most.max(line.path.len() as u128 + end_depth(&line.path_end) as u128);
     }
     most
 }
 
-fn put_depth(put: &Put<'_>) -> usize
-    ensures { result ≡ spec.put_depth put.now }
+fn end_depth(path_end: &PathEnd<'_>) -> usize
+    ensures { result ≡ spec.end_depth path_end.now }
 {
-    match put {
-        Put::Value(_) => 0,
-        Put::Table(members) => longest(members.as_slice()),
-        Put::Element(members) => longest(members.as_slice()),
+    match path_end {
+        PathEnd::Value(_) => 0,
+        PathEnd::Table(members) => longest(members.as_slice()),
+        PathEnd::Element(members) => longest(members.as_slice()),
     }
 }
 
@@ -323,10 +323,10 @@ fn assigned<'t>(lines: &mut List<Line<'t>>) -> Option<Value<'t>>
     let Line {
         at: _,
         path: _,
-        put,
+        path_end,
     } = lines.vec.remove(0);
-    match put {
-        Put::Value(value) => Some(value),
+    match path_end {
+        PathEnd::Value(value) => Some(value),
         _ => None,
     }
 }
@@ -338,7 +338,7 @@ fn starts_value(lines: &[Line<'_>]) -> bool
         Some(
             Line {
                 path,
-                put: Put::Value(_),
+                path_end: PathEnd::Value(_),
                 ..
             },
         ) => path.len() == 0,
@@ -359,8 +359,8 @@ fn starts_array(lines: &[Line<'_>]) -> bool
 fn is_element(line: &Line<'_>) -> bool
     ensures { result ≡ spec.is_element line.now }
 {
-    match line.put {
-        Put::Element(_) => line.path.len() == 0,
+    match line.path_end {
+        PathEnd::Element(_) => line.path.len() == 0,
         _ => false,
     }
 }
@@ -389,12 +389,12 @@ fn elements<'t>(alloc: Global, lines: List<Line<'t>>) -> Result<List<List<Line<'
 fn as_table(line: Line<'_>) -> Line<'_>
     ensures { result ≡ spec.as_table line.entry }
 {
-    let Line { at, path, put } = line;
-    let put = match put {
-        Put::Element(members) => Put::Table(members),
+    let Line { at, path, path_end } = line;
+    let path_end = match path_end {
+        PathEnd::Element(members) => PathEnd::Table(members),
         other => other,
     };
-    Line { at, path, put }
+    Line { at, path, path_end }
 }
 
 /// Each name, with the lines that lead through it.
@@ -426,13 +426,13 @@ fn steps<'t>(alloc: Global, lines: List<Line<'t>>) -> Result<List<(CowStr<'t>, L
 }
 
 fn add_steps<'t>(found: &mut List<(CowStr<'t>, Line<'t>)>, line: Line<'t>) -> Result<(), NoMemory>
-    ensures { OnOk result (found.new ≡ found.old ++ spec.line_steps line.entry.put line.entry.path) }
+    ensures { OnOk result (found.new ≡ found.old ++ spec.line_steps line.entry.path_end line.entry.path) }
 {
     let mut path = line.path;
     match take_first(&mut path) {
-        Some(key) => found.push(step(key, path, line.put)),
-        None => match line.put {
-            Put::Table(members) => add_member_steps(found, members),
+        Some(key) => found.push(step(key, path, line.path_end)),
+        None => match line.path_end {
+            PathEnd::Table(members) => add_member_steps(found, members),
             _ => Ok(()),
         },
     }
@@ -442,24 +442,24 @@ fn add_member_steps<'t>(
     found: &mut List<(CowStr<'t>, Line<'t>)>,
     members: List<Member<'t>>,
 ) -> Result<(), NoMemory>
-    ensures { OnOk result (found.new ≡ found.old ++ spec.put_steps (Put.Table members.entry)) }
+    ensures { OnOk result (found.new ≡ found.old ++ spec.end_steps (PathEnd.Table members.entry)) }
 {
     'members: for member in members.vec {
         let mut path = member.path;
         if let Some(key) = take_first(&mut path) {
-            found.push(step(key, path, Put::Value(member.value)))?;
+            found.push(step(key, path, PathEnd::Value(member.value)))?;
         }
     }
     Ok(())
 }
 
-fn step<'t>(key: Key<'t>, path: List<Key<'t>>, put: Put<'t>) -> (CowStr<'t>, Line<'t>)
-    ensures { result ≡ spec.step key.entry path.entry put.entry }
+fn step<'t>(key: Key<'t>, path: List<Key<'t>>, path_end: PathEnd<'t>) -> (CowStr<'t>, Line<'t>)
+    ensures { result ≡ spec.step key.entry path.entry path_end.entry }
 {
     let line = Line {
         at: key.span,
         path,
-        put,
+        path_end,
     };
     (key.name, line)
 }
@@ -471,107 +471,5 @@ fn take_first<'t>(path: &mut List<Key<'t>>) -> Option<Key<'t>>
         None
     } else {
         Some(path.vec.remove(0))
-    }
-}
-
-#[cfg(test)]
-mod tests {
-    use super::*;
-    use crate::value::Scalar;
-
-    fn path(alloc: Global, parts: &[(&'static str, u32)]) -> Result<List<Key<'static>>, NoMemory> {
-        let mut path = List::new(alloc);
-        for (name, start) in parts {
-            path.push(Key {
-                name: CowStr::borrowed(*name),
-                span: Span {
-                    start: *start,
-                    end: *start,
-                },
-            })?;
-        }
-        Ok(path)
-    }
-
-    fn header(
-        alloc: Global,
-        parts: &[(&'static str, u32)],
-        is_array: bool,
-    ) -> Result<Expression<'static>, NoMemory> {
-        Ok(Expression::Header(Header {
-            path: path(alloc, parts)?,
-            is_array,
-        }))
-    }
-
-    fn number(
-        alloc: Global,
-        parts: &[(&'static str, u32)],
-        number: i64,
-    ) -> Result<Expression<'static>, NoMemory> {
-        Ok(Expression::Assignment(Assignment {
-            path: path(alloc, parts)?,
-            value: Written {
-                span: Span { start: 0, end: 0 },
-                content: WrittenContent::Scalar(Scalar::Integer(number)),
-            },
-        }))
-    }
-
-    /// `[[fruit]]`, `kind = 1`, `[fruit.taste]`, `sweet = 2`, `[[fruit]]`, `kind = 3`,
-    /// `size.least = 4`, `size.most = 5`, each part at the offset that it has there.
-    fn fruits(alloc: Global) -> Result<List<Expression<'static>>, NoMemory> {
-        let mut read = List::new(alloc);
-        read.push(header(alloc, &[("fruit", 2)], true)?)?;
-        read.push(number(alloc, &[("kind", 10)], 1)?)?;
-        read.push(header(alloc, &[("fruit", 20), ("taste", 26)], false)?)?;
-        read.push(number(alloc, &[("sweet", 33)], 2)?)?;
-        read.push(header(alloc, &[("fruit", 45)], true)?)?;
-        read.push(number(alloc, &[("kind", 53)], 3)?)?;
-        read.push(number(alloc, &[("size", 62), ("least", 67)], 4)?)?;
-        read.push(number(alloc, &[("size", 77), ("most", 82)], 5)?)?;
-        Ok(read)
-    }
-
-    fn is_number(value: &Value<'_>, path: &str, number: i64) -> bool {
-        match value.pointer(path) {
-            Some(found) => found.as_integer() == Some(number),
-            None => false,
-        }
-    }
-
-    fn starts_at(value: &Value<'_>, path: &str, start: u32) -> bool {
-        match value.pointer(path) {
-            Some(found) => found.span.start == start,
-            None => false,
-        }
-    }
-
-    #[test]
-    fn tables_stand_in_arrays(rt: HostRuntime) -> Result<(), NoMemory> {
-        let range = Span { start: 0, end: 90 };
-        let value = tree(rt.alloc(), range, fruits(rt.alloc())?)?;
-        for (path, expected) in [
-            ("/fruit/0/kind", 1i64),
-            ("/fruit/0/taste/sweet", 2),
-            ("/fruit/1/kind", 3),
-            ("/fruit/1/size/least", 4),
-            ("/fruit/1/size/most", 5),
-        ] {
-            assert!(rt; is_number(&value, path, expected), "at {path}");
-        }
-        for (path, start) in [
-            ("", 0u32),
-            ("/fruit", 2),
-            ("/fruit/0", 2),
-            ("/fruit/0/taste", 26),
-            ("/fruit/1", 45),
-            ("/fruit/1/size", 62),
-        ] {
-            assert!(rt; starts_at(&value, path, start), "at {path}");
-        }
-        assert!(rt; value.pointer("/fruit/1/taste").is_none());
-        assert!(rt; value.pointer("/fruit/2").is_none());
-        Ok(())
     }
 }

@@ -1,28 +1,6 @@
-use crate::cow_str::CowStr;
-use deny_base::{List, Span};
-
-/// A key, or a part of a dotted one.
-#[derive(Drop)]
-pub struct Key<'t> {
-    pub name: CowStr<'t>,
-    /// The part as it stands, without quotes.
-    pub span: Span,
-}
-
-/// A value that contains no others.
-#[derive(Drop)]
-pub enum Scalar<'t> {
-    /// A string on one line.
-    Text(CowStr<'t>),
-    /// A string between three delimiters, which may go on over several lines.
-    Multiline(CowStr<'t>),
-    Integer(i64),
-    /// A float, as it is written.
-    Float(CowStr<'t>),
-    Boolean(bool),
-    /// A date, a time or both, as written.
-    Date(CowStr<'t>),
-}
+use deny_base::Span;
+use deny_lists::List;
+use deny_toml_grammar::{Key, Scalar};
 
 /// A value and where it stands.
 #[cycle(value)]

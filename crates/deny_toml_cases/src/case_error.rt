@@ -1,40 +1,16 @@
-use std::alloc::{AllocError, AllocFailed};
+use std::alloc::AllocError;
 use std::io;
+use thiserror::Error;
 
 /// Why the cases stopped.
-#[derive(Debug, Drop)]
+#[derive(Debug, Drop, Error)]
 pub(crate) enum CaseError {
-    /// A line is no JSON.
-    Json(serde_json::Error),
-    /// A line is no string, or a longer one than is read.
+    #[error("a line is no JSON")]
+    Json(#[from] serde_json::Error),
+    #[error("a line is no string, or a longer one than is read")]
     NoText,
-    Io(io::Error),
-    Memory,
-}
-
-impl From<serde_json::Error> for CaseError {
-    fn from(error: serde_json::Error) -> CaseError {
-        CaseError::Json(error)
-    }
-}
-
-impl From<io::Error> for CaseError {
-    fn from(error: io::Error) -> CaseError {
-        CaseError::Io(error)
-    }
-}
-
-impl From<AllocError> for CaseError {
-    fn from(_error: AllocError) -> CaseError {
-        CaseError::Memory
-    }
-}
-
-impl<T> From<AllocFailed<T>> for CaseError
-where
-    T: Drop,
-{
-    fn from(_error: AllocFailed<T>) -> CaseError {
-        CaseError::Memory
-    }
+    #[error("the cases are not read, or their answers not written")]
+    Io(#[from] io::Error),
+    #[error("the memory did not suffice")]
+    Memory(#[from(alloc)] AllocError),
 }

@@ -36,9 +36,9 @@ fn answer(alloc: Global, text: &str) -> Result<String, CaseError> {
         return Err(CaseError::NoText);
     }
     match parse(alloc, text) {
-        Ok(value) => Ok(tree::tree(alloc, &value)?.to_string(alloc)?),
+        Ok(value) => tree::tree(alloc, &value),
         Err(TomlError::Fault { kind, span }) => Ok(fault(alloc, kind, span)?),
-        Err(TomlError::Memory) => Err(CaseError::Memory),
+        Err(TomlError::Memory) => Err(CaseError::Memory(AllocError)),
     }
 }
 

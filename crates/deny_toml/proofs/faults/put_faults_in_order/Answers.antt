@@ -6,4 +6,5 @@ pub put_in_order-requires : goal.put_in_order-requires
 put_in_order-requires c = fault_cmp-exact
 
 pub returns : goal.returns
-returns c = on_ok_weaker c.put_in_order.result (in_order-only c.args.faults.now c.put_in_order.new.list) c.put_in_order.ensures.ok
+returns c = on_ok_weaker c.put_in_order.result (in_order-only c.args.faults.now c.put_in_order.new.list)
+    c.put_in_order.ensures.ok

@@ -4,10 +4,13 @@ use Rattle.deny_toml.proofs.parser.parse.Goals as goal
 
 pub returns-in-Some-clause-placed : goal.returns-in-Some-clause-placed
 returns-in-Some-clause-placed c =
-    clash_range c.args.text.now _ _ c.in-Some.span c.utf8.text c.in_ok-expressions.ensures.document c.in_ok-span.ensures.exact c.in-Some.is
+    clash_range c.args.text.now _ _ c.in-Some.span c.utf8.text c.in_ok-expressions.ensures.document
+    c.in_ok-span.ensures.exact c.in-Some.is
 
 pub returns-clause-stands : goal.returns-clause-stands
-returns-clause-stands c = tree_stands c.args.text.now _ _ _ c.utf8.text c.in_ok-expressions.ensures.document c.whole.ensures c.in_ok-tree.ensures.exact
+returns-clause-stands c = tree_stands c.args.text.now _ _ _ c.utf8.text c.in_ok-expressions.ensures.document
+    c.whole.ensures c.in_ok-tree.ensures.exact
 
 pub returns-clause-apart : goal.returns-clause-apart
-returns-clause-apart c = tree_apart c.args.text.now _ _ _ c.in_ok-expressions.ensures.document c.in_ok-tree.ensures.exact
+returns-clause-apart c = tree_apart c.args.text.now _ _ _ c.in_ok-expressions.ensures.document
+    c.in_ok-tree.ensures.exact

@@ -3,7 +3,8 @@ use Rattle.deny_toml.proofs.table_helper.take_entry.Goals as goal
 
 pub returns-in_err-place-clause-taken : goal.returns-in_err-place-clause-taken
 returns-in_err-place-clause-taken c =
-    rw c.from_residual.ensures (no_entry c.args.name.now _ _ c.place_of.result c.as_slice.ensures c.place_of.ensures c.in_err-place.was)
+    rw c.from_residual.ensures (no_entry c.args.name.now _ _ c.place_of.result c.as_slice.ensures c.place_of.ensures
+    c.in_err-place.was)
 
 pub returns-in_err-place-clause-left : goal.returns-in_err-place-clause-left
 returns-in_err-place-clause-left c =
@@ -11,8 +12,10 @@ returns-in_err-place-clause-left c =
 
 pub returns-clause-taken : goal.returns-clause-taken
 returns-clause-taken c =
-    taken_entry c.args.name.now c.args.entries.now _ _ c.place_of.result c.in_ok-place.place c.remove.result c.as_slice.ensures c.entries.view_is c.place_of.ensures c.in_ok-place.was c.remove.ensures.value
+    taken_entry c.args.name.now c.args.entries.now _ _ c.place_of.result c.in_ok-place.place c.remove.result
+    c.as_slice.ensures c.entries.view_is c.place_of.ensures c.in_ok-place.was c.remove.ensures.value
 
 pub returns-clause-left : goal.returns-clause-left
 returns-clause-left c =
-    left_entries c.args.name.now c.args.entries.now _ _ _ c.place_of.result c.in_ok-place.place c.remove.result c.as_slice.ensures c.entries.view_is c.place_of.ensures c.in_ok-place.was c.remove.ensures.items
+    left_entries c.args.name.now c.args.entries.now _ _ _ c.place_of.result c.in_ok-place.place c.remove.result
+    c.as_slice.ensures c.entries.view_is c.place_of.ensures c.in_ok-place.was c.remove.ensures.items

@@ -6,5 +6,6 @@ use Rattle.deny_toml.proofs.tree.+values.Goals as goal
 
 pub content_of-returns-in_ok-inline_table-in-InlineTable : goal.content_of-returns-in_ok-inline_table-in-InlineTable
 content_of-returns-in_ok-inline_table-in-InlineTable t c =
-    ap content.Table (c.in_ok-inline_table-in-InlineTable.ensures ∙ ap (table_of_members c.args.span) c.in_ok-members-in-InlineTable.ensures)
+    ap content.Table (c.in_ok-inline_table-in-InlineTable.ensures
+    ∙ ap (table_of_members c.args.span) c.in_ok-members-in-InlineTable.ensures)
     ∙ members_in c.args.span c.args.written c.in-InlineTable.assignments c.in-InlineTable.is

@@ -11,7 +11,8 @@ lines-preserved-in-Continue-branch-2 c =
     elements_next c.lines.yielded c.lines.found c.lines.table c.in-Some.line _ _
     (sym c.is_element.ensures ∙ c.if-is_element.true)
     (c.in_ok-push.ensures.ok ∙ ap (λ table. c.lines.found ++ table ∷ []) c.replace.ensures.value)
-    (c.in_ok-push-2.ensures.ok ∙ ap (λ table. table ++ c.as_table.result ∷ []) empty ∙ ap (λ line. line ∷ []) c.as_table.ensures)
+    (c.in_ok-push-2.ensures.ok ∙ ap (λ table. table ++ c.as_table.result ∷ []) empty
+    ∙ ap (λ line. line ∷ []) c.as_table.ensures)
     c.lines.invariant
 
 pub lines-preserved : goal.lines-preserved
@@ -24,7 +25,8 @@ lines-preserved c =
 pub returns : goal.returns
 returns c =
     let given = c.into_iter-line-iterator.ensures.into_iter_gives in
-    let count : into_iter_len c.into_iter-line-iterator.result ≡ length (into_iter_items c.into_iter-line-iterator.result) = first_of (search rules, omega arith, grind arith) in
+    let count : into_iter_len c.into_iter-line-iterator.result ≡ length
+    (into_iter_items c.into_iter-line-iterator.result) = first_of (search rules, omega arith, grind arith) in
     let seen : c.lines.yielded ≡ c.args.lines =
     taken_all c.into_iter-line-iterator.result c.lines.yielded c.lines.line-iterator c.args.lines c.lines.yielded_by
     (given.0 ∙ c.lines-2.view_is) (count ∙ ap length (given.0 ∙ c.lines-2.view_is)) c.in-None.ensures.steps.0 in

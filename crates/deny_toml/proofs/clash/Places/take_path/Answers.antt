@@ -13,12 +13,16 @@ returns-in_err-table c = λ before tells.
     let (now, walked, told) = l.invariant before tells in
     let role : c.if-part-path.role ≡ (if is_empty (drop (l.part + 1) path) then c.args.last else c.args.passing) =
     elim c.if-part-path.branch [
-      | then-part-path w ↦ w.role-is ∙ sym (role_last c.args.passing c.args.last path l.part (omega (arith, w.if-part-path.true)))
-      | else-part-path w ↦ w.role-is ∙ sym (role_passing c.args.passing c.args.last path l.part (omega (arith, w.if-part-path.false, c.loop-part-test.true)))
+      | then-part-path w ↦ w.role-is ∙ sym (role_last c.args.passing c.args.last path l.part
+          (omega (arith, w.if-part-path.true)))
+      | else-part-path w ↦ w.role-is ∙ sym (role_passing c.args.passing c.args.last path l.part
+          (omega (arith, w.if-part-path.false, c.loop-part-test.true)))
     ] in
     takes_err c.from_residual.result _ c.take.new.self _ c.in_err-table.field-0.0 _ c.from_residual.ensures.1 (λ y p. p)
-    (walk_refused c.in_err-table.field-0.0 c.take.new.self _ now l.table c.args.passing c.args.last c.if-part-path.role (drop l.part path) (drop (l.part + 1) path) c.index-path-part.result walked
-    (drop_next path l.part c.index-path-part.result (omega (arith, c.loop-part-test.true)) c.index-path-part.is) role (c.in_err-table.ensures now told))
+    (walk_refused c.in_err-table.field-0.0 c.take.new.self _ now l.table c.args.passing c.args.last c.if-part-path.role
+    (drop l.part path) (drop (l.part + 1) path) c.index-path-part.result walked
+    (drop_next path l.part c.index-path-part.result (omega (arith, c.loop-part-test.true)) c.index-path-part.is) role
+    (c.in_err-table.ensures now told))
 
 pub loop-part-preserved : goal.loop-part-preserved
 loop-part-preserved c = λ before tells.
@@ -27,12 +31,15 @@ loop-part-preserved c = λ before tells.
     let (now, walked, told) = l.invariant before tells in
     let role : c.if-part-path.role ≡ (if is_empty (drop (l.part + 1) path) then c.args.last else c.args.passing) =
     elim c.if-part-path.branch [
-      | then-part-path w ↦ w.role-is ∙ sym (role_last c.args.passing c.args.last path l.part (omega (arith, w.if-part-path.true)))
-      | else-part-path w ↦ w.role-is ∙ sym (role_passing c.args.passing c.args.last path l.part (omega (arith, w.if-part-path.false, c.loop-part-test.true)))
+      | then-part-path w ↦ w.role-is ∙ sym (role_last c.args.passing c.args.last path l.part
+          (omega (arith, w.if-part-path.true)))
+      | else-part-path w ↦ w.role-is ∙ sym (role_passing c.args.passing c.args.last path l.part
+          (omega (arith, w.if-part-path.false, c.loop-part-test.true)))
     ] in
     let (next, stands, more) = c.in_ok-table.ensures now told in (
       next,
-      walked ∙ walk_on now next l.table c.in_ok-table.table c.args.passing c.args.last (drop l.part path) (drop (l.part + 1) path) c.index-path-part.result
+      walked ∙ walk_on now next l.table c.in_ok-table.table c.args.passing c.args.last (drop l.part path)
+          (drop (l.part + 1) path) c.index-path-part.result
           (drop_next path l.part c.index-path-part.result (omega (arith, c.loop-part-test.true)) c.index-path-part.is)
           (ap (λ r. stand now l.table r c.index-path-part.result) (sym role) ∙ stands),
       more,
@@ -41,5 +48,9 @@ loop-part-preserved c = λ before tells.
 pub returns : goal.returns
 returns c = λ before tells.
     let l = c.loop-part in
-    let (now, walked, told) = l.invariant before tells in
-    (now, walked ∙ walk_ends now l.table c.args.passing c.args.last c.args.path.now l.part (omega (arith, c.loop-part-test.false)), told)
+    let (now, walked, told) = l.invariant before tells in (
+      now,
+      walked ∙ walk_ends now l.table c.args.passing c.args.last c.args.path.now l.part
+          (omega (arith, c.loop-part-test.false)),
+      told,
+    )

@@ -1,0 +1,55 @@
+-- Bytes that stand in a text at a place.
+use Rattle.std.proofs.Common.{◌≡◌, ℕ, ◌+◌, ◌-◌, ◌<◌, ◌≤◌, List, [], ◌∷◌, ◌++◌, length, get_or, IsUtf8, sym, ap, subst}
+use Rattle.std.proofs.Common.{◌∙◌, arith, append_assoc, append-nil, length-append}
+use Rattle.std.proofs.Math.Seq.{drop-append_seam, take-append_seam, get_or-append_seam}
+use Rattle.std.proofs.lemmas.Str.{IsCharBoundary-before_ascii, IsCharBoundary-after_ascii}
+use Rattle.std.specs.Str.{IsCharBoundary}
+use Rattle.deny_toml_grammar.specs.Expression.{span_of}
+use Rattle.deny_toml_grammar.specs.Ranges.{IsRange, bytes_in}
+
+-- The text has these bytes at the place.
+pub data HasAt (text : List ℕ) : ℕ → List ℕ → Type 0 where
+  stands : (prefix cs tail : List ℕ) → text ≡ prefix ++ (cs ++ tail) → HasAt text (length prefix) cs
+
+pub stands_whole : (text : List ℕ) → HasAt text 0 text
+stands_whole text = stands [] text [] (sym (append-nil text))
+
+pub stands_prefix : (text : List ℕ) (at : ℕ) (xs ys : List ℕ) → HasAt text at (xs ++ ys) → HasAt text at xs
+stands_prefix text at xs ys (stands prefix _ tail e) = stands prefix xs (ys ++ tail)
+    (e ∙ ap (λ t. prefix ++ t) (append_assoc xs ys tail))
+
+pub stands_rest : (text : List ℕ) (at : ℕ) (xs ys : List ℕ) → HasAt text at (xs ++ ys) → HasAt text (at + length xs) ys
+stands_rest text at xs ys (stands prefix _ tail e) =
+    subst (λ n. HasAt text n ys) (length-append prefix xs)
+    (stands (prefix ++ xs) ys tail (e ∙ ap (λ t. prefix ++ t) (append_assoc xs ys tail)
+    ∙ sym (append_assoc prefix xs (ys ++ tail))))
+
+pub stands_byte : (text : List ℕ) (at c : ℕ) (cs : List ℕ) → HasAt text at (c ∷ cs) → get_or text at 0 ≡ c
+stands_byte text at c cs (stands prefix _ tail e) = rw e (get_or-append_seam prefix c (cs ++ tail) 0)
+
+pub stands_within : (text : List ℕ) (at : ℕ) (cs : List ℕ) → HasAt text at cs → at + length cs ≤ length text
+stands_within text at cs (stands prefix _ tail e) = rw e (omega
+    (arith, length-append prefix (cs ++ tail), length-append cs tail))
+
+pub stands_bytes : (text : List ℕ) (at : ℕ) (cs : List ℕ) → HasAt text at cs
+    → bytes_in text (span_of at (length cs)) ≡ cs
+stands_bytes text at cs (stands prefix _ tail e) =
+    let count : (length prefix + length cs) - length prefix ≡ length cs = omega arith in
+    rw (count, e, drop-append_seam prefix (cs ++ tail)) (take-append_seam cs tail)
+
+-- an ASCII byte stands between two boundaries
+pub boundary_before : (text : List ℕ) (at c : ℕ) (cs : List ℕ) → HasAt text at (c ∷ cs) → c < 128
+    → IsCharBoundary text at
+boundary_before text at c cs here ascii =
+    IsCharBoundary-before_ascii text at (omega (arith, stands_within text at (c ∷ cs) here))
+    (omega (arith, stands_byte text at c cs here))
+
+pub boundary_after : (text : List ℕ) (at place c : ℕ) (cs : List ℕ) → IsUtf8 text → HasAt text at (c ∷ cs) → c < 128
+    → at + 1 ≡ place → IsCharBoundary text place
+boundary_after text at place c cs utf8 here ascii same =
+    subst (IsCharBoundary text) same (IsCharBoundary-after_ascii text at utf8
+    (omega (arith, stands_within text at (c ∷ cs) here)) (omega (arith, stands_byte text at c cs here)))
+
+pub range_between : (text : List ℕ) (at len : ℕ) → IsCharBoundary text at → IsCharBoundary text (at + len)
+    → IsRange text (span_of at len)
+range_between text at len from to = record { ordered = omega arith; within = to.0; starts = from; ends = to }

@@ -1,0 +1,9 @@
+pub mod Expression
+pub mod Lexical
+pub mod Strings
+pub mod Numbers
+pub mod GrammarStrings
+pub mod GrammarWords
+pub mod Grammar
+pub mod Ranges
+pub mod private

@@ -1,0 +1,6 @@
+pub mod Reading
+pub mod Dates
+pub mod Words
+pub mod Keys
+pub mod Values
+pub mod Lines

@@ -1,0 +1,48 @@
+-- How the result of a reader stands to what the text says.
+use Rattle.std.specs.Prelude.{◌≡◌, ℕ, ◌<◌, Bool, List, [], ◌++◌, length, String, string_bytes, Option, Some, None}
+use Rattle.std.specs.Prelude.{is_some, unwrap_or, Result, Ok, Err, MatchResult, IfOk, option_map, option_and_then}
+use Rattle.std.specs.Borrow.{Bor}
+use Rattle.std.specs.declared.alloc.Global.{Global}
+use Rattle.deny_toml_grammar.specs.declared.read_error.ReadError.{ReadError}
+use Rattle.deny_toml_grammar.specs.declared.read_error.ReadError.TheVariants.{Grammar, Memory}
+use Rattle.deny_toml_grammar.specs.Lexical.{Read}
+
+infixl 10 ◌>>=◌
+abbrev pub ◌>>=◌ : {A B : Type 0} → Option A → (A → Option B) → Option B
+o >>= f = option_and_then f o
+
+-- what was read, under f
+abbrev pub read_map : {A B : Type 0} → (A → B) → Read A → Read B
+read_map f r = option_map (λ p. (f p.0, p.1)) r
+
+-- A reader fails where the text does not begin so. Want of memory says nothing of the text.
+abbrev pub Fails : {A : Type 0} → ReadError → Option A → Type 0
+Fails (Grammar left) expected = expected ≡ None
+Fails Memory expected = Unit {0}
+
+-- the result is what is expected
+abbrev pub Gives : {A : Type 0} → Result A ReadError → Option A → Type 0
+Gives (Ok a) expected = expected ≡ Some a
+Gives (Err e) expected = Fails e expected
+
+-- the result is the value and the rest that are expected
+abbrev pub Reads : {A : Type 0} → Result (A × Bor (List ℕ)) ReadError → Read A → Type 0
+Reads (Ok p) expected = expected ≡ Some (p.0, p.1.now)
+Reads (Err e) expected = Fails e expected
+
+-- less text is left
+abbrev pub Shortens : {A : Type 0} → List ℕ → Result (A × Bor (List ℕ)) ReadError → Type 0
+Shortens text r = IfOk r (λ p. length p.1.now < length text)
+
+-- the bytes of a piece of a string, and whether there is one
+abbrev pub piece_bytes : Option (List ℕ) → List ℕ
+piece_bytes piece = unwrap_or piece []
+
+-- a piece of a string was read and put at the end of `old`
+abbrev pub ReadsPiece : String Global → String Global → Result (Bool × Bor (List ℕ)) ReadError → Read (Option (List ℕ))
+    → Type 0
+ReadsPiece old new r expected =
+    MatchResult r
+    (λ p. (piece : Option (List ℕ)) × (expected ≡ Some (piece, p.1.now)) × (p.0 ≡ is_some piece)
+    × (string_bytes new ≡ string_bytes old ++ piece_bytes piece))
+    (λ e. Fails e expected)

@@ -1,0 +1,21 @@
+ghost use Rattle.std.specs.Prelude.{◌≡◌, ℕ, ◌^◌, ◌<◌, List, length, IfOk, Err};
+ghost use Rattle.deny_toml_grammar.specs.declared.expression.Expression.{Expression};
+ghost use Rattle.deny_toml_grammar.specs.Grammar.{IsDocument};
+ghost use Rattle.deny_toml_grammar.specs.Ranges.{AllStand};
+
+use crate::expression::Expression;
+use crate::lines::expressions;
+use crate::read_error::ReadError;
+use deny_lists::List;
+use std::alloc::Global;
+
+/// The headers and assignments that the text writes, in its order.
+pub fn read_document<'t>(alloc: Global, text: &'t str) -> Result<List<Expression<'t>>, ReadError>
+    requires small { length text.now < 2 ^ 28 }
+    ensures found { IfOk result (λ es. IsDocument text.now es) }
+    ensures only { IfOk result (λ es. (others : List Expression) → IsDocument text.now others → others ≡ es) }
+    ensures stand { IfOk result (AllStand text.now) }
+    ensures refused { (left : ℕ) → result ≡ Err (ReadError.Grammar left) → (es : List Expression) → IsDocument text.now es → ⊥ }
+{
+    expressions(alloc, text)
+}

@@ -1,0 +1,42 @@
+use crate::parts::{Key, Scalar};
+use deny_base::Span;
+use deny_lists::List;
+
+/// A value as it is written: the dotted keys of its inline tables stand as they are.
+#[cycle(written)]
+#[derive(Drop)]
+pub struct Written<'t> {
+    pub span: Span,
+    pub content: WrittenContent<'t>,
+}
+
+/// What is written.
+#[cycle(written)]
+#[derive(Drop)]
+pub enum WrittenContent<'t> {
+    Scalar(Scalar<'t>),
+    Array(List<Written<'t>>),
+    InlineTable(List<Assignment<'t>>),
+}
+
+/// A dotted key and what is assigned to it. The path has at least one part.
+#[cycle(written)]
+#[derive(Drop)]
+pub struct Assignment<'t> {
+    pub path: List<Key<'t>>,
+    pub value: Written<'t>,
+}
+
+/// A header `[path]`, or `[[path]]` where `is_array`. The path has at least one part.
+#[derive(Drop)]
+pub struct Header<'t> {
+    pub path: List<Key<'t>>,
+    pub is_array: bool,
+}
+
+/// A line of a document that is not blank.
+#[derive(Drop)]
+pub enum Expression<'t> {
+    Header(Header<'t>),
+    Assignment(Assignment<'t>),
+}

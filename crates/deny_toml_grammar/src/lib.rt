@@ -1,0 +1,23 @@
+//! The grammar of TOML 1.0.0: from a text to the headers and assignments that it writes, with the
+//! place of every key and value.
+#![tactic(auto)]
+
+mod cow_str;
+mod dates;
+mod document;
+mod expression;
+mod keys;
+mod lexical;
+mod lines;
+mod numbers;
+mod parts;
+mod read_error;
+mod strings;
+mod values;
+mod words;
+
+pub use cow_str::CowStr;
+pub use document::read_document;
+pub use expression::{Assignment, Expression, Header, Written, WrittenContent};
+pub use parts::{Key, Scalar};
+pub use read_error::ReadError;
