@@ -2,26 +2,29 @@
 use Rattle.std.proofs.Common.{◌≡◌, ◌∙◌, sym, ℕ, List, Ok, Err, refl, subst}
 use Rattle.serde_json.specs.Data.{Data}
 use Rattle.deny_model.specs.Graph.{Graph}
-use Rattle.deny_krates.specs.Checked.{Resolved, checked, resolved}
-use Rattle.deny_krates.specs.Document.{document_of, value_at}
+use Rattle.deny_metadata.specs.Checked.{Resolved, checked, resolved}
+use Rattle.deny_metadata.specs.Document.{document_of, value_at}
 use Rattle.deny_krates.specs.Read.{IsGraph, IsGraphOf}
-use Rattle.deny_krates.specs.declared.document.Document.{Document}
-use Rattle.deny_krates.specs.declared.fault.MetadataFault.{MetadataFault}
+use Rattle.deny_metadata.specs.declared.document.Document.{Document}
+use Rattle.deny_metadata.specs.declared.fault.MetadataFault.{MetadataFault}
 use Rattle.deny_krates.proofs.ResolvedLemmas.{resolved_is}
 
 pub no_value : (bytes : List ℕ) (e : MetadataFault) → value_at bytes ≡ Err e → checked bytes ≡ Err e
 unfolding checked
 no_value bytes e is = rw is refl
 
-pub no_document : (bytes : List ℕ) (value : Data) (e : MetadataFault) → value_at bytes ≡ Ok value → document_of value ≡ Err e → checked bytes ≡ Err e
+pub no_document : (bytes : List ℕ) (value : Data) (e : MetadataFault) → value_at bytes ≡ Ok value
+    → document_of value ≡ Err e → checked bytes ≡ Err e
 unfolding checked
 no_document bytes value e is fails = rw (is, fails) refl
 
-pub document_reads : (bytes : List ℕ) (value : Data) (doc : Document) → value_at bytes ≡ Ok value → document_of value ≡ Ok doc → checked bytes ≡ resolved doc
+pub document_reads : (bytes : List ℕ) (value : Data) (doc : Document) → value_at bytes ≡ Ok value
+    → document_of value ≡ Ok doc → checked bytes ≡ resolved doc
 unfolding checked
 document_reads bytes value doc is reads = rw (is, reads) refl
 
-pub graph_is : (bytes : List ℕ) (doc : Document) (g : Graph) → checked bytes ≡ resolved doc → (r : Resolved) × (resolved doc ≡ Ok r) × IsGraph doc g → IsGraphOf bytes g
+pub graph_is : (bytes : List ℕ) (doc : Document) (g : Graph) → checked bytes ≡ resolved doc
+    → (r : Resolved) × (resolved doc ≡ Ok r) × IsGraph doc g → IsGraphOf bytes g
 graph_is bytes doc g same is = record {
   read = is.0;
   is_read = same ∙ is.1;

@@ -1,4 +1,5 @@
--- Only equal ranks tie, and only equal arcs.
+-- Only equal ranks tie, only equal kept packages, and only equal incoming edges.
+use Rattle.deny_lists.proofs.Orders.{option_text_cmp-exact, text_cmp-exact, then_first, then_second}
 use Rattle.std.proofs.Common.{◌≡◌, ℕ, List, Option, Some, None, refl, ap}
 use Rattle.std.specs.Cmp.{IsTotalOrder, nat_cmp_total, on_total, then_total}
 use Rattle.std.specs.Cmp.Lexicographic.{slice_cmp, nat_list_cmp_total, options_total}
@@ -10,31 +11,12 @@ use Rattle.std.specs.declared.cmp.Ordering.TheVariants.{Less, Equal, Greater}
 use Rattle.deny_base.specs.Edge.{edge_cmp, kind_cmp, kind_number}
 use Rattle.deny_base.specs.declared.edge.DepKind.{DepKind}
 use Rattle.deny_base.specs.declared.edge.Edge.{Edge}
-use Rattle.deny_krates.specs.Direct.{arc_cmp}
-use Rattle.deny_krates.specs.Graph.{kept_cmp}
+use Rattle.deny_krates.specs.private.Direct.{incoming_cmp}
+use Rattle.deny_krates.specs.private.Graph.{kept_cmp}
 use Rattle.deny_krates.specs.Packages.{rank_cmp}
-use Rattle.deny_krates.specs.declared.direct.Arc.{Arc}
-use Rattle.deny_krates.specs.declared.graph.Kept.{Kept}
+use Rattle.deny_krates.specs.declared.direct.IncomingEdge.{IncomingEdge}
+use Rattle.deny_krates.specs.declared.graph.KeptPackage.{KeptPackage}
 use Rattle.deny_krates.specs.declared.graph.Rank.{Rank}
-
-pub then_first : (r s : Ordering) → ordering_then r s ≡ Equal → r ≡ Equal
-then_first Less s e = cc e
-then_first Equal s e = refl
-then_first Greater s e = cc e
-
-pub then_second : (r s : Ordering) → ordering_then r s ≡ Equal → s ≡ Equal
-then_second Less s e = cc e
-then_second Equal s e = e
-then_second Greater s e = cc e
-
-pub text_cmp-exact : IsAntisymmetric (slice_cmp nat_cmp)
-text_cmp-exact = slice_cmp-IsAntisymmetric nat_cmp-IsAntisymmetric
-
-source_cmp-exact : IsAntisymmetric (option_cmp (slice_cmp nat_cmp))
-source_cmp-exact None None e = refl
-source_cmp-exact None (Some b) e = cc
-source_cmp-exact (Some a) None e = cc
-source_cmp-exact (Some a) (Some b) e = ap (λ x. Some x) (text_cmp-exact a b e)
 
 rank_from : List ℕ → List ℕ → Option (List ℕ) → List ℕ → Rank
 rank_from name version source id = record { name = name; version = version; source = source; id = id }
@@ -49,8 +31,9 @@ rank_cmp-exact a b e =
     let after_version = then_second (slice_cmp nat_cmp a.version b.version) _ after_name in
     let name : a.name ≡ b.name = text_cmp-exact a.name b.name (then_first _ _ e) in
     let version : a.version ≡ b.version = text_cmp-exact a.version b.version (then_first _ _ after_name) in
-    let source : a.source ≡ b.source = source_cmp-exact a.source b.source (then_first _ _ after_version) in
-    let id : a.id ≡ b.id = text_cmp-exact a.id b.id (then_second (option_cmp (slice_cmp nat_cmp) a.source b.source) (slice_cmp nat_cmp a.id b.id) after_version) in
+    let source : a.source ≡ b.source = option_text_cmp-exact a.source b.source (then_first _ _ after_version) in
+    let id : a.id ≡ b.id = text_cmp-exact a.id b.id
+    (then_second (option_cmp (slice_cmp nat_cmp) a.source b.source) (slice_cmp nat_cmp a.id b.id) after_version) in
     cc (rank_from-is a, rank_from-is b)
 
 pub rank_cmp-total : IsTotalOrder rank_cmp
@@ -60,10 +43,10 @@ rank_cmp-total =
     (then_total (on_total (λ (r : Rank). r.source) (options_total nat_list_cmp_total))
     (on_total (λ (r : Rank). r.id) nat_list_cmp_total)))
 
-kept_from : Rank → ℕ → ℕ → Kept
+pub kept_from : Rank → ℕ → ℕ → KeptPackage
 kept_from rank owner node = record { rank = rank; owner = owner; node = node }
 
-kept_from-is : (k : Kept) → kept_from k.rank k.owner k.node ≡ k
+pub kept_from-is : (k : KeptPackage) → kept_from k.rank k.owner k.node ≡ k
 unfolding kept_from
 kept_from-is k = refl
 
@@ -72,18 +55,21 @@ kept_cmp-exact a b e =
     let after_rank = then_second (rank_cmp a.rank b.rank) _ e in
     let rank : a.rank ≡ b.rank = rank_cmp-exact a.rank b.rank (then_first _ _ e) in
     let owner : a.owner ≡ b.owner = nat_cmp-IsAntisymmetric a.owner b.owner (then_first _ _ after_rank) in
-    let node : a.node ≡ b.node = nat_cmp-IsAntisymmetric a.node b.node (then_second (nat_cmp a.owner b.owner) (nat_cmp a.node b.node) after_rank) in
+    let node : a.node ≡ b.node = nat_cmp-IsAntisymmetric a.node b.node
+    (then_second (nat_cmp a.owner b.owner) (nat_cmp a.node b.node) after_rank) in
     cc (kept_from-is a, kept_from-is b)
 
 pub kept_cmp-total : IsTotalOrder kept_cmp
-kept_cmp-total = then_total (on_total (λ (k : Kept). k.rank) rank_cmp-total) (then_total (on_total (λ (k : Kept). k.owner) nat_cmp_total) (on_total (λ (k : Kept). k.node) nat_cmp_total))
+kept_cmp-total = then_total (on_total (λ (k : KeptPackage). k.rank) rank_cmp-total)
+    (then_total (on_total (λ (k : KeptPackage). k.owner) nat_cmp_total)
+    (on_total (λ (k : KeptPackage). k.node) nat_cmp_total))
 
-arc_from : ℕ → List ℕ → DepKind → ℕ → Arc
-arc_from child id kind parent = record { child = child; id = id; kind = kind; parent = parent }
+incoming_from : ℕ → List ℕ → DepKind → ℕ → IncomingEdge
+incoming_from child id kind parent = record { child = child; id = id; kind = kind; parent = parent }
 
-arc_from-is : (a : Arc) → arc_from a.child a.id a.kind a.parent ≡ a
-unfolding arc_from
-arc_from-is a = refl
+incoming_from-is : (a : IncomingEdge) → incoming_from a.child a.id a.kind a.parent ≡ a
+unfolding incoming_from
+incoming_from-is a = refl
 
 edge_of_kind : DepKind → Edge
 edge_of_kind kind = record { parent = 0; child = 0; kind = kind }
@@ -92,19 +78,20 @@ kind_exact : IsAntisymmetric edge_cmp → IsAntisymmetric kind_cmp
 unfolding edge_of_kind
 kind_exact exact a b e = ap (λ (x : Edge). x.kind) (exact (edge_of_kind a) (edge_of_kind b) e)
 
-pub arc_cmp-exact : IsAntisymmetric edge_cmp → IsAntisymmetric arc_cmp
-arc_cmp-exact exact a b e =
+pub incoming_cmp-exact : IsAntisymmetric edge_cmp → IsAntisymmetric incoming_cmp
+incoming_cmp-exact exact a b e =
     let after_child = then_second (nat_cmp a.child b.child) _ e in
     let after_id = then_second (slice_cmp nat_cmp a.id b.id) _ after_child in
     let child : a.child ≡ b.child = nat_cmp-IsAntisymmetric a.child b.child (then_first _ _ e) in
     let id : a.id ≡ b.id = text_cmp-exact a.id b.id (then_first _ _ after_child) in
     let kind : a.kind ≡ b.kind = kind_exact exact a.kind b.kind (then_first _ _ after_id) in
-    let parent : a.parent ≡ b.parent = nat_cmp-IsAntisymmetric a.parent b.parent (then_second (kind_cmp a.kind b.kind) (nat_cmp a.parent b.parent) after_id) in
-    cc (arc_from-is a, arc_from-is b)
+    let parent : a.parent ≡ b.parent = nat_cmp-IsAntisymmetric a.parent b.parent
+    (then_second (kind_cmp a.kind b.kind) (nat_cmp a.parent b.parent) after_id) in
+    cc (incoming_from-is a, incoming_from-is b)
 
-pub arc_cmp-total : IsTotalOrder arc_cmp
-arc_cmp-total =
-    then_total (on_total (λ (a : Arc). a.child) nat_cmp_total)
-    (then_total (on_total (λ (a : Arc). a.id) nat_list_cmp_total)
-    (then_total (on_total (λ (a : Arc). a.kind) (on_total kind_number nat_cmp_total))
-    (on_total (λ (a : Arc). a.parent) nat_cmp_total)))
+pub incoming_cmp-total : IsTotalOrder incoming_cmp
+incoming_cmp-total =
+    then_total (on_total (λ (a : IncomingEdge). a.child) nat_cmp_total)
+    (then_total (on_total (λ (a : IncomingEdge). a.id) nat_list_cmp_total)
+    (then_total (on_total (λ (a : IncomingEdge). a.kind) (on_total kind_number nat_cmp_total))
+    (on_total (λ (a : IncomingEdge). a.parent) nat_cmp_total)))

@@ -10,34 +10,43 @@ use Rattle.std.specs.declared.cmp.Ordering.TheVariants.{Less, Equal, Greater}
 use Rattle.std.proofs.lemmas.Bool.{cases_lt}
 use Rattle.std.proofs.lemmas.List.Sorted.{searchable_from_sorted}
 use Rattle.std.proofs.lemmas.Option.{slice_get-get_or}
-use Rattle.deny_krates.proofs.GraphIs.{not_above, not_below_itself}
-use Rattle.deny_krates.proofs.ListLemmas.{ascends_at}
+use Rattle.deny_lists.proofs.Orders.{not_above, not_below_itself}
+use Rattle.deny_lists.proofs.Sorted.{ascends_at}
 
 -- nothing is above itself
-pub not_above_itself : {A : Type 0} (cmp : A → A → Ordering) → IsTotalOrder cmp → (x y : A) → x ≡ y → cmp x y ≡ Greater → ⊥
-not_above_itself cmp total x y same above = not_below_itself cmp total y x (sym same) (total.antisymm y x ∙ ap ordering_reverse above)
+pub not_above_itself : {A : Type 0} (cmp : A → A → Ordering) → IsTotalOrder cmp → (x y : A) → x ≡ y → cmp x y ≡ Greater
+    → ⊥
+not_above_itself cmp total x y same above =
+    not_below_itself cmp total y x (sym same) (total.antisymm y x ∙ ap ordering_reverse above)
 
 module _ {A : Type 0} (cmp : A → A → Ordering) (total : IsTotalOrder cmp) where
   -- a list that ascends can be searched
   pub sorted_from_strict : (xs : List A) → IsStrictlySortedBy cmp xs → IsSortedBy (λ x y. is_lt (cmp x y)) xs
   sorted_from_strict xs up k d low inside =
       not_above cmp total (slice_index_or xs k d) (slice_index_or xs (k + 1) d)
-      (ascends_at cmp xs k (k + 1) _ _ up (omega arith) (slice_get-get_or xs k d (omega (arith, inside))) (slice_get-get_or xs (k + 1) d inside))
+      (ascends_at cmp xs k (k + 1) _ _ up (omega arith) (slice_get-get_or xs k d (omega (arith, inside)))
+      (slice_get-get_or xs (k + 1) d inside))
 
-  pub search_finds : IsAntisymmetric cmp → (xs : List A) (x : A) (r : Result ℕ ℕ) → IsStrictlySortedBy cmp xs → IsSearchInRange r (length xs) → IsBinarySearchResult (λ y. cmp y x) xs r
+  pub search_finds : IsAntisymmetric cmp → (xs : List A) (x : A) (r : Result ℕ ℕ) → IsStrictlySortedBy cmp xs
+      → IsSearchInRange r (length xs) → IsBinarySearchResult (λ y. cmp y x) xs r
       → (IsTrue (is_ok r) → Contains xs x) × (Contains xs x → IsTrue (is_ok r))
-  search_finds exact xs x (Ok i) up inside holds = ((λ _. (i, inside, exact (slice_index_or xs i x) x (holds x))), (λ _. refl))
+  search_finds exact xs x (Ok i) up inside holds =
+      ((λ _. (i, inside, exact (slice_index_or xs i x) x (holds x))), (λ _. refl))
   search_finds exact xs x (Err i) up inside point = (
     (λ is. absurd (false-true is)),
-    (λ stands. absurd (not_there stands (point (searchable_from_sorted total (λ (y : A). y) xs x (sorted_from_strict xs up))))),
+    (λ stands. absurd (not_there stands
+        (point (searchable_from_sorted total (λ (y : A). y) xs x (sorted_from_strict xs up))))),
   )
     where
       false-true : false ≡ true → ⊥
       false-true e = absurd (cc)
 
       not_there : (stands : Contains xs x)
-          → ((k : ℕ) (d : A) → 0 ≤ k → k < i → cmp (slice_index_or xs k d) x ≡ Less) × ((k : ℕ) (d : A) → i ≤ k → k < length xs → cmp (slice_index_or xs k d) x ≡ Greater) → ⊥
+          → ((k : ℕ) (d : A) → 0 ≤ k → k < i → cmp (slice_index_or xs k d) x ≡ Less)
+          × ((k : ℕ) (d : A) → i ≤ k → k < length xs → cmp (slice_index_or xs k d) x ≡ Greater) → ⊥
       not_there stands point_is = elim (cases_lt stands.0 i) as (λ _. ⊥) [
-        | inl before ↦ not_below_itself cmp total (slice_index_or xs stands.0 x) x stands.2 (point_is.0 stands.0 x (omega arith) before)
-        | inr after ↦ not_above_itself cmp total (slice_index_or xs stands.0 x) x stands.2 (point_is.1 stands.0 x after stands.1)
+        | inl before ↦ not_below_itself cmp total (slice_index_or xs stands.0 x) x stands.2
+            (point_is.0 stands.0 x (omega arith) before)
+        | inr after ↦ not_above_itself cmp total (slice_index_or xs stands.0 x) x stands.2
+            (point_is.1 stands.0 x after stands.1)
       ]

@@ -3,13 +3,13 @@ use Rattle.std.specs.Prelude.{ℕ, ◌+◌, List, [], ◌∷◌, map, option_map
 use Rattle.semver.specs.Identifiers.{comparator_view, parts_of}
 use Rattle.url.specs.Parts.{serialize}
 use Rattle.deny_base.specs.declared.edge.Edge.{Edge}
-use Rattle.deny_krates.specs.declared.document.Target.{Target}
+use Rattle.deny_metadata.specs.declared.document.Target.{Target}
 use Rattle.deny_krates.specs.declared.krate.Dependency.{Dependency}
 use Rattle.deny_krates.specs.declared.krate.Krate.{Krate}
-use Rattle.deny_krates.specs.declared.source.GitSpec.{GitSpec}
-use Rattle.deny_krates.specs.declared.source.GitSpec.TheVariants.{Any, Branch, Tag, Rev}
-use Rattle.deny_krates.specs.declared.source.Source.{Source}
-use Rattle.deny_krates.specs.declared.source.Source.TheVariants.{CratesIo, Registry, Sparse, Git}
+use Rattle.deny_metadata.specs.declared.source.GitSpec.{GitSpec}
+use Rattle.deny_metadata.specs.declared.source.GitSpec.TheVariants.{Any, Branch, Tag, Rev}
+use Rattle.deny_metadata.specs.declared.source.Source.{Source}
+use Rattle.deny_metadata.specs.declared.source.Source.TheVariants.{CratesIo, Registry, Sparse, Git}
 use Rattle.deny_model.specs.Graph.{Crate, Graph}
 use Rattle.deny_model.specs.Graph as model
 
@@ -66,4 +66,5 @@ crates_from place [] = []
 crates_from place (k ∷ ks) = crate_view place k ∷ crates_from (place + 1) ks
 
 abbrev pub graph_of : List ℕ → List Krate → List ℕ → List Edge → Graph
-graph_of root krates members edges = record { root = root; crates = crates_from 0 krates; members = members; edges = edges }
+graph_of root krates members edges =
+    record { root = root; crates = crates_from 0 krates; members = members; edges = edges }

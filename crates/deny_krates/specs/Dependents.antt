@@ -23,7 +23,8 @@ pub record IsLeastKind (edges : List Edge) (joining : ℕ → DepKind → Edge) 
   pub least : (kind : DepKind) → Contains edges (joining d.place kind) → kind_number d.kind ≤ kind_number kind
 
 -- these crates, each once, ascending by id, with the least kinds of the edges that join them
-pub record AreNeighbours (g : Graph) (crates : List Crate) (joining : ℕ → DepKind → Edge) (ds : List DirectDependent) : Type 0 where
+pub record AreNeighbours (g : Graph) (crates : List Crate) (joining : ℕ → DepKind → Edge)
+    (ds : List DirectDependent) : Type 0 where
   pub ascending : IsStrictlySortedBy (by_id g) ds
   pub whole : All (λ c. Contains (map (λ d. d.place) ds) c.place) crates
   pub sound : All (λ d. Contains (map (λ c. c.place) crates) d.place) ds
@@ -31,13 +32,16 @@ pub record AreNeighbours (g : Graph) (crates : List Crate) (joining : ℕ → De
 
 -- the crates with an edge to the crate at this place
 abbrev pub AreDirectDependents : Graph → ℕ → List DirectDependent → Type 0
-AreDirectDependents g place ds = AreNeighbours g (dependents g place) (λ parent kind. record { parent = parent; child = place; kind = kind }) ds
+AreDirectDependents g place ds =
+    AreNeighbours g (dependents g place) (λ parent kind. record { parent = parent; child = place; kind = kind }) ds
 
 -- the crates to which an edge leads from the crate at this place
 abbrev pub AreDirectDependencies : Graph → ℕ → List DirectDependent → Type 0
-AreDirectDependencies g place ds = AreNeighbours g (dependencies g place) (λ child kind. record { parent = place; child = child; kind = kind }) ds
+AreDirectDependencies g place ds =
+    AreNeighbours g (dependencies g place) (λ child kind. record { parent = place; child = child; kind = kind }) ds
 
 -- a row for each crate
-pub record AreRows (g : Graph) (are : ℕ → List DirectDependent → Type 0) (rows : List (List DirectDependent)) : Type 0 where
+pub record AreRows (g : Graph) (are : ℕ → List DirectDependent → Type 0) (rows : List (List DirectDependent)) : Type
+    0 where
   pub length : length rows ≡ length g.crates
   pub each : (place : ℕ) (row : List DirectDependent) → slice_get rows place ≡ Some row → are place row

@@ -6,16 +6,16 @@ use Rattle.std.specs.Option.{option_and_then}
 use Rattle.std.specs.Ordering.{nat_cmp}
 use Rattle.std.specs.Result.{result_ok}
 use Rattle.semver.specs.Parse.{Held, Parts, req_of, version_parts}
-use Rattle.deny_base.specs.Ascending.{Lists}
-use Rattle.deny_base.specs.TextMap.{TextFinMap}
+use Rattle.deny_lists.specs.Ascending.{Lists}
+use Rattle.deny_lists.specs.TextMap.{TextFinMap}
 use Rattle.deny_krates.specs.Crates.{source_view, target_view}
-use Rattle.deny_krates.specs.Source.{source_of}
-use Rattle.deny_krates.specs.Versions.{rust_version_of}
-use Rattle.deny_krates.specs.declared.document.Declaration.{Declaration}
-use Rattle.deny_krates.specs.declared.document.Document.{Document}
-use Rattle.deny_krates.specs.declared.document.Feature.{Feature}
-use Rattle.deny_krates.specs.declared.document.Node.{Node}
-use Rattle.deny_krates.specs.declared.document.Package.{Package}
+use Rattle.deny_metadata.specs.Source.{source_of}
+use Rattle.deny_metadata.specs.Versions.{rust_version_of}
+use Rattle.deny_metadata.specs.declared.document.Declaration.{Declaration}
+use Rattle.deny_metadata.specs.declared.document.Document.{Document}
+use Rattle.deny_metadata.specs.declared.document.Feature.{Feature}
+use Rattle.deny_metadata.specs.declared.document.Node.{Node}
+use Rattle.deny_metadata.specs.declared.document.Package.{Package}
 use Rattle.deny_model.specs.Graph.{Crate}
 use Rattle.deny_model.specs.Graph as model
 

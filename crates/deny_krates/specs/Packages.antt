@@ -3,7 +3,7 @@ use Rattle.std.specs.Cmp.Lexicographic.{slice_cmp}
 use Rattle.std.specs.Option.{option_cmp}
 use Rattle.std.specs.Ordering.{nat_cmp, on, then_cmp}
 use Rattle.std.specs.declared.cmp.Ordering.{Ordering}
-use Rattle.deny_krates.specs.declared.document.Package.{Package}
+use Rattle.deny_metadata.specs.declared.document.Package.{Package}
 use Rattle.deny_krates.specs.declared.graph.Rank.{Rank}
 
 -- by name, version text, source text (none first) and id

@@ -1,23 +1,23 @@
 -- The graph of metadata.
 use Rattle.std.specs.Prelude.{◌≡◌, ℕ, List, Some, Ok, Contains, slice_get}
 use Rattle.std.specs.Ordering.{nat_cmp}
-use Rattle.deny_base.specs.Ascending.{Lists}
+use Rattle.deny_lists.specs.Ascending.{Lists}
 use Rattle.deny_base.specs.Edge.{edge_cmp}
 use Rattle.deny_base.specs.declared.edge.DepKind.{DepKind}
 use Rattle.deny_base.specs.declared.edge.Edge.{Edge}
 use Rattle.deny_model.specs.Graph.{Graph}
-use Rattle.deny_krates.specs.Checked.{Resolved, checked}
+use Rattle.deny_metadata.specs.Checked.{Resolved, checked}
 use Rattle.deny_krates.specs.Listed.{AreCratesAt}
 use Rattle.deny_krates.specs.Packages.{package_cmp}
-use Rattle.deny_krates.specs.declared.document.Document.{Document}
-use Rattle.deny_krates.specs.declared.document.Need.{Need}
-use Rattle.deny_krates.specs.declared.document.Node.{Node}
-use Rattle.deny_krates.specs.declared.document.Package.{Package}
+use Rattle.deny_metadata.specs.declared.document.Document.{Document}
+use Rattle.deny_metadata.specs.declared.document.NodeDependency.{NodeDependency}
+use Rattle.deny_metadata.specs.declared.document.Node.{Node}
+use Rattle.deny_metadata.specs.declared.document.Package.{Package}
 
 -- the packages that an id leads to directly: those that a node of it names, with the kind
 pub record Needs (doc : Document) (id : List ℕ) (kind : DepKind) (needed : List ℕ) : Type 0 where
   pub node : Node
-  pub need : Need
+  pub need : NodeDependency
   pub stands : Contains doc.nodes node
   pub owner : node.id ≡ id
   pub named : Contains node.deps need
@@ -27,7 +27,8 @@ pub record Needs (doc : Document) (id : List ℕ) (kind : DepKind) (needed : Lis
 -- a chain of dependencies of any kind leads from a member
 pub data IsReached (doc : Document) : List ℕ → Type 0 where
   is_member : (id : List ℕ) → Contains doc.members id → IsReached doc id
-  by_need : (id : List ℕ) (kind : DepKind) (needed : List ℕ) → IsReached doc id → Needs doc id kind needed → IsReached doc needed
+  by_need : (id : List ℕ) (kind : DepKind) (needed : List ℕ) → IsReached doc id → Needs doc id kind needed
+      → IsReached doc needed
 
 -- a package that is a crate of the graph
 pub record IsCrate (doc : Document) (p : Package) : Type 0 where

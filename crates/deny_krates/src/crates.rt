@@ -5,19 +5,21 @@ ghost use Rattle.std.specs.Option.{option_and_then};
 ghost use Rattle.std.specs.Ordering.{nat_cmp};
 ghost use Rattle.semver.specs.Identifiers.{comparator_view, parts_of};
 ghost use Rattle.std.specs.Prelude.{option_map};
-ghost use Rattle.deny_base.specs.Ascending.{Lists};
+ghost use Rattle.deny_lists.specs.Ascending.{Lists};
 ghost use Rattle.deny_krates.specs.Crates.{crate_view, dependency_view};
-ghost use Rattle.deny_krates.specs.Graph.{IsKrateAs, IsKrateOf};
+ghost use Rattle.deny_krates.specs.private.Graph.{IsKrateAs, IsKrateOf};
 ghost use Rattle.deny_krates.specs.Listed.{crate_at, dependency_at, features_of, requirement_read, version_read};
-ghost use Rattle.deny_krates.specs.Source.{source_of};
-ghost use Rattle.deny_krates.specs.Versions.{rust_version_of};
+ghost use Rattle.deny_metadata.specs.Source.{source_of};
+ghost use Rattle.deny_metadata.specs.Versions.{rust_version_of};
 
-use crate::document::{Declaration, Feature, Node, Package};
-use crate::graph::Kept;
+use crate::graph::KeptPackage;
 use crate::krate::{Dependency, Krate};
-use crate::source::{Source, source_in};
-use crate::versions::{requirement_in, rust_version_in, version_in};
-use deny_base::{Kid, List, NoMemory, Text, TextMap, put_in_order};
+use deny_base::Kid;
+use deny_lists::{List, NoMemory, Text, TextMap, put_in_order};
+use deny_metadata::{
+    Declaration, Feature, Node, Package, Source, requirement_in, rust_version_in, source_in,
+    version_in,
+};
 use semver::{Version, VersionReq};
 use std::alloc::Global;
 
@@ -26,7 +28,7 @@ pub fn krates_of(
     alloc: Global,
     packages: &[Package],
     nodes: &[Node],
-    kept: &[Kept],
+    kept: &[KeptPackage],
 ) -> Result<List<Krate>, NoMemory>
     requires packages { All (λ k. k.owner < length packages.now) kept.now }
     requires nodes { All (λ k. k.node < length nodes.now) kept.now }

@@ -1,12 +1,13 @@
 ghost use Rattle.std.specs.Prelude.{◌≡◌, ◌<◌, ℕ, List, IfOk, OnOk, All, Contains, [], fold, replicate, length, map, slice_index_or};
 ghost use Rattle.std.specs.Cmp.{IsTotalOrder};
 ghost use Rattle.std.specs.FinMap.{IsAntisymmetric};
-ghost use Rattle.deny_base.specs.Ascending.{Lists};
-ghost use Rattle.deny_krates.specs.Direct.{arc_of, arc_cmp, with_dependent, with_arc, is_last, turned, AreApart, AreDependencies, AreDependents};
-ghost use Rattle.deny_krates.specs.declared.direct.Arc.{Arc};
+ghost use Rattle.deny_lists.specs.Ascending.{Lists};
+ghost use Rattle.deny_krates.specs.private.Direct.{incoming_of, incoming_cmp, with_dependent, with_incoming, is_last, reversed, AreApart, AreDependencies, AreDependents};
+ghost use Rattle.deny_krates.specs.declared.direct.IncomingEdge.{IncomingEdge};
 
 use crate::krate::{DirectDependent, Krate};
-use deny_base::{DepKind, Edge, List, NoMemory, Text, edge_order, put_in_order};
+use deny_base::{DepKind, Edge, edge_order};
+use deny_lists::{List, NoMemory, Text, put_in_order};
 use std::alloc::Global;
 
 /// For each crate the crates with an edge to it, in order of their ids.
@@ -20,8 +21,8 @@ pub fn dependents_of(
     requires children { All (λ e. e.child < length krates.now) edges.now }
     ensures { IfOk result (AreDependents krates.now edges.now) }
 {
-    let arcs = arcs_of(alloc, krates, edges)?;
-    direct_of(alloc, arcs.as_slice(), krates.len())
+    let incoming = incoming_edges(alloc, krates, edges)?;
+    direct_of(alloc, incoming.as_slice(), krates.len())
 }
 
 /// For each crate the crates to which an edge leads from it, in order of their ids.
@@ -35,13 +36,13 @@ pub fn dependencies_of(
     requires children { All (λ e. e.child < length krates.now) edges.now }
     ensures { IfOk result (AreDependencies krates.now edges.now) }
 {
-    let others = turned_edges(alloc, edges)?;
+    let others = reversed_edges(alloc, edges)?;
     dependents_of(alloc, krates, others.as_slice())
 }
 
 // The edges from their other ends.
-fn turned_edges(alloc: Global, edges: &[Edge]) -> Result<List<Edge>, NoMemory>
-    ensures { IfOk result (λ others. others ≡ map turned edges.now) }
+fn reversed_edges(alloc: Global, edges: &[Edge]) -> Result<List<Edge>, NoMemory>
+    ensures { IfOk result (λ others. others ≡ map reversed edges.now) }
 {
     let mut others = List::new(alloc);
     for edge in edges {
@@ -56,7 +57,7 @@ fn turned_edges(alloc: Global, edges: &[Edge]) -> Result<List<Edge>, NoMemory>
 
 /// An edge from its child's side, with the id of its parent.
 #[derive(Debug, PartialEq, Eq, PartialOrd, Ord, Drop)]
-pub struct Arc {
+pub struct IncomingEdge {
     pub child: u32,
     pub id: Text,
     pub kind: DepKind,
@@ -64,59 +65,69 @@ pub struct Arc {
 }
 
 // The edges from their children's sides, ascending by child, parent's id and kind.
-fn arcs_of(alloc: Global, krates: &[Krate], edges: &[Edge]) -> Result<List<Arc>, NoMemory>
+fn incoming_edges(
+    alloc: Global,
+    krates: &[Krate],
+    edges: &[Edge],
+) -> Result<List<IncomingEdge>, NoMemory>
     requires { All (λ e. e.parent < length krates.now) edges.now }
-    ensures { IfOk result (λ arcs. Lists arc_cmp (Contains (map (arc_of krates.now) edges.now)) arcs) }
+    ensures { IfOk result (λ incoming.
+        Lists incoming_cmp (Contains (map (incoming_of krates.now) edges.now)) incoming) }
 {
-    let mut arcs = all_arcs(alloc, krates, edges)?;
-    arc_order();
-    put_in_order(&mut arcs)?;
-    Ok(arcs)
+    let mut incoming = gather_incoming(alloc, krates, edges)?;
+    incoming_order();
+    put_in_order(&mut incoming)?;
+    Ok(incoming)
 }
 
-fn all_arcs(alloc: Global, krates: &[Krate], edges: &[Edge]) -> Result<List<Arc>, NoMemory>
+fn gather_incoming(
+    alloc: Global,
+    krates: &[Krate],
+    edges: &[Edge],
+) -> Result<List<IncomingEdge>, NoMemory>
     requires { All (λ e. e.parent < length krates.now) edges.now }
-    ensures { IfOk result (λ arcs. arcs ≡ map (arc_of krates.now) edges.now) }
+    ensures { IfOk result (λ incoming. incoming ≡ map (incoming_of krates.now) edges.now) }
 {
-    let mut arcs = List::new(alloc);
+    let mut incoming = List::new(alloc);
     for edge in edges {
-        arcs.push(Arc {
+        incoming.push(IncomingEdge {
             child: edge.child,
             id: krates[edge.parent as usize].id.0.clone()?,
             kind: edge.kind,
             parent: edge.parent,
         })?;
     }
-    Ok(arcs)
+    Ok(incoming)
 }
 
-// The order of arcs is by child, id, kind and parent, it is total, and only equal arcs tie.
-fn arc_order()
-    ensures fields { (a b : Arc) → ⟦<Arc as Ord>⟧.cmp a b ≡ arc_cmp a b }
-    ensures total { IsTotalOrder arc_cmp }
-    ensures equal { IsAntisymmetric arc_cmp }
+// The order of incoming is by child, id, kind and parent, it is total, and only equal incoming tie.
+fn incoming_order()
+    ensures fields { (a b : IncomingEdge) → ⟦<IncomingEdge as Ord>⟧.cmp a b ≡ incoming_cmp a b }
+    ensures total { IsTotalOrder incoming_cmp }
+    ensures equal { IsAntisymmetric incoming_cmp }
 {
     edge_order();
 }
 
-// For each crate its direct dependents, of arcs in their order.
+// For each crate its direct dependents, of incoming in their order.
 fn direct_of(
     alloc: Global,
-    arcs: &[Arc],
+    incoming: &[IncomingEdge],
     crates: usize,
 ) -> Result<List<List<DirectDependent>>, NoMemory>
-    requires { All (λ a. a.child < crates) arcs.now }
+    requires { All (λ a. a.child < crates) incoming.now }
     ensures long { IfOk result (λ direct. length direct ≡ crates) }
-    ensures rows { IfOk result (λ direct. (child : ℕ) → child < crates → slice_index_or direct child [] ≡ fold (with_arc child) [] arcs.now) }
+    ensures rows { IfOk result (λ direct. (child : ℕ) → child < crates
+        → slice_index_or direct child [] ≡ fold (with_incoming child) [] incoming.now) }
 {
     let mut direct = empty_rows(alloc, crates)?;
-    for arc in arcs {
-        let row = &mut direct[arc.child as usize];
+    for edge in incoming {
+        let row = &mut direct[edge.child as usize];
         add(
             row,
             DirectDependent {
-                place: arc.parent,
-                kind: arc.kind,
+                place: edge.parent,
+                kind: edge.kind,
             },
         )?;
     }

@@ -1,9 +1,10 @@
 ghost use Rattle.std.specs.Prelude.{◌≡◌, ◌<◌, ◌≤◌, ◌^◌, ℕ, IfOk, All, [], length};
-ghost use Rattle.deny_krates.specs.Filtered.{AreWays};
-ghost use Rattle.deny_krates.specs.Reach.{links_at};
+ghost use Rattle.deny_krates.specs.private.OtherLinks.{AreWays};
+ghost use Rattle.deny_krates.specs.private.Reach.{links_at};
 
-use crate::checked::{Link, Row};
-use deny_base::{DepKind, Edge, List, NoMemory};
+use deny_base::{DepKind, Edge};
+use deny_lists::{List, NoMemory};
+use deny_metadata::{Link, ResolvedNode};
 use std::alloc::Global;
 
 /// For each crate, by its place, the links to the crates that it needs in another way than `kind`.
@@ -12,7 +13,7 @@ pub fn ways(
     edges: &[Edge],
     crates: usize,
     kind: DepKind,
-) -> Result<List<Row>, NoMemory>
+) -> Result<List<ResolvedNode>, NoMemory>
     requires few { crates < 2 ^ 28 }
     requires parents { All (λ e. e.parent < crates) edges.now }
     ensures { IfOk result (AreWays kind edges.now crates) }
@@ -30,7 +31,7 @@ pub fn ways(
     Ok(List::from_vec(rows))
 }
 
-fn no_ways(alloc: Global, crates: usize) -> Result<Vec<Row>, NoMemory>
+fn no_ways(alloc: Global, crates: usize) -> Result<Vec<ResolvedNode>, NoMemory>
     requires { crates < 2 ^ 28 }
     ensures long { IfOk result (λ rows. length rows.items ≡ crates) }
     ensures empty { IfOk result (λ rows. (place : ℕ) → links_at rows.items place ≡ []) }
@@ -38,7 +39,7 @@ fn no_ways(alloc: Global, crates: usize) -> Result<Vec<Row>, NoMemory>
     let mut rows = Vec::new(alloc);
     'rows: while rows.as_slice().len() < crates {
         let owner = rows.as_slice().len() as u32;
-        rows.push(Row {
+        rows.push(ResolvedNode {
             owner,
             links: List::new(alloc),
         })?;

@@ -2,16 +2,16 @@ ghost use Rattle.std.specs.Prelude.{◌≡◌, ◌≢◌, ◌<◌, ◌≤◌, �
 ghost use Rattle.std.specs.Cmp.{IsTotalOrder};
 ghost use Rattle.std.specs.FinMap.{IsAntisymmetric};
 ghost use Rattle.std.specs.Ordering.{nat_cmp};
-ghost use Rattle.deny_base.specs.Ascending.{Lists};
+ghost use Rattle.deny_lists.specs.Ascending.{Lists};
 ghost use Rattle.deny_base.specs.Edge.{edge_cmp};
-ghost use Rattle.deny_krates.specs.Graph.{kept_cmp, IsKeptNode, IsInverse, place_at, edge_to, edges_from};
+ghost use Rattle.deny_krates.specs.private.Graph.{kept_cmp, IsKeptNode, IsInverse, place_at, edge_to, edges_from};
 ghost use Rattle.deny_krates.specs.Packages.{rank_of};
-ghost use Rattle.deny_krates.specs.Reach.{links_at};
-ghost use Rattle.deny_krates.specs.declared.graph.Kept.{Kept};
+ghost use Rattle.deny_krates.specs.private.Reach.{links_at};
+ghost use Rattle.deny_krates.specs.declared.graph.KeptPackage.{KeptPackage};
 
-use crate::checked::{Link, Row};
-use crate::document::Package;
-use deny_base::{Edge, List, NoMemory, Text, edge_order, put_in_order};
+use deny_base::{Edge, edge_order};
+use deny_lists::{List, NoMemory, Text, put_in_order};
+use deny_metadata::{Link, Package, ResolvedNode};
 use std::alloc::Global;
 
 /// What crates are ordered by: name, version text, source text (none first) and id.
@@ -26,7 +26,7 @@ pub struct Rank {
 /// A package that is a crate of the graph: its rank, its number and the number of its node. They
 /// are ordered as the crates are.
 #[derive(Debug, PartialEq, Eq, PartialOrd, Ord, Drop)]
-pub struct Kept {
+pub struct KeptPackage {
     pub rank: Rank,
     pub owner: u32,
     pub node: u32,
@@ -36,9 +36,9 @@ pub struct Kept {
 pub fn kept_of(
     alloc: Global,
     packages: &[Package],
-    rows: &[Row],
+    rows: &[ResolvedNode],
     marks: &[bool],
-) -> Result<List<Kept>, NoMemory>
+) -> Result<List<KeptPackage>, NoMemory>
     requires long { length marks.now ≡ length rows.now }
     requires few { length rows.now < 2 ^ 28 }
     requires owned { All (λ row. row.owner < length packages.now) rows.now }
@@ -65,20 +65,21 @@ fn rank_in(listed: &Package) -> Result<Rank, NoMemory>
 fn gather(
     alloc: Global,
     packages: &[Package],
-    rows: &[Row],
+    rows: &[ResolvedNode],
     marks: &[bool],
-) -> Result<List<Kept>, NoMemory>
+) -> Result<List<KeptPackage>, NoMemory>
     requires long { length marks.now ≡ length rows.now }
     requires few { length rows.now < 2 ^ 28 }
     requires owned { All (λ row. row.owner < length packages.now) rows.now }
     ensures sound { IfOk result (λ kept. All (IsKeptNode packages.now rows.now marks.now) kept) }
-    ensures whole { IfOk result (λ kept. (k : Kept) → IsKeptNode packages.now rows.now marks.now k → Contains kept k) }
+    ensures whole { IfOk result (λ kept. (k : KeptPackage) → IsKeptNode packages.now rows.now marks.now k
+        → Contains kept k) }
     ensures few { IfOk result (λ kept. length kept ≤ length rows.now) }
 {
     let mut kept = List::new(alloc);
     for (node, row) in rows.iter().enumerate() {
         if marks[node] {
-            kept.push(Kept {
+            kept.push(KeptPackage {
                 rank: rank_in(&packages[row.owner as usize])?,
                 owner: row.owner,
                 node: node as u32,
@@ -90,7 +91,7 @@ fn gather(
 
 // The order of kept packages is by rank, number and node, it is total, and only equal ones tie.
 fn kept_order()
-    ensures fields { (a b : Kept) → ⟦<Kept as Ord>⟧.cmp a b ≡ kept_cmp a b }
+    ensures fields { (a b : KeptPackage) → ⟦<KeptPackage as Ord>⟧.cmp a b ≡ kept_cmp a b }
     ensures total { IsTotalOrder kept_cmp }
     ensures equal { IsAntisymmetric kept_cmp }
 {}
@@ -110,7 +111,7 @@ fn inverse_of(alloc: Global, numbers: &[u32], size: usize) -> Result<List<u32>, 
 }
 
 /// The places of kept packages by the numbers of their nodes; 0 for other nodes.
-pub fn places_in(alloc: Global, kept: &[Kept], size: usize) -> Result<List<u32>, NoMemory>
+pub fn places_in(alloc: Global, kept: &[KeptPackage], size: usize) -> Result<List<u32>, NoMemory>
     requires few { length kept.now < 2 ^ 28 }
     requires inside { All (λ n. n < size) (map (λ k. k.node) kept.now) }
     requires apart { AllPairs (λ m n. m ≢ n) (map (λ k. k.node) kept.now) }
@@ -120,7 +121,7 @@ pub fn places_in(alloc: Global, kept: &[Kept], size: usize) -> Result<List<u32>,
     inverse_of(alloc, nodes.as_slice(), size)
 }
 
-fn nodes_of(alloc: Global, kept: &[Kept]) -> Result<List<u32>, NoMemory>
+fn nodes_of(alloc: Global, kept: &[KeptPackage]) -> Result<List<u32>, NoMemory>
     ensures { IfOk result (λ nodes. nodes ≡ map (λ k. k.node) kept.now) }
 {
     let mut nodes = List::new(alloc);
@@ -154,8 +155,8 @@ fn places_of(alloc: Global, starts: &[u32], places: &[u32]) -> Result<List<u32>,
 /// The edges between kept packages, ascending, each once.
 pub fn edges_of(
     alloc: Global,
-    kept: &[Kept],
-    rows: &[Row],
+    kept: &[KeptPackage],
+    rows: &[ResolvedNode],
     places: &[u32],
 ) -> Result<List<Edge>, NoMemory>
     requires few { length kept.now < 2 ^ 28 }
@@ -171,8 +172,8 @@ pub fn edges_of(
 
 fn all_edges(
     alloc: Global,
-    kept: &[Kept],
-    rows: &[Row],
+    kept: &[KeptPackage],
+    rows: &[ResolvedNode],
     places: &[u32],
 ) -> Result<List<Edge>, NoMemory>
     requires few { length kept.now < 2 ^ 28 }

@@ -2,11 +2,11 @@ ghost use Rattle.std.specs.Prelude.{◌≡◌, ◌<◌, ◌≤◌, ◌^◌, ℕ,
 ghost use Rattle.std.specs.Cmp.{IsTotalOrder};
 ghost use Rattle.std.specs.FinMap.{IsAntisymmetric};
 ghost use Rattle.std.specs.List.Sorted.{IsStrictlySortedBy};
-ghost use Rattle.deny_krates.specs.Ids.{AreIds, entries_from, entry_cmp};
+ghost use Rattle.deny_krates.specs.private.IdEntries.{AreIds, entries_from, id_entry_cmp};
 ghost use Rattle.deny_krates.specs.declared.ids.Entry.{Entry};
 
 use crate::krate::Krate;
-use deny_base::{List, NoMemory, Text, put_in_order};
+use deny_lists::{List, NoMemory, Text, put_in_order};
 use std::alloc::Global;
 
 /// The place of the crate of an id.
@@ -43,14 +43,14 @@ fn entries(alloc: Global, krates: &[Krate]) -> Result<List<Entry>, NoMemory>
 
 // The order of entries is by id and place, it is total, and only equal ones tie.
 fn entry_order()
-    ensures fields { (a b : Entry) → ⟦<Entry as Ord>⟧.cmp a b ≡ entry_cmp a b }
-    ensures total { IsTotalOrder entry_cmp }
-    ensures equal { IsAntisymmetric entry_cmp }
+    ensures fields { (a b : Entry) → ⟦<Entry as Ord>⟧.cmp a b ≡ id_entry_cmp a b }
+    ensures total { IsTotalOrder id_entry_cmp }
+    ensures equal { IsAntisymmetric id_entry_cmp }
 {}
 
 /// The place of an id, in a list that ascends.
 pub fn place_of(entries: &[Entry], id: &str) -> Option<u32>
-    requires { IsStrictlySortedBy entry_cmp entries.now }
+    requires { IsStrictlySortedBy id_entry_cmp entries.now }
     ensures found { IfSome result (λ place. Contains entries.now (record { id = id.now; place = place })) }
     ensures none { IfNone result ((e : Entry) → Contains entries.now e → e.id ≢ id.now) }
 {

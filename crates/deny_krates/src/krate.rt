@@ -5,9 +5,9 @@ ghost use Rattle.deny_model.specs.Crates.{is_git_source, is_registry, is_crates_
 ghost use Rattle.deny_model.specs.Graph.{crate_text};
 ghost use Rattle.deny_model.specs.Text.{same_text};
 
-use crate::document::Target;
-use crate::source::Source;
-use deny_base::{DepKind, Kid, List, Text, TextMap};
+use deny_base::{DepKind, Kid};
+use deny_lists::{List, Text, TextMap};
+use deny_metadata::{Source, Target};
 use semver::{Version, VersionReq};
 use std::fmt;
 

@@ -4,28 +4,27 @@ ghost use Rattle.std.specs.List.Sorted.{IsPartitionPoint, IsSortedByKey, IsStric
 ghost use Rattle.std.specs.Ordering.{nat_cmp, is_lt, is_le};
 ghost use Rattle.deny_model.specs.Groups.{has_name};
 ghost use Rattle.deny_krates.specs.Crates.{crate_view, crates_from, graph_of};
-ghost use Rattle.deny_krates.specs.Numbered.{IsNumbered, IsResolved};
+ghost use Rattle.deny_krates.specs.private.Numbered.{IsNumbered, IsResolved};
 ghost use Rattle.deny_krates.specs.Orderly.{IsOrderly};
-ghost use Rattle.deny_krates.specs.Checked.{Resolved, checked, resolved};
+ghost use Rattle.deny_metadata.specs.Checked.{Resolved, checked, resolved};
 ghost use Rattle.deny_krates.specs.Read.{IsGraph, IsGraphOf};
-ghost use Rattle.deny_krates.specs.Reading.{Fails};
+ghost use Rattle.deny_metadata.specs.Reading.{Fails};
 ghost use Rattle.deny_krates.specs.Dependents.{AreDirectDependencies, AreDirectDependents};
 ghost use Rattle.deny_krates.specs.Filtered.{AreMarks};
 ghost use Rattle.deny_krates.specs.Ids.{crate_of};
 ghost use Rattle.deny_base.specs.Edge.{edge_cmp};
 ghost use Rattle.deny_model.specs.Graph.{Graph};
 
-use crate::checked::{Row, resolve};
 use crate::crates::krates_of;
 use crate::direct::{dependencies_of, dependents_of};
-use crate::document::{Document, document_in, value_of};
-use crate::fault::MetadataFault;
 use crate::filtered::ways;
-use crate::graph::{Kept, edges_of, kept_of, members_of, places_in};
+use crate::graph::{KeptPackage, edges_of, kept_of, members_of, places_in};
 use crate::ids::{Entry, ids_of, place_of};
 use crate::krate::{DirectDependent, Krate};
 use crate::reach::reach;
-use deny_base::{DepKind, Edge, Kid, List, NoMemory, Text, edge_order};
+use deny_base::{DepKind, Edge, Kid, edge_order};
+use deny_lists::{List, NoMemory, Text};
+use deny_metadata::{Document, MetadataFault, ResolvedNode, document_in, resolve, value_of};
 use std::alloc::Global;
 use std::marker::Model;
 use std::ops::Range;
@@ -56,7 +55,7 @@ impl Model for Krates {
     ghost coded = { Prim.hlevel (codes, finite.code {R = slice_cmp nat_cmp} (coded_list coded_ℕ) (coded_list (coded_list coded_ℕ))) };
 
     ghost use Rattle.deny_krates.specs.Crates.{graph_of};
-    ghost use Rattle.deny_krates.specs.Kept.{IsKept};
+    ghost use Rattle.deny_krates.specs.private.Kept.{IsKept};
 
     ghost view = { λ k. graph_of k.root k.krates k.members k.edges };
 
@@ -67,8 +66,11 @@ impl Krates {
     /// The graph of metadata: a text in UTF-8 that is JSON. Its crates are those that a member reaches
     /// by dependencies of any kind.
     ///
-    /// A fault is the first of the order of `MetadataFault`, and of two of a kind the earlier in the
-    /// text: the root's members, then package by package, then node by node.
+    /// A fault is the first of the order of `MetadataFault`, and of two of a kind the one that is read
+    /// first, wherever it stands in the text: of members of another form those of the root, then those
+    /// of package after package, then those of node after node, each in the order of the definitions;
+    /// of ids that stand twice those of packages, then those of nodes; of ids that lead nowhere those of
+    /// members, then those of node after node; of the others package after package.
     pub fn build(alloc: Global, bytes: &[u8]) -> Result<Krates, MetadataFault>
         requires { length bytes.now < 2 ^ 28 }
         ensures ok { IfOk result (IsGraphOf bytes.now) }
@@ -92,7 +94,8 @@ impl Krates {
     pub fn places_by_name(&self, name: &str) -> Range<u32>
         ensures upward { result.start ≤ result.end }
         ensures within { result.end ≤ length self.now.crates }
-        ensures named { take (result.end - result.start) (drop result.start self.now.crates) ≡ filter (has_name name.now) self.now.crates }
+        ensures named { take (result.end - result.start) (drop result.start self.now.crates)
+            ≡ filter (has_name name.now) self.now.crates }
     {
         run_of(self.krates.as_slice(), name)
     }
@@ -108,7 +111,8 @@ impl Krates {
 
     /// The places of the workspace's members, ascending.
     pub fn workspace_members(&self) -> &[u32]
-        ensures { result.now ≡ self.now.members }
+        ensures members { result.now ≡ self.now.members }
+        ensures ascending { IsStrictlySortedBy nat_cmp result.now }
     {
         self.members.as_slice()
     }
@@ -161,7 +165,8 @@ impl Krates {
 
     /// The crate of an id.
     pub fn node_for_kid(&self, kid: &Kid) -> Option<&Krate>
-        ensures { MatchOption result (crate_of self.now kid.now.0 ≡ None) (λ k. (place : ℕ) × (crate_of self.now kid.now.0 ≡ Some (crate_view place k.now))) }
+        ensures { MatchOption result (crate_of self.now kid.now.0 ≡ None)
+            (λ k. (place : ℕ) × (crate_of self.now kid.now.0 ≡ Some (crate_view place k.now))) }
     {
         let place = place_of(self.ids.as_slice(), kid.0.as_str())?;
         self.krates.as_slice().get(place as usize)
@@ -216,7 +221,7 @@ fn put_together(
     alloc: Global,
     document: &Document,
     starts: &[u32],
-    rows: &[Row],
+    rows: &[ResolvedNode],
 ) -> Result<Krates, NoMemory>
     requires few { length document.now.nodes < 2 ^ 28 }
     requires resolved { IsResolved document.now starts.now rows.now }
@@ -232,8 +237,8 @@ fn join(
     alloc: Global,
     document: &Document,
     starts: &[u32],
-    rows: &[Row],
-    kept: &[Kept],
+    rows: &[ResolvedNode],
+    kept: &[KeptPackage],
 ) -> Result<Krates, NoMemory>
     requires few { length kept.now < 2 ^ 28 }
     requires numbered { (marks : List Bool) × IsNumbered document.now starts.now rows.now marks kept.now }
@@ -263,7 +268,6 @@ fn finish(
     requires few { length krates < 2 ^ 28 }
     requires names { IsSortedByKey (λ k. k.name) (slice_cmp nat_cmp) krates }
     requires orderly { IsOrderly (graph_of root krates members edges) }
-    requires ascending { IsStrictlySortedBy edge_cmp edges }
     ensures { IfOk result (λ g. g ≡ graph_of root krates members edges) }
 {
     let dependents = dependents_of(alloc, krates.as_slice(), edges.as_slice())?;
@@ -301,7 +305,8 @@ fn filtered(
     requires members { All (λ place. place < crates) members.now }
     requires parents { All (λ e. e.parent < crates) edges.now }
     requires children { All (λ e. e.child < crates) edges.now }
-    ensures { IfOk result (λ marks. (g : Graph) → g.members ≡ members.now → g.edges ≡ edges.now → length g.crates ≡ crates → AreMarks kind g marks) }
+    ensures { IfOk result (λ marks.
+        (g : Graph) → g.members ≡ members.now → g.edges ≡ edges.now → length g.crates ≡ crates → AreMarks kind g marks) }
 {
     let rows = ways(alloc, edges, crates, kind)?;
     reach(alloc, rows.as_slice(), members)
@@ -313,7 +318,8 @@ fn run_of(krates: &[Krate], name: &str) -> Range<u32>
     requires ordered { IsSortedByKey (λ k. k.name) (slice_cmp nat_cmp) krates.now }
     ensures upward { result.start ≤ result.end }
     ensures within { result.end ≤ length krates.now }
-    ensures named { take (result.end - result.start) (drop result.start (crates_from 0 krates.now)) ≡ filter (has_name name.now) (crates_from 0 krates.now) }
+    ensures named { take (result.end - result.start) (drop result.start (crates_from 0 krates.now))
+        ≡ filter (has_name name.now) (crates_from 0 krates.now) }
 {
     let start = first_at_least(krates, name);
     let end = first_above(krates, name);
@@ -323,7 +329,8 @@ fn run_of(krates: &[Krate], name: &str) -> Range<u32>
 fn first_at_least(krates: &[Krate], name: &str) -> usize
     requires { IsSortedByKey (λ k. k.name) (slice_cmp nat_cmp) krates.now }
     ensures within { result ≤ length krates.now }
-    ensures point { IsPartitionPoint (λ k. is_lt (slice_cmp nat_cmp k.name name.now) ≡ true) (λ k. is_lt (slice_cmp nat_cmp k.name name.now) ≡ false) krates.now result }
+    ensures point { IsPartitionPoint (λ k. is_lt (slice_cmp nat_cmp k.name name.now) ≡ true)
+        (λ k. is_lt (slice_cmp nat_cmp k.name name.now) ≡ false) krates.now result }
 {
     krates.partition_point(|krate| krate.name.as_str() < name)
 }
@@ -331,7 +338,8 @@ fn first_at_least(krates: &[Krate], name: &str) -> usize
 fn first_above(krates: &[Krate], name: &str) -> usize
     requires { IsSortedByKey (λ k. k.name) (slice_cmp nat_cmp) krates.now }
     ensures within { result ≤ length krates.now }
-    ensures point { IsPartitionPoint (λ k. is_le (slice_cmp nat_cmp k.name name.now) ≡ true) (λ k. is_le (slice_cmp nat_cmp k.name name.now) ≡ false) krates.now result }
+    ensures point { IsPartitionPoint (λ k. is_le (slice_cmp nat_cmp k.name name.now) ≡ true)
+        (λ k. is_le (slice_cmp nat_cmp k.name name.now) ≡ false) krates.now result }
 {
     krates.partition_point(|krate| krate.name.as_str() <= name)
 }

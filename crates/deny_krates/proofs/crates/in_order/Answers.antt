@@ -1,4 +1,4 @@
-use Rattle.deny_krates.proofs.OrderLemmas.{text_cmp-exact}
+use Rattle.deny_lists.proofs.Orders.{text_cmp-exact}
 use Rattle.deny_krates.proofs.crates.in_order.Goals as goal
 
 pub put_in_order-requires : goal.put_in_order-requires

@@ -1,6 +1,6 @@
 use Rattle.std.proofs.Common.{take}
 use Rattle.std.specs.List.{AllZip}
-use Rattle.deny_krates.specs.Graph.{IsKrateOf}
+use Rattle.deny_krates.specs.private.Graph.{IsKrateOf}
 use Rattle.deny_krates.proofs.crates.krates_of.Given as goal
 
 abbrev pub invariant-loop-each : goal.invariant-loop-each

@@ -1,18 +1,22 @@
 use Rattle.std.proofs.Common.{◌<◌, ◌∙◌, ap, sym, List, [], length, map, subst}
 use Rattle.std.specs.Prelude.{All, fold}
-use Rattle.deny_krates.specs.Direct.{AreDependents, with_arc}
-use Rattle.deny_krates.specs.declared.direct.Arc.{Arc}
-use Rattle.deny_krates.proofs.DirectLemmas.{arcs_inside, rows_are_kept}
-use Rattle.deny_krates.proofs.Loop.{if_ok_both}
+use Rattle.deny_krates.specs.private.Direct.{AreDependents, with_incoming}
+use Rattle.deny_krates.specs.declared.direct.IncomingEdge.{IncomingEdge}
+use Rattle.deny_krates.proofs.DirectLemmas.{children_inside, rows_are_kept}
+use Rattle.deny_metadata.proofs.ReadingLemmas.{if_ok_both}
 use Rattle.deny_krates.proofs.direct.dependents_of.Goals as goal
 
 pub direct_of-requires : goal.direct_of-requires
 direct_of-requires c =
-    subst (λ (xs : List Arc). All (λ a. a.child < length c.args.krates.now) xs) (sym c.as_slice.ensures)
-    (arcs_inside c.args.krates.now c.args.edges.now c.in_ok-arcs.arcs c.requires.children c.in_ok-arcs.ensures)
+    subst (λ (xs : List IncomingEdge). All (λ a. a.child < length c.args.krates.now) xs) (sym c.as_slice.ensures)
+    (children_inside c.args.krates.now c.args.edges.now c.in_ok-incoming.incoming c.requires.children
+    c.in_ok-incoming.ensures)
 
 pub returns : goal.returns
 returns c =
-    if_ok_both _ _ (AreDependents c.args.krates.now c.args.edges.now) c.direct_of.result c.direct_of.ensures.long c.direct_of.ensures.rows
-    (λ rows long are. rows_are_kept c.args.krates.now c.args.edges.now c.in_ok-arcs.arcs rows c.requires.apart c.requires.parents c.in_ok-arcs.ensures long
-    (λ child below. are child below ∙ ap (λ (xs : List Arc). fold (with_arc child) [] xs) c.as_slice.ensures))
+    if_ok_both _ _ (AreDependents c.args.krates.now c.args.edges.now) c.direct_of.result c.direct_of.ensures.long
+    c.direct_of.ensures.rows
+    (λ rows long are. rows_are_kept c.args.krates.now c.args.edges.now c.in_ok-incoming.incoming rows c.requires.apart
+    c.requires.parents c.in_ok-incoming.ensures long
+    (λ child below. are child below ∙ ap (λ (xs : List IncomingEdge). fold (with_incoming child) [] xs)
+    c.as_slice.ensures))

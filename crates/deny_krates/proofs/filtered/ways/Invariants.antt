@@ -1,5 +1,5 @@
 use Rattle.std.proofs.Common.{take}
-use Rattle.deny_krates.specs.Filtered.{AreWays}
+use Rattle.deny_krates.specs.private.OtherLinks.{AreWays}
 use Rattle.deny_krates.proofs.filtered.ways.Given as goal
 
 abbrev pub invariant-loop-edge : goal.invariant-loop-edge

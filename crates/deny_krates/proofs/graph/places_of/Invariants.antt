@@ -1,5 +1,5 @@
 use Rattle.std.proofs.Common.{◌≡◌, map, take}
-use Rattle.deny_krates.specs.Graph.{place_at}
+use Rattle.deny_krates.specs.private.Graph.{place_at}
 use Rattle.deny_krates.proofs.graph.places_of.Given as goal
 
 abbrev pub invariant-loop-start : goal.invariant-loop-start

@@ -1,5 +1,5 @@
 use Rattle.std.proofs.Common.{◌≡◌, ◌++◌, map, take}
-use Rattle.deny_krates.specs.Graph.{edge_to}
+use Rattle.deny_krates.specs.private.Graph.{edge_to}
 use Rattle.deny_krates.proofs.graph.push_edges.Given as goal
 
 abbrev pub invariant-loop-link : goal.invariant-loop-link

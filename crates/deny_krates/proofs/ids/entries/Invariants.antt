@@ -1,5 +1,5 @@
 use Rattle.std.proofs.Common.{◌≡◌, ◌++◌, drop}
-use Rattle.deny_krates.specs.Ids.{entries_from}
+use Rattle.deny_krates.specs.private.IdEntries.{entries_from}
 use Rattle.deny_krates.proofs.ids.entries.Given as goal
 
 abbrev pub invariant-loop-place : goal.invariant-loop-place

@@ -1,9 +1,10 @@
 use Rattle.std.proofs.Common.{List, subst}
 use Rattle.std.specs.Prelude.{Contains}
-use Rattle.deny_base.specs.Ascending.{Lists}
-use Rattle.deny_krates.specs.Ids.{entry_cmp}
+use Rattle.deny_lists.specs.Ascending.{Lists}
+use Rattle.deny_krates.specs.private.IdEntries.{id_entry_cmp}
 use Rattle.deny_krates.specs.declared.ids.Entry.{Entry}
 use Rattle.deny_krates.proofs.ids.ids_of.Goals as goal
 
 pub returns : goal.returns
-returns c = subst (λ (xs : List Entry). Lists entry_cmp (Contains xs) c.put_in_order.new.list) c.in_ok-entries.ensures c.in_ok-put_in_order.ensures.ok
+returns c = subst (λ (xs : List Entry). Lists id_entry_cmp (Contains xs) c.put_in_order.new.list) c.in_ok-entries.ensures
+    c.in_ok-put_in_order.ensures.ok

@@ -11,7 +11,8 @@ returns-in-Some c =
     let end = c.in-Some.end in
     let at = rfind_char 47 path (Some end) c.in-Some.ensures.cases (lit< tt) in
     let whole : end - 0 ≡ end = omega arith in
-    c.or_root.ensures ∙ (ap or_root (c.range.ensures.value ∙ ap (λ n. take n path) whole) ∙ folder_found path end at.0 at.1 at.2)
+    c.or_root.ensures ∙ (ap or_root (c.range.ensures.value ∙ ap (λ n. take n path) whole) ∙ folder_found path end at.0
+    at.1 at.2)
 
 pub returns-in-None : goal.returns-in-None
 returns-in-None c = folder_none c.args.path.now (rfind_char 47 c.args.path.now None c.in-None.ensures.cases (lit< tt))

@@ -1,6 +1,6 @@
 use Rattle.std.proofs.Common.{sym, ℕ, List, subst}
-use Rattle.deny_krates.specs.Numbered.{IsResolved}
-use Rattle.deny_krates.specs.declared.checked.Row.{Row}
+use Rattle.deny_krates.specs.private.Numbered.{IsResolved}
+use Rattle.deny_metadata.specs.declared.checked.ResolvedNode.{ResolvedNode}
 use Rattle.deny_krates.proofs.ResolvedLemmas.{resolved_is}
 use Rattle.deny_krates.proofs.krates.graph_in.Goals as goal
 
@@ -8,4 +8,6 @@ pub put_together-requires-clause-resolved : goal.put_together-requires-clause-re
 put_together-requires-clause-resolved c =
     let doc = c.args.document.now in
     let is = (resolved_is doc _ c.in_ok-resolution.ensures).0 in
-    subst (λ (starts : List ℕ). IsResolved doc starts c.as_slice-2.result.now) (sym c.as_slice.ensures) (subst (λ (rows : List Row). IsResolved doc c.in_ok-resolution.resolution.starts rows) (sym c.as_slice-2.ensures) is)
+    subst (λ (starts : List ℕ). IsResolved doc starts c.as_slice-2.result.now) (sym c.as_slice.ensures)
+    (subst (λ (rows : List ResolvedNode). IsResolved doc c.in_ok-resolution.resolution.starts rows)
+    (sym c.as_slice-2.ensures) is)

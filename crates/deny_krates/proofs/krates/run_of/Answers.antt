@@ -5,7 +5,8 @@ use Rattle.deny_krates.proofs.krates.run_of.Goals as goal
 pub returns-clause-upward : goal.returns-clause-upward
 returns-clause-upward c =
     upward c.args.name.now c.args.krates.now _ _ c.first_at_least-start.ensures.within
-    (λ k d a. c.first_at_least-start.ensures.point.0 k d (omega arith) a) (λ k d a b. c.first_above-end.ensures.point.1 k d a b)
+    (λ k d a. c.first_at_least-start.ensures.point.0 k d (omega arith) a)
+    (λ k d a b. c.first_above-end.ensures.point.1 k d a b)
 
 pub returns-clause-named : goal.returns-clause-named
 returns-clause-named c =

@@ -13,6 +13,9 @@ returns c =
     let id = c.args.kid.now.0 in
     let place = c.place_of.result in
     let found : FoundIn k.ids id place =
-    subst (λ (t : List ℕ). FoundIn k.ids t place) c.as_str.ensures (subst (λ (es : List Entry). FoundIn es c.as_str.result.now place) c.as_slice.ensures record { found = c.place_of.ensures.found; none = c.place_of.ensures.none }) in
+    subst (λ (t : List ℕ). FoundIn k.ids t place) c.as_str.ensures
+    (subst (λ (es : List Entry). FoundIn es c.as_str.result.now place) c.as_slice.ensures
+    record { found = c.place_of.ensures.found; none = c.place_of.ensures.none }) in
     subst (λ (g : Graph). place ≡ option_map (λ (c : Crate). c.place) (crate_of g id)) c.self.view_is
-    (place_answers k.root k.krates k.members k.edges k.ids (apart_of k.root k.krates k.members k.edges c.self.invariant.orderly) c.self.invariant.ids id place found)
+    (place_answers k.root k.krates k.members k.edges k.ids
+    (apart_of k.root k.krates k.members k.edges c.self.invariant.orderly) c.self.invariant.ids id place found)

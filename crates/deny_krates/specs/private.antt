@@ -1,0 +1,7 @@
+pub mod Direct
+pub mod Graph
+pub mod IdEntries
+pub mod Kept
+pub mod Numbered
+pub mod OtherLinks
+pub mod Reach

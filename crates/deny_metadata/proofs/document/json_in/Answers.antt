@@ -1,0 +1,43 @@
+use Rattle.std.proofs.Common.{◌≡◌, ◌⊎◌, inl, inr, ◌∙◌, ap, sym, Ok, Err, Some, None, Result, List, ℕ, true, false, MatchResult, refl, subst}
+use Rattle.std.specs.Prelude.{IfOk, IfErr}
+use Rattle.std.specs.Str.{is_utf8, IsUtf8}
+use Rattle.std.proofs.lemmas.Str.{is_utf8-from_IsUtf8, IsUtf8-from_is_utf8}
+use Rattle.serde_json.specs.Read.{read}
+use Rattle.serde_json.specs.View.{view}
+use Rattle.serde_json.specs.declared.value.Value.{Value}
+use Rattle.deny_metadata.specs.Document.{json_at, json_of}
+use Rattle.deny_metadata.specs.Reading.{Fails}
+use Rattle.deny_metadata.specs.declared.fault.MetadataFault.{MetadataFault}
+use Rattle.deny_metadata.specs.declared.fault.MetadataFault.TheVariants.{Json, Memory}
+use Rattle.deny_metadata.proofs.document.json_in.Goals as goal
+
+not_utf8 : (bytes : List ℕ) → (IsUtf8 bytes → ⊥) → is_utf8 bytes ≡ false
+not_utf8 bytes isnt = elim (is_utf8 bytes) as (λ b. is_utf8 bytes ≡ b → is_utf8 bytes ≡ false)
+    [ true ↦ λ e. absurd (isnt (IsUtf8-from_is_utf8 bytes e)) | false ↦ λ e. e ] refl
+
+no_text : (bytes : List ℕ) → is_utf8 bytes ≡ false → json_at bytes ≡ Err Json
+unfolding json_at
+no_text bytes isnt = rw isnt refl
+
+a_text : (bytes : List ℕ) → is_utf8 bytes ≡ true → json_at bytes ≡ json_of (read bytes)
+unfolding json_at
+a_text bytes is = rw is refl
+
+answers : (bytes text : List ℕ) (result : Result Value MetadataFault) → is_utf8 bytes ≡ true → text ≡ bytes
+    → IfOk result (λ v. read text ≡ Some (view v))
+    → IfErr result (λ e. (e ≡ Memory) ⊎ ((e ≡ Json) × (read text ≡ None)))
+    → MatchResult result (λ v. json_at bytes ≡ Ok (view v)) (λ e. Fails e (json_at bytes))
+unfolding json_of
+answers bytes text (Ok v) utf8 same ok err = a_text bytes utf8 ∙ ap json_of (ap read (sym same) ∙ ok)
+answers bytes text (Err e) utf8 same ok (inl memory) =
+    subst (λ (d : MetadataFault). Fails d (json_at bytes)) (sym memory) tt
+answers bytes text (Err e) utf8 same ok (inr (json, none)) =
+    subst (λ (d : MetadataFault). Fails d (json_at bytes)) (sym json)
+    (a_text bytes utf8 ∙ ap json_of (ap read (sym same) ∙ none))
+
+pub returns-in-Err : goal.returns-in-Err
+returns-in-Err c = no_text _ (not_utf8 _ c.in-Err.ensures.cases.0)
+
+pub returns-in-Ok : goal.returns-in-Ok
+returns-in-Ok c = answers _ _ c.value_of_text.result (is_utf8-from_IsUtf8 _ c.in-Ok.ensures.cases.1)
+    c.in-Ok.ensures.cases.0 c.value_of_text.ensures.ok c.value_of_text.ensures.err

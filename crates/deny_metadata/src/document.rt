@@ -1,0 +1,346 @@
+ghost use Rattle.std.proofs.Common.{rules};
+ghost use Rattle.std.specs.Prelude.{◌≡◌, ◌⊎◌, Some, None, Ok, IfOk, IfErr, MatchResult};
+ghost use Rattle.serde_json.specs.Read.{read};
+ghost use Rattle.serde_json.specs.View.{view, members_view};
+ghost use Rattle.deny_metadata.specs.Document.{json_at, value_at, target_at, declaration_at, feature_at, features_from, features_member, package_at, kind_named, kind_member, kind_at, kinds_of, node_dependency_at, node_at, resolve_given, document_of};
+ghost use Rattle.deny_metadata.specs.Reading.{Fails, Gives};
+
+use crate::elements::{
+    Element, array_of, each_given, each_of, elements, flag_in, given_member, object, object_of,
+    optional_text_in, optional_texts_in, path_of, refuse_member, text_of, texts,
+};
+use crate::fault::MetadataFault;
+use crate::floats::is_fractional;
+use crate::member::Member;
+use deny_base::DepKind;
+use deny_lists::{List, NoMemory, Plain, Text};
+use serde_json::{Map, Value};
+use std::alloc::Global;
+
+/// A feature of a package, and what it enables.
+#[derive(Debug, Clone, PartialEq, Eq, Drop)]
+pub struct Feature {
+    pub name: Text,
+    pub enables: List<Text>,
+}
+
+impl Plain for Feature {
+    ghost clone_is_equal = { Prim.search rules };
+}
+
+/// A target of a package: its kinds, and the path of its first file.
+#[derive(Debug, Clone, PartialEq, Eq, Drop)]
+pub struct Target {
+    pub kind: List<Text>,
+    pub src_path: Text,
+}
+
+impl Plain for Target {
+    ghost clone_is_equal = { Prim.search rules };
+}
+
+impl Element for Target {
+    ghost read_at = { target_at };
+
+    #[tactic(auto, unfolding(crate::specs::Document::target_at))]
+    fn from_value(alloc: Global, path: &str, value: &Value) -> Result<Target, MetadataFault> {
+        object(alloc, path, value)?;
+        let kind = each_of(alloc, path, value, Member::Kind)?;
+        let src_path = text_of(alloc, path, value, Member::SrcPath)?;
+        Ok(Target { kind, src_path })
+    }
+}
+
+/// A dependency as the manifest declares it.
+#[derive(Debug, Drop)]
+pub struct Declaration {
+    pub name: Text,
+    pub req: Text,
+    pub kind: DepKind,
+    pub rename: Option<Text>,
+    pub target: Option<Text>,
+    pub path: Option<Text>,
+    pub features: List<Text>,
+    pub uses_default_features: bool,
+}
+
+impl Element for Declaration {
+    ghost read_at = { declaration_at };
+
+    #[tactic(auto, unfolding(crate::specs::Document::declaration_at))]
+    fn from_value(alloc: Global, path: &str, value: &Value) -> Result<Declaration, MetadataFault> {
+        object(alloc, path, value)?;
+        Ok(Declaration {
+            name: text_of(alloc, path, value, Member::Name)?,
+            req: text_of(alloc, path, value, Member::Req)?,
+            kind: kind_in(alloc, path, value)?,
+            rename: optional_text_in(alloc, path, value, Member::Rename)?,
+            target: optional_text_in(alloc, path, value, Member::Target)?,
+            path: optional_text_in(alloc, path, value, Member::Path)?,
+            features: each_given(alloc, path, value, Member::Features)?,
+            uses_default_features: flag_in(alloc, path, value, Member::UsesDefaultFeatures, true)?,
+        })
+    }
+}
+
+/// A package as the metadata lists it.
+#[derive(Debug, Drop)]
+pub struct Package {
+    pub name: Text,
+    pub version: Text,
+    pub id: Text,
+    pub manifest_path: Text,
+    pub source: Option<Text>,
+    pub license: Option<Text>,
+    pub rust_version: Option<Text>,
+    pub publish: Option<List<Text>>,
+    /// By byte order of their names.
+    pub features: List<Feature>,
+    pub targets: List<Target>,
+    pub dependencies: List<Declaration>,
+}
+
+impl Element for Package {
+    ghost read_at = { package_at };
+
+    #[tactic(auto, unfolding(crate::specs::Document::package_at))]
+    fn from_value(alloc: Global, path: &str, value: &Value) -> Result<Package, MetadataFault> {
+        object(alloc, path, value)?;
+        Ok(Package {
+            name: text_of(alloc, path, value, Member::Name)?,
+            version: text_of(alloc, path, value, Member::Version)?,
+            id: text_of(alloc, path, value, Member::Id)?,
+            manifest_path: text_of(alloc, path, value, Member::ManifestPath)?,
+            source: optional_text_in(alloc, path, value, Member::Source)?,
+            license: optional_text_in(alloc, path, value, Member::License)?,
+            rust_version: optional_text_in(alloc, path, value, Member::RustVersion)?,
+            publish: optional_texts_in(alloc, path, value, Member::Publish)?,
+            features: features_in(alloc, path, value)?,
+            targets: each_given(alloc, path, value, Member::Targets)?,
+            dependencies: each_given(alloc, path, value, Member::Dependencies)?,
+        })
+    }
+}
+
+// The features of a package that may write none.
+#[tactic(auto, unfolding(crate::specs::Document::features_member, crate::specs::Document::features_given, crate::specs::Document::features_at, crate::specs::Elements::required))]
+fn features_in(alloc: Global, path: &str, value: &Value) -> Result<List<Feature>, MetadataFault>
+    ensures { Gives result (features_member path.now (view value.now)) }
+{
+    match given_member(value, Member::Features) {
+        None => Ok(List::new(alloc)),
+        Some(features) => match features.as_object() {
+            None => refuse_member(alloc, path, Member::Features),
+            Some(members) => {
+                let at = path_of(alloc, path, Member::Features.name())?;
+                features_of(alloc, at.as_str(), members)
+            }
+        },
+    }
+}
+
+// The features that the members of an object are.
+fn features_of(
+    alloc: Global,
+    path: &str,
+    members: &Map<String, Value>,
+) -> Result<List<Feature>, MetadataFault>
+    ensures { Gives result (features_from path.now (members_view members.now.entries)) }
+{
+    let mut features = List::new(alloc);
+    for (name, value) in members.iter() {
+        features.push(feature_of(alloc, path, name.as_str(), value)?)?;
+    }
+    Ok(features)
+}
+
+// A feature by its name and what it enables.
+#[tactic(auto, unfolding(crate::specs::Document::feature_at))]
+fn feature_of(
+    alloc: Global,
+    path: &str,
+    name: &str,
+    value: &Value,
+) -> Result<Feature, MetadataFault>
+    ensures { Gives result (feature_at path.now name.now (view value.now)) }
+{
+    let at = path_of(alloc, path, name)?;
+    let enables = texts(alloc, at.as_str(), value)?;
+    let name = Text::from_str(alloc, name)?;
+    Ok(Feature { name, enables })
+}
+
+// A kind by its name.
+#[tactic(auto, unfolding(crate::specs::Document::kind_named))]
+fn kind_of(name: &str) -> Option<DepKind>
+    ensures { result ≡ kind_named name.now }
+{
+    if name == "normal" {
+        Some(DepKind::Normal)
+    } else if name == "dev" {
+        Some(DepKind::Dev)
+    } else if name == "build" {
+        Some(DepKind::Build)
+    } else {
+        None
+    }
+}
+
+// The kind of a dependency, normal where it writes none.
+#[tactic(auto, unfolding(crate::specs::Document::kind_member, crate::specs::Document::kind_given, crate::specs::Elements::required))]
+fn kind_in(alloc: Global, path: &str, dependency: &Value) -> Result<DepKind, MetadataFault>
+    ensures { Gives result (kind_member path.now (view dependency.now)) }
+{
+    match given_member(dependency, Member::Kind) {
+        None => Ok(DepKind::Normal),
+        Some(value) => match value.as_str().and_then(kind_of) {
+            Some(kind) => Ok(kind),
+            None => refuse_member(alloc, path, Member::Kind),
+        },
+    }
+}
+
+impl Element for DepKind {
+    ghost read_at = { kind_at };
+
+    #[tactic(auto, unfolding(crate::specs::Document::kind_at))]
+    fn from_value(alloc: Global, path: &str, value: &Value) -> Result<DepKind, MetadataFault> {
+        object(alloc, path, value)?;
+        let kind = kind_in(alloc, path, value)?;
+        let _target = optional_text_in(alloc, path, value, Member::Target)?;
+        Ok(kind)
+    }
+}
+
+/// A dependency that cargo resolved: the id of the package, and the kinds it is needed as.
+#[derive(Debug, Drop)]
+pub struct NodeDependency {
+    pub pkg: Text,
+    pub kinds: List<DepKind>,
+}
+
+impl Element for NodeDependency {
+    ghost read_at = { node_dependency_at };
+
+    #[tactic(auto, unfolding(crate::specs::Document::node_dependency_at))]
+    fn from_value(
+        alloc: Global,
+        path: &str,
+        value: &Value,
+    ) -> Result<NodeDependency, MetadataFault> {
+        object(alloc, path, value)?;
+        let pkg = text_of(alloc, path, value, Member::Pkg)?;
+        let written = each_given(alloc, path, value, Member::DepKinds)?;
+        let kinds = kinds_in(written)?;
+        Ok(NodeDependency { pkg, kinds })
+    }
+}
+
+// The kinds of a dependency: without any it is a normal one.
+#[tactic(auto, unfolding(crate::specs::Document::kinds_of))]
+fn kinds_in(mut written: List<DepKind>) -> Result<List<DepKind>, NoMemory>
+    ensures { IfOk result (λ kinds. kinds ≡ kinds_of written) }
+{
+    if written.len() == 0 {
+        written.push(DepKind::Normal)?;
+    }
+    Ok(written)
+}
+
+/// What cargo resolved for a package: the features that are enabled, and its dependencies.
+#[derive(Debug, Drop)]
+pub struct Node {
+    pub id: Text,
+    pub features: List<Text>,
+    pub deps: List<NodeDependency>,
+}
+
+impl Element for Node {
+    ghost read_at = { node_at };
+
+    #[tactic(auto, unfolding(crate::specs::Document::node_at))]
+    fn from_value(alloc: Global, path: &str, value: &Value) -> Result<Node, MetadataFault> {
+        object(alloc, path, value)?;
+        let id = text_of(alloc, path, value, Member::Id)?;
+        let features = each_given(alloc, path, value, Member::Features)?;
+        let deps = each_given(alloc, path, value, Member::Deps)?;
+        Ok(Node { id, features, deps })
+    }
+}
+
+/// The members of the metadata that the graph is made of, as they stand there.
+#[derive(Debug, Drop)]
+pub struct Document {
+    pub packages: List<Package>,
+    pub members: List<Text>,
+    pub workspace_root: Text,
+    pub nodes: List<Node>,
+}
+
+/// The value of a text in UTF-8 whose numbers are whole and within 64 bits.
+#[tactic(auto, unfolding(crate::specs::Document::value_at, crate::specs::Document::whole))]
+pub fn value_of(alloc: Global, bytes: &[u8]) -> Result<Value, MetadataFault>
+    ensures { MatchResult result (λ v. value_at bytes.now ≡ Ok (view v)) (λ e. Fails e (value_at bytes.now)) }
+{
+    let value = json_in(alloc, bytes)?;
+    if is_fractional(&value) {
+        return Err(MetadataFault::Float);
+    }
+    Ok(value)
+}
+
+// The value of a text in UTF-8.
+#[tactic(auto, unfolding(crate::specs::Document::json_at, crate::specs::Document::json_of))]
+fn json_in(alloc: Global, bytes: &[u8]) -> Result<Value, MetadataFault>
+    ensures { MatchResult result (λ v. json_at bytes.now ≡ Ok (view v)) (λ e. Fails e (json_at bytes.now)) }
+{
+    match str::from_utf8(bytes) {
+        Ok(text) => value_of_text(alloc, text),
+        Err(_) => Err(MetadataFault::Json),
+    }
+}
+
+fn value_of_text(alloc: Global, text: &str) -> Result<Value, MetadataFault>
+    ensures ok { IfOk result (λ v. read text.now ≡ Some (view v)) }
+    ensures err { IfErr result (λ e. (e ≡ MetadataFault.Memory) ⊎ ((e ≡ MetadataFault.Json) × (read text.now ≡ None))) }
+{
+    match Value::from_str(alloc, text) {
+        Ok(value) => Ok(value),
+        Err(error) => {
+            if error.is_memory() {
+                Err(MetadataFault::Memory)
+            } else {
+                Err(MetadataFault::Json)
+            }
+        }
+    }
+}
+
+#[tactic(auto, unfolding(crate::specs::Document::resolve_given))]
+fn resolve_stands(root: &Value) -> Result<(), MetadataFault>
+    ensures { Gives result (resolve_given (view root.now)) }
+{
+    if given_member(root, Member::Resolve).is_none() {
+        return Err(MetadataFault::NoResolve);
+    }
+    Ok(())
+}
+
+/// The metadata that a value is, or its first fault.
+#[tactic(auto, unfolding(crate::specs::Document::document_of, crate::specs::Elements::part_of))]
+pub fn document_in(alloc: Global, root: &Value) -> Result<Document, MetadataFault>
+    ensures { Gives result (document_of (view root.now)) }
+{
+    object(alloc, "", root)?;
+    resolve_stands(root)?;
+    let packages = array_of(alloc, "", root, Member::Packages)?;
+    let members = each_of(alloc, "", root, Member::WorkspaceMembers)?;
+    let workspace_root = text_of(alloc, "", root, Member::WorkspaceRoot)?;
+    let resolve = object_of(alloc, "", root, Member::Resolve)?;
+    Ok(Document {
+        packages: elements(alloc, Member::Packages.name(), packages)?,
+        members,
+        workspace_root,
+        nodes: each_of(alloc, Member::Resolve.name(), resolve, Member::Nodes)?,
+    })
+}

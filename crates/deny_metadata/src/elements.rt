@@ -1,0 +1,273 @@
+ghost use Rattle.std.specs.Prelude.{◌≡◌, List, ℕ, Result, Ok, Err, IfOk, MatchResult, option_map, map};
+ghost use Rattle.std.specs.Fmt.{decimal};
+ghost use Rattle.serde_json.specs.Data.{Data};
+ghost use Rattle.serde_json.specs.Find.{get};
+ghost use Rattle.serde_json.specs.View.{view, items_view};
+ghost use Rattle.deny_metadata.specs.Elements.{part_of, path_to, given, object_at, text_at, text_member, optional_text, optional_text_of, optional_texts, texts_at, flag_member, array_member, object_member, elements_from, each_member, each_optional, required};
+ghost use Rattle.deny_metadata.specs.Member.{name_of};
+ghost use Rattle.deny_metadata.specs.Reading.{Fails, Gives};
+ghost use Rattle.deny_metadata.specs.declared.fault.MetadataFault.{MetadataFault};
+
+use crate::fault::MetadataFault;
+use crate::member::Member;
+use deny_lists::{List, NoMemory, Text};
+use serde_json::Value;
+use std::alloc::Global;
+
+/// A type that is read from a value, which stands at a path.
+pub trait Element: Sized + Drop {
+    ghost read_at: { List ℕ → Data → Result Self MetadataFault };
+
+    /// The value at `path` as this type, or the first fault in it.
+    fn from_value(alloc: Global, path: &str, value: &Value) -> Result<Self, MetadataFault>
+        ensures { Gives result (read_at path.now (view value.now)) };
+}
+
+impl Element for Text {
+    ghost read_at = { text_at };
+
+    #[tactic(auto, unfolding(crate::specs::Elements::text_at, crate::specs::Elements::required))]
+    fn from_value(alloc: Global, path: &str, value: &Value) -> Result<Text, MetadataFault> {
+        match value.as_str() {
+            Some(text) => Ok(Text::from_str(alloc, text)?),
+            None => refuse(alloc, path),
+        }
+    }
+}
+
+/// The fault of a value that is not of its kind.
+pub fn refuse<T>(alloc: Global, path: &str) -> Result<T, MetadataFault>
+    ensures { Gives result (Err (MetadataFault.Shape path.now)) }
+{
+    Err(MetadataFault::Shape(Text::from_str(alloc, path)?))
+}
+
+/// The fault of a member that is missing or not of its kind.
+pub fn refuse_member<T>(alloc: Global, path: &str, member: Member) -> Result<T, MetadataFault>
+    ensures { Gives result (Err (MetadataFault.Shape (path_to path.now member))) }
+{
+    Err(MetadataFault::Shape(path_of(alloc, path, member.name())?))
+}
+
+/// The path of a part of the value at `path`.
+#[tactic(auto, unfolding(crate::specs::Elements::part_of))]
+pub fn path_of(alloc: Global, path: &str, name: &str) -> Result<Text, NoMemory>
+    ensures { IfOk result (λ t. t ≡ part_of path.now name.now) }
+{
+    if path.is_empty() {
+        return Text::from_str(alloc, name);
+    }
+    let mut part = Text::from_str(alloc, path)?;
+    part.push_str(".")?;
+    part.push_str(name)?;
+    Ok(part)
+}
+
+/// The path of the element at `index` of the array at `path`.
+pub fn element_path(alloc: Global, path: &str, index: usize) -> Result<Text, NoMemory>
+    ensures { IfOk result (λ t. t ≡ part_of path.now (decimal index)) }
+{
+    let name = format!(in alloc; "{index}")?;
+    path_of(alloc, path, name.as_str())
+}
+
+/// The value of a member that stands and is not null.
+#[tactic(auto, unfolding(crate::specs::Elements::given))]
+pub fn given_member(object: &Value, member: Member) -> Option<&Value>
+    ensures { option_map (λ v. view v.now) result ≡ given (get (name_of member) (view object.now)) }
+{
+    match object.get(member.name()) {
+        Some(value) => { if value.is_null() { None } else { Some(value) } }
+        None => None,
+    }
+}
+
+/// That the value is an object.
+#[tactic(auto, unfolding(crate::specs::Elements::object_at))]
+pub fn object(alloc: Global, path: &str, value: &Value) -> Result<(), MetadataFault>
+    ensures { Gives result (object_at path.now (view value.now)) }
+{
+    if value.is_object() {
+        Ok(())
+    } else {
+        refuse(alloc, path)
+    }
+}
+
+/// A text that must stand.
+#[tactic(auto, unfolding(crate::specs::Elements::text_member, crate::specs::Elements::required))]
+pub fn text_of(
+    alloc: Global,
+    path: &str,
+    object: &Value,
+    member: Member,
+) -> Result<Text, MetadataFault>
+    ensures { Gives result (text_member path.now member (view object.now)) }
+{
+    match object.get(member.name()).and_then(Value::as_str) {
+        Some(text) => Ok(Text::from_str(alloc, text)?),
+        None => refuse_member(alloc, path, member),
+    }
+}
+
+/// A text that may be missing or null.
+#[tactic(auto, unfolding(crate::specs::Elements::optional_text, crate::specs::Elements::optional_text_of, crate::specs::Elements::text_at, crate::specs::Elements::required))]
+pub fn optional_text_in(
+    alloc: Global,
+    path: &str,
+    object: &Value,
+    member: Member,
+) -> Result<Option<Text>, MetadataFault>
+    ensures { Gives result (optional_text path.now member (view object.now)) }
+{
+    match given_member(object, member) {
+        Some(value) => match value.as_str() {
+            Some(text) => Ok(Some(Text::from_str(alloc, text)?)),
+            None => refuse_member(alloc, path, member),
+        },
+        None => Ok(None),
+    }
+}
+
+/// A flag that may be missing or null, with what it is then.
+#[tactic(auto, unfolding(crate::specs::Elements::flag_member, crate::specs::Elements::flag_given, crate::specs::Elements::required))]
+pub fn flag_in(
+    alloc: Global,
+    path: &str,
+    object: &Value,
+    member: Member,
+    default: bool,
+) -> Result<bool, MetadataFault>
+    ensures { Gives result (flag_member path.now member default (view object.now)) }
+{
+    match given_member(object, member) {
+        Some(value) => match value.as_bool() {
+            Some(flag) => Ok(flag),
+            None => refuse_member(alloc, path, member),
+        },
+        None => Ok(default),
+    }
+}
+
+/// The elements of an array that must stand.
+#[tactic(auto, unfolding(crate::specs::Elements::array_member, crate::specs::Elements::required))]
+pub fn array_of<'v>(
+    alloc: Global,
+    path: &str,
+    object: &'v Value,
+    member: Member,
+) -> Result<&'v [Value], MetadataFault>
+    ensures { MatchResult result (λ items. array_member path.now member (view object.now) ≡ Ok (items_view items.now))
+        (λ e. Fails e (array_member path.now member (view object.now))) }
+{
+    match object.get(member.name()).and_then(Value::as_array) {
+        Some(items) => Ok(items.as_slice()),
+        None => refuse_member(alloc, path, member),
+    }
+}
+
+/// An object that must stand.
+#[tactic(auto, unfolding(crate::specs::Elements::object_member, crate::specs::Elements::object_itself, crate::specs::Elements::required))]
+pub fn object_of<'v>(
+    alloc: Global,
+    path: &str,
+    object: &'v Value,
+    member: Member,
+) -> Result<&'v Value, MetadataFault>
+    ensures { MatchResult result (λ value. object_member path.now member (view object.now) ≡ Ok (view value.now))
+        (λ e. Fails e (object_member path.now member (view object.now))) }
+{
+    match object.get(member.name()) {
+        Some(value) => {
+            if value.is_object() {
+                Ok(value)
+            } else {
+                refuse_member(alloc, path, member)
+            }
+        }
+        None => refuse_member(alloc, path, member),
+    }
+}
+
+/// The elements of the array at `path`, or the first fault in them.
+pub fn elements<T: Element>(
+    alloc: Global,
+    path: &str,
+    items: &[Value],
+) -> Result<List<T>, MetadataFault>
+    ensures { Gives result (elements_from T.read_at path.now 0 (items_view items.now)) }
+{
+    let mut list = List::new(alloc);
+    for (index, value) in items.iter().enumerate() {
+        let at = element_path(alloc, path, index)?;
+        list.push(T::from_value(alloc, at.as_str(), value)?)?;
+    }
+    Ok(list)
+}
+
+/// The elements of an array that must stand, or the first fault in them.
+#[tactic(auto, unfolding(crate::specs::Elements::each_member))]
+pub fn each_of<T: Element>(
+    alloc: Global,
+    path: &str,
+    object: &Value,
+    member: Member,
+) -> Result<List<T>, MetadataFault>
+    ensures { Gives result (each_member T.read_at path.now member (view object.now)) }
+{
+    let items = array_of(alloc, path, object, member)?;
+    let at = path_of(alloc, path, member.name())?;
+    elements(alloc, at.as_str(), items)
+}
+
+/// The elements of an array that may be missing or null, or the first fault in them.
+#[tactic(auto, unfolding(crate::specs::Elements::each_optional, crate::specs::Elements::optional_items, crate::specs::Elements::required, crate::specs::Elements::elements_from))]
+pub fn each_given<T: Element>(
+    alloc: Global,
+    path: &str,
+    object: &Value,
+    member: Member,
+) -> Result<List<T>, MetadataFault>
+    ensures { Gives result (each_optional T.read_at path.now member (view object.now)) }
+{
+    match given_member(object, member) {
+        None => Ok(List::new(alloc)),
+        Some(value) => match value.as_array() {
+            None => refuse_member(alloc, path, member),
+            Some(items) => {
+                let at = path_of(alloc, path, member.name())?;
+                elements(alloc, at.as_str(), items.as_slice())
+            }
+        },
+    }
+}
+
+/// The texts of the array at `path`, or the first fault in it.
+#[tactic(auto, unfolding(crate::specs::Elements::texts_at, crate::specs::Elements::required))]
+pub fn texts(alloc: Global, path: &str, value: &Value) -> Result<List<Text>, MetadataFault>
+    ensures { Gives result (texts_at path.now (view value.now)) }
+{
+    match value.as_array() {
+        Some(items) => elements(alloc, path, items.as_slice()),
+        None => refuse(alloc, path),
+    }
+}
+
+/// The texts of an array that may be missing or null, or the first fault in it.
+#[tactic(auto, unfolding(crate::specs::Elements::optional_texts, crate::specs::Elements::texts_given))]
+pub fn optional_texts_in(
+    alloc: Global,
+    path: &str,
+    object: &Value,
+    member: Member,
+) -> Result<Option<List<Text>>, MetadataFault>
+    ensures { Gives result (optional_texts path.now member (view object.now)) }
+{
+    match given_member(object, member) {
+        Some(value) => {
+            let at = path_of(alloc, path, member.name())?;
+            Ok(Some(texts(alloc, at.as_str(), value)?))
+        }
+        None => Ok(None),
+    }
+}
