@@ -5,7 +5,8 @@ use Rattle.std.specs.List.{cons_option}
 use Rattle.std.proofs.Math.ListN.{drop_of_length-le}
 use Rattle.std.proofs.Math.Seq.{drop-cons}
 use Rattle.std.specs.FinMap.{IsAntisymmetric, nat_cmp-IsAntisymmetric}
-use Rattle.deny_base.proofs.KeyEqual.{span_cmp-exact, then_first, then_second}
+use Rattle.deny_base.proofs.KeyEqual.{span_cmp-exact}
+use Rattle.deny_lists.proofs.Orders.{then_first, then_second}
 use Rattle.deny_base.specs.KeyOrder.{span_cmp}
 use Rattle.deny_base.specs.declared.span.Span.{Span}
 use Rattle.deny_cfg.specs.Clashes.{kind_number, kind_cmp, clash_cmp}
@@ -14,7 +15,8 @@ use Rattle.deny_cfg.specs.declared.clash.ClashKind.{ClashKind}
 use Rattle.deny_cfg.specs.declared.clash.ClashKind.TheVariants.{WrappersOfMultiple, DenyAndAllow, DenyAndSkip, AllowAndSkip, FeatureTwice}
 
 kind_at : ℕ → ClashKind
-kind_at n = slice_index_or (WrappersOfMultiple ∷ DenyAndAllow ∷ DenyAndSkip ∷ AllowAndSkip ∷ FeatureTwice ∷ []) n FeatureTwice
+kind_at n =
+    slice_index_or (WrappersOfMultiple ∷ DenyAndAllow ∷ DenyAndSkip ∷ AllowAndSkip ∷ FeatureTwice ∷ []) n FeatureTwice
 
 kind_at-number : (kind : ClashKind) → kind_at (kind_number kind) ≡ kind
 unfolding kind_at kind_number
@@ -25,10 +27,12 @@ kind_at-number AllowAndSkip = refl
 kind_at-number FeatureTwice = refl
 
 kind_cmp-exact : IsAntisymmetric kind_cmp
-kind_cmp-exact a b e = sym (kind_at-number a) ∙ (ap kind_at (nat_cmp-IsAntisymmetric (kind_number a) (kind_number b) e) ∙ kind_at-number b)
+kind_cmp-exact a b e =
+    sym (kind_at-number a) ∙ (ap kind_at (nat_cmp-IsAntisymmetric (kind_number a) (kind_number b) e) ∙ kind_at-number b)
 
 clash_from : ClashKind → Span → Span → Span → ℕ → Clash
-clash_from kind first second third wrappers = record { kind = kind; first = first; second = second; third = third; wrappers = wrappers }
+clash_from kind first second third wrappers =
+    record { kind = kind; first = first; second = second; third = third; wrappers = wrappers }
 
 clash_from-is : (c : Clash) → clash_from c.kind c.first c.second c.third c.wrappers ≡ c
 unfolding clash_from
@@ -43,29 +47,33 @@ clash_cmp-exact a b e =
     let first : a.first ≡ b.first = span_cmp-exact a.first b.first (then_first _ _ after_kind) in
     let second : a.second ≡ b.second = span_cmp-exact a.second b.second (then_first _ _ after_first) in
     let third : a.third ≡ b.third = span_cmp-exact a.third b.third (then_first _ _ after_second) in
-    let wrappers : a.wrappers ≡ b.wrappers = nat_cmp-IsAntisymmetric a.wrappers b.wrappers (then_second (span_cmp a.third b.third) _ after_second) in
+    let wrappers : a.wrappers ≡ b.wrappers =
+    nat_cmp-IsAntisymmetric a.wrappers b.wrappers (then_second (span_cmp a.third b.third) _ after_second) in
     cc (clash_from-is a, clash_from-is b)
 
-put_one : {A : Type 0} (done : List A) (o : Option A) (rest : List A) → (done ++ cons_option o []) ++ rest ≡ done ++ cons_option o rest
+put_one : {A : Type 0} (done : List A) (o : Option A) (rest : List A)
+    → (done ++ cons_option o []) ++ rest ≡ done ++ cons_option o rest
 put_one done None rest = ap (λ xs. xs ++ rest) (append-nil done)
 put_one done (Some x) rest = append_assoc done (x ∷ []) rest
 
 -- what one more element gives was put behind what the others gave
-pub gathers_next : {X Y : Type 0} (f : X → Option Y) (xs : List X) (i : ℕ) (x : X) (done new all : List Y) (o : Option Y) → i < length xs → x ≡ slice_index_or xs i x
-    → done ++ filter_map f (drop i xs) ≡ all → o ≡ f x → new ≡ done ++ cons_option o [] → new ++ filter_map f (drop (i + 1) xs) ≡ all
+pub gathers_next : {X Y : Type 0} (f : X → Option Y) (xs : List X) (i : ℕ) (x : X) (done new all : List Y)
+    (o : Option Y) → i < length xs → x ≡ slice_index_or xs i x
+    → done ++ filter_map f (drop i xs) ≡ all → o ≡ f x → new ≡ done ++ cons_option o []
+    → new ++ filter_map f (drop (i + 1) xs) ≡ all
 gathers_next f xs i x done new all o inside is before gives put =
     let next : drop i xs ≡ x ∷ drop (i + 1) xs = rw (drop-cons xs i x inside, ← is, add-one) refl in
     ap (λ ys. ys ++ filter_map f (drop (i + 1) xs)) put
     ∙ (put_one done o (filter_map f (drop (i + 1) xs))
-    ∙ (ap (λ p. done ++ cons_option p (filter_map f (drop (i + 1) xs))) gives ∙ (ap (λ ys. done ++ filter_map f ys) (sym next) ∙ before)))
+    ∙ (ap (λ p. done ++ cons_option p (filter_map f (drop (i + 1) xs))) gives
+    ∙ (ap (λ ys. done ++ filter_map f ys) (sym next) ∙ before)))
 
-pub gathers_all : {X Y : Type 0} (f : X → Option Y) (xs : List X) (i : ℕ) (done all : List Y) → length xs ≤ i → done ++ filter_map f (drop i xs) ≡ all → done ≡ all
-gathers_all f xs i done all past is = sym (append-nil done) ∙ (ap (λ ys. done ++ filter_map f ys) (sym (drop_of_length-le xs past)) ∙ is)
+pub gathers_all : {X Y : Type 0} (f : X → Option Y) (xs : List X) (i : ℕ) (done all : List Y) → length xs ≤ i
+    → done ++ filter_map f (drop i xs) ≡ all → done ≡ all
+gathers_all f xs i done all past is =
+    sym (append-nil done) ∙ (ap (λ ys. done ++ filter_map f ys) (sym (drop_of_length-le xs past)) ∙ is)
 
 -- filtered, mapped, and what is given
-pub given_by : {X Y Z : Type 0} (f : Y → Option Z) (h : X → Y) (xs : List X) → filter_map f (map h xs) ≡ filter_map (λ x. f (h x)) xs
-given_by f h [] = refl
-given_by f h (x ∷ xs) = ap (cons_option (f (h x))) (given_by f h xs)
 
 pub given_where : {X Y Z : Type 0} (f : Y → Option Z) (h : X → Y) (p : X → Bool) (xs : List X)
     → filter_map f (map h (filter p xs)) ≡ filter_map (λ x. cond (p x) (f (h x)) None) xs
@@ -73,6 +81,7 @@ given_where f h p [] = refl
 given_where f h p (x ∷ xs) = by_test (p x) (given_where f h p xs)
   where
     by_test : (b : Bool) → filter_map f (map h (filter p xs)) ≡ filter_map (λ x. cond (p x) (f (h x)) None) xs
-        → filter_map f (map h (cond b (x ∷ filter p xs) (filter p xs))) ≡ cons_option (cond b (f (h x)) None) (filter_map (λ x. cond (p x) (f (h x)) None) xs)
+        → filter_map f (map h (cond b (x ∷ filter p xs) (filter p xs)))
+        ≡ cons_option (cond b (f (h x)) None) (filter_map (λ x. cond (p x) (f (h x)) None) xs)
     by_test true e = ap (cons_option (f (h x))) e
     by_test false e = e

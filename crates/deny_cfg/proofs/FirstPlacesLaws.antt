@@ -1,4 +1,5 @@
 -- Of equal wordings the first is found.
+use Rattle.deny_lists.proofs.Orders.{option_text_cmp-exact, text_cmp-exact, then_first, then_second}
 use Rattle.std.proofs.Common.{◌≡◌, ◌<◌, ◌+◌, ◌&&◌, ◌++◌, add-one, length, take, ℕ, List, [], ◌∷◌, Bool, true, false, Option, Some, None, map, refl, sym, ap, ◌∙◌}
 use Rattle.std.specs.Prelude.{cond, find, is_some, not, option_map, slice_index_or}
 use Rattle.std.proofs.Math.Seq.{take-suc}
@@ -11,29 +12,19 @@ use Rattle.std.specs.Option.{option_cmp, option_eq, option_or}
 use Rattle.std.specs.Ordering.{is_eq, nat_cmp, ordering_reverse, ordering_then}
 use Rattle.std.specs.declared.cmp.Ordering.{Ordering}
 use Rattle.std.specs.declared.cmp.Ordering.TheVariants.{Less, Equal, Greater}
-use Rattle.deny_base.proofs.KeyEqual.{then_first, then_second}
 use Rattle.deny_base.specs.declared.span.Span.{Span}
 use Rattle.deny_model.specs.Policy.{Words}
 use Rattle.deny_model.specs.Text.{same_text}
 use Rattle.deny_cfg.specs.Clashes.{clash_with, feature_at, feature_clash, specs_of, two_places}
 use Rattle.deny_cfg.specs.FirstPlaces.{FindsFirst, Gains, entry_place, place_in, plain_wording, same_wording, spec_wording, word_place, wording_cmp}
-use Rattle.deny_cfg.specs.SpecView.{same_spec}
-use Rattle.deny_cfg.specs.declared.bans.cfg.features.CrateFeatures.{CrateFeatures}
+use Rattle.deny_entries.specs.SpecView.{same_spec}
+use Rattle.deny_tables.specs.declared.bans.cfg.features.CrateFeatures.{CrateFeatures}
 use Rattle.deny_cfg.specs.declared.clash.ClashKind.{ClashKind}
 use Rattle.deny_cfg.specs.declared.first_places.FirstPlaces.{FirstPlaces}
 use Rattle.deny_cfg.specs.declared.first_places.Wording.{Wording}
-use Rattle.deny_cfg.specs.declared.package_spec.PackageSpec.{PackageSpec}
-use Rattle.deny_cfg.specs.declared.reason.Reason.{Reason}
-use Rattle.deny_cfg.specs.declared.spec_or_extended.PackageSpecOrExtended.{PackageSpecOrExtended}
-
-text_cmp-exact : IsAntisymmetric (slice_cmp nat_cmp)
-text_cmp-exact = slice_cmp-IsAntisymmetric nat_cmp-IsAntisymmetric
-
-option_cmp-exact : (x y : Option (List ℕ)) → option_cmp (slice_cmp nat_cmp) x y ≡ Equal → x ≡ y
-option_cmp-exact None None e = refl
-option_cmp-exact None (Some y) e = cc e
-option_cmp-exact (Some x) None e = cc e
-option_cmp-exact (Some x) (Some y) e = ap Some (text_cmp-exact x y e)
+use Rattle.deny_entries.specs.declared.package_spec.PackageSpec.{PackageSpec}
+use Rattle.deny_entries.specs.declared.reason.Reason.{Reason}
+use Rattle.deny_entries.specs.declared.spec_or_extended.PackageSpecOrExtended.{PackageSpecOrExtended}
 
 wording_from : List ℕ → Option (List ℕ) → Wording
 wording_from name requirement = record { name = name; requirement = requirement }
@@ -45,11 +36,14 @@ wording_from-is w = refl
 wording_cmp-exact : IsAntisymmetric wording_cmp
 wording_cmp-exact a b e =
     let name : a.name ≡ b.name = text_cmp-exact a.name b.name (then_first _ _ e) in
-    let requirement : a.requirement ≡ b.requirement = option_cmp-exact a.requirement b.requirement (then_second (slice_cmp nat_cmp a.name b.name) _ e) in
+    let requirement : a.requirement ≡ b.requirement =
+    option_text_cmp-exact a.requirement b.requirement (then_second (slice_cmp nat_cmp a.name b.name) _ e) in
     cc (wording_from-is a, wording_from-is b)
 
 wording_cmp-total : IsTotalOrder wording_cmp
-wording_cmp-total = then_total (on_total (λ (w : Wording). w.name) nat_list_cmp_total) (on_total (λ (w : Wording). w.requirement) (options_total nat_list_cmp_total))
+wording_cmp-total =
+    then_total (on_total (λ (w : Wording). w.name) nat_list_cmp_total)
+    (on_total (λ (w : Wording). w.requirement) (options_total nat_list_cmp_total))
 
 -- wordings are the same exactly where they tie
 option_ties : (x y : Option (List ℕ)) → option_eq same_text x y ≡ is_eq (option_cmp (slice_cmp nat_cmp) x y)
@@ -72,7 +66,8 @@ is_eq-reverse Equal = refl
 is_eq-reverse Greater = refl
 
 wording_tied : (asked w : Wording) → is_eq (wording_cmp w asked) ≡ same_wording asked w
-wording_tied asked w = ap is_eq (wording_cmp-total.antisymm w asked) ∙ (is_eq-reverse (wording_cmp asked w) ∙ sym (wording_ties asked w))
+wording_tied asked w =
+    ap is_eq (wording_cmp-total.antisymm w asked) ∙ (is_eq-reverse (wording_cmp asked w) ∙ sym (wording_ties asked w))
 
 is_equal : (r : Ordering) → is_eq r ≡ true → r ≡ Equal
 is_equal Less e = cc e
@@ -82,12 +77,14 @@ is_equal Greater e = cc e
 wording_same : (asked w : Wording) → same_wording asked w ≡ true → asked ≡ w
 wording_same asked w e = wording_cmp-exact asked w (is_equal (wording_cmp asked w) (sym (wording_ties asked w) ∙ e))
 
-put_behind : (b : Bool) (o : Option Span) (p : Span) → (b ≡ true → o ≡ None) → cond b (Some p) o ≡ option_or o (cond b (Some p) None)
+put_behind : (b : Bool) (o : Option Span) (p : Span) → (b ≡ true → o ≡ None)
+    → cond b (Some p) o ≡ option_or o (cond b (Some p) None)
 put_behind true o p none = rw (none refl) refl
 put_behind false None p none = refl
 put_behind false (Some x) p none = refl
 
-stays_before : (b : Bool) (o : Option Span) (p : Span) → (b ≡ true → is_some o ≡ true) → o ≡ option_or o (cond b (Some p) None)
+stays_before : (b : Bool) (o : Option Span) (p : Span) → (b ≡ true → is_some o ≡ true)
+    → o ≡ option_or o (cond b (Some p) None)
 stays_before b (Some x) p some = refl
 stays_before false None p some = refl
 stays_before true None p some = cc (some refl)
@@ -96,27 +93,23 @@ none_there : (o : Option Span) → is_some o ≡ false → o ≡ None
 none_there None e = refl
 none_there (Some x) e = cc e
 
-pub not_there : (b : Bool) → not b ≡ true → b ≡ false
-not_there true e = cc
-not_there false e = refl
-
-pub is_there : (b : Bool) → not b ≡ false → b ≡ true
-is_there true e = refl
-is_there false e = cc
-
 -- what was not there comes behind the others, and what was stays
 pub gains_new : (old new : FirstPlaces) (w : Wording) (p : Span) → is_some (place_in old w) ≡ false
-    → ((asked : Wording) → place_in new asked ≡ cond (is_eq (wording_cmp w asked)) (Some p) (place_in old asked)) → Gains w p old new
+    → ((asked : Wording) → place_in new asked ≡ cond (is_eq (wording_cmp w asked)) (Some p) (place_in old asked))
+    → Gains w p old new
 gains_new old new w p absent updated = record {
   at = λ asked.
       updated asked
       ∙ (ap (λ b. cond b (Some p) (place_in old asked)) (wording_tied asked w)
-      ∙ put_behind (same_wording asked w) (place_in old asked) p (λ e. ap (place_in old) (wording_same asked w e) ∙ none_there _ absent));
+      ∙ put_behind (same_wording asked w) (place_in old asked) p
+      (λ e. ap (place_in old) (wording_same asked w e) ∙ none_there _ absent));
 }
 
 pub gains_none : (old : FirstPlaces) (w : Wording) (p : Span) → is_some (place_in old w) ≡ true → Gains w p old old
 gains_none old w p there = record {
-  at = λ asked. stays_before (same_wording asked w) (place_in old asked) p (λ e. ap (λ q. is_some (place_in old q)) (wording_same asked w e) ∙ there);
+  at =
+      λ asked. stays_before (same_wording asked w) (place_in old asked) p
+      (λ e. ap (λ q. is_some (place_in old q)) (wording_same asked w e) ∙ there);
 }
 
 lookup_push : (test : Wording → Bool) (places : List (Wording × Span)) (w : Wording) (p : Span)
@@ -125,7 +118,8 @@ lookup_push test [] w p = refl
 lookup_push test (x ∷ xs) w p = by_test (test x.0) (lookup_push test xs w p)
   where
     by_test : (b : Bool) → lookup test (xs ++ (w, p) ∷ []) ≡ option_or (lookup test xs) (cond (test w) (Some p) None)
-        → cond b (Some x.1) (lookup test (xs ++ (w, p) ∷ [])) ≡ option_or (cond b (Some x.1) (lookup test xs)) (cond (test w) (Some p) None)
+        → cond b (Some x.1) (lookup test (xs ++ (w, p) ∷ []))
+        ≡ option_or (cond b (Some x.1) (lookup test xs)) (cond (test w) (Some p) None)
     by_test true e = refl
     by_test false e = e
 
@@ -138,31 +132,41 @@ pub finds_more : (places : List (Wording × Span)) (old new : FirstPlaces) (w : 
 finds_more places old new w p finds gains = record {
   at = λ asked.
       gains.at asked
-      ∙ (ap (λ o. option_or o (cond (same_wording asked w) (Some p) None)) (finds.at asked) ∙ sym (lookup_push (same_wording asked) places w p));
+      ∙ (ap (λ o. option_or o (cond (same_wording asked w) (Some p) None)) (finds.at asked)
+      ∙ sym (lookup_push (same_wording asked) places w p));
 }
 
 -- one more of the things that have these places
-pub finds_next : {A : Type 0} (place : A → Wording × Span) (xs : List A) (i : ℕ) (x : A) (old new : FirstPlaces) → i < length xs → x ≡ slice_index_or xs i x
-    → FindsFirst (map place (take i xs)) old → Gains (place x).0 (place x).1 old new → FindsFirst (map place (take (i + 1) xs)) new
+pub finds_next : {A : Type 0} (place : A → Wording × Span) (xs : List A) (i : ℕ) (x : A) (old new : FirstPlaces)
+    → i < length xs → x ≡ slice_index_or xs i x
+    → FindsFirst (map place (take i xs)) old → Gains (place x).0 (place x).1 old new
+    → FindsFirst (map place (take (i + 1) xs)) new
 finds_next place xs i x old new inside is finds gains =
-    rw (map_more place xs i x inside is) (finds_more (map place (take i xs)) old new (place x).0 (place x).1 finds gains)
+    rw (map_more place xs i x inside is)
+    (finds_more (map place (take i xs)) old new (place x).0 (place x).1 finds gains)
 
 spec_found : (s : PackageSpec) (others : List (PackageSpecOrExtended Reason))
-    → lookup (same_wording (spec_wording s)) (map entry_place others) ≡ option_map (λ other. other.name.span) (find (same_spec s) (specs_of others))
+    → lookup (same_wording (spec_wording s)) (map entry_place others)
+    ≡ option_map (λ other. other.name.span) (find (same_spec s) (specs_of others))
 spec_found s [] = refl
 spec_found s (x ∷ xs) = by_test (same_spec s x.spec) (spec_found s xs)
   where
-    by_test : (b : Bool) → lookup (same_wording (spec_wording s)) (map entry_place xs) ≡ option_map (λ other. other.name.span) (find (same_spec s) (specs_of xs))
-        → cond b (Some x.spec.name.span) (lookup (same_wording (spec_wording s)) (map entry_place xs)) ≡ option_map (λ other. other.name.span) (cond b (Some x.spec) (find (same_spec s) (specs_of xs)))
+    by_test : (b : Bool)
+        → lookup (same_wording (spec_wording s)) (map entry_place xs)
+        ≡ option_map (λ other. other.name.span) (find (same_spec s) (specs_of xs))
+        → cond b (Some x.spec.name.span) (lookup (same_wording (spec_wording s)) (map entry_place xs))
+        ≡ option_map (λ other. other.name.span) (cond b (Some x.spec) (find (same_spec s) (specs_of xs)))
     by_test true e = refl
     by_test false e = e
 
-map_twice : {A B C : Type 0} (f : A → B) (g : B → C) (o : Option A) → option_map g (option_map f o) ≡ option_map (λ x. g (f x)) o
+map_twice : {A B C : Type 0} (f : A → B) (g : B → C) (o : Option A)
+    → option_map g (option_map f o) ≡ option_map (λ x. g (f x)) o
 map_twice f g None = refl
 map_twice f g (Some x) = refl
 
 -- so the clash of a spec is with the first equal one
-pub clash_found : (kind : ClashKind) (s : PackageSpec) (others : List (PackageSpecOrExtended Reason)) (found : FirstPlaces) → FindsFirst (map entry_place others) found
+pub clash_found : (kind : ClashKind) (s : PackageSpec) (others : List (PackageSpecOrExtended Reason))
+    (found : FirstPlaces) → FindsFirst (map entry_place others) found
     → option_map (two_places kind s.name.span) (place_in found (spec_wording s)) ≡ clash_with kind (specs_of others) s
 unfolding clash_with
 clash_found kind s others found finds =
@@ -174,18 +178,27 @@ and_true true = refl
 and_true false = refl
 
 word_found : (text : List ℕ) (denied : List Words)
-    → lookup (same_wording (plain_wording text)) (map word_place denied) ≡ option_map (λ word. word.span) (find (λ word. same_text text word.value) denied)
+    → lookup (same_wording (plain_wording text)) (map word_place denied)
+    ≡ option_map (λ word. word.span) (find (λ word. same_text text word.value) denied)
 word_found text [] = refl
-word_found text (x ∷ xs) = rw (and_true (same_text text x.value)) (by_test (same_text text x.value) (word_found text xs))
+word_found text (x ∷ xs) =
+    rw (and_true (same_text text x.value)) (by_test (same_text text x.value) (word_found text xs))
   where
-    by_test : (b : Bool) → lookup (same_wording (plain_wording text)) (map word_place xs) ≡ option_map (λ word. word.span) (find (λ word. same_text text word.value) xs)
-        → cond b (Some x.span) (lookup (same_wording (plain_wording text)) (map word_place xs)) ≡ option_map (λ word. word.span) (cond b (Some x) (find (λ word. same_text text word.value) xs))
+    by_test : (b : Bool)
+        → lookup (same_wording (plain_wording text)) (map word_place xs)
+        ≡ option_map (λ word. word.span) (find (λ word. same_text text word.value) xs)
+        → cond b (Some x.span) (lookup (same_wording (plain_wording text)) (map word_place xs))
+        ≡ option_map (λ word. word.span) (cond b (Some x) (find (λ word. same_text text word.value) xs))
     by_test true e = refl
     by_test false e = e
 
-pub feature_found : (entry : CrateFeatures) (allowed : Words) (found : FirstPlaces) → FindsFirst (map word_place entry.deny) found
-    → option_map (feature_at entry.spec.name.span allowed) (place_in found (plain_wording allowed.value)) ≡ feature_clash entry allowed
+pub feature_found : (entry : CrateFeatures) (allowed : Words) (found : FirstPlaces)
+    → FindsFirst (map word_place entry.deny) found
+    → option_map (feature_at entry.spec.name.span allowed) (place_in found (plain_wording allowed.value))
+    ≡ feature_clash entry allowed
 unfolding feature_clash
 feature_found entry allowed found finds =
-    ap (option_map (feature_at entry.spec.name.span allowed)) (finds.at (plain_wording allowed.value) ∙ word_found allowed.value entry.deny)
-    ∙ map_twice (λ word. word.span) (feature_at entry.spec.name.span allowed) (find (λ word. same_text allowed.value word.value) entry.deny)
+    ap (option_map (feature_at entry.spec.name.span allowed))
+    (finds.at (plain_wording allowed.value) ∙ word_found allowed.value entry.deny)
+    ∙ map_twice (λ word. word.span) (feature_at entry.spec.name.span allowed)
+    (find (λ word. same_text allowed.value word.value) entry.deny)

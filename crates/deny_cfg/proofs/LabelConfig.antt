@@ -15,180 +15,205 @@ use Rattle.deny_toml.specs.Ranges.{IsRange, StandsIn}
 use Rattle.deny_toml.specs.Value.{entries_in}
 use Rattle.deny_toml.specs.declared.value.Table.{Table}
 use Rattle.deny_toml.specs.declared.value.Value.{Value}
-use Rattle.deny_cfg.specs.Apart.{ban_entry-apart, feature_entry-apart, reason_entry-apart, tree_skip_entry-apart}
-use Rattle.deny_cfg.specs.Bans.{ReadsBan, ReadsBanEntry, ReadsReason, ReadsReasonKey, ReadsReasoned, ReadsTreeSkip, ReadsTreeSkipEntry, ban_fields, reason_fields, tree_skip_fields}
-use Rattle.deny_cfg.specs.Config.{ReadsConfig}
-use Rattle.deny_cfg.specs.Depends.{ban-depends, features-depend, reason-depends, tree_skip-depends}
-use Rattle.deny_cfg.specs.Entry.{ReadsEntryKeys, ReadsSome}
-use Rattle.deny_cfg.specs.Features.{ReadsCrateFeatures, ReadsFeatures, feature_fields, lists_in, nowhere}
+use Rattle.deny_entries.specs.Apart.{reason_entry-apart}
+use Rattle.deny_tables.specs.Apart.{ban_entry-apart, feature_entry-apart, tree_skip_entry-apart}
+use Rattle.deny_entries.specs.Reasons.{ReadsReason, ReadsReasonKey, ReadsReasoned, reason_fields}
+use Rattle.deny_tables.specs.Bans.{ReadsBan, ReadsBanEntry, ReadsTreeSkip, ReadsTreeSkipEntry, ban_fields, tree_skip_fields}
+use Rattle.deny_tables.specs.Config.{ReadsConfig}
+use Rattle.deny_entries.specs.Depends.{reason-depends}
+use Rattle.deny_tables.specs.Depends.{ban-depends, features-depend, tree_skip-depends}
+use Rattle.deny_entries.specs.Entry.{ReadsEntryKeys, ReadsSome}
+use Rattle.deny_tables.specs.Features.{ReadsCrateFeatures, ReadsFeatures, feature_fields, lists_in, nowhere}
 use Rattle.deny_cfg.specs.LabelRanges.{AreLabels, config_labels, crate_ban_ranges, crate_feature_ranges, joined, of_some, own_range, reason_range, root_ranges, std_ranges, with_spec, word_ranges}
-use Rattle.deny_cfg.specs.PolicyKey.{name_of}
+use Rattle.deny_entries.proofs.RowLaws.{says_of}
+use Rattle.deny_entries.specs.PolicyKey.{name_of}
 use Rattle.deny_cfg.specs.PolicyText.{ReadsBans, bans_name}
-use Rattle.deny_cfg.specs.StdReplacements.{ReadsStd}
-use Rattle.deny_cfg.specs.Table.{Entries, Field, ReadsTable, at_key}
-use Rattle.deny_cfg.specs.Words.{ReadsAs, ReadsBool, ReadsList, ReadsSpanned, ReadsText, ReadsTexts, level_of}
-use Rattle.deny_cfg.specs.declared.bans.cfg.ban.CrateBanExtended.{CrateBanExtended}
-use Rattle.deny_cfg.specs.declared.bans.cfg.config.Config.{Config}
-use Rattle.deny_cfg.specs.declared.bans.cfg.features.CrateFeatures.{CrateFeatures}
-use Rattle.deny_cfg.specs.declared.bans.cfg.std_replacements.StdReplacementConfig.{StdReplacementConfig}
-use Rattle.deny_cfg.specs.declared.bans.cfg.tree_skip.TreeSkipExtended.{TreeSkipExtended}
-use Rattle.deny_cfg.specs.declared.policy_key.PolicyKey.TheVariants as key
-use Rattle.deny_cfg.specs.declared.reason.Reason.{Reason}
-use Rattle.deny_cfg.specs.declared.spec_or_extended.PackageSpecOrExtended.{PackageSpecOrExtended}
-use Rattle.deny_cfg.proofs.LabelLaws.{Lie, StandsAt, Within, WithinKey, WithinKeys, at_stands, entries_stand, key_at, keys_within, list_within, no_entries_stand, no_keys, one_key, optional_within, or_within, starts, table_within}
+use Rattle.deny_tables.specs.StdReplacements.{ReadsStd}
+use Rattle.deny_entries.specs.Table.{Entries, Field, ReadsTable, at_key}
+use Rattle.deny_entries.specs.Words.{ReadsAs, ReadsBool, ReadsList, ReadsSpanned, ReadsText, ReadsTexts, level_of}
+use Rattle.deny_tables.specs.declared.bans.cfg.ban.CrateBanExtended.{CrateBanExtended}
+use Rattle.deny_tables.specs.declared.bans.cfg.config.Config.{Config}
+use Rattle.deny_tables.specs.declared.bans.cfg.features.CrateFeatures.{CrateFeatures}
+use Rattle.deny_tables.specs.declared.bans.cfg.std_replacements.StdReplacementConfig.{StdReplacementConfig}
+use Rattle.deny_tables.specs.declared.bans.cfg.tree_skip.TreeSkipExtended.{TreeSkipExtended}
+use Rattle.deny_entries.specs.declared.policy_key.PolicyKey.TheVariants as key
+use Rattle.deny_entries.specs.declared.reason.Reason.{Reason}
+use Rattle.deny_entries.specs.declared.spec_or_extended.PackageSpecOrExtended.{PackageSpecOrExtended}
+use Rattle.deny_cfg.proofs.LabelLaws.{◌▸◌, Lie, StandsAt, Within, WithinKey, WithinKeys, at_stands, entries_stand, key_at, keys_within, list_within, no_entries_stand, no_keys, no_more, one_key, optional_within, or_within, starts, table_within}
 use Rattle.deny_cfg.proofs.LabelReads.{entry_keys_within, entry_within, flag_within, level_within, reason_within, word_within, words_within}
 
-wrappers_within : (text : List ℕ) (v : Value) (wrappers : Spanned (List Words)) → ReadsSpanned ReadsTexts v wrappers → Within text v (word_ranges wrappers.value)
+wrappers_within : (text : List ℕ) (v : Value) (wrappers : Spanned (List Words)) → ReadsSpanned ReadsTexts v wrappers
+    → Within text v (word_ranges wrappers.value)
 wrappers_within text v wrappers reads = words_within text v wrappers.value reads.1
 
 some_within : {T : Type 0} (text : List ℕ) (f : T → List Span) (fields : List Field) (Reads : Entries → T → Type 0)
     → ((entries : Entries) (x : T) → Reads entries x → WithinKeys text entries (f x))
-    → (entries : Entries) (said : Option T) → ReadsSome fields Reads entries said → WithinKeys text entries (of_some f said)
+    → (entries : Entries) (said : Option T) → ReadsSome fields Reads entries said
+    → WithinKeys text entries (of_some f said)
 some_within text f fields Reads each entries None reads = no_keys text entries
 some_within text f fields Reads each entries (Some x) reads = each entries x reads.1
 
-ban_within : (text : List ℕ) (entries : Entries) (ban : CrateBanExtended) → ReadsBan entries ban → WithinKeys text entries (crate_ban_ranges ban)
+ban_within : (text : List ℕ) (entries : Entries) (ban : CrateBanExtended) → ReadsBan entries ban
+    → WithinKeys text entries (crate_ban_ranges ban)
 unfolding name_of
 ban_within text entries ban reads =
-    keys_within text entries (name_of key.Wrappers ∷ name_of key.DenyMultipleVersions ∷ name_of key.Reason ∷ name_of key.UseInstead ∷ [])
-    (of_some (λ (w : Spanned (List Words)). word_ranges w.value) ban.wrappers ∷ of_some own_range ban.deny_multiple_versions ∷ of_some reason_range ban.reason ∷ of_some own_range ban.use_instead ∷ []) refl (
-      optional_within text (λ (w : Spanned (List Words)). word_ranges w.value) (ReadsSpanned ReadsTexts) (wrappers_within text) (at_key key.Wrappers entries) ban.wrappers reads.wrappers,
-      (
-        optional_within text own_range (ReadsSpanned ReadsBool) (flag_within text) (at_key key.DenyMultipleVersions entries) ban.deny_multiple_versions reads.deny_multiple_versions,
-        (
-          optional_within text reason_range ReadsReason (reason_within text) (at_key key.Reason entries) ban.reason reads.reason,
-          (
-            optional_within text own_range (ReadsSpanned ReadsText) (word_within text) (at_key key.UseInstead entries) ban.use_instead reads.use_instead,
-            (
-                tt),
-          ),
-        ),
-      ),
-    )
+    keys_within text entries (
+    optional_within text (λ (w : Spanned (List Words)). word_ranges w.value) (ReadsSpanned ReadsTexts)
+    (wrappers_within text) (at_key key.Wrappers entries) ban.wrappers (says_of key.Wrappers reads)
+    ▸ optional_within text own_range (ReadsSpanned ReadsBool) (flag_within text)
+    (at_key key.DenyMultipleVersions entries) ban.deny_multiple_versions
+    (says_of key.DenyMultipleVersions reads)
+    ▸ optional_within text reason_range ReadsReason (reason_within text) (at_key key.Reason entries) ban.reason
+    (says_of key.Reason reads)
+    ▸ optional_within text own_range (ReadsSpanned ReadsText) (word_within text) (at_key key.UseInstead entries)
+    ban.use_instead (says_of key.UseInstead reads)
+    ▸ no_more) refl
 
-ban_entry_within : (text : List ℕ) (v : Value) (e : PackageSpecOrExtended CrateBanExtended) → ReadsBanEntry v e → Within text v (with_spec crate_ban_ranges e)
+ban_entry_within : (text : List ℕ) (v : Value) (e : PackageSpecOrExtended CrateBanExtended) → ReadsBanEntry v e
+    → Within text v (with_spec crate_ban_ranges e)
 ban_entry_within text v e reads =
-    entry_within text ban_fields ban_entry-apart crate_ban_ranges (ReadsSome ban_fields ReadsBan) ban-depends (some_within text crate_ban_ranges ban_fields ReadsBan (ban_within text)) v e.spec e.inner reads
+    entry_within text ban_fields ban_entry-apart crate_ban_ranges (ReadsSome ban_fields ReadsBan) ban-depends
+    (some_within text crate_ban_ranges ban_fields ReadsBan (ban_within text)) v e.spec e.inner reads
 
-reason_key_within : (text : List ℕ) (entries : Entries) (reason : Option Reason) → ReadsReasonKey entries reason → WithinKeys text entries (of_some reason_range reason)
+reason_key_within : (text : List ℕ) (entries : Entries) (reason : Option Reason) → ReadsReasonKey entries reason
+    → WithinKeys text entries (of_some reason_range reason)
 reason_key_within text entries reason reads =
-    one_key text (name_of key.Reason) entries (of_some reason_range reason) (optional_within text reason_range ReadsReason (reason_within text) (at_key key.Reason entries) reason reads)
+    one_key text (name_of key.Reason) entries (of_some reason_range reason)
+    (optional_within text reason_range ReadsReason (reason_within text) (at_key key.Reason entries) reason reads)
 
-reasoned_within : (text : List ℕ) (v : Value) (e : PackageSpecOrExtended Reason) → ReadsReasoned v e → Within text v (with_spec reason_range e)
-reasoned_within text v e reads = entry_within text reason_fields reason_entry-apart reason_range ReadsReasonKey reason-depends (reason_key_within text) v e.spec e.inner reads
+reasoned_within : (text : List ℕ) (v : Value) (e : PackageSpecOrExtended Reason) → ReadsReasoned v e
+    → Within text v (with_spec reason_range e)
+reasoned_within text v e reads =
+    entry_within text reason_fields reason_entry-apart reason_range ReadsReasonKey reason-depends
+    (reason_key_within text) v e.spec e.inner reads
 
-root_within : (text : List ℕ) (entries : Entries) (skip : TreeSkipExtended) → ReadsTreeSkip entries skip → WithinKeys text entries (root_ranges skip)
-root_within text entries skip reads = reason_key_within text entries skip.reason reads.reason
+root_within : (text : List ℕ) (entries : Entries) (skip : TreeSkipExtended) → ReadsTreeSkip entries skip
+    → WithinKeys text entries (root_ranges skip)
+unfolding name_of
+root_within text entries skip reads = reason_key_within text entries skip.reason (says_of key.Reason reads)
 
-root_entry_within : (text : List ℕ) (v : Value) (e : PackageSpecOrExtended TreeSkipExtended) → ReadsTreeSkipEntry v e → Within text v (with_spec root_ranges e)
+root_entry_within : (text : List ℕ) (v : Value) (e : PackageSpecOrExtended TreeSkipExtended) → ReadsTreeSkipEntry v e
+    → Within text v (with_spec root_ranges e)
 root_entry_within text v e reads =
-    entry_within text tree_skip_fields tree_skip_entry-apart root_ranges (ReadsSome tree_skip_fields ReadsTreeSkip) tree_skip-depends (some_within text root_ranges tree_skip_fields ReadsTreeSkip (root_within text)) v e.spec e.inner reads
+    entry_within text tree_skip_fields tree_skip_entry-apart root_ranges (ReadsSome tree_skip_fields ReadsTreeSkip)
+    tree_skip-depends (some_within text root_ranges tree_skip_fields ReadsTreeSkip (root_within text)) v e.spec
+    e.inner reads
 
 features_within : (text : List ℕ) (f : CrateFeatures) (entries : Entries) → ReadsFeatures entries (lists_in f)
-    → WithinKeys text entries (joined (word_ranges f.allow.value ∷ word_ranges f.deny ∷ of_some reason_range f.reason ∷ []))
+    → WithinKeys text entries
+    (joined (word_ranges f.allow.value ∷ word_ranges f.deny ∷ of_some reason_range f.reason ∷ []))
 unfolding name_of
 features_within text f entries reads =
-    keys_within text entries (name_of key.Allow ∷ name_of key.Deny ∷ name_of key.Reason ∷ [])
-    (word_ranges f.allow.value ∷ word_ranges f.deny ∷ of_some reason_range f.reason ∷ []) refl (
-      or_within text (λ (w : Spanned (List Words)). word_ranges w.value) (nowhere []) (ReadsSpanned ReadsTexts) refl (wrappers_within text) (at_key key.Allow entries) f.allow reads.allow,
-      (
-        or_within text word_ranges [] ReadsTexts refl (words_within text) (at_key key.Deny entries) f.deny reads.deny,
-        (
-          optional_within text reason_range ReadsReason (reason_within text) (at_key key.Reason entries) f.reason reads.reason,
-          (
-              tt),
-        ),
-      ),
-    )
+    keys_within text entries (
+    or_within text (λ (w : Spanned (List Words)). word_ranges w.value) (nowhere []) (ReadsSpanned ReadsTexts) refl
+    (wrappers_within text) (at_key key.Allow entries) f.allow (says_of key.Allow reads)
+    ▸ or_within text word_ranges [] ReadsTexts refl (words_within text) (at_key key.Deny entries) f.deny
+    (says_of key.Deny reads)
+    ▸ optional_within text reason_range ReadsReason (reason_within text) (at_key key.Reason entries) f.reason
+    (says_of key.Reason reads)
+    ▸ no_more) refl
 
-feature_entry_within : (text : List ℕ) (v : Value) (f : CrateFeatures) → ReadsCrateFeatures v f → Within text v (crate_feature_ranges f)
+feature_entry_within : (text : List ℕ) (v : Value) (f : CrateFeatures) → ReadsCrateFeatures v f
+    → Within text v (crate_feature_ranges f)
 feature_entry_within text v f reads =
-    table_within text (crate_feature_ranges f) (λ entries (read : CrateFeatures). ReadsEntryKeys ReadsFeatures entries read.spec (lists_in read)) f
-    (entry_keys_within text feature_fields feature_entry-apart ReadsFeatures features-depend (joined (word_ranges f.allow.value ∷ word_ranges f.deny ∷ of_some reason_range f.reason ∷ [])) f.spec (lists_in f) (features_within text f)) v reads
+    table_within text (crate_feature_ranges f)
+    (λ entries (read : CrateFeatures). ReadsEntryKeys ReadsFeatures entries read.spec (lists_in read)) f
+    (entry_keys_within text feature_fields feature_entry-apart ReadsFeatures features-depend
+    (joined (word_ranges f.allow.value ∷ word_ranges f.deny ∷ of_some reason_range f.reason ∷ [])) f.spec
+    (lists_in f) (features_within text f)) v reads
 
-std_within : (text : List ℕ) (v : Value) (std : StdReplacementConfig) → ReadsTable ReadsStd v std → Within text v (std_ranges std)
+std_within : (text : List ℕ) (v : Value) (std : StdReplacementConfig) → ReadsTable ReadsStd v std
+    → Within text v (std_ranges std)
+unfolding name_of
 std_within text v std reads =
     table_within text (std_ranges std) ReadsStd std
     (λ entries keys. one_key text (name_of key.Ignore) entries (std_ranges std)
-    (or_within text (flat_map (with_spec reason_range)) [] (ReadsList ReadsReasoned) refl (list_within text (with_spec reason_range) ReadsReasoned (reasoned_within text)) (at_key key.Ignore entries) std.ignore keys.ignore))
+    (or_within text (flat_map (with_spec reason_range)) [] (ReadsList ReadsReasoned) refl
+    (list_within text (with_spec reason_range) ReadsReasoned (reasoned_within text)) (at_key key.Ignore entries)
+    std.ignore (says_of key.Ignore keys)))
     v reads
 
-config_within : (text : List ℕ) (entries : Entries) (config : Config) → ReadsConfig entries config → WithinKeys text entries (config_labels config)
+config_within : (text : List ℕ) (entries : Entries) (config : Config) → ReadsConfig entries config
+    → WithinKeys text entries (config_labels config)
 unfolding name_of config_labels
 config_within text entries config reads =
     let reasoned = list_within text (with_spec reason_range) ReadsReasoned (reasoned_within text) in
     let level = optional_within text own_range (ReadsSpanned (ReadsAs level_of)) (level_within text) in
-    keys_within text entries
-    (name_of key.Deny ∷ name_of key.Allow ∷ name_of key.ExternalDefaultFeatures ∷ name_of key.WorkspaceDefaultFeatures ∷ name_of key.Features ∷ name_of key.Skip ∷ name_of key.SkipTree ∷ name_of key.StdReplacements ∷ [])
-    (flat_map (with_spec crate_ban_ranges) config.deny ∷ flat_map (with_spec reason_range) config.allow ∷ of_some own_range config.external_default_features ∷ of_some own_range config.workspace_default_features
-    ∷ flat_map crate_feature_ranges config.features ∷ flat_map (with_spec reason_range) config.skip ∷ flat_map (with_spec root_ranges) config.skip_tree ∷ of_some std_ranges config.std_replacements ∷ [])
-    refl (
-      or_within text (flat_map (with_spec crate_ban_ranges)) [] (ReadsList ReadsBanEntry) refl (list_within text (with_spec crate_ban_ranges) ReadsBanEntry (ban_entry_within text)) (at_key key.Deny entries) config.deny reads.deny,
-      (
-        or_within text (flat_map (with_spec reason_range)) [] (ReadsList ReadsReasoned) refl reasoned (at_key key.Allow entries) config.allow reads.allow,
-        (
-          level (at_key key.ExternalDefaultFeatures entries) config.external_default_features reads.external_default_features,
-          (
-            level (at_key key.WorkspaceDefaultFeatures entries) config.workspace_default_features reads.workspace_default_features,
-            (
-              or_within text (flat_map crate_feature_ranges) [] (ReadsList ReadsCrateFeatures) refl (list_within text crate_feature_ranges ReadsCrateFeatures (feature_entry_within text)) (at_key key.Features entries) config.features reads.features,
-              (
-                or_within text (flat_map (with_spec reason_range)) [] (ReadsList ReadsReasoned) refl reasoned (at_key key.Skip entries) config.skip reads.skip,
-                (
-                  or_within text (flat_map (with_spec root_ranges)) [] (ReadsList ReadsTreeSkipEntry) refl (list_within text (with_spec root_ranges) ReadsTreeSkipEntry (root_entry_within text)) (at_key key.SkipTree entries) config.skip_tree reads.skip_tree,
-                  (
-                    optional_within text std_ranges (ReadsTable ReadsStd) (std_within text) (at_key key.StdReplacements entries) config.std_replacements reads.std_replacements,
-                    (
-                        tt),
-                  ),
-                ),
-              ),
-            ),
-          ),
-        ),
-      ),
-    )
+    keys_within text entries (
+    or_within text (flat_map (with_spec crate_ban_ranges)) [] (ReadsList ReadsBanEntry) refl
+    (list_within text (with_spec crate_ban_ranges) ReadsBanEntry (ban_entry_within text))
+    (at_key key.Deny entries) config.deny (says_of key.Deny reads)
+    ▸ or_within text (flat_map (with_spec reason_range)) [] (ReadsList ReadsReasoned) refl reasoned
+    (at_key key.Allow entries) config.allow (says_of key.Allow reads)
+    ▸ level (at_key key.ExternalDefaultFeatures entries) config.external_default_features
+    (says_of key.ExternalDefaultFeatures reads)
+    ▸ level (at_key key.WorkspaceDefaultFeatures entries) config.workspace_default_features
+    (says_of key.WorkspaceDefaultFeatures reads)
+    ▸ or_within text (flat_map crate_feature_ranges) [] (ReadsList ReadsCrateFeatures) refl
+    (list_within text crate_feature_ranges ReadsCrateFeatures (feature_entry_within text))
+    (at_key key.Features entries) config.features (says_of key.Features reads)
+    ▸ or_within text (flat_map (with_spec reason_range)) [] (ReadsList ReadsReasoned) refl reasoned
+    (at_key key.Skip entries) config.skip (says_of key.Skip reads)
+    ▸ or_within text (flat_map (with_spec root_ranges)) [] (ReadsList ReadsTreeSkipEntry) refl
+    (list_within text (with_spec root_ranges) ReadsTreeSkipEntry (root_entry_within text))
+    (at_key key.SkipTree entries) config.skip_tree (says_of key.SkipTree reads)
+    ▸ optional_within text std_ranges (ReadsTable ReadsStd) (std_within text) (at_key key.StdReplacements entries)
+    config.std_replacements (says_of key.StdReplacements reads)
+    ▸ no_more) refl
 
 -- what is read of the table `bans`, within the root
-bans_within : (text : List ℕ) (o : Option Value) (config : Config) → ReadsBans o config → WithinKey text o (config_labels config)
+bans_within : (text : List ℕ) (o : Option Value) (config : Config) → ReadsBans o config
+    → WithinKey text o (config_labels config)
 bans_within text None config reads =
     let all = config_within text [] config reads in
     record { lie = λ stand. all.lie (no_entries_stand text); part = all.part }
-bans_within text (Some v) config reads = key_at text v (config_labels config) (table_within text (config_labels config) ReadsConfig config (λ entries. config_within text entries config) v reads)
+bans_within text (Some v) config reads =
+    key_at text v (config_labels config)
+    (table_within text (config_labels config) ReadsConfig config (λ entries. config_within text entries config) v
+    reads)
 
 pub name_stands : (text name : List ℕ) (v : Value) → StandsIn text v → StandsAt text (below_name name v)
 name_stands text name v stands = by_table (table_in v) refl
   where
-    by_table : (o : Option Table) → table_in v ≡ o → StandsAt text (option_and_then (λ t. value_at name (entries_in t)) o)
+    by_table : (o : Option Table) → table_in v ≡ o
+        → StandsAt text (option_and_then (λ t. value_at name (entries_in t)) o)
     by_table None is = tt
     by_table (Some t) is = at_stands text name (entries_in t) (entries_stand text v t is stands)
 
-at_part : (name : List ℕ) (entries : Entries) (o : Option Value) → value_at name entries ≡ o → IsPartOf (starts_of o) (starts_of_entries entries)
+at_part : (name : List ℕ) (entries : Entries) (o : Option Value) → value_at name entries ≡ o
+    → IsPartOf (starts_of o) (starts_of_entries entries)
 at_part name entries None is = part_nothing (starts_of_entries entries)
 at_part name entries (Some v) is = name_part name entries v is
 
 below_part : (name : List ℕ) (v : Value) → IsPartOf (starts_of (below_name name v)) (starts_in v)
 below_part name v = by_table (table_in v) refl
   where
-    by_table : (o : Option Table) → table_in v ≡ o → IsPartOf (starts_of (option_and_then (λ t. value_at name (entries_in t)) o)) (starts_in v)
+    by_table : (o : Option Table) → table_in v ≡ o
+        → IsPartOf (starts_of (option_and_then (λ t. value_at name (entries_in t)) o)) (starts_in v)
     by_table None is = part_nothing (starts_in v)
-    by_table (Some t) is = subst (IsPartOf (starts_of (value_at name (entries_in t)))) (sym (starts_of_keys v t is)) (at_part name (entries_in t) (value_at name (entries_in t)) refl)
+    by_table (Some t) is =
+        subst (IsPartOf (starts_of (value_at name (entries_in t)))) (sym (starts_of_keys v t is))
+        (at_part name (entries_in t) (value_at name (entries_in t)) refl)
 
 -- ---- labels
 
 apart_spans : (spans : List Span) → AreDistinct (starts spans) → AllPairs (λ one other. one.start ≢ other.start) spans
 apart_spans spans distinct = λ i j d below within same.
     distinct i j d.start below (omega (arith, within, length-map spans (λ (span : Span). span.start)))
-    (get_or-map (λ (span : Span). span.start) spans i d d.start (omega (arith, below, within)) ∙ (same ∙ sym (get_or-map (λ (span : Span). span.start) spans j d d.start within)))
+    (get_or-map (λ (span : Span). span.start) spans i d d.start (omega (arith, below, within))
+    ∙ (same ∙ sym (get_or-map (λ (span : Span). span.start) spans j d d.start within)))
 
-pub are_labels : (text : List ℕ) (spans : List Span) (places : List ℕ) → Lie text spans → IsPartOf (starts spans) places → AreDistinct places → AreLabels text spans
+pub are_labels : (text : List ℕ) (spans : List Span) (places : List ℕ) → Lie text spans → IsPartOf (starts spans) places
+    → AreDistinct places → AreLabels text spans
 are_labels text spans places lie part distinct = record {
   placed = All-from_recursion (IsRange text) spans lie;
   apart = apart_spans spans (apart_part (starts spans) places distinct part);
 }
 
-pub config_are_labels : (text : List ℕ) (tree : Value) (config : Config) → StandsIn text tree → AreApart tree → ReadsBans (below_name bans_name tree) config → AreLabels text (config_labels config)
+pub config_are_labels : (text : List ℕ) (tree : Value) (config : Config) → StandsIn text tree → AreApart tree
+    → ReadsBans (below_name bans_name tree) config → AreLabels text (config_labels config)
 config_are_labels text tree config stands apart reads =
     let within = bans_within text (below_name bans_name tree) config reads in
     are_labels text (config_labels config) (starts_in tree) (within.lie (name_stands text bans_name tree stands))
-    (part_of_part (starts (config_labels config)) (starts_of (below_name bans_name tree)) (starts_in tree) within.part (below_part bans_name tree)) apart
+    (part_of_part (starts (config_labels config)) (starts_of (below_name bans_name tree)) (starts_in tree) within.part
+    (below_part bans_name tree)) apart

@@ -1,4 +1,7 @@
--- The ranges of what is read from a value lie in the text, and those of words begin where scalars of the value begin, each at another.
+-- The ranges of what is read from a value lie in the text, and those of words begin where scalars of the value begin,
+-- each at another.
+use Rattle.std.proofs.lemmas.Bool.{and_parts, not-true}
+use Rattle.std.proofs.lemmas.Option.{same_Some}
 use Rattle.std.proofs.Common.{◌≡◌, ◌+◌, ◌&&◌, ◌++◌, ℕ, Bool, true, false, cond, not, List, [], ◌∷◌, map, append-nil, Option, Some, None, refl, sym, ap, ◌∙◌, subst, arith}
 use Rattle.std.specs.Prelude.{nat_eq, option_map, find}
 use Rattle.std.specs.Cmp.Lexicographic.{pointwise}
@@ -16,8 +19,8 @@ use Rattle.deny_toml.specs.Value.{entries_in}
 use Rattle.deny_toml.specs.declared.value.Table.{Table}
 use Rattle.deny_toml.specs.declared.value.Value.{Value}
 use Rattle.deny_cfg.specs.LabelRanges.{joined, of_some}
-use Rattle.deny_cfg.specs.Table.{Entries, ReadsIn, ReadsIfThere, ReadsOr, ReadsTable}
-use Rattle.deny_cfg.specs.Words.{ReadsList}
+use Rattle.deny_entries.specs.Table.{Entries, ReadsIn, ReadsIfThere, ReadsOr, ReadsTable}
+use Rattle.deny_entries.specs.Words.{ReadsList}
 
 -- ---- parts of a value that stands in a text
 
@@ -37,59 +40,81 @@ EntriesStand text entries = AllOfEntries (KeyStands text) (ValueStands text) ent
 pub stands_itself : (text : List ℕ) (v : Value) → StandsIn text v → ValueStands text v
 stands_itself text v (ranges.value _ here below) = here
 
-stands_below : (text : List ℕ) (v : Value) → StandsIn text v → AllOfContent (KeyStands text) (ValueStands text) (layer_in v)
+stands_below : (text : List ℕ) (v : Value) → StandsIn text v
+    → AllOfContent (KeyStands text) (ValueStands text) (layer_in v)
 stands_below text v (ranges.value _ here below) = below
 
-some_same : {A : Type 0} (x y : A) → Some x ≡ Some y → x ≡ y
-some_same x y e = cc
-
-elements_by : (text : List ℕ) (l : Layer) (vs : List Value) → array_of l ≡ Some vs → AllOfContent (KeyStands text) (ValueStands text) l → AllOfValues (KeyStands text) (ValueStands text) vs
+elements_by : (text : List ℕ) (l : Layer) (vs : List Value) → array_of l ≡ Some vs
+    → AllOfContent (KeyStands text) (ValueStands text) l → AllOfValues (KeyStands text) (ValueStands text) vs
 elements_by text l vs is (ranges.scalar_content s) = cc
-elements_by text l vs is (ranges.array_content ws all) = subst (AllOfValues (KeyStands text) (ValueStands text)) (some_same ws vs is) all
+elements_by text l vs is (ranges.array_content ws all) =
+    subst (AllOfValues (KeyStands text) (ValueStands text)) (same_Some ws vs is) all
 elements_by text l vs is (ranges.table_content t all) = cc
 
-each_stands : (text : List ℕ) (vs : List Value) → AllOfValues (KeyStands text) (ValueStands text) vs → AllByRecursion (StandsIn text) vs
+each_stands : (text : List ℕ) (vs : List Value) → AllOfValues (KeyStands text) (ValueStands text) vs
+    → AllByRecursion (StandsIn text) vs
 each_stands text vs ranges.no_values = tt
 each_stands text vs (ranges.values v more here all) = (here, each_stands text more all)
 
-pub elements_stand : (text : List ℕ) (v : Value) (vs : List Value) → array_in v ≡ Some vs → StandsIn text v → AllByRecursion (StandsIn text) vs
-elements_stand text v vs is stands = each_stands text vs (elements_by text (layer_in v) vs is (stands_below text v stands))
+pub elements_stand : (text : List ℕ) (v : Value) (vs : List Value) → array_in v ≡ Some vs → StandsIn text v
+    → AllByRecursion (StandsIn text) vs
+elements_stand text v vs is stands =
+    each_stands text vs (elements_by text (layer_in v) vs is (stands_below text v stands))
 
-entries_by : (text : List ℕ) (l : Layer) (t : Table) → table_of l ≡ Some t → AllOfContent (KeyStands text) (ValueStands text) l → EntriesStand text (entries_in t)
+entries_by : (text : List ℕ) (l : Layer) (t : Table) → table_of l ≡ Some t
+    → AllOfContent (KeyStands text) (ValueStands text) l → EntriesStand text (entries_in t)
 entries_by text l t is (ranges.scalar_content s) = cc
 entries_by text l t is (ranges.array_content ws all) = cc
-entries_by text l t is (ranges.table_content u all) = subst (λ w. EntriesStand text (entries_in w)) (some_same u t is) all
+entries_by text l t is (ranges.table_content u all) =
+    subst (λ w. EntriesStand text (entries_in w)) (same_Some u t is) all
 
-pub entries_stand : (text : List ℕ) (v : Value) (t : Table) → table_in v ≡ Some t → StandsIn text v → EntriesStand text (entries_in t)
+pub entries_stand : (text : List ℕ) (v : Value) (t : Table) → table_in v ≡ Some t → StandsIn text v
+    → EntriesStand text (entries_in t)
 entries_stand text v t is stands = entries_by text (layer_in v) t is (stands_below text v stands)
 
-pub at_stands : (text name : List ℕ) (entries : Entries) → EntriesStand text entries → StandsAt text (value_at name entries)
+pub at_stands : (text name : List ℕ) (entries : Entries) → EntriesStand text entries
+    → StandsAt text (value_at name entries)
 at_stands text name entries ranges.no_entries = tt
-at_stands text name entries (ranges.entries k v more key here all) = by_test (has_name name (k, v)) (at_stands text name more all)
+at_stands text name entries (ranges.entries k v more key here all) =
+    by_test (has_name name (k, v)) (at_stands text name more all)
   where
-    by_test : (b : Bool) → StandsAt text (value_at name more) → StandsAt text (option_map (λ e. e.1) (cond b (Some (k, v)) (find (has_name name) more)))
+    by_test : (b : Bool) → StandsAt text (value_at name more)
+        → StandsAt text (option_map (λ e. e.1) (cond b (Some (k, v)) (find (has_name name) more)))
     by_test true later = here
     by_test false later = later
 
-pub without_stands : (text name : List ℕ) (entries : Entries) → EntriesStand text entries → EntriesStand text (without name entries)
+pub without_stands : (text name : List ℕ) (entries : Entries) → EntriesStand text entries
+    → EntriesStand text (without name entries)
 unfolding without
 without_stands text name entries ranges.no_entries = ranges.no_entries
-without_stands text name entries (ranges.entries k v more key here all) = by_test (has_name name (k, v)) (without_stands text name more all)
+without_stands text name entries (ranges.entries k v more key here all) =
+    by_test (has_name name (k, v)) (without_stands text name more all)
   where
-    by_test : (b : Bool) → EntriesStand text (without name more) → EntriesStand text (cond b more ((k, v) ∷ without name more))
+    by_test : (b : Bool) → EntriesStand text (without name more)
+        → EntriesStand text (cond b more ((k, v) ∷ without name more))
     by_test true later = all
     by_test false later = ranges.entries k v (without name more) key here later
 
-times_taken : (name : List ℕ) (entries : Entries) (x : ℕ) → times x (starts_at entries name) + times x (starts_of_entries (without name entries)) ≡ times x (starts_of_entries entries)
+times_taken : (name : List ℕ) (entries : Entries) (x : ℕ)
+    → times x (starts_at entries name) + times x (starts_of_entries (without name entries))
+    ≡ times x (starts_of_entries entries)
 unfolding without
 times_taken name [] x = refl
 times_taken name (e ∷ es) x = by_test (has_name name e) (times_taken name es x)
   where
-    by_test : (b : Bool) → times x (starts_at es name) + times x (starts_of_entries (without name es)) ≡ times x (starts_of_entries es)
-        → times x (starts_of (option_map (λ f. f.1) (cond b (Some e) (find (has_name name) es)))) + times x (starts_of_entries (cond b es (e ∷ without name es))) ≡ times x (starts_of_entries (e ∷ es))
+    by_test : (b : Bool)
+        → times x (starts_at es name) + times x (starts_of_entries (without name es)) ≡ times x (starts_of_entries es)
+        → times x (starts_of (option_map (λ f. f.1) (cond b (Some e) (find (has_name name) es)))) + times x
+        (starts_of_entries (cond b es (e ∷ without name es))) ≡ times x (starts_of_entries (e ∷ es))
     by_test true rest = sym (times-append x (starts_in e.1) (starts_of_entries es))
     by_test false rest =
-        omega (arith, rest, times-append x (starts_in e.1) (starts_of_entries es), times-append x (starts_in e.1) (starts_of_entries (without name es)))
+        omega (
+          arith,
+          rest,
+          times-append x (starts_in e.1) (starts_of_entries es),
+          times-append x (starts_in e.1)
+              (starts_of_entries (without name es)),
+        )
 
 -- ---- ranges of what is read
 
@@ -113,9 +138,11 @@ pub lie_append : (text : List ℕ) (xs ys : List Span) → Lie text xs → Lie t
 lie_append text [] ys one other = other
 lie_append text (x ∷ xs) ys one other = (one.0, lie_append text xs ys one.1 other)
 
-part_both : (xs ys : List Span) (ns ms : List ℕ) → IsPartOf (starts xs) ns → IsPartOf (starts ys) ms → IsPartOf (starts (xs ++ ys)) (ns ++ ms)
+part_both : (xs ys : List Span) (ns ms : List ℕ) → IsPartOf (starts xs) ns → IsPartOf (starts ys) ms
+    → IsPartOf (starts (xs ++ ys)) (ns ++ ms)
 part_both xs ys ns ms one other =
-    subst (λ zs. IsPartOf zs (ns ++ ms)) (sym (map-append (λ (span : Span). span.start) xs ys)) (parts_append (starts xs) (starts ys) ns ms one other)
+    subst (λ zs. IsPartOf zs (ns ++ ms)) (sym (map-append (λ (span : Span). span.start) xs ys))
+    (parts_append (starts xs) (starts ys) ns ms one other)
 
 pub key_at : (text : List ℕ) (v : Value) (spans : List Span) → Within text v spans → WithinKey text (Some v) spans
 key_at text v spans within = record { lie = within.lie; part = within.part }
@@ -123,18 +150,23 @@ key_at text v spans within = record { lie = within.lie; part = within.part }
 key_none : (text : List ℕ) (o : Option Value) → WithinKey text o []
 key_none text o = record { lie = λ _. tt; part = part_nothing (starts_of o) }
 
-pub optional_within : {T : Type 0} (text : List ℕ) (f : T → List Span) (Reads : Value → T → Type 0) → ((v : Value) (x : T) → Reads v x → Within text v (f x))
+pub optional_within : {T : Type 0} (text : List ℕ) (f : T → List Span) (Reads : Value → T → Type 0)
+    → ((v : Value) (x : T) → Reads v x → Within text v (f x))
     → (o : Option Value) (read : Option T) → ReadsIfThere Reads o read → WithinKey text o (of_some f read)
-optional_within text f Reads each None read reads = subst (λ r. WithinKey text None (of_some f r)) (sym reads) (key_none text None)
+optional_within text f Reads each None read reads =
+    subst (λ r. WithinKey text None (of_some f r)) (sym reads) (key_none text None)
 optional_within text f Reads each (Some v) None reads = absurd reads
 optional_within text f Reads each (Some v) (Some x) reads = key_at text v (f x) (each v x reads)
 
-pub or_within : {T : Type 0} (text : List ℕ) (f : T → List Span) (default : T) (Reads : Value → T → Type 0) → f default ≡ [] → ((v : Value) (x : T) → Reads v x → Within text v (f x))
+pub or_within : {T : Type 0} (text : List ℕ) (f : T → List Span) (default : T) (Reads : Value → T → Type 0)
+    → f default ≡ [] → ((v : Value) (x : T) → Reads v x → Within text v (f x))
     → (o : Option Value) (x : T) → ReadsOr default Reads o x → WithinKey text o (f x)
-or_within text f default Reads none each None x reads = subst (WithinKey text None) (sym none ∙ ap f (sym reads)) (key_none text None)
+or_within text f default Reads none each None x reads =
+    subst (WithinKey text None) (sym none ∙ ap f (sym reads)) (key_none text None)
 or_within text f default Reads none each (Some v) x reads = key_at text v (f x) (each v x reads)
 
-each_within : {T : Type 0} (text : List ℕ) (f : T → List Span) (Reads : Value → T → Type 0) → ((v : Value) (x : T) → Reads v x → Within text v (f x))
+each_within : {T : Type 0} (text : List ℕ) (f : T → List Span) (Reads : Value → T → Type 0)
+    → ((v : Value) (x : T) → Reads v x → Within text v (f x))
     → (vs : List Value) (xs : List T) → ReadsEach Reads vs xs → WithinEach text vs (flat_map f xs)
 each_within text f Reads each [] [] reads = record { lie = λ _. tt; part = part_nothing [] }
 each_within text f Reads each [] (x ∷ xs) reads = absurd reads
@@ -147,7 +179,8 @@ each_within text f Reads each (v ∷ vs) (x ∷ xs) reads =
       part = part_both (f x) (flat_map f xs) (starts_in v) (flat_map starts_in vs) first.part rest.part;
     }
 
-pub list_within : {T : Type 0} (text : List ℕ) (f : T → List Span) (Reads : Value → T → Type 0) → ((v : Value) (x : T) → Reads v x → Within text v (f x))
+pub list_within : {T : Type 0} (text : List ℕ) (f : T → List Span) (Reads : Value → T → Type 0)
+    → ((v : Value) (x : T) → Reads v x → Within text v (f x))
     → (v : Value) (xs : List T) → ReadsList Reads v xs → Within text v (flat_map f xs)
 list_within text f Reads each v xs reads = by_array (array_in v) refl reads
   where
@@ -160,7 +193,8 @@ list_within text f Reads each v xs reads = by_array (array_in v) refl reads
           part = subst (IsPartOf (starts (flat_map f xs))) (sym (starts_of_elements v vs is)) all.part;
         }
 
-pub table_within : {T : Type 0} (text : List ℕ) (spans : List Span) (Reads : Entries → T → Type 0) (x : T) → ((entries : Entries) → Reads entries x → WithinKeys text entries spans)
+pub table_within : {T : Type 0} (text : List ℕ) (spans : List Span) (Reads : Entries → T → Type 0) (x : T)
+    → ((entries : Entries) → Reads entries x → WithinKeys text entries spans)
     → (v : Value) → ReadsTable Reads v x → Within text v spans
 table_within text spans Reads x each v reads = by_table (table_in v) refl reads
   where
@@ -175,9 +209,12 @@ table_within text spans Reads x each v reads = by_table (table_in v) refl reads
 
 -- ---- the keys of a table
 
-pub put_key : (text name : List ℕ) (entries : Entries) (xs ys : List Span) → WithinKey text (value_at name entries) xs → WithinKeys text (without name entries) ys → WithinKeys text entries (xs ++ ys)
+pub put_key : (text name : List ℕ) (entries : Entries) (xs ys : List Span) → WithinKey text (value_at name entries) xs
+    → WithinKeys text (without name entries) ys → WithinKeys text entries (xs ++ ys)
 put_key text name entries xs ys first rest = record {
-  lie = λ stand. lie_append text xs ys (first.lie (at_stands text name entries stand)) (rest.lie (without_stands text name entries stand));
+  lie =
+      λ stand. lie_append text xs ys (first.lie (at_stands text name entries stand))
+      (rest.lie (without_stands text name entries stand));
   part = λ x.
       omega (
         arith,
@@ -189,37 +226,41 @@ put_key text name entries xs ys first rest = record {
       );
 }
 
-pub skip_key : (text name : List ℕ) (entries : Entries) (ys : List Span) → WithinKeys text (without name entries) ys → WithinKeys text entries ys
+pub skip_key : (text name : List ℕ) (entries : Entries) (ys : List Span) → WithinKeys text (without name entries) ys
+    → WithinKeys text entries ys
 skip_key text name entries ys rest = put_key text name entries [] ys (key_none text (value_at name entries)) rest
 
 pub no_keys : (text : List ℕ) (entries : Entries) → WithinKeys text entries []
 no_keys text entries = record { lie = λ stand. tt; part = part_nothing (starts_of_entries entries) }
 
-pub one_key : (text name : List ℕ) (entries : Entries) (xs : List Span) → WithinKey text (value_at name entries) xs → WithinKeys text entries xs
-one_key text name entries xs within = subst (WithinKeys text entries) (append-nil xs) (put_key text name entries xs [] within (no_keys text (without name entries)))
+pub one_key : (text name : List ℕ) (entries : Entries) (xs : List Span) → WithinKey text (value_at name entries) xs
+    → WithinKeys text entries xs
+one_key text name entries xs within =
+    subst (WithinKeys text entries) (append-nil xs)
+    (put_key text name entries xs [] within (no_keys text (without name entries)))
 
 pub no_entries_stand : (text : List ℕ) → EntriesStand text []
 no_entries_stand text = ranges.no_entries
 
-abbrev pub EachKey : List ℕ → Entries → List (List ℕ) → List (List Span) → Type 0
-EachKey text entries [] [] = Unit {0}
-EachKey text entries [] (xs ∷ xss) = ⊥
-EachKey text entries (n ∷ ns) [] = ⊥
-EachKey text entries (n ∷ ns) (xs ∷ xss) = WithinKey text (value_at n entries) xs × EachKey text entries ns xss
+-- what is read of each of these keys, in order, lies within what the table holds at it
+pub data EachKey (text : List ℕ) (entries : Entries) : List (List ℕ) → List (List Span) → Type 0 where
+  no_more : EachKey text entries [] []
+  ◌▸◌ : {n : List ℕ} {ns : List (List ℕ)} {xs : List Span} {xss : List (List Span)}
+      → WithinKey text (value_at n entries) xs → EachKey text entries ns xss → EachKey text entries (n ∷ ns) (xs ∷ xss)
 
-keys_lie : (text : List ℕ) (entries : Entries) (ns : List (List ℕ)) (xss : List (List Span)) → EachKey text entries ns xss → EntriesStand text entries → Lie text (joined xss)
-keys_lie text entries [] [] each stand = tt
-keys_lie text entries [] (xs ∷ xss) each stand = absurd each
-keys_lie text entries (n ∷ ns) [] each stand = absurd each
-keys_lie text entries (n ∷ ns) (xs ∷ xss) each stand =
-    lie_append text xs (joined xss) (each.0.lie (at_stands text n entries stand)) (keys_lie text entries ns xss each.1 stand)
+infixr 4 ◌▸◌
+keys_lie : (text : List ℕ) (entries : Entries) {ns : List (List ℕ)} {xss : List (List Span)}
+    → EachKey text entries ns xss → EntriesStand text entries → Lie text (joined xss)
+keys_lie text entries no_more stand = tt
+keys_lie text entries (◌▸◌ {n = n} {xs = xs} {xss = xss} first more) stand =
+    lie_append text xs (joined xss) (first.lie (at_stands text n entries stand)) (keys_lie text entries more stand)
 
-keys_part : (text : List ℕ) (entries : Entries) (ns : List (List ℕ)) (xss : List (List Span)) → EachKey text entries ns xss → IsPartOf (starts (joined xss)) (flat_map (starts_at entries) ns)
-keys_part text entries [] [] each = part_nothing []
-keys_part text entries [] (xs ∷ xss) each = absurd each
-keys_part text entries (n ∷ ns) [] each = absurd each
-keys_part text entries (n ∷ ns) (xs ∷ xss) each =
-    part_both xs (joined xss) (starts_at entries n) (flat_map (starts_at entries) ns) each.0.part (keys_part text entries ns xss each.1)
+keys_part : (text : List ℕ) (entries : Entries) {ns : List (List ℕ)} {xss : List (List Span)}
+    → EachKey text entries ns xss → IsPartOf (starts (joined xss)) (flat_map (starts_at entries) ns)
+keys_part text entries no_more = part_nothing []
+keys_part text entries (◌▸◌ {n = n} {ns = ns} {xs = xs} {xss = xss} first more) =
+    part_both xs (joined xss) (starts_at entries n) (flat_map (starts_at entries) ns) first.part
+    (keys_part text entries more)
 
 -- whether names differ
 abbrev pub is_new_name : List ℕ → List (List ℕ) → Bool
@@ -230,25 +271,24 @@ abbrev pub are_distinct : List (List ℕ) → Bool
 are_distinct [] = true
 are_distinct (n ∷ ns) = is_new_name n ns && are_distinct ns
 
-both_true : (a b : Bool) → a && b ≡ true → (a ≡ true) × (b ≡ true)
-both_true true b e = (refl, e)
-both_true false b e = cc
-
-not_false : (b : Bool) → not b ≡ true → b ≡ false
-not_false true e = cc
-not_false false e = refl
-
-new_name : (n : List ℕ) (ns : List (List ℕ)) → is_new_name n ns ≡ true → AllByRecursion (λ m. pointwise nat_eq n m ≡ false) ns
+new_name : (n : List ℕ) (ns : List (List ℕ)) → is_new_name n ns ≡ true
+    → AllByRecursion (λ m. pointwise nat_eq n m ≡ false) ns
 new_name n [] e = tt
-new_name n (m ∷ ns) e = let parts = both_true (not (pointwise nat_eq n m)) (is_new_name n ns) e in (not_false (pointwise nat_eq n m) parts.0, new_name n ns parts.1)
+new_name n (m ∷ ns) e =
+    let parts = and_parts (not (pointwise nat_eq n m)) (is_new_name n ns)
+    e in (not-true (pointwise nat_eq n m) parts.0, new_name n ns parts.1)
 
 distinct_names : (ns : List (List ℕ)) → are_distinct ns ≡ true → IsDistinct (pointwise nat_eq) ns
 unfolding IsDistinct
 distinct_names [] e = tt
-distinct_names (n ∷ ns) e = let parts = both_true (is_new_name n ns) (are_distinct ns) e in (new_name n ns parts.0, distinct_names ns parts.1)
+distinct_names (n ∷ ns) e =
+    let parts = and_parts (is_new_name n ns) (are_distinct ns) e in (new_name n ns parts.0, distinct_names ns parts.1)
 
-pub keys_within : (text : List ℕ) (entries : Entries) (ns : List (List ℕ)) (xss : List (List Span)) → are_distinct ns ≡ true → EachKey text entries ns xss → WithinKeys text entries (joined xss)
-keys_within text entries ns xss apart each = record {
-  lie = keys_lie text entries ns xss each;
-  part = part_of_part (starts (joined xss)) (flat_map (starts_at entries) ns) (starts_of_entries entries) (keys_part text entries ns xss each) (names_part ns entries (distinct_names ns apart));
+pub keys_within : (text : List ℕ) (entries : Entries) {ns : List (List ℕ)} {xss : List (List Span)}
+    → EachKey text entries ns xss → are_distinct ns ≡ true → WithinKeys text entries (joined xss)
+keys_within text entries {ns} {xss} each apart = record {
+  lie = keys_lie text entries each;
+  part =
+      part_of_part (starts (joined xss)) (flat_map (starts_at entries) ns) (starts_of_entries entries)
+      (keys_part text entries each) (names_part ns entries (distinct_names ns apart));
 }

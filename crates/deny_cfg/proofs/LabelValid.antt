@@ -13,11 +13,11 @@ use Rattle.deny_toml.specs.Ranges.{IsRange}
 use Rattle.deny_cfg.specs.Clashes.{is_ban}
 use Rattle.deny_cfg.specs.LabelRanges.{AreLabels, ban_ranges, config_labels, crate_ban_ranges, crate_feature_ranges, feature_ranges, joined, of_some, own_range, reason_range, root_ranges, spec_range, std_ranges, with_spec, word_labels, word_ranges}
 use Rattle.deny_cfg.specs.Valid.{IsValidOf, ban_of, features_of, is_multiple, krate_ban}
-use Rattle.deny_cfg.specs.declared.bans.cfg.ban.CrateBanExtended.{CrateBanExtended}
-use Rattle.deny_cfg.specs.declared.bans.cfg.config.Config.{Config}
-use Rattle.deny_cfg.specs.declared.bans.cfg.features.CrateFeatures.{CrateFeatures}
+use Rattle.deny_tables.specs.declared.bans.cfg.ban.CrateBanExtended.{CrateBanExtended}
+use Rattle.deny_tables.specs.declared.bans.cfg.config.Config.{Config}
+use Rattle.deny_tables.specs.declared.bans.cfg.features.CrateFeatures.{CrateFeatures}
 use Rattle.deny_cfg.specs.declared.bans.cfg.valid.ValidConfig.{ValidConfig}
-use Rattle.deny_cfg.specs.declared.spec_or_extended.PackageSpecOrExtended.{PackageSpecOrExtended}
+use Rattle.deny_entries.specs.declared.spec_or_extended.PackageSpecOrExtended.{PackageSpecOrExtended}
 use Rattle.deny_cfg.proofs.LabelConfig.{are_labels}
 use Rattle.deny_cfg.proofs.LabelLaws.{Lie, lie_append, starts}
 
@@ -33,15 +33,20 @@ among_same : (xs ys : List Span) → xs ≡ ys → Among xs ys
 among_same xs ys e = subst (Among xs) e (among_itself xs)
 
 among_then : (xs ys zs : List Span) → Among xs ys → Among ys zs → Among xs zs
-among_then xs ys zs one other = record { lie = λ text lie. one.lie text (other.lie text lie); part = part_of_part (starts xs) (starts ys) (starts zs) one.part other.part }
+among_then xs ys zs one other =
+    record {
+      lie = λ text lie. one.lie text (other.lie text lie);
+      part = part_of_part (starts xs) (starts ys)
+          (starts zs) one.part other.part;
+    }
 
-pub lie_front : (text : List ℕ) (xs ys : List Span) → Lie text (xs ++ ys) → Lie text xs
-lie_front text [] ys lie = tt
-lie_front text (x ∷ xs) ys lie = (lie.0, lie_front text xs ys lie.1)
+pub lie_prefix : (text : List ℕ) (xs ys : List Span) → Lie text (xs ++ ys) → Lie text xs
+lie_prefix text [] ys lie = tt
+lie_prefix text (x ∷ xs) ys lie = (lie.0, lie_prefix text xs ys lie.1)
 
-pub lie_back : (text : List ℕ) (xs ys : List Span) → Lie text (xs ++ ys) → Lie text ys
-lie_back text [] ys lie = lie
-lie_back text (x ∷ xs) ys lie = lie_back text xs ys lie.1
+pub lie_rest : (text : List ℕ) (xs ys : List Span) → Lie text (xs ++ ys) → Lie text ys
+lie_rest text [] ys lie = lie
+lie_rest text (x ∷ xs) ys lie = lie_rest text xs ys lie.1
 
 starts-append : (xs ys : List Span) → starts (xs ++ ys) ≡ starts xs ++ starts ys
 starts-append xs ys = map-append (λ (span : Span). span.start) xs ys
@@ -51,66 +56,100 @@ times_both xs ys x = ap (times x) (starts-append xs ys) ∙ times-append x (star
 
 pub among_both : (xs ys zs ws : List Span) → Among xs zs → Among ys ws → Among (xs ++ ys) (zs ++ ws)
 among_both xs ys zs ws one other = record {
-  lie = λ text lie. lie_append text xs ys (one.lie text (lie_front text zs ws lie)) (other.lie text (lie_back text zs ws lie));
+  lie =
+      λ text lie. lie_append text xs ys (one.lie text (lie_prefix text zs ws lie))
+      (other.lie text (lie_rest text zs ws lie));
   part = λ x. omega (arith, one.part x, other.part x, times_both xs ys x, times_both zs ws x);
 }
 
-among_back : (xs ys : List Span) → Among ys (xs ++ ys)
-among_back xs ys = record { lie = λ text lie. lie_back text xs ys lie; part = λ x. omega (arith, times_both xs ys x) }
+among_rest : (xs ys : List Span) → Among ys (xs ++ ys)
+among_rest xs ys = record { lie = λ text lie. lie_rest text xs ys lie; part = λ x. omega (arith, times_both xs ys x) }
 
 -- ---- bans without their flags, beside the other entries
 
 wrapper_words : (wrappers : Option (Spanned (List Words)))
-    → of_some word_ranges (option_map (λ (w : Spanned (List Words)). w.value) wrappers) ≡ of_some (λ (w : Spanned (List Words)). word_ranges w.value) wrappers
+    → of_some word_ranges (option_map (λ (w : Spanned (List Words)). w.value) wrappers)
+    ≡ of_some (λ (w : Spanned (List Words)). word_ranges w.value) wrappers
 wrapper_words None = refl
 wrapper_words (Some w) = refl
 
 said_among : (said : CrateBanExtended) → Among (ban_ranges (krate_ban said)) (crate_ban_ranges said)
 said_among said =
     let rest = of_some reason_range said.reason ++ (of_some own_range said.use_instead ++ []) in
-    among_both (of_some word_ranges (option_map (λ (w : Spanned (List Words)). w.value) said.wrappers)) rest (of_some (λ (w : Spanned (List Words)). word_ranges w.value) said.wrappers)
-    (of_some own_range said.deny_multiple_versions ++ rest) (among_same _ _ (wrapper_words said.wrappers)) (among_back (of_some own_range said.deny_multiple_versions) rest)
+    among_both (of_some word_ranges (option_map (λ (w : Spanned (List Words)). w.value) said.wrappers)) rest
+    (of_some (λ (w : Spanned (List Words)). word_ranges w.value) said.wrappers)
+    (of_some own_range said.deny_multiple_versions ++ rest) (among_same _ _ (wrapper_words said.wrappers))
+    (among_rest (of_some own_range said.deny_multiple_versions) rest)
 
-inner_among : (inner : Option CrateBanExtended) → Among (of_some ban_ranges (option_map krate_ban inner)) (of_some crate_ban_ranges inner)
+inner_among : (inner : Option CrateBanExtended)
+    → Among (of_some ban_ranges (option_map krate_ban inner)) (of_some crate_ban_ranges inner)
 inner_among None = among_itself []
 inner_among (Some said) = said_among said
 
-ban_among : (e : PackageSpecOrExtended CrateBanExtended) → Among (with_spec ban_ranges (ban_of e)) (with_spec crate_ban_ranges e)
-ban_among e = among_both (spec_range e.spec) (of_some ban_ranges (option_map krate_ban e.inner)) (spec_range e.spec) (of_some crate_ban_ranges e.inner) (among_itself (spec_range e.spec)) (inner_among e.inner)
+ban_among : (e : PackageSpecOrExtended CrateBanExtended)
+    → Among (with_spec ban_ranges (ban_of e)) (with_spec crate_ban_ranges e)
+ban_among e =
+    among_both (spec_range e.spec) (of_some ban_ranges (option_map krate_ban e.inner)) (spec_range e.spec)
+    (of_some crate_ban_ranges e.inner) (among_itself (spec_range e.spec)) (inner_among e.inner)
 
 spec_among : (e : PackageSpecOrExtended CrateBanExtended) → Among (spec_range e.spec) (with_spec crate_ban_ranges e)
-spec_among e = record { lie = λ text lie. (lie.0, tt); part = λ x. omega (arith, times_both (spec_range e.spec) (of_some crate_ban_ranges e.inner) x) }
+spec_among e =
+    record {
+      lie = λ text lie. (lie.0, tt);
+      part = λ x. omega
+          (arith, times_both (spec_range e.spec) (of_some crate_ban_ranges e.inner) x);
+    }
 
 abbrev banned : List (PackageSpecOrExtended CrateBanExtended) → List Span
 banned deny = flat_map (with_spec ban_ranges) (map ban_of (filter is_ban deny))
 
 abbrev several : List (PackageSpecOrExtended CrateBanExtended) → List Span
-several deny = flat_map spec_range (map (λ (e : PackageSpecOrExtended CrateBanExtended). e.spec) (filter is_multiple deny))
+several deny =
+    flat_map spec_range (map (λ (e : PackageSpecOrExtended CrateBanExtended). e.spec) (filter is_multiple deny))
 
 -- one more entry on either side
 among_first : (xs ns ms zs ws : List Span) → Among xs zs → Among (ns ++ ms) ws → Among ((xs ++ ns) ++ ms) (zs ++ ws)
-among_first xs ns ms zs ws one rest = subst (λ ys. Among ys (zs ++ ws)) (sym (append_assoc xs ns ms)) (among_both xs (ns ++ ms) zs ws one rest)
+among_first xs ns ms zs ws one rest =
+    subst (λ ys. Among ys (zs ++ ws)) (sym (append_assoc xs ns ms)) (among_both xs (ns ++ ms) zs ws one rest)
 
 among_second : (xs ns ms zs ws : List Span) → Among xs zs → Among (ns ++ ms) ws → Among (ns ++ (xs ++ ms)) (zs ++ ws)
 among_second xs ns ms zs ws one rest = record {
   lie = λ text lie.
-      let sides = rest.lie text (lie_back text zs ws lie) in
-      lie_append text ns (xs ++ ms) (lie_front text ns ms sides) (lie_append text xs ms (one.lie text (lie_front text zs ws lie)) (lie_back text ns ms sides));
-  part = λ x. omega (arith, one.part x, rest.part x, times_both ns (xs ++ ms) x, times_both xs ms x, times_both ns ms x, times_both zs ws x);
+      let sides = rest.lie text (lie_rest text zs ws lie) in
+      lie_append text ns (xs ++ ms) (lie_prefix text ns ms sides)
+      (lie_append text xs ms (one.lie text (lie_prefix text zs ws lie)) (lie_rest text ns ms sides));
+  part =
+      λ x. omega (
+        arith,
+        one.part x,
+        rest.part x,
+        times_both ns (xs ++ ms) x,
+        times_both xs ms x,
+        times_both ns ms x,
+        times_both zs ws x,
+      );
 }
 
-deny_among : (deny : List (PackageSpecOrExtended CrateBanExtended)) → Among (banned deny ++ several deny) (flat_map (with_spec crate_ban_ranges) deny)
+deny_among : (deny : List (PackageSpecOrExtended CrateBanExtended))
+    → Among (banned deny ++ several deny) (flat_map (with_spec crate_ban_ranges) deny)
 deny_among [] = among_itself []
 deny_among (e ∷ es) = by_test (is_ban e) (deny_among es)
   where
     by_test : (b : Bool) → Among (banned es ++ several es) (flat_map (with_spec crate_ban_ranges) es)
         → Among (flat_map (with_spec ban_ranges) (map ban_of (cond b (e ∷ filter is_ban es) (filter is_ban es)))
-        ++ flat_map spec_range (map (λ (f : PackageSpecOrExtended CrateBanExtended). f.spec) (cond (not b) (e ∷ filter is_multiple es) (filter is_multiple es))))
+        ++ flat_map spec_range
+        (map (λ (f : PackageSpecOrExtended CrateBanExtended). f.spec)
+        (cond (not b) (e ∷ filter is_multiple es) (filter is_multiple es))))
         (with_spec crate_ban_ranges e ++ flat_map (with_spec crate_ban_ranges) es)
-    by_test true rest = among_first (with_spec ban_ranges (ban_of e)) (banned es) (several es) (with_spec crate_ban_ranges e) (flat_map (with_spec crate_ban_ranges) es) (ban_among e) rest
-    by_test false rest = among_second (spec_range e.spec) (banned es) (several es) (with_spec crate_ban_ranges e) (flat_map (with_spec crate_ban_ranges) es) (spec_among e) rest
+    by_test true rest =
+        among_first (with_spec ban_ranges (ban_of e)) (banned es) (several es) (with_spec crate_ban_ranges e)
+        (flat_map (with_spec crate_ban_ranges) es) (ban_among e) rest
+    by_test false rest =
+        among_second (spec_range e.spec) (banned es) (several es) (with_spec crate_ban_ranges e)
+        (flat_map (with_spec crate_ban_ranges) es) (spec_among e) rest
 
-features_same : (fs : List CrateFeatures) → flat_map feature_ranges (map features_of fs) ≡ flat_map crate_feature_ranges fs
+features_same : (fs : List CrateFeatures)
+    → flat_map feature_ranges (map features_of fs) ≡ flat_map crate_feature_ranges fs
 features_same [] = refl
 features_same (f ∷ fs) = ap (λ spans. crate_feature_ranges f ++ spans) (features_same fs)
 
@@ -124,38 +163,56 @@ pub among_joined : (xss yss : List (List Span)) → AmongEach xss yss → Among 
 among_joined [] [] each = among_itself []
 among_joined [] (ys ∷ yss) each = absurd each
 among_joined (xs ∷ xss) [] each = absurd each
-among_joined (xs ∷ xss) (ys ∷ yss) each = among_both xs (joined xss) ys (joined yss) each.0 (among_joined xss yss each.1)
+among_joined (xs ∷ xss) (ys ∷ yss) each =
+    among_both xs (joined xss) ys (joined yss) each.0 (among_joined xss yss each.1)
 
-valid_among : (config : Config) (file : ℕ) (valid : ValidConfig) → IsValidOf config file valid → Among (word_labels valid) (config_labels config)
+valid_among : (config : Config) (file : ℕ) (valid : ValidConfig) → IsValidOf config file valid
+    → Among (word_labels valid) (config_labels config)
 unfolding word_labels config_labels
 valid_among config file valid is =
     let entries = flat_map (with_spec reason_range) in
     let deny = ap (flat_map (with_spec ban_ranges)) is.denied in
     let multiple = ap (flat_map spec_range) is.denied_multiple_versions in
     among_joined
-    ((flat_map (with_spec ban_ranges) valid.denied ++ flat_map spec_range valid.denied_multiple_versions) ∷ flat_map (with_spec reason_range) valid.allowed ∷ of_some own_range valid.external_default_features
-    ∷ of_some own_range valid.workspace_default_features ∷ flat_map feature_ranges valid.features ∷ flat_map (with_spec reason_range) valid.skipped ∷ flat_map (with_spec root_ranges) valid.tree_skipped
+    ((flat_map (with_spec ban_ranges) valid.denied ++ flat_map spec_range valid.denied_multiple_versions)
+    ∷ flat_map (with_spec reason_range) valid.allowed ∷ of_some own_range valid.external_default_features
+    ∷ of_some own_range valid.workspace_default_features ∷ flat_map feature_ranges valid.features
+    ∷ flat_map (with_spec reason_range) valid.skipped ∷ flat_map (with_spec root_ranges) valid.tree_skipped
     ∷ of_some std_ranges valid.std_replacements ∷ [])
-    (flat_map (with_spec crate_ban_ranges) config.deny ∷ flat_map (with_spec reason_range) config.allow ∷ of_some own_range config.external_default_features ∷ of_some own_range config.workspace_default_features
-    ∷ flat_map crate_feature_ranges config.features ∷ flat_map (with_spec reason_range) config.skip ∷ flat_map (with_spec root_ranges) config.skip_tree ∷ of_some std_ranges config.std_replacements ∷ []) (
+    (flat_map (with_spec crate_ban_ranges) config.deny ∷ flat_map (with_spec reason_range) config.allow
+    ∷ of_some own_range config.external_default_features ∷ of_some own_range config.workspace_default_features
+    ∷ flat_map crate_feature_ranges config.features ∷ flat_map (with_spec reason_range) config.skip
+    ∷ flat_map (with_spec root_ranges) config.skip_tree ∷ of_some std_ranges config.std_replacements ∷ []) (
       among_then _ (banned config.deny ++ several config.deny) _
-          (among_same (flat_map (with_spec ban_ranges) valid.denied ++ flat_map spec_range valid.denied_multiple_versions) (banned config.deny ++ several config.deny)
-          (ap (λ xs. xs ++ flat_map spec_range valid.denied_multiple_versions) deny ∙ ap (λ xs. banned config.deny ++ xs) multiple))
+          (among_same (flat_map (with_spec ban_ranges) valid.denied
+          ++ flat_map spec_range valid.denied_multiple_versions) (banned config.deny ++ several config.deny)
+          (ap (λ xs. xs ++ flat_map spec_range valid.denied_multiple_versions) deny
+          ∙ ap (λ xs. banned config.deny ++ xs) multiple))
           (deny_among config.deny),
       (
-        among_same (flat_map (with_spec reason_range) valid.allowed) (flat_map (with_spec reason_range) config.allow) (ap (flat_map (with_spec reason_range)) is.allowed),
+        among_same (flat_map (with_spec reason_range) valid.allowed) (flat_map (with_spec reason_range) config.allow)
+            (ap (flat_map (with_spec reason_range)) is.allowed),
         (
-          among_same (of_some own_range valid.external_default_features) (of_some own_range config.external_default_features) (ap (of_some own_range) is.external_default_features),
+          among_same (of_some own_range valid.external_default_features)
+              (of_some own_range config.external_default_features)
+              (ap (of_some own_range) is.external_default_features),
           (
-            among_same (of_some own_range valid.workspace_default_features) (of_some own_range config.workspace_default_features) (ap (of_some own_range) is.workspace_default_features),
+            among_same (of_some own_range valid.workspace_default_features)
+                (of_some own_range config.workspace_default_features)
+                (ap (of_some own_range) is.workspace_default_features),
             (
-              among_same (flat_map feature_ranges valid.features) (flat_map crate_feature_ranges config.features) (ap (flat_map feature_ranges) is.features ∙ features_same config.features),
+              among_same (flat_map feature_ranges valid.features) (flat_map crate_feature_ranges config.features)
+                  (ap (flat_map feature_ranges) is.features ∙ features_same config.features),
               (
-                among_same (flat_map (with_spec reason_range) valid.skipped) (flat_map (with_spec reason_range) config.skip) (ap (flat_map (with_spec reason_range)) is.skipped),
+                among_same (flat_map (with_spec reason_range) valid.skipped)
+                    (flat_map (with_spec reason_range) config.skip) (ap (flat_map (with_spec reason_range)) is.skipped),
                 (
-                  among_same (flat_map (with_spec root_ranges) valid.tree_skipped) (flat_map (with_spec root_ranges) config.skip_tree) (ap (flat_map (with_spec root_ranges)) is.tree_skipped),
+                  among_same (flat_map (with_spec root_ranges) valid.tree_skipped)
+                      (flat_map (with_spec root_ranges) config.skip_tree)
+                      (ap (flat_map (with_spec root_ranges)) is.tree_skipped),
                   (
-                    among_same (of_some std_ranges valid.std_replacements) (of_some std_ranges config.std_replacements) (ap (of_some std_ranges) is.std_replacements),
+                    among_same (of_some std_ranges valid.std_replacements) (of_some std_ranges config.std_replacements)
+                        (ap (of_some std_ranges) is.std_replacements),
                     (
                         tt),
                   ),
@@ -167,16 +224,21 @@ valid_among config file valid is =
       ),
     )
 
-distinct_starts : (spans : List Span) → AllPairs (λ one other. one.start ≢ other.start) spans → AreDistinct (starts spans)
+distinct_starts : (spans : List Span) → AllPairs (λ one other. one.start ≢ other.start) spans
+    → AreDistinct (starts spans)
 distinct_starts spans apart = λ i j d below within same.
     let default : Span = record { start = d; end = d } in
     let inside : j < length spans = omega (arith, within, length-map spans (λ (span : Span). span.start)) in
     apart i j default below inside
-    (sym (get_or-map (λ (span : Span). span.start) spans i default d (omega (arith, below, inside))) ∙ (same ∙ get_or-map (λ (span : Span). span.start) spans j default d inside))
+    (sym (get_or-map (λ (span : Span). span.start) spans i default d (omega (arith, below, inside)))
+    ∙ (same ∙ get_or-map (λ (span : Span). span.start) spans j default d inside))
 
 pub labels_among : (text : List ℕ) (xs ys : List Span) → Among xs ys → AreLabels text ys → AreLabels text xs
 labels_among text xs ys among labels =
-    are_labels text xs (starts ys) (among.lie text (recursion_from_All (IsRange text) ys labels.placed)) among.part (distinct_starts ys labels.apart)
+    are_labels text xs (starts ys) (among.lie text (recursion_from_All (IsRange text) ys labels.placed)) among.part
+    (distinct_starts ys labels.apart)
 
-pub valid_are_labels : (text : List ℕ) (config : Config) (file : ℕ) (valid : ValidConfig) → IsValidOf config file valid → AreLabels text (config_labels config) → AreLabels text (word_labels valid)
-valid_are_labels text config file valid is labels = labels_among text (word_labels valid) (config_labels config) (valid_among config file valid is) labels
+pub valid_are_labels : (text : List ℕ) (config : Config) (file : ℕ) (valid : ValidConfig) → IsValidOf config file valid
+    → AreLabels text (config_labels config) → AreLabels text (word_labels valid)
+valid_are_labels text config file valid is labels =
+    labels_among text (word_labels valid) (config_labels config) (valid_among config file valid is) labels

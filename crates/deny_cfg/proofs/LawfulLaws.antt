@@ -7,29 +7,39 @@ use Rattle.deny_cfg.specs.Lawful.{IsLawful, entry_spans, no_range, wrapper_range
 use Rattle.deny_cfg.specs.declared.bans.cfg.valid.KrateBan.{KrateBan}
 use Rattle.deny_cfg.specs.declared.bans.cfg.valid.ValidConfig.{ValidConfig}
 use Rattle.deny_cfg.specs.declared.bans.cfg.valid.ValidKrateFeatures.{ValidKrateFeatures}
-use Rattle.deny_cfg.specs.declared.reason.Reason.{Reason}
-use Rattle.deny_cfg.specs.declared.spec_or_extended.PackageSpecOrExtended.{PackageSpecOrExtended}
-use Rattle.deny_cfg.proofs.LabelValid.{Among, among_both, among_itself, among_joined, labels_among, lie_front, times_both}
+use Rattle.deny_entries.specs.declared.reason.Reason.{Reason}
+use Rattle.deny_entries.specs.declared.spec_or_extended.PackageSpecOrExtended.{PackageSpecOrExtended}
+use Rattle.deny_cfg.proofs.LabelValid.{Among, among_both, among_itself, among_joined, labels_among, lie_prefix, times_both}
 
-among_front : (xs ys : List Span) → Among xs (xs ++ ys)
-among_front xs ys = record { lie = λ text lie. lie_front text xs ys lie; part = λ x. omega (arith, times_both xs ys x) }
+among_prefix : (xs ys : List Span) → Among xs (xs ++ ys)
+among_prefix xs ys = record {
+  lie = λ text lie. lie_prefix text xs ys lie;
+  part = λ x. omega (arith, times_both xs ys x);
+}
 
-among_flat : {T : Type 0} (f g : T → List Span) → ((x : T) → Among (f x) (g x)) → (xs : List T) → Among (flat_map f xs) (flat_map g xs)
+among_flat : {T : Type 0} (f g : T → List Span) → ((x : T) → Among (f x) (g x)) → (xs : List T)
+    → Among (flat_map f xs) (flat_map g xs)
 among_flat f g each [] = among_itself []
 among_flat f g each (x ∷ xs) = among_both (f x) (flat_map f xs) (g x) (flat_map g xs) (each x) (among_flat f g each xs)
 
-among_some : {T : Type 0} (f g : T → List Span) → ((x : T) → Among (f x) (g x)) → (o : Option T) → Among (of_some f o) (of_some g o)
+among_some : {T : Type 0} (f g : T → List Span) → ((x : T) → Among (f x) (g x)) → (o : Option T)
+    → Among (of_some f o) (of_some g o)
 among_some f g each None = among_itself []
 among_some f g each (Some x) = each x
 
-among_entry : {T : Type 0} (f g : T → List Span) → ((x : T) → Among (f x) (g x)) → (e : PackageSpecOrExtended T) → Among (with_spec f e) (with_spec g e)
-among_entry f g each e = among_both (spec_range e.spec) (of_some f e.inner) (spec_range e.spec) (of_some g e.inner) (among_itself (spec_range e.spec)) (among_some f g each e.inner)
+among_entry : {T : Type 0} (f g : T → List Span) → ((x : T) → Among (f x) (g x)) → (e : PackageSpecOrExtended T)
+    → Among (with_spec f e) (with_spec g e)
+among_entry f g each e =
+    among_both (spec_range e.spec) (of_some f e.inner) (spec_range e.spec) (of_some g e.inner)
+    (among_itself (spec_range e.spec)) (among_some f g each e.inner)
 
 none_among : {T : Type 0} (g : T → List Span) (x : T) → Among (no_range x) (g x)
-none_among g x = among_front [] (g x)
+none_among g x = among_prefix [] (g x)
 
 wrappers_among : (ban : KrateBan) → Among (wrapper_ranges ban) (ban_ranges ban)
-wrappers_among ban = among_front (of_some word_ranges ban.wrappers) (of_some reason_range ban.reason ++ (of_some own_range ban.use_instead ++ []))
+wrappers_among ban =
+    among_prefix (of_some word_ranges ban.wrappers)
+    (of_some reason_range ban.reason ++ (of_some own_range ban.use_instead ++ []))
 
 feature_among : (f : ValidKrateFeatures) → Among (feature_ranges_by no_range f) (feature_ranges f)
 feature_among f =
@@ -37,27 +47,38 @@ feature_among f =
     let deny = word_ranges f.features.deny in
     let nothing = of_some no_range f.reason ++ [] in
     let reason = of_some reason_range f.reason ++ [] in
-    among_both (spec_range f.spec) (allow ++ (deny ++ nothing)) (spec_range f.spec) (allow ++ (deny ++ reason)) (among_itself (spec_range f.spec))
+    among_both (spec_range f.spec) (allow ++ (deny ++ nothing)) (spec_range f.spec) (allow ++ (deny ++ reason))
+    (among_itself (spec_range f.spec))
     (among_both allow (deny ++ nothing) allow (deny ++ reason) (among_itself allow)
     (among_both deny nothing deny reason (among_itself deny)
-    (among_both (of_some no_range f.reason) [] (of_some reason_range f.reason) [] (among_some no_range reason_range (none_among reason_range) f.reason) (among_itself []))))
+    (among_both (of_some no_range f.reason) [] (of_some reason_range f.reason) []
+    (among_some no_range reason_range (none_among reason_range) f.reason) (among_itself []))))
 
-reasons_among : (es : List (PackageSpecOrExtended Reason)) → Among (flat_map (with_spec no_range) es) (flat_map (with_spec reason_range) es)
-reasons_among = among_flat (with_spec no_range) (with_spec reason_range) (among_entry no_range reason_range (none_among reason_range))
+reasons_among : (es : List (PackageSpecOrExtended Reason))
+    → Among (flat_map (with_spec no_range) es) (flat_map (with_spec reason_range) es)
+reasons_among =
+    among_flat (with_spec no_range) (with_spec reason_range)
+    (among_entry no_range reason_range (none_among reason_range))
 
 entries_among : (valid : ValidConfig) → Among (entry_spans valid) (word_labels valid)
 unfolding entry_spans word_labels
 entries_among valid =
     let several = flat_map spec_range valid.denied_multiple_versions in
     among_joined
-    ((flat_map (with_spec wrapper_ranges) valid.denied ++ several) ∷ flat_map (with_spec no_range) valid.allowed ∷ of_some own_range valid.external_default_features
-    ∷ of_some own_range valid.workspace_default_features ∷ flat_map (feature_ranges_by no_range) valid.features ∷ flat_map (with_spec no_range) valid.skipped
+    ((flat_map (with_spec wrapper_ranges) valid.denied ++ several) ∷ flat_map (with_spec no_range) valid.allowed
+    ∷ of_some own_range valid.external_default_features
+    ∷ of_some own_range valid.workspace_default_features ∷ flat_map (feature_ranges_by no_range) valid.features
+    ∷ flat_map (with_spec no_range) valid.skipped
     ∷ flat_map (with_spec no_range) valid.tree_skipped ∷ of_some (std_ranges_by no_range) valid.std_replacements ∷ [])
-    ((flat_map (with_spec ban_ranges) valid.denied ++ several) ∷ flat_map (with_spec reason_range) valid.allowed ∷ of_some own_range valid.external_default_features
-    ∷ of_some own_range valid.workspace_default_features ∷ flat_map feature_ranges valid.features ∷ flat_map (with_spec reason_range) valid.skipped ∷ flat_map (with_spec root_ranges) valid.tree_skipped
+    ((flat_map (with_spec ban_ranges) valid.denied ++ several) ∷ flat_map (with_spec reason_range) valid.allowed
+    ∷ of_some own_range valid.external_default_features
+    ∷ of_some own_range valid.workspace_default_features ∷ flat_map feature_ranges valid.features
+    ∷ flat_map (with_spec reason_range) valid.skipped ∷ flat_map (with_spec root_ranges) valid.tree_skipped
     ∷ of_some std_ranges valid.std_replacements ∷ []) (
-      among_both (flat_map (with_spec wrapper_ranges) valid.denied) several (flat_map (with_spec ban_ranges) valid.denied) several
-          (among_flat (with_spec wrapper_ranges) (with_spec ban_ranges) (among_entry wrapper_ranges ban_ranges wrappers_among) valid.denied)
+      among_both (flat_map (with_spec wrapper_ranges) valid.denied) several
+          (flat_map (with_spec ban_ranges) valid.denied) several
+          (among_flat (with_spec wrapper_ranges) (with_spec ban_ranges)
+          (among_entry wrapper_ranges ban_ranges wrappers_among) valid.denied)
           (among_itself several),
       (
         reasons_among valid.allowed,
@@ -70,9 +91,11 @@ entries_among valid =
               (
                 reasons_among valid.skipped,
                 (
-                  among_flat (with_spec no_range) (with_spec root_ranges) (among_entry no_range root_ranges (none_among root_ranges)) valid.tree_skipped,
+                  among_flat (with_spec no_range) (with_spec root_ranges)
+                      (among_entry no_range root_ranges (none_among root_ranges)) valid.tree_skipped,
                   (
-                    among_some (std_ranges_by no_range) std_ranges (λ std. reasons_among std.ignore) valid.std_replacements,
+                    among_some (std_ranges_by no_range) std_ranges (λ std. reasons_among std.ignore)
+                        valid.std_replacements,
                     (
                         tt),
                   ),

@@ -8,12 +8,5 @@ pub mod LabelReads
 pub mod PolicyLaws
 pub mod FirstPlacesLaws
 pub mod ClashLaws
-pub mod UnknownLaws
-pub mod TableLaws
-pub mod ChecksumLaws
-pub mod SpecLaws
-pub mod AlikeLaws
-pub mod ReadsLaws
-pub mod ConfigLaws
 pub mod ViewLaws
 pub mod OnePolicyLaws

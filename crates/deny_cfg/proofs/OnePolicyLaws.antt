@@ -1,11 +1,12 @@
 -- What a text says as a policy is one, and so is why it says none.
 use Rattle.std.proofs.Common.{◌≡◌, ◌⊎◌, inl, inr, ℕ, List, [], ◌∷◌, map, refl, sym, ap, subst, arith, ◌∙◌}
-use Rattle.std.specs.Prelude.{Contains}
+use Rattle.std.specs.Prelude.{Contains, None, Some}
 use Rattle.std.specs.Cmp.{IsTotalOrder, nat_cmp_total, on_total, then_total}
-use Rattle.deny_base.specs.Ascending.{Lists}
+use Rattle.deny_lists.specs.Ascending.{Lists}
 use Rattle.deny_base.specs.declared.finding.Diagnostic.{Diagnostic}
 use Rattle.deny_base.specs.declared.span.Span.{Span}
-use Rattle.deny_base.proofs.AscendingLemmas.{Contains-first, one_list}
+use Rattle.deny_lists.proofs.Members.{Contains-first}
+use Rattle.deny_lists.proofs.Sorted.{one_list}
 use Rattle.deny_base.proofs.KeyEqual.{span_cmp-total}
 use Rattle.deny_toml.specs.Calls.{below_name}
 use Rattle.deny_toml.specs.Clash.{clash}
@@ -16,15 +17,17 @@ use Rattle.deny_toml.specs.declared.error.ConfigFault.{ConfigFault}
 use Rattle.deny_toml.specs.declared.error.FaultKind.TheVariants.{Grammar}
 use Rattle.deny_toml.specs.declared.error.TomlKind.{TomlKind}
 use Rattle.deny_toml.specs.declared.error.TomlKind.TheVariants as toml
-use Rattle.deny_toml.specs.declared.expression.Expression.{Expression}
+use Rattle.deny_toml.specs.Expression.{Expression}
 use Rattle.deny_toml.specs.declared.value.Value.{Value}
 use Rattle.deny_cfg.specs.Clashes.{clash_cmp, clash_told, clashes_in, kind_number}
 use Rattle.deny_cfg.specs.PolicyText.{AreFaults, IsPolicyOf, ListsFaults, ReadsBans, Says, TellsClashes, bans_name, faults_of_tree, kind_of, writes_unbuilt}
 use Rattle.deny_cfg.specs.PolicyView.{policy_view}
-use Rattle.deny_cfg.specs.declared.bans.cfg.config.Config.{Config}
+use Rattle.deny_tables.specs.declared.bans.cfg.config.Config.{Config}
 use Rattle.deny_cfg.specs.declared.clash.Clash.{Clash}
 use Rattle.deny_cfg.specs.declared.policy.Policy.{Policy}
-use Rattle.deny_cfg.proofs.ConfigLaws.{ConfigsAlike, bans_alike}
+use Rattle.deny_entries.proofs.ReadsLaws.{ReadsAlike, alike_table}
+use Rattle.deny_tables.proofs.ConfigLaws.{ConfigsAlike, configs_alike}
+use Rattle.deny_tables.specs.Config.{ReadsConfig}
 use Rattle.deny_cfg.proofs.ViewLaws.{same_clashes, same_view}
 
 -- what a text writes is one, and so is its tree
@@ -34,16 +37,25 @@ one_document text es fs one two = two.only es one.written
 one_tree : (text : List ℕ) (v w : Value) → IsTreeOf text v → IsTreeOf text w → v ≡ w
 one_tree text v w one two = one.3 ∙ ap (tree (whole text)) (one_document text one.0 two.0 one.1 two.1) ∙ sym two.3
 
+bans_alike : ReadsAlike ReadsBans ConfigsAlike
+bans_alike None a b one two = configs_alike [] a b one two
+bans_alike (Some v) a b one two = alike_table ReadsConfig ConfigsAlike configs_alike v a b one two
+
 pub says_alike : (text : List ℕ) (a b : Config) → Says text a → Says text b → ConfigsAlike a b
 says_alike text a b one two =
     bans_alike (below_name bans_name one.tree) a b one.reads
-    (subst (λ v. ReadsBans (below_name bans_name v) b) (one_tree text two.tree one.tree two.is_tree one.is_tree) two.reads)
+    (subst (λ v. ReadsBans (below_name bans_name v) b) (one_tree text two.tree one.tree two.is_tree one.is_tree)
+    two.reads)
 
 pub same_policy : (text : List ℕ) (file : ℕ) (a b : Policy) → IsPolicyOf text file a → IsPolicyOf text file b
     → (policy_view a.bans ≡ policy_view b.bans) × (a.not_built ≡ b.not_built)
 same_policy text file a b one two = (
-  same_view one.config two.config file file a.bans b.bans (says_alike text one.config two.config one.says.says two.says.says) one.valid two.valid,
-  one.says.unbuilt_is ∙ ap writes_unbuilt (one_tree text one.says.says.tree two.says.says.tree one.says.says.is_tree two.says.says.is_tree) ∙ sym two.says.unbuilt_is,
+  same_view one.config two.config file file a.bans b.bans
+      (says_alike text one.config two.config one.says.says two.says.says) one.valid two.valid,
+  one.says.unbuilt_is
+      ∙ ap writes_unbuilt
+      (one_tree text one.says.says.tree two.says.says.tree one.says.says.is_tree two.says.says.is_tree)
+      ∙ sym two.says.unbuilt_is,
 )
 
 -- the one fault of a text outside the grammar
@@ -57,10 +69,12 @@ AreOne xs ys = (xs ≡ ys) ⊎ (IsGrammarFault xs × IsGrammarFault ys)
 no_toml_fault : (text : List ℕ) (of : TomlKind) (span : Span) (v : Value) → IsFaultOf text of span → IsTreeOf text v → ⊥
 no_toml_fault text toml.Grammar span v outside is_tree = outside is_tree.0 is_tree.1.written
 no_toml_fault text toml.Clash span v clashes is_tree =
-    let found : clash clashes.0 ≡ clash is_tree.0 = ap clash (one_document text clashes.0 is_tree.0 clashes.1 is_tree.1) in
+    let found : clash clashes.0 ≡ clash is_tree.0 =
+    ap clash (one_document text clashes.0 is_tree.0 clashes.1 is_tree.1) in
     cc (found, clashes.2, is_tree.2)
 
-one_toml_fault : (text : List ℕ) (of too : TomlKind) (span place : Span) → IsFaultOf text of span → IsFaultOf text too place
+one_toml_fault : (text : List ℕ) (of too : TomlKind) (span place : Span) → IsFaultOf text of span
+    → IsFaultOf text too place
     → AreOne (fault_at (kind_of of) [] span ∷ []) (fault_at (kind_of too) [] place ∷ [])
 one_toml_fault text toml.Grammar toml.Grammar span place one two = inr ((span, refl), (place, refl))
 one_toml_fault text toml.Grammar toml.Clash span place one two = absurd (one two.0 two.1.written)
@@ -75,11 +89,15 @@ one_faults text xs ys (AreFaults.not_utf8 other) (AreFaults.not_utf8 too) = inl 
 one_faults text xs ys (AreFaults.not_utf8 other) (AreFaults.no_toml of span utf8 fault range) = absurd (other utf8)
 one_faults text xs ys (AreFaults.not_utf8 other) (AreFaults.of_tree v utf8 is_tree) = absurd (other utf8)
 one_faults text xs ys (AreFaults.no_toml of span utf8 fault range) (AreFaults.not_utf8 other) = absurd (other utf8)
-one_faults text xs ys (AreFaults.no_toml of span utf8 fault range) (AreFaults.no_toml too place also found within) = one_toml_fault text of too span place fault found
-one_faults text xs ys (AreFaults.no_toml of span utf8 fault range) (AreFaults.of_tree v also is_tree) = absurd (no_toml_fault text of span v fault is_tree)
+one_faults text xs ys (AreFaults.no_toml of span utf8 fault range) (AreFaults.no_toml too place also found within) =
+    one_toml_fault text of too span place fault found
+one_faults text xs ys (AreFaults.no_toml of span utf8 fault range) (AreFaults.of_tree v also is_tree) =
+    absurd (no_toml_fault text of span v fault is_tree)
 one_faults text xs ys (AreFaults.of_tree v utf8 is_tree) (AreFaults.not_utf8 other) = absurd (other utf8)
-one_faults text xs ys (AreFaults.of_tree v utf8 is_tree) (AreFaults.no_toml of span also fault range) = absurd (no_toml_fault text of span v fault is_tree)
-one_faults text xs ys (AreFaults.of_tree v utf8 is_tree) (AreFaults.of_tree w also is_too) = inl (ap faults_of_tree (one_tree text v w is_tree is_too))
+one_faults text xs ys (AreFaults.of_tree v utf8 is_tree) (AreFaults.no_toml of span also fault range) =
+    absurd (no_toml_fault text of span v fault is_tree)
+one_faults text xs ys (AreFaults.of_tree v utf8 is_tree) (AreFaults.of_tree w also is_too) =
+    inl (ap faults_of_tree (one_tree text v w is_tree is_too))
 
 pub same_faults : (text : List ℕ) (xs ys : List ConfigFault) → ListsFaults text xs → ListsFaults text ys → AreOne xs ys
 same_faults text xs ys one two = one_faults text xs ys one.are two.are
@@ -87,10 +105,13 @@ same_faults text xs ys one two = one_faults text xs ys one.are two.are
 -- a text that says something has no fault
 no_faults : (text : List ℕ) (config : Config) (xs : List ConfigFault) → Says text config → AreFaults text xs → xs ≡ []
 no_faults text config xs says (AreFaults.not_utf8 other) = absurd (other says.utf8)
-no_faults text config xs says (AreFaults.no_toml of span utf8 fault range) = absurd (no_toml_fault text of span says.tree fault says.is_tree)
-no_faults text config xs says (AreFaults.of_tree v utf8 is_tree) = ap faults_of_tree (one_tree text v says.tree is_tree says.is_tree) ∙ says.faultless
+no_faults text config xs says (AreFaults.no_toml of span utf8 fault range) =
+    absurd (no_toml_fault text of span says.tree fault says.is_tree)
+no_faults text config xs says (AreFaults.of_tree v utf8 is_tree) =
+    ap faults_of_tree (one_tree text v says.tree is_tree says.is_tree) ∙ says.faultless
 
-pub says_without_faults : (text : List ℕ) (config : Config) (faults : List ConfigFault) → Says text config → ListsFaults text faults → ⊥
+pub says_without_faults : (text : List ℕ) (config : Config) (faults : List ConfigFault) → Says text config
+    → ListsFaults text faults → ⊥
 says_without_faults text config faults says lists = lists.some (no_faults text config faults says lists.are)
 
 -- what clashes in a text is one, and told one way
@@ -99,13 +120,16 @@ clash_cmp-total =
     then_total (on_total (λ (c : Clash). c.kind) (on_total kind_number nat_cmp_total))
     (then_total (on_total (λ (c : Clash). c.first) span_cmp-total)
     (then_total (on_total (λ (c : Clash). c.second) span_cmp-total)
-    (then_total (on_total (λ (c : Clash). c.third) span_cmp-total) (on_total (λ (c : Clash). c.wrappers) nat_cmp_total))))
+    (then_total (on_total (λ (c : Clash). c.third) span_cmp-total)
+    (on_total (λ (c : Clash). c.wrappers) nat_cmp_total))))
 
-pub same_told : (text : List ℕ) (file : ℕ) (xs ys : List Diagnostic) → TellsClashes text file xs → TellsClashes text file ys → xs ≡ ys
+pub same_told : (text : List ℕ) (file : ℕ) (xs ys : List Diagnostic) → TellsClashes text file xs
+    → TellsClashes text file ys → xs ≡ ys
 same_told text file xs ys one two =
     let clashes = same_clashes two.config one.config (says_alike text two.config one.config two.says one.says) in
     let listed = subst (λ found. Lists clash_cmp (Contains found) two.are.clashes) clashes two.are.listed in
-    one.are.is ∙ ap (map (clash_told file)) (one_list clash_cmp-total one.are.clashes two.are.clashes one.are.listed listed) ∙ sym two.are.is
+    one.are.is ∙ ap (map (clash_told file))
+    (one_list clash_cmp-total one.are.clashes two.are.clashes one.are.listed listed) ∙ sym two.are.is
 
 none_listed : (clashes found : List Clash) → found ≡ [] → Lists clash_cmp (Contains found) clashes → clashes ≡ []
 none_listed [] found none listed = refl
@@ -113,7 +137,11 @@ none_listed (c ∷ clashes) found none listed =
     let is : Contains [] c = subst (λ xs. Contains xs c) none (listed.sound c (Contains-first c clashes)) in
     absurd (omega (arith, is.1))
 
-pub policy_without_clashes : (text : List ℕ) (file number : ℕ) (told : List Diagnostic) (policy : Policy) → TellsClashes text file told → IsPolicyOf text number policy → ⊥
+pub policy_without_clashes : (text : List ℕ) (file number : ℕ) (told : List Diagnostic) (policy : Policy)
+    → TellsClashes text file told → IsPolicyOf text number policy → ⊥
 policy_without_clashes text file number told policy tells is =
-    let none = same_clashes tells.config is.config (says_alike text tells.config is.config tells.says is.says.says) ∙ is.no_clash in
-    tells.some (tells.are.is ∙ ap (map (clash_told file)) (none_listed tells.are.clashes (clashes_in tells.config) none tells.are.listed))
+    let none =
+    same_clashes tells.config is.config (says_alike text tells.config is.config tells.says is.says.says)
+    ∙ is.no_clash in
+    tells.some (tells.are.is
+    ∙ ap (map (clash_told file)) (none_listed tells.are.clashes (clashes_in tells.config) none tells.are.listed))

@@ -1,10 +1,11 @@
 -- The labels of what clashes lie in the text.
+use Rattle.deny_lists.proofs.Each.{all_append, all_filter, all_flat, all_found, all_given, all_mapped, all_weaker}
 use Rattle.std.proofs.Common.{◌≡◌, ◌++◌, ℕ, Bool, true, false, cond, List, [], ◌∷◌, length, map, Contains, Option, Some, None, refl, sym, subst, arith}
 use Rattle.std.specs.Prelude.{All, IfSome, IsUtf8, filter, filter_map, find, option_and_then, option_map}
 use Rattle.std.specs.List.{AllByRecursion, cons_option, flat_map}
 use Rattle.std.proofs.lemmas.List.Elements.{All-from_recursion, recursion_from_All}
 use Rattle.std.proofs.lemmas.Str.{IsCharBoundary-start}
-use Rattle.deny_base.proofs.AscendingLemmas.{Contains-first, Contains-rest, at_member}
+use Rattle.deny_lists.proofs.Members.{Contains-first, Contains-rest, at_member}
 use Rattle.deny_base.specs.declared.finding.Diagnostic.{Diagnostic}
 use Rattle.deny_base.specs.declared.span.Span.{Span}
 use Rattle.deny_base.specs.declared.span.Spanned.{Spanned}
@@ -17,193 +18,217 @@ use Rattle.deny_toml.specs.Ranges.{IsRange, StandsIn}
 use Rattle.deny_toml.specs.Value.{entries_in}
 use Rattle.deny_toml.specs.declared.value.Table.{Table}
 use Rattle.deny_toml.specs.declared.value.Value.{Value}
-use Rattle.deny_cfg.specs.Bans.{ReadsBan, ReadsBanEntry, ban_fields}
+use Rattle.deny_tables.specs.Bans.{ReadsBan, ReadsBanEntry, ban_fields}
 use Rattle.deny_cfg.specs.Clashes.{AreClashes, banned_specs, clash_labels, clash_told, clash_with, clashes_in, feature_clash, feature_clashes, is_ban, specs_of, wrappers_clash, wrappers_clash_by}
-use Rattle.deny_cfg.specs.Config.{ReadsConfig}
-use Rattle.deny_cfg.specs.Entry.{ReadsEntryBy, ReadsPair, ReadsSome}
+use Rattle.deny_tables.specs.Config.{ReadsConfig}
+use Rattle.deny_entries.specs.Entry.{ReadsEntryBy, ReadsPair, ReadsSome}
 use Rattle.deny_cfg.specs.LabelRanges.{AreLabels, config_labels, crate_ban_ranges, crate_feature_ranges, list_ranges, of_some, own_range, reason_range, told_ranges, with_spec, word_ranges, wrapper_list}
 use Rattle.deny_cfg.specs.PolicyText.{ReadsBans, bans_name}
-use Rattle.deny_cfg.specs.PolicyKey.{name_of}
-use Rattle.deny_cfg.specs.SpecView.{same_spec}
-use Rattle.deny_cfg.specs.Table.{Entries, ReadsIn, ReadsIfThere, ReadsOr, at_key}
-use Rattle.deny_cfg.specs.Words.{ReadsList, ReadsSpanned, ReadsTexts}
-use Rattle.deny_cfg.specs.declared.bans.cfg.ban.CrateBanExtended.{CrateBanExtended}
-use Rattle.deny_cfg.specs.declared.bans.cfg.config.Config.{Config}
-use Rattle.deny_cfg.specs.declared.bans.cfg.features.CrateFeatures.{CrateFeatures}
+use Rattle.deny_entries.proofs.RowLaws.{says_of}
+use Rattle.deny_entries.specs.PolicyKey.{name_of}
+use Rattle.deny_entries.specs.SpecView.{same_spec}
+use Rattle.deny_entries.specs.Table.{Entries, ReadsIn, ReadsIfThere, ReadsOr, at_key}
+use Rattle.deny_entries.specs.Words.{ReadsList, ReadsSpanned, ReadsTexts}
+use Rattle.deny_tables.specs.declared.bans.cfg.ban.CrateBanExtended.{CrateBanExtended}
+use Rattle.deny_tables.specs.declared.bans.cfg.config.Config.{Config}
+use Rattle.deny_tables.specs.declared.bans.cfg.features.CrateFeatures.{CrateFeatures}
 use Rattle.deny_cfg.specs.declared.clash.Clash.{Clash}
 use Rattle.deny_cfg.specs.declared.clash.ClashKind.{ClashKind}
 use Rattle.deny_cfg.specs.declared.clash.ClashKind.TheVariants as clash
-use Rattle.deny_cfg.specs.declared.package_spec.PackageSpec.{PackageSpec}
-use Rattle.deny_cfg.specs.declared.policy_key.PolicyKey.TheVariants as key
-use Rattle.deny_cfg.specs.declared.reason.Reason.{Reason}
-use Rattle.deny_cfg.specs.declared.spec_or_extended.PackageSpecOrExtended.{PackageSpecOrExtended}
+use Rattle.deny_entries.specs.declared.package_spec.PackageSpec.{PackageSpec}
+use Rattle.deny_entries.specs.declared.policy_key.PolicyKey.TheVariants as key
+use Rattle.deny_entries.specs.declared.reason.Reason.{Reason}
+use Rattle.deny_entries.specs.declared.spec_or_extended.PackageSpecOrExtended.{PackageSpecOrExtended}
 use Rattle.deny_cfg.proofs.LabelConfig.{name_stands}
 use Rattle.deny_cfg.proofs.LabelLaws.{EntriesStand, Lie, StandsAt, at_stands, elements_stand, entries_stand, lie_append, no_entries_stand, stands_itself}
-use Rattle.deny_cfg.proofs.LabelValid.{lie_back, lie_front}
+use Rattle.deny_cfg.proofs.LabelValid.{lie_rest, lie_prefix}
 
 -- ---- the lists of wrappers
 
-list_lies : (text : List ℕ) (o : Option Value) (wrappers : Option (Spanned (List Words))) → StandsAt text o → ReadsIfThere (ReadsSpanned ReadsTexts) o wrappers → Lie text (of_some own_range wrappers)
+list_lies : (text : List ℕ) (o : Option Value) (wrappers : Option (Spanned (List Words))) → StandsAt text o
+    → ReadsIfThere (ReadsSpanned ReadsTexts) o wrappers → Lie text (of_some own_range wrappers)
 list_lies text o None stands reads = tt
 list_lies text None (Some w) stands reads = cc
-list_lies text (Some v) (Some w) stands reads = (subst (IsRange text) (sym reads.0) (stands_itself text v stands).placed, tt)
+list_lies text (Some v) (Some w) stands reads =
+    (subst (IsRange text) (sym reads.0) (stands_itself text v stands).placed, tt)
 
-some_lies : (text : List ℕ) (entries : Entries) (inner : Option CrateBanExtended) → EntriesStand text entries → ReadsSome ban_fields ReadsBan entries inner → Lie text (of_some (λ said. of_some own_range said.wrappers) inner)
+some_lies : (text : List ℕ) (entries : Entries) (inner : Option CrateBanExtended) → EntriesStand text entries
+    → ReadsSome ban_fields ReadsBan entries inner → Lie text (of_some (λ said. of_some own_range said.wrappers) inner)
+unfolding name_of
 some_lies text entries None stand reads = tt
-some_lies text entries (Some said) stand reads = list_lies text (at_key key.Wrappers entries) said.wrappers (at_stands text (name_of key.Wrappers) entries stand) reads.1.wrappers
+some_lies text entries (Some said) stand reads =
+    list_lies text (at_key key.Wrappers entries) said.wrappers (at_stands text (name_of key.Wrappers) entries stand)
+    (says_of key.Wrappers reads.1)
 
-entry_lies : (text : List ℕ) (v : Value) (e : PackageSpecOrExtended CrateBanExtended) → StandsIn text v → ReadsBanEntry v e → Lie text (wrapper_list e)
+entry_lies : (text : List ℕ) (v : Value) (e : PackageSpecOrExtended CrateBanExtended) → StandsIn text v
+    → ReadsBanEntry v e → Lie text (wrapper_list e)
 entry_lies text v e stands reads = by_text (text_in v) reads
   where
-    by_table : (o : Option Table) → table_in v ≡ o → ReadsIn (ReadsPair (ReadsSome ban_fields ReadsBan)) o (e.spec, e.inner) → Lie text (wrapper_list e)
+    by_table : (o : Option Table) → table_in v ≡ o
+        → ReadsIn (ReadsPair (ReadsSome ban_fields ReadsBan)) o (e.spec, e.inner) → Lie text (wrapper_list e)
     by_table None is pair = absurd pair
     by_table (Some t) is pair =
         some_lies text (entries_in t) e.inner (entries_stand text v t is stands) pair.besides
 
-    by_text : (o : Option (List ℕ)) → ReadsEntryBy (ReadsSome ban_fields ReadsBan) o v e.spec e.inner → Lie text (wrapper_list e)
+    by_text : (o : Option (List ℕ)) → ReadsEntryBy (ReadsSome ban_fields ReadsBan) o v e.spec e.inner
+        → Lie text (wrapper_list e)
     by_text None table = by_table (table_in v) refl table
-    by_text (Some t) spec = subst (λ (i : Option CrateBanExtended). Lie text (of_some (λ said. of_some own_range said.wrappers) i)) (sym spec.1) tt
+    by_text (Some t) spec =
+        subst (λ (i : Option CrateBanExtended). Lie text (of_some (λ said. of_some own_range said.wrappers) i))
+        (sym spec.1) tt
 
-each_lies : (text : List ℕ) (vs : List Value) (es : List (PackageSpecOrExtended CrateBanExtended)) → AllByRecursion (StandsIn text) vs → ReadsEach ReadsBanEntry vs es → Lie text (flat_map wrapper_list es)
+each_lies : (text : List ℕ) (vs : List Value) (es : List (PackageSpecOrExtended CrateBanExtended))
+    → AllByRecursion (StandsIn text) vs → ReadsEach ReadsBanEntry vs es → Lie text (flat_map wrapper_list es)
 each_lies text [] [] stand reads = tt
 each_lies text [] (e ∷ es) stand reads = absurd reads
 each_lies text (v ∷ vs) [] stand reads = absurd reads
-each_lies text (v ∷ vs) (e ∷ es) stand reads = lie_append text (wrapper_list e) (flat_map wrapper_list es) (entry_lies text v e stand.0 reads.0) (each_lies text vs es stand.1 reads.1)
+each_lies text (v ∷ vs) (e ∷ es) stand reads =
+    lie_append text (wrapper_list e) (flat_map wrapper_list es) (entry_lies text v e stand.0 reads.0)
+    (each_lies text vs es stand.1 reads.1)
 
-deny_lies : (text : List ℕ) (o : Option Value) (es : List (PackageSpecOrExtended CrateBanExtended)) → StandsAt text o → ReadsOr [] (ReadsList ReadsBanEntry) o es → Lie text (flat_map wrapper_list es)
-deny_lies text None es stands reads = subst (λ (xs : List (PackageSpecOrExtended CrateBanExtended)). Lie text (flat_map wrapper_list xs)) (sym reads) tt
+deny_lies : (text : List ℕ) (o : Option Value) (es : List (PackageSpecOrExtended CrateBanExtended)) → StandsAt text o
+    → ReadsOr [] (ReadsList ReadsBanEntry) o es → Lie text (flat_map wrapper_list es)
+deny_lies text None es stands reads =
+    subst (λ (xs : List (PackageSpecOrExtended CrateBanExtended)). Lie text (flat_map wrapper_list xs)) (sym reads) tt
 deny_lies text (Some v) es stands reads = by_array (array_in v) refl reads
   where
-    by_array : (o : Option (List Value)) → array_in v ≡ o → ReadsArray ReadsBanEntry o es → Lie text (flat_map wrapper_list es)
+    by_array : (o : Option (List Value)) → array_in v ≡ o → ReadsArray ReadsBanEntry o es
+        → Lie text (flat_map wrapper_list es)
     by_array None is each = absurd each
     by_array (Some vs) is each = each_lies text vs es (elements_stand text v vs is stands) each
 
-bans_lie : (text : List ℕ) (o : Option Value) (config : Config) → StandsAt text o → ReadsBans o config → Lie text (flat_map wrapper_list config.deny)
-bans_lie text None config stands reads = deny_lies text (at_key key.Deny []) config.deny (at_stands text (name_of key.Deny) [] (no_entries_stand text)) reads.deny
+deny_read : (entries : Entries) (config : Config) → ReadsConfig entries config
+    → ReadsOr [] (ReadsList ReadsBanEntry) (at_key key.Deny entries) config.deny
+unfolding name_of
+deny_read entries config reads = says_of key.Deny reads
+
+bans_lie : (text : List ℕ) (o : Option Value) (config : Config) → StandsAt text o → ReadsBans o config
+    → Lie text (flat_map wrapper_list config.deny)
+bans_lie text None config stands reads =
+    deny_lies text (at_key key.Deny []) config.deny (at_stands text (name_of key.Deny) [] (no_entries_stand text))
+    (deny_read [] config reads)
 bans_lie text (Some v) config stands reads = by_table (table_in v) refl reads
   where
-    by_table : (o : Option Table) → table_in v ≡ o → ReadsIn ReadsConfig o config → Lie text (flat_map wrapper_list config.deny)
+    by_table : (o : Option Table) → table_in v ≡ o → ReadsIn ReadsConfig o config
+        → Lie text (flat_map wrapper_list config.deny)
     by_table None is keys = absurd keys
-    by_table (Some t) is keys = deny_lies text (at_key key.Deny (entries_in t)) config.deny (at_stands text (name_of key.Deny) (entries_in t) (entries_stand text v t is stands)) keys.deny
+    by_table (Some t) is keys =
+        deny_lies text (at_key key.Deny (entries_in t)) config.deny
+        (at_stands text (name_of key.Deny) (entries_in t) (entries_stand text v t is stands))
+        (deny_read (entries_in t) config keys)
 
-pub lists_lie : (text : List ℕ) (tree : Value) (config : Config) → StandsIn text tree → ReadsBans (below_name bans_name tree) config → All (IsRange text) (list_ranges config)
+pub lists_lie : (text : List ℕ) (tree : Value) (config : Config) → StandsIn text tree
+    → ReadsBans (below_name bans_name tree) config → All (IsRange text) (list_ranges config)
 unfolding list_ranges
 lists_lie text tree config stands reads =
-    All-from_recursion (IsRange text) (flat_map wrapper_list config.deny) (bans_lie text (below_name bans_name tree) config (name_stands text bans_name tree stands) reads)
+    All-from_recursion (IsRange text) (flat_map wrapper_list config.deny)
+    (bans_lie text (below_name bans_name tree) config (name_stands text bans_name tree stands) reads)
 
 -- ---- clashes
 
 abbrev ClashLies : List ℕ → Clash → Type 0
 ClashLies text c = IsRange text c.first × (IsRange text c.second × IsRange text c.third)
 
-all_append : {X : Type 0} (P : X → Type 0) (xs ys : List X) → AllByRecursion P xs → AllByRecursion P ys → AllByRecursion P (xs ++ ys)
-all_append P [] ys one other = other
-all_append P (x ∷ xs) ys one other = (one.0, all_append P xs ys one.1 other)
-
-all_filtered : {X : Type 0} (P : X → Type 0) (test : X → Bool) (xs : List X) → AllByRecursion P xs → AllByRecursion P (filter test xs)
-all_filtered P test [] all = tt
-all_filtered P test (x ∷ xs) all = by_test (test x) (all_filtered P test xs all.1)
-  where
-    by_test : (b : Bool) → AllByRecursion P (filter test xs) → AllByRecursion P (cond b (x ∷ filter test xs) (filter test xs))
-    by_test true rest = (all.0, rest)
-    by_test false rest = rest
-
-all_given : {X Y : Type 0} (P : X → Type 0) (Q : Y → Type 0) (f : X → Option Y) → ((x : X) → P x → IfSome (f x) Q) → (xs : List X) → AllByRecursion P xs → AllByRecursion Q (filter_map f xs)
-all_given P Q f each [] all = tt
-all_given {Y = Y} P Q f each (x ∷ xs) all = by_given (f x) (each x all.0) (all_given P Q f each xs all.1)
-  where
-    by_given : (o : Option Y) → IfSome o Q → AllByRecursion Q (filter_map f xs) → AllByRecursion Q (cons_option o (filter_map f xs))
-    by_given None one rest = rest
-    by_given (Some y) one rest = (one, rest)
-
-all_flat : {X Y : Type 0} (P : X → Type 0) (Q : Y → Type 0) (f : X → List Y) → ((x : X) → P x → AllByRecursion Q (f x)) → (xs : List X) → AllByRecursion P xs → AllByRecursion Q (flat_map f xs)
-all_flat P Q f each [] all = tt
-all_flat P Q f each (x ∷ xs) all = all_append Q (f x) (flat_map f xs) (each x all.0) (all_flat P Q f each xs all.1)
-
--- the first that passes is one of them
-found_lies : {X : Type 0} (P : X → Type 0) (test : X → Bool) (xs : List X) → AllByRecursion P xs → IfSome (find test xs) P
-found_lies P test [] all = tt
-found_lies P test (x ∷ xs) all = by_test (test x) (found_lies P test xs all.1)
-  where
-    by_test : (b : Bool) → IfSome (find test xs) P → IfSome (cond b (Some x) (find test xs)) P
-    by_test true rest = all.0
-    by_test false rest = rest
-
-mapped_lies : {X Y : Type 0} (P : X → Type 0) (Q : Y → Type 0) (f : X → Y) → ((x : X) → P x → Q (f x)) → (o : Option X) → IfSome o P → IfSome (option_map f o) Q
+mapped_lies : {X Y : Type 0} (P : X → Type 0) (Q : Y → Type 0) (f : X → Y) → ((x : X) → P x → Q (f x)) → (o : Option X)
+    → IfSome o P → IfSome (option_map f o) Q
 mapped_lies P Q f each None is = tt
 mapped_lies P Q f each (Some x) is = each x is
 
 -- what lies of each
-lie_each : {X : Type 0} (text : List ℕ) (f : X → List Span) (xs : List X) → Lie text (flat_map f xs) → AllByRecursion (λ x. Lie text (f x)) xs
+lie_each : {X : Type 0} (text : List ℕ) (f : X → List Span) (xs : List X) → Lie text (flat_map f xs)
+    → AllByRecursion (λ x. Lie text (f x)) xs
 lie_each text f [] lie = tt
-lie_each text f (x ∷ xs) lie = (lie_front text (f x) (flat_map f xs) lie, lie_each text f xs (lie_back text (f x) (flat_map f xs) lie))
+lie_each text f (x ∷ xs) lie =
+    (lie_prefix text (f x) (flat_map f xs) lie, lie_each text f xs (lie_rest text (f x) (flat_map f xs) lie))
 
-all_weaker : {X : Type 0} (P Q : X → Type 0) → ((x : X) → P x → Q x) → (xs : List X) → AllByRecursion P xs → AllByRecursion Q xs
-all_weaker P Q each [] all = tt
-all_weaker P Q each (x ∷ xs) all = (each x all.0, all_weaker P Q each xs all.1)
-
-all_mapped : {X Y : Type 0} (Q : Y → Type 0) (f : X → Y) (xs : List X) → AllByRecursion (λ x. Q (f x)) xs → AllByRecursion Q (map f xs)
-all_mapped Q f [] all = tt
-all_mapped Q f (x ∷ xs) all = (all.0, all_mapped Q f xs all.1)
-
-all_both : {X : Type 0} (P Q : X → Type 0) (xs : List X) → AllByRecursion P xs → AllByRecursion Q xs → AllByRecursion (λ x. P x × Q x) xs
+all_both : {X : Type 0} (P Q : X → Type 0) (xs : List X) → AllByRecursion P xs → AllByRecursion Q xs
+    → AllByRecursion (λ x. P x × Q x) xs
 all_both P Q [] one other = tt
 all_both P Q (x ∷ xs) one other = ((one.0, other.0), all_both P Q xs one.1 other.1)
 
 module _ (text : List ℕ) (nothing : IsRange text no_span) where
-  flag_lies : (flag : Option (Spanned Bool)) (wrappers : Option (Spanned (List Words))) → Lie text (of_some own_range flag) → Lie text (of_some own_range wrappers)
+  flag_lies : (flag : Option (Spanned Bool)) (wrappers : Option (Spanned (List Words)))
+      → Lie text (of_some own_range flag) → Lie text (of_some own_range wrappers)
       → IfSome (wrappers_clash_by flag wrappers) (ClashLies text)
   flag_lies None wrappers one other = tt
   flag_lies (Some flag) None one other = tt
   flag_lies (Some flag) (Some wrappers) one other = by_test _
     where
-      by_test : (b : Bool) → IfSome (cond b (Some (record { kind = clash.WrappersOfMultiple; first = wrappers.span; second = flag.span; third = no_span; wrappers = length wrappers.value })) None) (ClashLies text)
+      by_test : (b : Bool)
+          → IfSome (cond b
+          (Some (record {
+            kind = clash.WrappersOfMultiple;
+            first = wrappers.span;
+            second = flag.span;
+            third = no_span;
+            wrappers = length wrappers.value;
+          })) None) (ClashLies text)
       by_test true = (other.0, (one.0, nothing))
       by_test false = tt
 
-  said_lies : (inner : Option CrateBanExtended) → Lie text (of_some crate_ban_ranges inner) → Lie text (of_some (λ said. of_some own_range said.wrappers) inner)
-      → IfSome (wrappers_clash_by (option_and_then (λ said. said.deny_multiple_versions) inner) (option_and_then (λ said. said.wrappers) inner)) (ClashLies text)
+  said_lies : (inner : Option CrateBanExtended) → Lie text (of_some crate_ban_ranges inner)
+      → Lie text (of_some (λ said. of_some own_range said.wrappers) inner)
+      → IfSome (wrappers_clash_by (option_and_then (λ said. said.deny_multiple_versions) inner)
+      (option_and_then (λ said. said.wrappers) inner)) (ClashLies text)
   said_lies None one other = tt
   said_lies (Some said) one other =
       let words = of_some (λ (w : Spanned (List Words)). word_ranges w.value) said.wrappers in
-      flag_lies said.deny_multiple_versions said.wrappers (lie_front text (of_some own_range said.deny_multiple_versions) _ (lie_back text words _ one)) other
+      flag_lies said.deny_multiple_versions said.wrappers
+      (lie_prefix text (of_some own_range said.deny_multiple_versions) _ (lie_rest text words _ one)) other
 
-  ban_lies : (e : PackageSpecOrExtended CrateBanExtended) → Lie text (with_spec crate_ban_ranges e) × Lie text (wrapper_list e) → IfSome (wrappers_clash e) (ClashLies text)
+  ban_lies : (e : PackageSpecOrExtended CrateBanExtended)
+      → Lie text (with_spec crate_ban_ranges e) × Lie text (wrapper_list e) → IfSome (wrappers_clash e) (ClashLies text)
   unfolding wrappers_clash
   ban_lies e both = said_lies e.inner both.0.1 both.1
 
   abbrev NameLies : PackageSpec → Type 0
   NameLies spec = IsRange text spec.name.span
 
-  equal_lies : (kind : ClashKind) (others : List PackageSpec) → AllByRecursion NameLies others → (spec : PackageSpec) → NameLies spec → IfSome (clash_with kind others spec) (ClashLies text)
+  equal_lies : (kind : ClashKind) (others : List PackageSpec) → AllByRecursion NameLies others → (spec : PackageSpec)
+      → NameLies spec → IfSome (clash_with kind others spec) (ClashLies text)
   unfolding clash_with
   equal_lies kind others all spec here =
-      mapped_lies NameLies (ClashLies text) (λ other. record { kind = kind; first = spec.name.span; second = other.name.span; third = no_span; wrappers = 0 }) (λ other there. (here, (there, nothing)))
-      (find (same_spec spec) others) (found_lies NameLies (same_spec spec) others all)
+      mapped_lies NameLies (ClashLies text)
+      (λ other. record
+      { kind = kind; first = spec.name.span; second = other.name.span; third = no_span; wrappers = 0 })
+      (λ other there. (here, (there, nothing)))
+      (find (same_spec spec) others) (all_found NameLies (same_spec spec) others all)
 
-  equals_lie : (kind : ClashKind) (specs others : List PackageSpec) → AllByRecursion NameLies specs → AllByRecursion NameLies others → AllByRecursion (ClashLies text) (filter_map (clash_with kind others) specs)
-  equals_lie kind specs others here all = all_given NameLies (ClashLies text) (clash_with kind others) (equal_lies kind others all) specs here
+  equals_lie : (kind : ClashKind) (specs others : List PackageSpec) → AllByRecursion NameLies specs
+      → AllByRecursion NameLies others → AllByRecursion (ClashLies text) (filter_map (clash_with kind others) specs)
+  equals_lie kind specs others here all =
+      all_given NameLies (ClashLies text) (clash_with kind others) (equal_lies kind others all) specs here
 
-  names_lie : {T : Type 0} (ranges : T → List Span) (es : List (PackageSpecOrExtended T)) → Lie text (flat_map (with_spec ranges) es) → AllByRecursion (λ (e : PackageSpecOrExtended T). NameLies e.spec) es
-  names_lie ranges es lie = all_weaker (λ e. Lie text (with_spec ranges e)) (λ e. NameLies e.spec) (λ e lies. lies.0) es (lie_each text (with_spec ranges) es lie)
+  names_lie : {T : Type 0} (ranges : T → List Span) (es : List (PackageSpecOrExtended T))
+      → Lie text (flat_map (with_spec ranges) es) → AllByRecursion (λ (e : PackageSpecOrExtended T). NameLies e.spec) es
+  names_lie ranges es lie =
+      all_weaker (λ e. Lie text (with_spec ranges e)) (λ e. NameLies e.spec) (λ e lies. lies.0) es
+      (lie_each text (with_spec ranges) es lie)
 
-  word_lies : (words : List Words) → Lie text (word_ranges words) → AllByRecursion (λ (word : Words). IsRange text word.span) words
+  word_lies : (words : List Words) → Lie text (word_ranges words)
+      → AllByRecursion (λ (word : Words). IsRange text word.span) words
   word_lies [] lie = tt
   word_lies (w ∷ ws) lie = (lie.0, word_lies ws lie.1)
 
-  feature_lies : (f : CrateFeatures) → Lie text (crate_feature_ranges f) → AllByRecursion (ClashLies text) (feature_clashes f)
+  feature_lies : (f : CrateFeatures) → Lie text (crate_feature_ranges f)
+      → AllByRecursion (ClashLies text) (feature_clashes f)
   unfolding feature_clashes feature_clash
   feature_lies f lie =
       let allow = word_ranges f.allow.value in
       let deny = word_ranges f.deny in
-      let denied = word_lies f.deny (lie_front text deny _ (lie_back text allow _ lie.1)) in
+      let denied = word_lies f.deny (lie_prefix text deny _ (lie_rest text allow _ lie.1)) in
       all_given (λ (word : Words). IsRange text word.span) (ClashLies text) (feature_clash f)
       (λ word here. mapped_lies (λ (other : Words). IsRange text other.span) (ClashLies text)
-      (λ other. record { kind = clash.FeatureTwice; first = f.spec.name.span; second = word.span; third = other.span; wrappers = 0 }) (λ other there. (lie.0, (here, there)))
-      (find (λ other. same_text word.value other.value) f.deny) (found_lies (λ (other : Words). IsRange text other.span) (λ other. same_text word.value other.value) f.deny denied))
-      f.allow.value (word_lies f.allow.value (lie_front text allow _ lie.1))
+      (λ other. record
+      { kind = clash.FeatureTwice; first = f.spec.name.span; second = word.span; third = other.span; wrappers = 0 })
+      (λ other there. (lie.0, (here, there)))
+      (find (λ other. same_text word.value other.value) f.deny)
+      (all_found (λ (other : Words). IsRange text other.span) (λ other. same_text word.value other.value) f.deny
+      denied))
+      f.allow.value (word_lies f.allow.value (lie_prefix text allow _ lie.1))
 
-  clashes_lie : (config : Config) → Lie text (config_labels config) → Lie text (flat_map wrapper_list config.deny) → AllByRecursion (ClashLies text) (clashes_in config)
+  clashes_lie : (config : Config) → Lie text (config_labels config) → Lie text (flat_map wrapper_list config.deny)
+      → AllByRecursion (ClashLies text) (clashes_in config)
   unfolding config_labels clashes_in banned_specs
   clashes_lie config lie lists =
       let deny = flat_map (with_spec crate_ban_ranges) config.deny in
@@ -212,50 +237,82 @@ module _ (text : List ℕ) (nothing : IsRange text no_span) where
       let workspace = of_some own_range config.workspace_default_features in
       let features = flat_map crate_feature_ranges config.features in
       let skip = flat_map (with_spec reason_range) config.skip in
-      let after_deny = lie_back text deny _ lie in
-      let after_allow = lie_back text allow _ after_deny in
-      let after_levels = lie_back text workspace _ (lie_back text external _ after_allow) in
-      let after_features = lie_back text features _ after_levels in
-      let deny_lies = lie_front text deny _ lie in
-      let bans = all_mapped NameLies (λ (e : PackageSpecOrExtended CrateBanExtended). e.spec) (filter is_ban config.deny)
-      (all_filtered (λ (e : PackageSpecOrExtended CrateBanExtended). NameLies e.spec) is_ban config.deny (names_lie crate_ban_ranges config.deny deny_lies)) in
-      let allowed = all_mapped NameLies (λ (e : PackageSpecOrExtended Reason). e.spec) config.allow (names_lie reason_range config.allow (lie_front text allow _ after_deny)) in
-      let skipped = all_mapped NameLies (λ (e : PackageSpecOrExtended Reason). e.spec) config.skip (names_lie reason_range config.skip (lie_front text skip _ after_features)) in
+      let after_deny = lie_rest text deny _ lie in
+      let after_allow = lie_rest text allow _ after_deny in
+      let after_levels = lie_rest text workspace _ (lie_rest text external _ after_allow) in
+      let after_features = lie_rest text features _ after_levels in
+      let deny_lies = lie_prefix text deny _ lie in
+      let bans = all_mapped NameLies (λ (e : PackageSpecOrExtended CrateBanExtended). e.spec)
+      (filter is_ban config.deny)
+      (all_filter (λ (e : PackageSpecOrExtended CrateBanExtended). NameLies e.spec) is_ban config.deny
+      (names_lie crate_ban_ranges config.deny deny_lies)) in
+      let allowed =
+      all_mapped NameLies (λ (e : PackageSpecOrExtended Reason). e.spec) config.allow
+      (names_lie reason_range config.allow (lie_prefix text allow _ after_deny)) in
+      let skipped =
+      all_mapped NameLies (λ (e : PackageSpecOrExtended Reason). e.spec) config.skip
+      (names_lie reason_range config.skip (lie_prefix text skip _ after_features)) in
       all_append (ClashLies text) (filter_map wrappers_clash config.deny) _
-      (all_given (λ e. Lie text (with_spec crate_ban_ranges e) × Lie text (wrapper_list e)) (ClashLies text) wrappers_clash ban_lies config.deny
-      (all_both (λ e. Lie text (with_spec crate_ban_ranges e)) (λ e. Lie text (wrapper_list e)) config.deny (lie_each text (with_spec crate_ban_ranges) config.deny deny_lies) (lie_each text wrapper_list config.deny lists)))
-      (all_append (ClashLies text) (filter_map (clash_with clash.DenyAndAllow (specs_of config.allow)) (specs_of (filter is_ban config.deny))) _ (equals_lie clash.DenyAndAllow _ _ bans allowed)
-      (all_append (ClashLies text) (filter_map (clash_with clash.DenyAndSkip (specs_of config.skip)) (specs_of (filter is_ban config.deny))) _ (equals_lie clash.DenyAndSkip _ _ bans skipped)
-      (all_append (ClashLies text) (filter_map (clash_with clash.AllowAndSkip (specs_of config.skip)) (specs_of config.allow)) _ (equals_lie clash.AllowAndSkip _ _ allowed skipped)
+      (all_given (λ e. Lie text (with_spec crate_ban_ranges e) × Lie text (wrapper_list e)) (ClashLies text)
+      wrappers_clash ban_lies config.deny
+      (all_both (λ e. Lie text (with_spec crate_ban_ranges e)) (λ e. Lie text (wrapper_list e)) config.deny
+      (lie_each text (with_spec crate_ban_ranges) config.deny deny_lies)
+      (lie_each text wrapper_list config.deny lists)))
+      (all_append (ClashLies text)
+      (filter_map (clash_with clash.DenyAndAllow (specs_of config.allow)) (specs_of (filter is_ban config.deny))) _
+      (equals_lie clash.DenyAndAllow _ _ bans allowed)
+      (all_append (ClashLies text)
+      (filter_map (clash_with clash.DenyAndSkip (specs_of config.skip)) (specs_of (filter is_ban config.deny))) _
+      (equals_lie clash.DenyAndSkip _ _ bans skipped)
+      (all_append (ClashLies text)
+      (filter_map (clash_with clash.AllowAndSkip (specs_of config.skip)) (specs_of config.allow)) _
+      (equals_lie clash.AllowAndSkip _ _ allowed skipped)
       (all_flat (λ f. Lie text (crate_feature_ranges f)) (ClashLies text) feature_clashes feature_lies config.features
-      (lie_each text crate_feature_ranges config.features (lie_front text features _ after_levels))))))
+      (lie_each text crate_feature_ranges config.features (lie_prefix text features _ after_levels))))))
 
-  labels_by : (kind : ClashKind) (file : ℕ) (c : Clash) → ClashLies text c → Lie text (map (λ label. label.span) (clash_labels kind file c))
+  labels_by : (kind : ClashKind) (file : ℕ) (c : Clash) → ClashLies text c
+      → Lie text (map (λ label. label.span) (clash_labels kind file c))
   labels_by clash.WrappersOfMultiple file c lies = (lies.0, (lies.1.0, tt))
   labels_by clash.DenyAndAllow file c lies = (lies.0, (lies.1.0, tt))
   labels_by clash.DenyAndSkip file c lies = (lies.0, (lies.1.0, tt))
   labels_by clash.AllowAndSkip file c lies = (lies.0, (lies.1.0, tt))
   labels_by clash.FeatureTwice file c lies = (lies.0, (lies.1.0, (lies.1.1, tt)))
 
-  told_by : (file : ℕ) (cs : List Clash) → AllByRecursion (ClashLies text) cs → Lie text (told_ranges (map (clash_told file) cs))
+  told_by : (file : ℕ) (cs : List Clash) → AllByRecursion (ClashLies text) cs
+      → Lie text (told_ranges (map (clash_told file) cs))
   unfolding clash_told
   told_by file [] all = tt
   told_by file (c ∷ cs) all =
-      lie_append text (map (λ label. label.span) (clash_labels c.kind file c)) (told_ranges (map (clash_told file) cs)) (labels_by c.kind file c all.0) (told_by file cs all.1)
+      lie_append text (map (λ label. label.span) (clash_labels c.kind file c)) (told_ranges (map (clash_told file) cs))
+      (labels_by c.kind file c all.0) (told_by file cs all.1)
 
 of_members : {X : Type 0} (P : X → Type 0) (xs : List X) → ((x : X) → Contains xs x → P x) → AllByRecursion P xs
 of_members P [] each = tt
 of_members P (x ∷ xs) each = (each x (Contains-first x xs), of_members P xs (λ y is. each y (Contains-rest x xs y is)))
 
 nothing_lies : (text : List ℕ) → IsUtf8 text → IsRange text no_span
-nothing_lies text utf8 = record { ordered = omega arith; within = omega arith; starts = IsCharBoundary-start text utf8; ends = IsCharBoundary-start text utf8 }
+nothing_lies text utf8 =
+    record {
+      ordered = omega arith;
+      within = omega arith;
+      starts = IsCharBoundary-start text
+          utf8;
+      ends = IsCharBoundary-start text utf8;
+    }
 
 -- the labels of what is told of clashes
-pub told_lie : (text : List ℕ) (config : Config) (file : ℕ) (told : List Diagnostic) → IsUtf8 text → AreLabels text (config_labels config) → All (IsRange text) (list_ranges config)
+pub told_lie : (text : List ℕ) (config : Config) (file : ℕ) (told : List Diagnostic) → IsUtf8 text
+    → AreLabels text (config_labels config) → All (IsRange text) (list_ranges config)
     → AreClashes config file told → All (IsRange text) (told_ranges told)
 unfolding list_ranges
 told_lie text config file told utf8 labels lists are =
     let nothing = nothing_lies text utf8 in
-    let all = clashes_lie text nothing config (recursion_from_All (IsRange text) (config_labels config) labels.placed) (recursion_from_All (IsRange text) (flat_map wrapper_list config.deny) lists) in
-    let listed = of_members (ClashLies text) are.clashes (λ c is. at_member (ClashLies text) (clashes_in config) c all (are.listed.sound c is)) in
-    All-from_recursion (IsRange text) (told_ranges told) (subst (λ (ds : List Diagnostic). Lie text (told_ranges ds)) (sym are.is) (told_by text nothing file are.clashes listed))
+    let all =
+    clashes_lie text nothing config (recursion_from_All (IsRange text) (config_labels config) labels.placed)
+    (recursion_from_All (IsRange text) (flat_map wrapper_list config.deny) lists) in
+    let listed =
+    of_members (ClashLies text) are.clashes
+    (λ c is. at_member (ClashLies text) (clashes_in config) c all (are.listed.sound c is)) in
+    All-from_recursion (IsRange text) (told_ranges told)
+    (subst (λ (ds : List Diagnostic). Lie text (told_ranges ds)) (sym are.is)
+    (told_by text nothing file are.clashes listed))

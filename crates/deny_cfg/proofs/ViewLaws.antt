@@ -4,31 +4,32 @@ use Rattle.std.specs.Prelude.{filter, filter_map, find, option_and_then, option_
 use Rattle.std.specs.List.{AllZip}
 use Rattle.std.specs.Option.{option_eq, option_map_or}
 use Rattle.deny_base.specs.declared.span.Span.{Span}
-use Rattle.deny_model.specs.Policy.{Ban, Entry, Root, Spec}
+use Rattle.deny_model.specs.Policy.{Ban, Entry, Root, Spec, Words}
 use Rattle.deny_model.specs.Text.{same_text}
 use Rattle.deny_cfg.specs.Clashes.{banned_specs, clash_with, clashes_in, feature_at, feature_clash, feature_clashes, is_ban, specs_of, two_places, wrappers_clash, wrappers_clash_by}
-use Rattle.deny_cfg.specs.PolicyView.{ban_view, entry_view, policy_view, reason_words, root_view, roots_from, shows_lowest, shows_simplest, words_or_none}
-use Rattle.deny_cfg.specs.SpecView.{same_spec, spec_view}
+use Rattle.deny_cfg.specs.PolicyView.{ban_view, entry_view, policy_view, reason_words, root_view, roots_from, words_or_none}
+use Rattle.deny_tables.specs.Highlight.{shows_lowest, shows_simplest}
+use Rattle.deny_entries.specs.SpecView.{same_spec, spec_view}
 use Rattle.deny_cfg.specs.Valid.{IsValidOf, ban_of, is_multiple, krate_ban}
-use Rattle.deny_cfg.specs.declared.bans.cfg.ban.CrateBanExtended.{CrateBanExtended}
-use Rattle.deny_cfg.specs.declared.bans.cfg.config.Config.{Config}
-use Rattle.deny_cfg.specs.declared.bans.cfg.features.FeatureLists.{FeatureLists}
-use Rattle.deny_cfg.specs.declared.bans.cfg.tree_skip.TreeSkipExtended.{TreeSkipExtended}
+use Rattle.deny_tables.specs.declared.bans.cfg.ban.CrateBanExtended.{CrateBanExtended}
+use Rattle.deny_tables.specs.declared.bans.cfg.config.Config.{Config}
+use Rattle.deny_tables.specs.declared.bans.cfg.tree_skip.TreeSkipExtended.{TreeSkipExtended}
 use Rattle.deny_cfg.specs.declared.bans.cfg.valid.KrateBan.{KrateBan}
 use Rattle.deny_cfg.specs.declared.bans.cfg.valid.ValidConfig.{ValidConfig}
 use Rattle.deny_cfg.specs.declared.clash.Clash.{Clash}
 use Rattle.deny_cfg.specs.declared.clash.ClashKind.{ClashKind}
 use Rattle.deny_cfg.specs.declared.clash.ClashKind.TheVariants as clash
-use Rattle.deny_cfg.specs.declared.package_spec.PackageSpec.{PackageSpec}
-use Rattle.deny_cfg.specs.declared.reason.Reason.{Reason}
-use Rattle.deny_cfg.specs.declared.spec_or_extended.PackageSpecOrExtended.{PackageSpecOrExtended}
-use Rattle.deny_cfg.proofs.ConfigLaws.{ConfigsAlike, EntriesAlike, FeaturesAlike}
-use Rattle.deny_cfg.proofs.AlikeLaws.{Same, alike_filter, alike_map, same_filter_map, same_find, same_flat_map, same_map}
-use Rattle.deny_cfg.proofs.ReadsLaws.{SpecsAlike}
+use Rattle.deny_entries.specs.declared.package_spec.PackageSpec.{PackageSpec}
+use Rattle.deny_entries.specs.declared.reason.Reason.{Reason}
+use Rattle.deny_entries.specs.declared.spec_or_extended.PackageSpecOrExtended.{PackageSpecOrExtended}
+use Rattle.deny_tables.proofs.ConfigLaws.{ConfigsAlike, EntriesAlike, FeaturesAlike}
+use Rattle.deny_lists.proofs.Alike.{Same, alike_filter, alike_map, same_filter_map, same_find, same_flat_map, same_map}
+use Rattle.deny_entries.proofs.ReadsLaws.{SpecsAlike}
 
 -- whether an entry bans hangs on what it says besides its spec
 says_ban : Option CrateBanExtended → Bool
-says_ban inner = not (option_map_or (λ flag. flag.value) (option_and_then (λ said. said.deny_multiple_versions) inner) false)
+says_ban inner =
+    not (option_map_or (λ flag. flag.value) (option_and_then (λ said. said.deny_multiple_versions) inner) false)
 
 same_is_ban : Same EntriesAlike is_ban is_ban
 unfolding is_ban says_ban
@@ -38,7 +39,9 @@ same_is_multiple : Same EntriesAlike is_multiple is_multiple
 same_is_multiple a b alike = ap not (same_is_ban a b alike)
 
 says_clash : Option CrateBanExtended → Option Clash
-says_clash inner = wrappers_clash_by (option_and_then (λ said. said.deny_multiple_versions) inner) (option_and_then (λ said. said.wrappers) inner)
+says_clash inner =
+    wrappers_clash_by (option_and_then (λ said. said.deny_multiple_versions) inner)
+    (option_and_then (λ said. said.wrappers) inner)
 
 same_wrappers_clash : Same EntriesAlike wrappers_clash wrappers_clash
 unfolding wrappers_clash says_clash
@@ -56,32 +59,39 @@ same_places : (kind : ClashKind) (a b : PackageSpec) → SpecsAlike a b
     → Same SpecsAlike (λ x. two_places kind a.name.span x.name.span) (λ x. two_places kind b.name.span x.name.span)
 same_places kind a b alike x y too = λ i. two_places kind (alike i).range (too i).range
 
-same_clash_with : (kind : ClashKind) (others those : List PackageSpec) → AllZip SpecsAlike others those → Same SpecsAlike (clash_with kind others) (clash_with kind those)
+same_clash_with : (kind : ClashKind) (others those : List PackageSpec) → AllZip SpecsAlike others those
+    → Same SpecsAlike (clash_with kind others) (clash_with kind those)
 unfolding clash_with
 same_clash_with kind others those alike a b spec =
-    same_find SpecsAlike (same_spec a) (same_spec b) (λ x. two_places kind a.name.span x.name.span) (λ x. two_places kind b.name.span x.name.span)
+    same_find SpecsAlike (same_spec a) (same_spec b) (λ x. two_places kind a.name.span x.name.span)
+    (λ x. two_places kind b.name.span x.name.span)
     (same_specs a b spec) (same_places kind a b spec) others those alike
 
-same_clashes_with : (kind : ClashKind) (others those xs ys : List PackageSpec) → AllZip SpecsAlike others those → AllZip SpecsAlike xs ys
+same_clashes_with : (kind : ClashKind) (others those xs ys : List PackageSpec) → AllZip SpecsAlike others those
+    → AllZip SpecsAlike xs ys
     → filter_map (clash_with kind others) xs ≡ filter_map (clash_with kind those) ys
 same_clashes_with kind others those xs ys alike specs =
-    same_filter_map SpecsAlike (clash_with kind others) (clash_with kind those) (same_clash_with kind others those alike) xs ys specs
+    same_filter_map SpecsAlike (clash_with kind others) (clash_with kind those)
+    (same_clash_with kind others those alike) xs ys specs
 
-entry_specs_alike : {T : Type 0} (xs ys : List (PackageSpecOrExtended T)) → AllZip EntriesAlike xs ys → AllZip SpecsAlike (specs_of xs) (specs_of ys)
+entry_specs_alike : {T : Type 0} (xs ys : List (PackageSpecOrExtended T)) → AllZip EntriesAlike xs ys
+    → AllZip SpecsAlike (specs_of xs) (specs_of ys)
 entry_specs_alike xs ys each = alike_map EntriesAlike SpecsAlike (λ e. e.spec) (λ a b alike. alike.0) xs ys each
 
 banned_specs_alike : (a b : Config) → ConfigsAlike a b → AllZip SpecsAlike (banned_specs a) (banned_specs b)
 unfolding banned_specs
 banned_specs_alike a b alike =
-    entry_specs_alike (filter is_ban a.deny) (filter is_ban b.deny) (alike_filter EntriesAlike is_ban same_is_ban a.deny b.deny alike.deny)
+    entry_specs_alike (filter is_ban a.deny) (filter is_ban b.deny)
+    (alike_filter EntriesAlike is_ban same_is_ban a.deny b.deny alike.deny)
 
-says_features : Span → FeatureLists → List Clash
-says_features name lists =
-    filter_map (λ allowed. option_map (λ denied. feature_at name allowed denied.span) (find (λ denied. same_text allowed.value denied.value) lists.deny)) lists.allow.value
+says_features : Span → List Words → List Words → List Clash
+says_features name denied allowed =
+    filter_map (λ word. option_map (λ other. feature_at name word other.span)
+    (find (λ other. same_text word.value other.value) denied)) allowed
 
 same_feature_clashes : Same FeaturesAlike feature_clashes feature_clashes
 unfolding feature_clashes feature_clash says_features
-same_feature_clashes a b alike = λ i. says_features (alike.0 i).range (alike.1 i)
+same_feature_clashes a b alike = λ i. says_features (alike.0 i).range (alike.1 i).deny (alike.1 i).allow.value
 
 pub same_clashes : (a b : Config) → ConfigsAlike a b → clashes_in a ≡ clashes_in b
 unfolding clashes_in
@@ -89,11 +99,20 @@ same_clashes a b alike =
     let banned = banned_specs_alike a b alike in
     let allowed = entry_specs_alike a.allow b.allow alike.allow in
     let skipped = entry_specs_alike a.skip b.skip alike.skip in
-    let wrappers = same_filter_map EntriesAlike wrappers_clash wrappers_clash same_wrappers_clash a.deny b.deny alike.deny in
-    let deny_allow = same_clashes_with clash.DenyAndAllow (specs_of a.allow) (specs_of b.allow) (banned_specs a) (banned_specs b) allowed banned in
-    let deny_skip = same_clashes_with clash.DenyAndSkip (specs_of a.skip) (specs_of b.skip) (banned_specs a) (banned_specs b) skipped banned in
-    let allow_skip = same_clashes_with clash.AllowAndSkip (specs_of a.skip) (specs_of b.skip) (specs_of a.allow) (specs_of b.allow) skipped allowed in
-    let features = same_flat_map FeaturesAlike feature_clashes feature_clashes same_feature_clashes a.features b.features alike.features in
+    let wrappers =
+    same_filter_map EntriesAlike wrappers_clash wrappers_clash same_wrappers_clash a.deny b.deny alike.deny in
+    let deny_allow =
+    same_clashes_with clash.DenyAndAllow (specs_of a.allow) (specs_of b.allow) (banned_specs a) (banned_specs b)
+    allowed banned in
+    let deny_skip =
+    same_clashes_with clash.DenyAndSkip (specs_of a.skip) (specs_of b.skip) (banned_specs a) (banned_specs b)
+    skipped banned in
+    let allow_skip =
+    same_clashes_with clash.AllowAndSkip (specs_of a.skip) (specs_of b.skip) (specs_of a.allow) (specs_of b.allow)
+    skipped allowed in
+    let features =
+    same_flat_map FeaturesAlike feature_clashes feature_clashes same_feature_clashes a.features b.features
+    alike.features in
     λ i. wrappers i ++ (deny_allow i ++ (deny_skip i ++ (allow_skip i ++ features i)))
 
 -- the views of entries
@@ -128,37 +147,54 @@ same_root : (number : ℕ) → Same EntriesAlike (root_view number) (root_view n
 unfolding root_seen
 same_root number a b alike = λ i. root_seen number (alike.0 i) (alike.1 i)
 
-same_roots : (number : ℕ) (xs ys : List (PackageSpecOrExtended TreeSkipExtended)) → AllZip EntriesAlike xs ys → roots_from number xs ≡ roots_from number ys
+same_roots : (number : ℕ) (xs ys : List (PackageSpecOrExtended TreeSkipExtended)) → AllZip EntriesAlike xs ys
+    → roots_from number xs ≡ roots_from number ys
 same_roots number [] [] each = refl
 same_roots number [] (y ∷ ys) each = absurd each
 same_roots number (x ∷ xs) [] each = absurd each
 same_roots number (x ∷ xs) (y ∷ ys) each = λ i. same_root number x y each.0 i ∷ same_roots (number + 1) xs ys each.1 i
 
-same_bans : (a b : Config) → ConfigsAlike a b → map ban_view (map ban_of (filter is_ban a.deny)) ≡ map ban_view (map ban_of (filter is_ban b.deny))
+same_bans : (a b : Config) → ConfigsAlike a b
+    → map ban_view (map ban_of (filter is_ban a.deny)) ≡ map ban_view (map ban_of (filter is_ban b.deny))
 same_bans a b alike =
     let bans = alike_filter EntriesAlike is_ban same_is_ban a.deny b.deny alike.deny in
-    same_map EntriesAlike ban_view ban_view same_ban (map ban_of (filter is_ban a.deny)) (map ban_of (filter is_ban b.deny))
-    (alike_map EntriesAlike EntriesAlike ban_of (λ x y same. (same.0, ap (option_map krate_ban) same.1)) (filter is_ban a.deny) (filter is_ban b.deny) bans)
+    same_map EntriesAlike ban_view ban_view same_ban (map ban_of (filter is_ban a.deny))
+    (map ban_of (filter is_ban b.deny))
+    (alike_map EntriesAlike EntriesAlike ban_of (λ x y same. (same.0, ap (option_map krate_ban) same.1))
+    (filter is_ban a.deny) (filter is_ban b.deny) bans)
 
-same_multiple : (a b : Config) → ConfigsAlike a b → map spec_view (specs_of (filter is_multiple a.deny)) ≡ map spec_view (specs_of (filter is_multiple b.deny))
+same_multiple : (a b : Config) → ConfigsAlike a b
+    → map spec_view (specs_of (filter is_multiple a.deny)) ≡ map spec_view (specs_of (filter is_multiple b.deny))
 same_multiple a b alike =
     let entries = alike_filter EntriesAlike is_multiple same_is_multiple a.deny b.deny alike.deny in
-    same_map SpecsAlike spec_view spec_view (λ x y same. same) (specs_of (filter is_multiple a.deny)) (specs_of (filter is_multiple b.deny))
+    same_map SpecsAlike spec_view spec_view (λ x y same. same) (specs_of (filter is_multiple a.deny))
+    (specs_of (filter is_multiple b.deny))
     (entry_specs_alike (filter is_multiple a.deny) (filter is_multiple b.deny) entries)
 
 -- the view of a configuration that was found valid
-pub same_view : (a b : Config) (file number : ℕ) (these those : ValidConfig) → ConfigsAlike a b → IsValidOf a file these → IsValidOf b number those
+pub same_view : (a b : Config) (file number : ℕ) (these those : ValidConfig) → ConfigsAlike a b → IsValidOf a file these
+    → IsValidOf b number those
     → policy_view these ≡ policy_view those
 same_view a b file number these those alike one two =
     let multiple_versions = one.multiple_versions ∙ alike.multiple_versions ∙ sym two.multiple_versions in
     let include_dev = one.include_dev ∙ alike.include_dev ∙ sym two.include_dev in
     let highlight = one.highlight ∙ alike.highlight ∙ sym two.highlight in
     let deny = ap (map ban_view) one.denied ∙ same_bans a b alike ∙ sym (ap (map ban_view) two.denied) in
-    let deny_multiple = ap (map spec_view) one.denied_multiple_versions ∙ same_multiple a b alike ∙ sym (ap (map spec_view) two.denied_multiple_versions) in
-    let allow = ap (map entry_view) one.allowed ∙ same_map EntriesAlike entry_view entry_view same_entry a.allow b.allow alike.allow ∙ sym (ap (map entry_view) two.allowed) in
+    let deny_multiple =
+    ap (map spec_view) one.denied_multiple_versions ∙ same_multiple a b alike
+    ∙ sym (ap (map spec_view) two.denied_multiple_versions) in
+    let allow =
+    ap (map entry_view) one.allowed
+    ∙ same_map EntriesAlike entry_view entry_view same_entry a.allow b.allow alike.allow
+    ∙ sym (ap (map entry_view) two.allowed) in
     let allow_workspace = one.allow_workspace ∙ alike.allow_workspace ∙ sym two.allow_workspace in
-    let skip = ap (map entry_view) one.skipped ∙ same_map EntriesAlike entry_view entry_view same_entry a.skip b.skip alike.skip ∙ sym (ap (map entry_view) two.skipped) in
-    let skip_tree = ap (roots_from 0) one.tree_skipped ∙ same_roots 0 a.skip_tree b.skip_tree alike.skip_tree ∙ sym (ap (roots_from 0) two.tree_skipped) in
+    let skip =
+    ap (map entry_view) one.skipped
+    ∙ same_map EntriesAlike entry_view entry_view same_entry a.skip b.skip alike.skip
+    ∙ sym (ap (map entry_view) two.skipped) in
+    let skip_tree =
+    ap (roots_from 0) one.tree_skipped ∙ same_roots 0 a.skip_tree b.skip_tree alike.skip_tree
+    ∙ sym (ap (roots_from 0) two.tree_skipped) in
     λ i. record {
       multiple_versions = multiple_versions i;
       include_dev = include_dev i;

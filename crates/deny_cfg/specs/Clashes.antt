@@ -5,7 +5,7 @@ use Rattle.std.specs.List.{flat_map}
 use Rattle.std.specs.Option.{option_map_or}
 use Rattle.std.specs.Ordering.{nat_cmp, on, then_cmp}
 use Rattle.std.specs.declared.cmp.Ordering.{Ordering}
-use Rattle.deny_base.specs.Ascending.{Lists}
+use Rattle.deny_lists.specs.Ascending.{Lists}
 use Rattle.deny_base.specs.KeyOrder.{span_cmp}
 use Rattle.deny_base.specs.declared.finding.Diagnostic.{Diagnostic}
 use Rattle.deny_base.specs.declared.label.Label.{Label}
@@ -14,15 +14,15 @@ use Rattle.deny_base.specs.declared.label.LabelStyle.TheVariants.{Primary, Secon
 use Rattle.deny_base.specs.declared.level.Severity.TheVariants.{Error}
 use Rattle.deny_base.specs.declared.span.Span.{Span}
 use Rattle.deny_base.specs.declared.span.Spanned.{Spanned}
-use Rattle.deny_cfg.specs.SpecView.{same_spec}
-use Rattle.deny_cfg.specs.declared.bans.cfg.ban.CrateBanExtended.{CrateBanExtended}
-use Rattle.deny_cfg.specs.declared.bans.cfg.config.Config.{Config}
-use Rattle.deny_cfg.specs.declared.bans.cfg.features.CrateFeatures.{CrateFeatures}
+use Rattle.deny_entries.specs.SpecView.{same_spec}
+use Rattle.deny_tables.specs.declared.bans.cfg.ban.CrateBanExtended.{CrateBanExtended}
+use Rattle.deny_tables.specs.declared.bans.cfg.config.Config.{Config}
+use Rattle.deny_tables.specs.declared.bans.cfg.features.CrateFeatures.{CrateFeatures}
 use Rattle.deny_cfg.specs.declared.clash.Clash.{Clash}
 use Rattle.deny_cfg.specs.declared.clash.ClashKind.{ClashKind}
 use Rattle.deny_cfg.specs.declared.clash.ClashKind.TheVariants as clash
-use Rattle.deny_cfg.specs.declared.package_spec.PackageSpec.{PackageSpec}
-use Rattle.deny_cfg.specs.declared.spec_or_extended.PackageSpecOrExtended.{PackageSpecOrExtended}
+use Rattle.deny_entries.specs.declared.package_spec.PackageSpec.{PackageSpec}
+use Rattle.deny_entries.specs.declared.spec_or_extended.PackageSpecOrExtended.{PackageSpecOrExtended}
 use Rattle.deny_model.specs.Policy.{Words}
 use Rattle.deny_model.specs.Keys.{no_span}
 use Rattle.deny_model.specs.Text.{same_text}
@@ -42,7 +42,14 @@ two_places kind first second = record { kind = kind; first = first; second = sec
 abbrev pub wrappers_clash_by : Option (Spanned Bool) → Option (Spanned (List Words)) → Option Clash
 wrappers_clash_by (Some flag) (Some wrappers) =
     if flag.value && not (length wrappers.value == 0)
-    then Some (record { kind = clash.WrappersOfMultiple; first = wrappers.span; second = flag.span; third = no_span; wrappers = length wrappers.value })
+    then Some (record {
+      kind = clash.WrappersOfMultiple;
+      first = wrappers.span;
+      second = flag.span;
+      third = no_span;
+      wrappers = length
+          wrappers.value;
+    })
     else None
 wrappers_clash_by _ _ = None
 
@@ -51,7 +58,8 @@ wrappers_clash e = wrappers_clash_by (flag_of e) (option_and_then (λ said. said
 
 -- a spec, and the first equal one of some entries
 unfoldable pub clash_with : ClashKind → List PackageSpec → PackageSpec → Option Clash
-clash_with kind others spec = option_map (λ other. two_places kind spec.name.span other.name.span) (find (same_spec spec) others)
+clash_with kind others spec =
+    option_map (λ other. two_places kind spec.name.span other.name.span) (find (same_spec spec) others)
 
 abbrev pub specs_of : {T : Type 0} → List (PackageSpecOrExtended T) → List PackageSpec
 specs_of entries = map (λ e. e.spec) entries
@@ -61,7 +69,8 @@ banned_specs config = specs_of (filter is_ban config.deny)
 
 -- an allowed feature, and the first equal denied one of the same entry
 abbrev pub feature_at : Span → Words → Span → Clash
-feature_at name allowed denied = record { kind = clash.FeatureTwice; first = name; second = allowed.span; third = denied; wrappers = 0 }
+feature_at name allowed denied =
+    record { kind = clash.FeatureTwice; first = name; second = allowed.span; third = denied; wrappers = 0 }
 
 unfoldable pub feature_clash : CrateFeatures → Words → Option Clash
 feature_clash entry allowed = option_map
@@ -91,10 +100,12 @@ kind_cmp = on kind_number nat_cmp
 -- by kind, then by the ranges of the labels
 abbrev pub clash_cmp : Clash → Clash → Ordering
 clash_cmp = then_cmp (on (λ c. c.kind) kind_cmp)
-    (then_cmp (on (λ c. c.first) span_cmp) (then_cmp (on (λ c. c.second) span_cmp) (then_cmp (on (λ c. c.third) span_cmp) (on (λ c. c.wrappers) nat_cmp))))
+    (then_cmp (on (λ c. c.first) span_cmp)
+    (then_cmp (on (λ c. c.second) span_cmp) (then_cmp (on (λ c. c.third) span_cmp) (on (λ c. c.wrappers) nat_cmp))))
 
 abbrev pub clash_message : ClashKind → List ℕ
-clash_message clash.WrappersOfMultiple = codes "a crate ban was specified with both `wrappers` and `deny-multiple-versions` = true"
+clash_message clash.WrappersOfMultiple =
+    codes "a crate ban was specified with both `wrappers` and `deny-multiple-versions` = true"
 clash_message clash.DenyAndAllow = codes "a crate was specified in both `allow` and `deny`"
 clash_message clash.DenyAndSkip = codes "a crate was specified in both `skip` and `deny`"
 clash_message clash.AllowAndSkip = codes "a crate was specified in both `skip` and `allow`"
@@ -107,7 +118,9 @@ abbrev pub marks : ℕ → Clash → List ℕ → List ℕ → List Label
 marks file c first second = label_of Secondary file c.first first ∷ label_of Secondary file c.second second ∷ []
 
 abbrev pub wrapper_labels : ℕ → Clash → List Label
-wrapper_labels file c = marks file c (codes "has " ++ (decimal c.wrappers ++ codes " `wrappers`")) (codes "has `deny-multiple-versions` set to true")
+wrapper_labels file c =
+    marks file c (codes "has " ++ (decimal c.wrappers ++ codes " `wrappers`"))
+    (codes "has `deny-multiple-versions` set to true")
 
 abbrev pub feature_labels : ℕ → Clash → List Label
 feature_labels file c =

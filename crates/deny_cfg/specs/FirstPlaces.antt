@@ -9,9 +9,9 @@ use Rattle.std.specs.declared.cmp.Ordering.{Ordering}
 use Rattle.deny_base.specs.declared.span.Span.{Span}
 use Rattle.deny_cfg.specs.declared.first_places.FirstPlaces.{FirstPlaces}
 use Rattle.deny_cfg.specs.declared.first_places.Wording.{Wording}
-use Rattle.deny_cfg.specs.declared.package_spec.PackageSpec.{PackageSpec}
-use Rattle.deny_cfg.specs.declared.reason.Reason.{Reason}
-use Rattle.deny_cfg.specs.declared.spec_or_extended.PackageSpecOrExtended.{PackageSpecOrExtended}
+use Rattle.deny_entries.specs.declared.package_spec.PackageSpec.{PackageSpec}
+use Rattle.deny_entries.specs.declared.reason.Reason.{Reason}
+use Rattle.deny_entries.specs.declared.spec_or_extended.PackageSpecOrExtended.{PackageSpecOrExtended}
 use Rattle.deny_model.specs.Policy.{Words}
 use Rattle.deny_model.specs.Text.{same_text}
 
@@ -41,7 +41,8 @@ place_in found wording = tree.get wording_cmp found.places wording
 
 -- what was found before stays, and only what was not comes to have this place
 pub record Gains (wording : Wording) (place : Span) (old new : FirstPlaces) : Type 0 where
-  pub at : (asked : Wording) → place_in new asked ≡ option_or (place_in old asked) (cond (same_wording asked wording) (Some place) None)
+  pub at : (asked : Wording)
+      → place_in new asked ≡ option_or (place_in old asked) (cond (same_wording asked wording) (Some place) None)
 
 -- the first of these places that says the same is found
 pub record FindsFirst (places : List (Wording × Span)) (found : FirstPlaces) : Type 0 where

@@ -5,17 +5,17 @@ use Rattle.deny_base.specs.declared.finding.Diagnostic.{Diagnostic}
 use Rattle.deny_base.specs.declared.span.Span.{Span}
 use Rattle.deny_base.specs.declared.span.Spanned.{Spanned}
 use Rattle.deny_toml.specs.Ranges.{IsRange}
-use Rattle.deny_cfg.specs.declared.bans.cfg.ban.CrateBanExtended.{CrateBanExtended}
-use Rattle.deny_cfg.specs.declared.bans.cfg.config.Config.{Config}
-use Rattle.deny_cfg.specs.declared.bans.cfg.features.CrateFeatures.{CrateFeatures}
-use Rattle.deny_cfg.specs.declared.bans.cfg.std_replacements.StdReplacementConfig.{StdReplacementConfig}
-use Rattle.deny_cfg.specs.declared.bans.cfg.tree_skip.TreeSkipExtended.{TreeSkipExtended}
+use Rattle.deny_tables.specs.declared.bans.cfg.ban.CrateBanExtended.{CrateBanExtended}
+use Rattle.deny_tables.specs.declared.bans.cfg.config.Config.{Config}
+use Rattle.deny_tables.specs.declared.bans.cfg.features.CrateFeatures.{CrateFeatures}
+use Rattle.deny_tables.specs.declared.bans.cfg.std_replacements.StdReplacementConfig.{StdReplacementConfig}
+use Rattle.deny_tables.specs.declared.bans.cfg.tree_skip.TreeSkipExtended.{TreeSkipExtended}
 use Rattle.deny_cfg.specs.declared.bans.cfg.valid.KrateBan.{KrateBan}
 use Rattle.deny_cfg.specs.declared.bans.cfg.valid.ValidConfig.{ValidConfig}
 use Rattle.deny_cfg.specs.declared.bans.cfg.valid.ValidKrateFeatures.{ValidKrateFeatures}
-use Rattle.deny_cfg.specs.declared.package_spec.PackageSpec.{PackageSpec}
-use Rattle.deny_cfg.specs.declared.reason.Reason.{Reason}
-use Rattle.deny_cfg.specs.declared.spec_or_extended.PackageSpecOrExtended.{PackageSpecOrExtended}
+use Rattle.deny_entries.specs.declared.package_spec.PackageSpec.{PackageSpec}
+use Rattle.deny_entries.specs.declared.reason.Reason.{Reason}
+use Rattle.deny_entries.specs.declared.spec_or_extended.PackageSpecOrExtended.{PackageSpecOrExtended}
 use Rattle.deny_model.specs.Policy.{Words}
 
 abbrev pub of_some : {A : Type 0} → (A → List Span) → Option A → List Span
@@ -42,14 +42,17 @@ abbrev pub with_spec : {T : Type 0} → (T → List Span) → PackageSpecOrExten
 with_spec ranges e = spec_range e.spec ++ of_some ranges e.inner
 
 abbrev pub ban_ranges : KrateBan → List Span
-ban_ranges ban = joined (of_some word_ranges ban.wrappers ∷ of_some reason_range ban.reason ∷ of_some own_range ban.use_instead ∷ [])
+ban_ranges ban =
+    joined (of_some word_ranges ban.wrappers ∷ of_some reason_range ban.reason ∷ of_some own_range ban.use_instead ∷ [])
 
 abbrev pub root_ranges : TreeSkipExtended → List Span
 root_ranges skip = of_some reason_range skip.reason
 
 -- an entry of `features`, with what is taken of its reason
 abbrev pub feature_ranges_by : (Reason → List Span) → ValidKrateFeatures → List Span
-feature_ranges_by reasons f = spec_range f.spec ++ joined (word_ranges f.features.allow.value ∷ word_ranges f.features.deny ∷ of_some reasons f.reason ∷ [])
+feature_ranges_by reasons f =
+    spec_range f.spec
+    ++ joined (word_ranges f.features.allow.value ∷ word_ranges f.features.deny ∷ of_some reasons f.reason ∷ [])
 
 abbrev pub feature_ranges : ValidKrateFeatures → List Span
 feature_ranges = feature_ranges_by reason_range
@@ -61,7 +64,8 @@ abbrev pub std_ranges : StdReplacementConfig → List Span
 std_ranges = std_ranges_by reason_range
 
 -- of each name, feature and level, and what is taken of bans, reasons and trees besides
-abbrev pub ranges_by : (KrateBan → List Span) → (Reason → List Span) → (TreeSkipExtended → List Span) → ValidConfig → List Span
+abbrev pub ranges_by : (KrateBan → List Span) → (Reason → List Span) → (TreeSkipExtended → List Span) → ValidConfig
+    → List Span
 ranges_by bans reasons trees cfg = joined (
     (flat_map (with_spec bans) cfg.denied ++ flat_map spec_range cfg.denied_multiple_versions)
     ∷ flat_map (with_spec reasons) cfg.allowed
@@ -89,7 +93,8 @@ crate_ban_ranges said = joined (
     )
 
 abbrev pub crate_feature_ranges : CrateFeatures → List Span
-crate_feature_ranges f = spec_range f.spec ++ joined (word_ranges f.allow.value ∷ word_ranges f.deny ∷ of_some reason_range f.reason ∷ [])
+crate_feature_ranges f =
+    spec_range f.spec ++ joined (word_ranges f.allow.value ∷ word_ranges f.deny ∷ of_some reason_range f.reason ∷ [])
 
 unfoldable pub config_labels : Config → List Span
 config_labels config = joined (

@@ -19,17 +19,17 @@ use Rattle.deny_toml.specs.declared.error.TomlKind.{TomlKind}
 use Rattle.deny_toml.specs.declared.error.TomlKind.TheVariants as toml
 use Rattle.deny_toml.specs.declared.value.Value.{Value}
 use Rattle.deny_cfg.specs.Clashes.{AreClashes, clashes_in}
-use Rattle.deny_cfg.specs.Config.{ReadsConfig, faults_of_config}
+use Rattle.deny_tables.specs.Config.{ReadsConfig, faults_of_config}
 use Rattle.deny_cfg.specs.LabelRanges.{told_ranges}
-use Rattle.deny_cfg.specs.PolicyKey.{name_of}
-use Rattle.deny_cfg.specs.Table.{ReadsTable}
+use Rattle.deny_entries.specs.PolicyKey.{name_of}
+use Rattle.deny_entries.specs.Table.{ReadsTable}
 use Rattle.deny_cfg.specs.Valid.{IsValidOf}
-use Rattle.deny_cfg.specs.declared.bans.cfg.config.Config.{Config}
+use Rattle.deny_tables.specs.declared.bans.cfg.config.Config.{Config}
 use Rattle.deny_cfg.specs.declared.policy.Policy.{Policy}
 use Rattle.deny_cfg.specs.declared.policy.PolicyError.{PolicyError}
 use Rattle.deny_cfg.specs.declared.policy.PolicyError.TheVariants as error
-use Rattle.deny_cfg.specs.declared.policy_key.PolicyKey.{PolicyKey}
-use Rattle.deny_cfg.specs.declared.policy_key.PolicyKey.TheVariants as key
+use Rattle.deny_entries.specs.declared.policy_key.PolicyKey.{PolicyKey}
+use Rattle.deny_entries.specs.declared.policy_key.PolicyKey.TheVariants as key
 
 abbrev pub bans_name : List ℕ
 bans_name = codes "bans"
@@ -45,7 +45,8 @@ kind_of toml.Clash = kind.Clash
 -- These are the faults of a text as a policy. One that is not UTF-8 has no other, nor has one that is no TOML.
 pub data AreFaults (text : List ℕ) : List ConfigFault → Type 0 where
   not_utf8 : ¬ IsUtf8 text → AreFaults text (fault_at kind.NotUtf8 [] no_span ∷ [])
-  no_toml : (of : TomlKind) (span : Span) → IsUtf8 text → IsFaultOf text of span → IsRange text span → AreFaults text (fault_at (kind_of of) [] span ∷ [])
+  no_toml : (of : TomlKind) (span : Span) → IsUtf8 text → IsFaultOf text of span → IsRange text span
+      → AreFaults text (fault_at (kind_of of) [] span ∷ [])
   of_tree : (v : Value) → IsUtf8 text → IsTreeOf text v → AreFaults text (faults_of_tree v)
 
 -- The faults of a text, of which there are some, in ascending order, each once.
@@ -86,7 +87,9 @@ writes_key bans k = is_some (below_name (name_of k) bans)
 
 -- a tree writes `licenses`, or in `bans` one of these keys
 unfoldable pub writes_unbuilt : Value → Bool
-writes_unbuilt v = is_some (below_name (codes "licenses") v) || option_map_or (λ bans. list_any (writes_key bans) not_built) (below_name bans_name v) false
+writes_unbuilt v =
+    is_some (below_name (codes "licenses") v)
+    || option_map_or (λ bans. list_any (writes_key bans) not_built) (below_name bans_name v) false
 
 -- the same, and whether the text writes a key whose rule is not there yet
 pub record SaysOf (text : List ℕ) (config : Config) (unbuilt : Bool) : Type 0 where

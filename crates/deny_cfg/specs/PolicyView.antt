@@ -1,14 +1,13 @@
 -- What the rules see of a configuration.
-use Rattle.std.specs.Prelude.{ℕ, ◌+◌, Bool, true, false, List, [], ◌∷◌, map, Option, None, Some, option_map, option_and_then}
+use Rattle.std.specs.Prelude.{ℕ, ◌+◌, List, [], ◌∷◌, map, Option, None, Some, option_map, option_and_then}
 use Rattle.deny_model.specs.Policy.{Ban, Entry, Policy, Root, Words}
-use Rattle.deny_cfg.specs.SpecView.{spec_view}
-use Rattle.deny_cfg.specs.declared.bans.cfg.highlight.GraphHighlight.{GraphHighlight}
-use Rattle.deny_cfg.specs.declared.bans.cfg.highlight.GraphHighlight.TheVariants as highlight
-use Rattle.deny_cfg.specs.declared.bans.cfg.tree_skip.TreeSkipExtended.{TreeSkipExtended}
+use Rattle.deny_entries.specs.SpecView.{spec_view}
+use Rattle.deny_tables.specs.Highlight.{shows_lowest, shows_simplest}
+use Rattle.deny_tables.specs.declared.bans.cfg.tree_skip.TreeSkipExtended.{TreeSkipExtended}
 use Rattle.deny_cfg.specs.declared.bans.cfg.valid.KrateBan.{KrateBan}
 use Rattle.deny_cfg.specs.declared.bans.cfg.valid.ValidConfig.{ValidConfig}
-use Rattle.deny_cfg.specs.declared.reason.Reason.{Reason}
-use Rattle.deny_cfg.specs.declared.spec_or_extended.PackageSpecOrExtended.{PackageSpecOrExtended}
+use Rattle.deny_entries.specs.declared.reason.Reason.{Reason}
+use Rattle.deny_entries.specs.declared.spec_or_extended.PackageSpecOrExtended.{PackageSpecOrExtended}
 
 abbrev pub words_or_none : Option (List Words) → List Words
 words_or_none None = []
@@ -39,16 +38,6 @@ root_view number e = record {
 abbrev pub roots_from : ℕ → List (PackageSpecOrExtended TreeSkipExtended) → List Root
 roots_from number [] = []
 roots_from number (e ∷ es) = root_view number e ∷ roots_from (number + 1) es
-
-abbrev pub shows_simplest : GraphHighlight → Bool
-shows_simplest highlight.SimplestPath = true
-shows_simplest highlight.LowestVersion = false
-shows_simplest highlight.All = true
-
-abbrev pub shows_lowest : GraphHighlight → Bool
-shows_lowest highlight.SimplestPath = false
-shows_lowest highlight.LowestVersion = true
-shows_lowest highlight.All = true
 
 abbrev pub policy_view : ValidConfig → Policy
 policy_view cfg = record {

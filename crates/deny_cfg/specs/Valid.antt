@@ -1,23 +1,30 @@
 -- A configuration without clashes, as the rules take it.
 use Rattle.std.specs.Prelude.{◌≡◌, ℕ, Bool, not, filter, map, option_map}
 use Rattle.deny_cfg.specs.Clashes.{is_ban}
-use Rattle.deny_cfg.specs.declared.bans.cfg.ban.CrateBanExtended.{CrateBanExtended}
-use Rattle.deny_cfg.specs.declared.bans.cfg.config.Config.{Config}
-use Rattle.deny_cfg.specs.declared.bans.cfg.features.CrateFeatures.{CrateFeatures}
+use Rattle.deny_tables.specs.declared.bans.cfg.ban.CrateBanExtended.{CrateBanExtended}
+use Rattle.deny_tables.specs.declared.bans.cfg.config.Config.{Config}
+use Rattle.deny_tables.specs.declared.bans.cfg.features.CrateFeatures.{CrateFeatures}
 use Rattle.deny_cfg.specs.declared.bans.cfg.valid.KrateBan.{KrateBan}
 use Rattle.deny_cfg.specs.declared.bans.cfg.valid.ValidConfig.{ValidConfig}
 use Rattle.deny_cfg.specs.declared.bans.cfg.valid.ValidKrateFeatures.{ValidKrateFeatures}
-use Rattle.deny_cfg.specs.declared.spec_or_extended.PackageSpecOrExtended.{PackageSpecOrExtended}
+use Rattle.deny_entries.specs.declared.spec_or_extended.PackageSpecOrExtended.{PackageSpecOrExtended}
 
 -- what an entry that bans says, without its flag
 abbrev pub krate_ban : CrateBanExtended → KrateBan
-krate_ban said = record { wrappers = option_map (λ wrappers. wrappers.value) said.wrappers; reason = said.reason; use_instead = said.use_instead }
+krate_ban said =
+    record {
+      wrappers = option_map (λ wrappers. wrappers.value)
+          said.wrappers;
+      reason = said.reason;
+      use_instead = said.use_instead;
+    }
 
 abbrev pub ban_of : PackageSpecOrExtended CrateBanExtended → PackageSpecOrExtended KrateBan
 ban_of e = record { spec = e.spec; inner = option_map krate_ban e.inner }
 
 abbrev pub features_of : CrateFeatures → ValidKrateFeatures
-features_of f = record { spec = f.spec; features = record { allow = f.allow; deny = f.deny; exact = f.exact }; reason = f.reason }
+features_of f =
+    record { spec = f.spec; features = record { allow = f.allow; deny = f.deny; exact = f.exact }; reason = f.reason }
 
 -- an entry of `deny` denies several versions alone
 abbrev pub is_multiple : PackageSpecOrExtended CrateBanExtended → Bool

@@ -3,10 +3,11 @@ ghost use Rattle.std.specs.Prelude.{◌≡◌, ◌∷◌, [], ◌++◌, IfOk, On
 ghost use Rattle.deny_base.specs.declared.label.LabelStyle.TheVariants.{Secondary};
 ghost use Rattle.deny_cfg.specs.Clashes as spec;
 ghost use Rattle.deny_cfg.specs.Clashes.{clash_labels, clash_message, clash_told, label_of, marks};
-ghost use Rattle.deny_cfg.specs.Validating.{GainsFront};
+ghost use Rattle.deny_cfg.specs.Validating.{GainsPrefix};
 
 use crate::clash::{Clash, ClashKind};
-use deny_base::{Diagnostic, FileId, Label, LabelStyle, List, NoMemory, Severity, Span, Text};
+use deny_base::{Diagnostic, FileId, Label, LabelStyle, Severity, Span};
+use deny_lists::{List, NoMemory, Text};
 use std::alloc::Global;
 
 fn clash_message(kind: ClashKind) -> &'static str
@@ -136,7 +137,7 @@ fn clash_told(alloc: Global, file: FileId, clash: &Clash) -> Result<Diagnostic, 
 }
 
 /// Tells the clashes of the file, in order, behind what was told before. Where memory is wanting, a
-/// front of them was told.
+/// prefix of them was told.
 pub fn tell_clashes(
     alloc: Global,
     file: FileId,
@@ -144,7 +145,7 @@ pub fn tell_clashes(
     told: &mut List<Diagnostic>,
 ) -> Result<(), NoMemory>
     ensures ok { OnOk result (told.new ≡ told.old ++ map (clash_told file) clashes.now) }
-    ensures err { OnErr result (GainsFront (map (clash_told file) clashes.now) told.old told.new) }
+    ensures err { OnErr result (GainsPrefix (map (clash_told file) clashes.now) told.old told.new) }
 {
     for clash in clashes {
         told.push(clash_told(alloc, file, clash)?)?;

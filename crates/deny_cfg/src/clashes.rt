@@ -1,16 +1,17 @@
 //! Which entries of a policy clash.
 ghost use Rattle.std.specs.Prelude.{◌≡◌, ◌++◌, [], Contains, IfOk, None, OnOk, Some, if◌then◌else◌, filter, filter_map, option_map};
 ghost use Rattle.std.specs.List.{cons_option, flat_map};
-ghost use Rattle.deny_base.specs.Ascending.{Lists};
+ghost use Rattle.deny_lists.specs.Ascending.{Lists};
 ghost use Rattle.deny_cfg.specs.Clashes.{clash_cmp, clash_with, clashes_in, feature_clashes, is_ban, specs_of, two_places, wrappers_clash, wrappers_clash_by};
 ghost use Rattle.deny_cfg.specs.Clashes as spec;
 ghost use Rattle.deny_cfg.specs.FirstPlaces.{place_in, plain_wording, spec_wording};
 
-use crate::bans::cfg::{Config, CrateBan, CrateBanExtended, CrateFeatures, SpecAndReason};
 use crate::clash::{Clash, ClashKind, clash_order};
 use crate::first_places::{FirstPlaces, Wording};
-use crate::package_spec::PackageSpec;
-use deny_base::{List, NoMemory, Span, Spanned, Text, put_in_order};
+use deny_base::{Span, Spanned};
+use deny_entries::PackageSpec;
+use deny_lists::{List, NoMemory, Text, put_in_order};
+use deny_tables::bans::cfg::{Config, CrateBan, CrateBanExtended, CrateFeatures, SpecAndReason};
 use std::alloc::Global;
 
 /// Whether an entry of `deny` bans, and does not deny several versions alone.

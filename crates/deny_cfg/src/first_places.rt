@@ -2,9 +2,10 @@
 ghost use Rattle.std.specs.Prelude.{◌≡◌, [], IfOk, OnOk, is_some, map, not};
 ghost use Rattle.deny_cfg.specs.FirstPlaces.{FindsFirst, Gains, entry_place, place_in, plain_wording, spec_wording, word_place};
 
-use crate::bans::cfg::SpecAndReason;
-use crate::package_spec::PackageSpec;
-use deny_base::{NoMemory, Span, Spanned, Text};
+use deny_base::{Span, Spanned};
+use deny_entries::PackageSpec;
+use deny_lists::{NoMemory, Text};
+use deny_tables::bans::cfg::SpecAndReason;
 use std::alloc::Global;
 use std::collections::BTreeMap;
 

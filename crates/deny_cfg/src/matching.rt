@@ -2,10 +2,10 @@
 ghost use Rattle.std.specs.Prelude.{◌≡◌, option_map};
 ghost use Rattle.semver.specs.Identifiers.{parts_of};
 ghost use Rattle.deny_model.specs.Match.{meets, speaks_of};
-ghost use Rattle.deny_cfg.specs.Requirement.{held_in};
-ghost use Rattle.deny_cfg.specs.SpecView.{spec_view};
+ghost use Rattle.deny_entries.specs.Requirement.{held_in};
+ghost use Rattle.deny_entries.specs.SpecView.{spec_view};
 
-use crate::package_spec::PackageSpec;
+use deny_entries::PackageSpec;
 use deny_krates::Krate;
 use semver::{Version, VersionReq};
 

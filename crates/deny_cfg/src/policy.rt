@@ -11,14 +11,17 @@ ghost use Rattle.deny_cfg.specs.LabelRanges.{AreLabels, config_labels, list_rang
 ghost use Rattle.deny_cfg.specs.Lawful.{IsLawful};
 ghost use Rattle.deny_cfg.specs.PolicyText.{IsConfig, IsNoPolicy, IsPolicyOf, Keeps, KeepsOnError, ListsFaults, ReadsBans, SaysOf, bans_name, faults_of_tree, kind_of, not_built, writes_key, writes_unbuilt};
 
-use crate::bans::cfg::{Config, ValidConfig};
-use crate::policy_key::PolicyKey;
+use crate::bans::cfg::ValidConfig;
 use crate::validate::{UnvalidatedConfig, ValidationContext};
-use deny_base::{Diagnostic, FileId, Files, List, NoMemory, Span, Text};
+use deny_base::{Diagnostic, FileId, Files, Span};
+use deny_entries::PolicyKey;
+use deny_lists::{List, NoMemory, Text};
+use deny_tables::bans::cfg::Config;
 use deny_toml::{
     ConfigFault, DeserError, FaultKind, TableHelper, TomlError, TomlKind, Value, parse,
 };
 use std::alloc::Global;
+use thiserror::Error;
 
 /// What a policy says.
 #[derive(Debug, Drop)]
@@ -32,13 +35,16 @@ pub struct Policy {
 }
 
 /// Why a text has no policy.
-#[derive(Debug, Drop)]
+#[derive(Debug, Drop, Error)]
 pub enum PolicyError {
     /// All faults of the text, in ascending order of span, kind and key.
+    #[error("the policy has faults")]
     Config(List<ConfigFault>),
     /// What clashes in it, by kind and then by the ranges of the labels.
+    #[error("entries of the policy contradict each other")]
     Invalid(List<Diagnostic>),
     /// The memory did not suffice.
+    #[error("the memory did not suffice")]
     Memory,
 }
 
@@ -59,11 +65,7 @@ impl PolicyError {
         ensures { IsConfig (λ faults. faults ≡ fault_at kind [] span ∷ []) result }
     {
         let mut faults = List::new(alloc);
-        let fault = ConfigFault {
-            span,
-            kind,
-            key: Text::new(alloc),
-        };
+        let fault = ConfigFault::new(kind, Text::new(alloc), span);
         match faults.push(fault) {
             Ok(()) => PolicyError::Config(faults),
             Err(_) => PolicyError::Memory,

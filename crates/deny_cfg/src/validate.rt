@@ -1,9 +1,10 @@
 //! Configurations that are checked for clashes.
 ghost use Rattle.std.specs.Prelude.{◌≡◌, ◌<◌, ◌^◌, ℕ, List, IfOk, OnErr, OnOk, length};
 ghost use Rattle.deny_base.specs.declared.finding.Diagnostic as finding;
-ghost use Rattle.deny_cfg.specs.Validating.{Gains, GainsFrontOf, diagnostics_left, files_left};
+ghost use Rattle.deny_cfg.specs.Validating.{Gains, GainsPrefixOf, diagnostics_left, files_left};
 
-use deny_base::{Diagnostic, FileId, Files, List, NoMemory};
+use deny_base::{Diagnostic, FileId, Files};
+use deny_lists::{List, NoMemory};
 use std::alloc::Global;
 
 /// Where a configuration stands, and what gathers its clashes.
@@ -31,12 +32,12 @@ pub trait UnvalidatedConfig: Sized {
     /// something clashes: that there are more diagnostics than before tells it. There have to be
     /// fewer than 2^31 files; none is added.
     ///
-    /// Where memory is wanting, the diagnostics are as they were, or hold a front of what clashes
+    /// Where memory is wanting, the diagnostics are as they were, or hold a prefix of what clashes
     /// behind what stood there.
     fn validate(self, ctx: ValidationContext<'_>) -> Result<Self::ValidCfg, NoMemory>
         requires few { length ctx.files.now < 2 ^ 31 }
         ensures valid { IfOk result (is_valid_of self ctx.entry.cfg_id) }
         ensures files_stay { (files_left ctx.exit).now ≡ ctx.entry.files.now }
         ensures told { OnOk result (Gains (are_clashes self ctx.entry.cfg_id) ctx.entry.diagnostics.now (diagnostics_left ctx.exit).now) }
-        ensures told_in_part { OnErr result (GainsFrontOf (are_clashes self ctx.entry.cfg_id) ctx.entry.diagnostics.now (diagnostics_left ctx.exit).now) };
+        ensures told_in_part { OnErr result (GainsPrefixOf (are_clashes self ctx.entry.cfg_id) ctx.entry.diagnostics.now (diagnostics_left ctx.exit).now) };
 }

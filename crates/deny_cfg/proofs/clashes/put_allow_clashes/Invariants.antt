@@ -6,5 +6,6 @@ use Rattle.deny_cfg.proofs.clashes.put_allow_clashes.Given as goal
 
 abbrev pub invariant-loop-entry : goal.invariant-loop-entry
 invariant-loop-entry l =
-    l.clashes ++ filter_map (λ e. clash_with clash.AllowAndSkip (specs_of l.fn.skip) e.spec) (drop l.entry-index l.allow)
+    l.clashes ++ filter_map (λ e. clash_with clash.AllowAndSkip (specs_of l.fn.skip) e.spec)
+    (drop l.entry-index l.allow)
     ≡ l.fn.clashes ++ filter_map (λ e. clash_with clash.AllowAndSkip (specs_of l.fn.skip) e.spec) l.allow

@@ -5,5 +5,6 @@ use Rattle.deny_cfg.proofs.clashes.put_ban_clashes.Given as goal
 
 abbrev pub invariant-loop-entry : goal.invariant-loop-entry
 invariant-loop-entry l =
-    l.clashes ++ filter_map (λ e. cond (is_ban e) (clash_with l.kind (specs_of l.fn.others) e.spec) None) (drop l.entry-index l.deny)
+    l.clashes ++ filter_map (λ e. cond (is_ban e) (clash_with l.kind (specs_of l.fn.others) e.spec) None)
+    (drop l.entry-index l.deny)
     ≡ l.fn.clashes ++ filter_map (λ e. cond (is_ban e) (clash_with l.kind (specs_of l.fn.others) e.spec) None) l.deny

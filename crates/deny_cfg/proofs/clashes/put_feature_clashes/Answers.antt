@@ -11,7 +11,12 @@ loop-allowed-preserved c =
     let entry = c.args.entry.now in
     let allowed = c.allowed-item.result in
     let denied = c.in_ok-denied.denied in
-    let found = feature_found entry allowed denied (subst (λ (words : List Words). FindsFirst (map word_place words) denied) c.as_slice.ensures c.in_ok-denied.ensures) in
-    gathers_next (feature_clash entry) c.as_slice-allowed-items.result.now c.loop-allowed.allowed-index allowed c.loop-allowed.clashes c.put_clash.new.clashes _
-    c.in_ok-feature_clash.field-0 (omega (arith, c.loop-allowed-test.true)) c.allowed-item.is c.loop-allowed.invariant (c.in_ok-feature_clash.ensures ∙ found)
+    let found =
+    feature_found entry allowed denied
+    (subst (λ (words : List Words). FindsFirst (map word_place words) denied) c.as_slice.ensures
+    c.in_ok-denied.ensures) in
+    gathers_next (feature_clash entry) c.as_slice-allowed-items.result.now c.loop-allowed.allowed-index allowed
+    c.loop-allowed.clashes c.put_clash.new.clashes _
+    c.in_ok-feature_clash.field-0 (omega (arith, c.loop-allowed-test.true)) c.allowed-item.is c.loop-allowed.invariant
+    (c.in_ok-feature_clash.ensures ∙ found)
     c.in_ok-put_clash.ensures

@@ -8,17 +8,27 @@ use Rattle.deny_cfg.proofs.policy.config_of.Goals as goal
 
 pub returns-in-Ok-clause-says : goal.returns-in-Ok-clause-says
 returns-in-Ok-clause-says c = record {
-  says = record { utf8 = c.utf8.text; tree = c.in_ok-tree.tree; is_tree = c.in_ok-tree.ensures.tree; faultless = c.in-Ok.ensures.faultless; reads = c.in-Ok.ensures.reads };
+  says =
+      record {
+        utf8 = c.utf8.text;
+        tree = c.in_ok-tree.tree;
+        is_tree = c.in_ok-tree.ensures.tree;
+        faultless = c.in-Ok.ensures.faultless;
+        reads = c.in-Ok.ensures.reads;
+      };
   unbuilt_is = c.writes_unbuilt-not_built.ensures;
 }
 
 pub returns-in-Err-Faults-clause-faults : goal.returns-in-Err-Faults-clause-faults
-returns-in-Err-Faults-clause-faults c = tree_listed c.args.text.now c.in_ok-tree.tree c.in-Err-Faults.faults c.utf8.text c.in_ok-tree.ensures.tree
+returns-in-Err-Faults-clause-faults c =
+    tree_listed c.args.text.now c.in_ok-tree.tree c.in-Err-Faults.faults c.utf8.text c.in_ok-tree.ensures.tree
     (subst (Reports (faults_of_tree c.in_ok-tree.tree)) c.in-Err-Faults.field-0-is c.in-Err-Faults.ensures.faults)
 
 pub returns-in-Ok-clause-labels : goal.returns-in-Ok-clause-labels
 returns-in-Ok-clause-labels c =
-    config_are_labels c.args.text.now c.in_ok-tree.tree c.in-Ok.config c.in_ok-tree.ensures.stands c.in_ok-tree.ensures.apart c.in-Ok.ensures.reads
+    config_are_labels c.args.text.now c.in_ok-tree.tree c.in-Ok.config c.in_ok-tree.ensures.stands
+    c.in_ok-tree.ensures.apart c.in-Ok.ensures.reads
 
 pub returns-in-Ok-clause-lists : goal.returns-in-Ok-clause-lists
-returns-in-Ok-clause-lists c = lists_lie c.args.text.now c.in_ok-tree.tree c.in-Ok.config c.in_ok-tree.ensures.stands c.in-Ok.ensures.reads
+returns-in-Ok-clause-lists c =
+    lists_lie c.args.text.now c.in_ok-tree.tree c.in-Ok.config c.in_ok-tree.ensures.stands c.in-Ok.ensures.reads

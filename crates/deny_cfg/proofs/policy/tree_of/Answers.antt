@@ -10,7 +10,8 @@ returns-in-Err-Fault-clause-faults c =
     let text = c.args.text.now in
     let span = c.in-Err-Fault.span in
     config_weaker _ (ListsFaults text) c.of_text.result
-    (λ faults is. toml_listed text c.in-Err-Fault.kind span faults c.utf8.text (subst (IsCauseOf text) c.in-Err-Fault.field-0-is c.in-Err-Fault.ensures.cause)
+    (λ faults is. toml_listed text c.in-Err-Fault.kind span faults c.utf8.text
+    (subst (IsCauseOf text) c.in-Err-Fault.field-0-is c.in-Err-Fault.ensures.cause)
     (subst (IsPlaced text) c.in-Err-Fault.field-0-is c.in-Err-Fault.ensures.placed)
     (is ∙ ap (λ k. fault_at k [] span ∷ []) c.fault_kind.ensures))
     c.of_text.ensures

@@ -3,20 +3,17 @@ ghost use Rattle.std.specs.Prelude.{◌≡◌, IfOk, filter, map};
 ghost use Rattle.deny_cfg.specs.Clashes.{AreClashes, is_ban};
 ghost use Rattle.deny_cfg.specs.Valid.{IsValidOf, ban_of, features_of, is_multiple, krate_ban};
 
-use crate::bans::cfg::ban::CrateBanExtended;
-use crate::bans::cfg::config::Config;
-use crate::bans::cfg::features::CrateFeatures;
-use crate::bans::cfg::highlight::GraphHighlight;
-use crate::bans::cfg::std_replacements::StdReplacementConfig;
-use crate::bans::cfg::workspace::WorkspaceDepsConfig;
-use crate::bans::cfg::{CrateBan, SpecAndReason, ValidTreeSkip};
+use crate::bans::cfg::ValidTreeSkip;
 use crate::clash_told::tell_clashes;
 use crate::clashes::{clashes_of, is_ban};
-use crate::package_spec::PackageSpec;
-use crate::reason::Reason;
-use crate::spec_or_extended::PackageSpecOrExtended;
 use crate::validate::{UnvalidatedConfig, ValidationContext};
-use deny_base::{FileId, LintLevel, List, NoMemory, Spanned, Text};
+use deny_base::{FileId, LintLevel, Spanned};
+use deny_entries::{PackageSpec, PackageSpecOrExtended, Reason};
+use deny_lists::{List, NoMemory, Text};
+use deny_tables::bans::cfg::{
+    Config, CrateBan, CrateBanExtended, CrateFeatures, GraphHighlight, SpecAndReason,
+    StdReplacementConfig, WorkspaceDepsConfig,
+};
 use std::alloc::Global;
 
 /// What an entry that bans crates says besides its spec.

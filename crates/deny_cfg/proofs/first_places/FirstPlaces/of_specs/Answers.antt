@@ -6,5 +6,8 @@ use Rattle.deny_cfg.proofs.first_places.FirstPlaces.of_specs.Goals as goal
 pub loop-entry-preserved : goal.loop-entry-preserved
 loop-entry-preserved c =
     let entry = c.entry-item.result in
-    finds_next entry_place c.args.entries.now c.loop-entry.entry-index entry c.loop-entry.found c.add.new.self (omega (arith, c.loop-entry-test.true)) c.entry-item.is
-    c.loop-entry.invariant (subst (λ w. Gains w entry.spec.name.span c.loop-entry.found c.add.new.self) c.in_ok-of_spec.ensures c.in_ok-add.ensures)
+    finds_next entry_place c.args.entries.now c.loop-entry.entry-index entry c.loop-entry.found c.add.new.self
+    (omega (arith, c.loop-entry-test.true)) c.entry-item.is
+    c.loop-entry.invariant
+    (subst (λ w. Gains w entry.spec.name.span c.loop-entry.found c.add.new.self) c.in_ok-of_spec.ensures
+    c.in_ok-add.ensures)

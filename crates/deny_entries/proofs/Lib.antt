@@ -1,0 +1,5 @@
+pub mod UnknownLaws
+pub mod TableLaws
+pub mod RowLaws
+pub mod SpecLaws
+pub mod ReadsLaws

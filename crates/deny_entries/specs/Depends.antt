@@ -1,0 +1,38 @@
+-- What an entry says besides its spec depends on what its table holds at the keys of that alone.
+use Rattle.std.proofs.Common.{◌≡◌, None, Some, refl, sym, ap, subst, ◌∙◌}
+use Rattle.std.specs.Prelude.{[], ◌∷◌, List, ◌&&◌, not, is_some}
+use Rattle.deny_toml.specs.Calls.{value_at}
+use Rattle.deny_entries.specs.Entry.{ReadsSome, holds_none}
+use Rattle.deny_entries.specs.Reasons.{ReadsReason, ReadsReasonKey, reason_fields}
+use Rattle.deny_entries.specs.Table.{AreAlikeAt, DependsOn, EachSays, Entries, Field, Gives, ReadsIfThere, ReadsRows, Row, fields_of}
+
+holds_alike : (fields : List Field) (one other : Entries) → AreAlikeAt fields one other
+    → holds_none fields one ≡ holds_none fields other
+holds_alike [] one other alike = refl
+holds_alike (f ∷ fs) one other alike =
+    ap (λ v. not (is_some v) && holds_none fs one) alike.0
+    ∙ ap (λ rest. not (is_some (value_at f.name other)) && rest) (holds_alike fs one other alike.1)
+
+pub some-depends : {T : Type 0} (fields : List Field) (Reads : Entries → T → Type 0) → DependsOn fields Reads
+    → DependsOn fields (ReadsSome fields Reads)
+some-depends fields Reads depends one other None alike reads = sym (holds_alike fields one other alike) ∙ reads
+some-depends fields Reads depends one other (Some x) alike reads =
+    (sym (holds_alike fields one other alike) ∙ reads.0, depends one other x alike reads.1)
+
+pub gives-depends : {T : Type 0} (fields : List Field) (Reads : Entries → T → Type 0) → DependsOn fields Reads
+    → DependsOn fields (λ entries said. Gives (Reads entries) said)
+gives-depends fields Reads depends one other None alike reads = reads
+gives-depends fields Reads depends one other (Some x) alike reads = depends one other x alike reads
+
+-- what rows say depends on what the table holds at their keys alone
+each-depends : {T : Type 0} (rows : List (Row T)) (one other : Entries) (x : T) → AreAlikeAt (fields_of rows) one other
+    → EachSays rows one x → EachSays rows other x
+each-depends [] one other x alike says = tt
+each-depends (row ∷ rows) one other x alike says =
+    (subst (λ v. row.Says v x) alike.0 says.0, each-depends rows one other x alike.1 says.1)
+
+pub rows-depend : {T : Type 0} (rows : List (Row T)) → DependsOn (fields_of rows) (ReadsRows rows)
+rows-depend rows one other x alike reads = record { each = each-depends rows one other x alike reads.each }
+
+pub reason-depends : DependsOn reason_fields ReadsReasonKey
+reason-depends one other reason alike reads = subst (λ v. ReadsIfThere ReadsReason v reason) alike.0 reads

@@ -1,0 +1,11 @@
+pub mod Apart
+pub mod Depends
+pub mod Entry
+pub mod PolicyKey
+pub mod Reasons
+pub mod Requirement
+pub mod RustVersion
+pub mod Spec
+pub mod SpecView
+pub mod Table
+pub mod Words

@@ -1,0 +1,184 @@
+-- What is read from a table, key by key, and its faults. A table is described by its keys: each has a name, and says
+-- which faults there are where it holds a value or is left out.
+use Rattle.std.specs.Prelude.{◌≡◌, ℕ, Bool, true, ◌&&◌, not, List, [], ◌∷◌, ◌++◌, filter, map, Option, None, Some}
+use Rattle.std.specs.Cmp.Lexicographic.{pointwise}
+use Rattle.std.specs.Prelude.{nat_eq}
+use Rattle.deny_base.specs.declared.span.Span.{Span}
+use Rattle.deny_toml.specs.declared.error.ConfigFault.{ConfigFault}
+use Rattle.deny_toml.specs.Key.{Key}
+use Rattle.deny_toml.specs.declared.value.Value.{Value}
+use Rattle.deny_toml.specs.declared.value.Table.{Table}
+use Rattle.deny_toml.specs.Value.{span_in, entries_in}
+use Rattle.deny_toml.specs.Calls.{has_name, table_in, value_at, without}
+use Rattle.deny_toml.specs.Faults.{wrong_kind, in_order}
+use Rattle.deny_toml.specs.TableHelper.{required_faults, optional_faults, unknown}
+use Rattle.deny_toml.specs.declared.table_helper.TableHelper.{TableHelper}
+use Rattle.deny_entries.specs.declared.policy_key.PolicyKey.{PolicyKey}
+use Rattle.deny_entries.specs.PolicyKey.{name_of}
+use Rattle.deny_entries.specs.Words.{Kind}
+
+abbrev pub Entries : Type 0
+Entries = List (Key × Value)
+
+-- a key of a table: its name, and its faults where the table stands at this place and holds this at the key
+pub record Field : Type 0 where
+  pub name : List ℕ
+  pub faults : Span → Option Value → List ConfigFault
+
+-- a key that may be left out
+abbrev pub optional : PolicyKey → (Value → List ConfigFault) → Field
+optional key faults_of = record { name = name_of key; faults = λ place v. optional_faults faults_of (name_of key) v }
+
+-- a key that has to be there
+abbrev pub required : PolicyKey → (Value → List ConfigFault) → Field
+required key faults_of =
+    record { name = name_of key; faults = λ place v. required_faults faults_of place (name_of key) v }
+
+-- what a table holds at a key
+abbrev pub at_key : PolicyKey → Entries → Option Value
+at_key key entries = value_at (name_of key) entries
+
+-- the faults of these keys
+abbrev pub faults_of_fields : List Field → Span → Entries → List ConfigFault
+faults_of_fields [] place entries = []
+faults_of_fields (f ∷ fs) place entries = f.faults place (value_at f.name entries) ++ faults_of_fields fs place entries
+
+-- whether a name is none of these keys
+abbrev pub is_other : List ℕ → List Field → Bool
+is_other name [] = true
+is_other name (f ∷ fs) = not (pointwise nat_eq name f.name) && is_other name fs
+
+-- the keys of a table that have the name of one before them, each once or more; the table of a text has none
+abbrev pub repeated : Entries → Entries
+repeated [] = []
+repeated (e ∷ es) = filter (has_name e.0.name) es ++ repeated es
+
+-- the keys of a table that are unknown where it is to have these keys alone
+abbrev pub unknown_keys : List Field → Entries → Entries
+unknown_keys fields entries = filter (λ e. is_other e.0.name fields) entries ++ repeated entries
+
+-- the faults of a value that is to be a table of these keys: those of each key, and each key that is unknown
+abbrev pub faults_in_table : (Entries → List Field) → Span → Option Table → List ConfigFault
+faults_in_table fields place None = wrong_kind place
+faults_in_table fields place (Some t) =
+    in_order (faults_of_fields (fields (entries_in t)) place (entries_in t)
+    ++ map unknown (unknown_keys (fields (entries_in t)) (entries_in t)))
+
+abbrev pub faults_of_table : (Entries → List Field) → Value → List ConfigFault
+faults_of_table fields v = faults_in_table fields (span_in v) (table_in v)
+
+-- what is read from a table
+abbrev pub ReadsIn : {T : Type 0} → (Entries → T → Type 0) → Option Table → T → Type 0
+ReadsIn Reads None x = ⊥
+ReadsIn Reads (Some t) x = Reads (entries_in t) x
+
+abbrev pub ReadsTable : {T : Type 0} → (Entries → T → Type 0) → Value → T → Type 0
+ReadsTable Reads v x = ReadsIn Reads (table_in v) x
+
+-- what is read from a key that may be left out: nothing, or what its value says
+abbrev pub ReadsIfThere : {T : Type 0} → (Value → T → Type 0) → Option Value → Option T → Type 0
+ReadsIfThere Reads None read = read ≡ None
+ReadsIfThere Reads (Some v) None = ⊥
+ReadsIfThere Reads (Some v) (Some x) = Reads v x
+
+-- the same where something stands for a key that is left out
+abbrev pub ReadsOr : {T : Type 0} → T → (Value → T → Type 0) → Option Value → T → Type 0
+ReadsOr default Reads None x = x ≡ default
+ReadsOr default Reads (Some v) x = Reads v x
+
+-- what is read from a key that has to be there
+abbrev pub ReadsThere : {T : Type 0} → (Value → T → Type 0) → Option Value → T → Type 0
+ReadsThere Reads None x = ⊥
+ReadsThere Reads (Some v) x = Reads v x
+
+-- ---- the keys of a table, a row each, and what is read of them into the parts of one value
+
+pub record Row (T : Type 0) : Type 1 where
+  pub field : Field
+  pub Says : Option Value → T → Type 0
+
+-- a key that may be left out, which says what this part of the value holds
+abbrev pub may_hold : {T A : Type 0} → PolicyKey → Kind A → (T → Option A) → Row T
+may_hold key kind part = record {
+  field = optional key kind.faults_of;
+  Says = λ v x. ReadsIfThere kind.Reads v (part x);
+}
+
+-- the same where something stands for a key that is left out
+abbrev pub holds_or : {T A : Type 0} → A → PolicyKey → Kind A → (T → A) → Row T
+holds_or default key kind part = record {
+  field = optional key kind.faults_of;
+  Says = λ v x. ReadsOr default kind.Reads v (part x);
+}
+
+-- a key that has to be there
+abbrev pub must_hold : {T A : Type 0} → PolicyKey → Kind A → (T → A) → Row T
+must_hold key kind part = record {
+  field = required key kind.faults_of;
+  Says = λ v x. ReadsThere kind.Reads v (part x);
+}
+
+abbrev pub fields_of : {T : Type 0} → List (Row T) → List Field
+fields_of [] = []
+fields_of (row ∷ rows) = row.field ∷ fields_of rows
+
+abbrev pub EachSays : {T : Type 0} → List (Row T) → Entries → T → Type 0
+EachSays [] entries x = Unit {0}
+EachSays (row ∷ rows) entries x = row.Says (value_at row.field.name entries) x × EachSays rows entries x
+
+-- what is read from a table by these rows
+pub record ReadsRows {T : Type 0} (rows : List (Row T)) (entries : Entries) (x : T) : Type 0 where
+  pub each : EachSays rows entries x
+
+-- a table of these rows alone
+abbrev pub a_table : {T : Type 0} → List (Row T) → Kind T
+a_table rows = record { faults_of = faults_of_table (λ entries. fields_of rows); Reads = ReadsTable (ReadsRows rows) }
+
+-- ---- how a table is read
+
+-- something was read
+abbrev pub Gives : {T : Type 0} → (T → Type 0) → Option T → Type 0
+Gives Reads None = ⊥
+Gives Reads (Some x) = Reads x
+
+-- whether no two of these keys have one name
+abbrev pub are_apart : List Field → Bool
+are_apart [] = true
+are_apart (f ∷ fs) = is_other f.name fs && are_apart fs
+
+-- two tables hold the same at these keys
+abbrev pub AreAlikeAt : List Field → Entries → Entries → Type 0
+AreAlikeAt [] one other = Unit {0}
+AreAlikeAt (f ∷ fs) one other = (value_at f.name one ≡ value_at f.name other) × AreAlikeAt fs one other
+
+-- what is read from a table depends on what it holds at these keys alone
+abbrev pub DependsOn : {T : Type 0} → List Field → (Entries → T → Type 0) → Type 0
+DependsOn {T} fields Reads = (one other : Entries) (x : T) → AreAlikeAt fields one other → Reads one x → Reads other x
+
+-- how far the reading of a table has come: the keys that are left, and the faults so far
+pub record State : Type 0 where
+  pub place : Span
+  pub entries : Entries
+  pub faults : List ConfigFault
+
+abbrev pub state_of : TableHelper → State
+state_of h = record { place = h.span; entries = h.entries; faults = h.faults }
+
+-- a key was read
+abbrev pub after : Field → State → State
+after f s =
+    record {
+      place = s.place;
+      entries = without f.name s.entries;
+      faults = s.faults
+          ++ f.faults s.place (value_at f.name s.entries);
+    }
+
+-- these keys were read, one after another
+abbrev pub after_all : List Field → State → State
+after_all [] s = s
+after_all (f ∷ fs) s = after_all fs (after f s)
+
+-- What a step that read a key says of it: where the key has no fault, this holds of what the table held at the key.
+pub record ReadAt (f : Field) (s : State) (P : Option Value → Type 0) : Type 0 where
+  pub says : f.faults s.place (value_at f.name s.entries) ≡ [] → P (value_at f.name s.entries)

@@ -1,0 +1,31 @@
+//! Entries of a policy, and how tables are read key by key.
+#![tactic(auto)]
+
+mod extension;
+mod flag;
+mod keyed;
+mod level;
+mod package_spec;
+mod policy_key;
+mod reason;
+mod requirement;
+mod rust_version;
+mod scope;
+mod spec;
+mod spec_equal;
+mod spec_or_extended;
+pub mod table;
+mod version_key;
+mod written_requirement;
+
+pub use extension::{Extension, read_entry};
+pub use flag::is_set;
+pub use keyed::{Keyed, read_table};
+pub use level::{level_if_set, level_or};
+pub use package_spec::PackageSpec;
+pub use policy_key::PolicyKey;
+pub use reason::Reason;
+pub use rust_version::{RustVersion, parse_semver};
+pub use scope::Scope;
+pub use spec_equal::equal_specs_match_alike;
+pub use spec_or_extended::PackageSpecOrExtended;

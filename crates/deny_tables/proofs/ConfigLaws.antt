@@ -1,0 +1,184 @@
+-- What is read twice from one value says the same: entries, and the table `bans`.
+use Rattle.std.proofs.Common.{◌≡◌, ℕ, false, List, [], Option, None, Some, refl, sym, ap, ◌∙◌}
+use Rattle.std.specs.List.{AllZip}
+use Rattle.deny_base.specs.declared.level.LintLevel.TheVariants as level
+use Rattle.deny_toml.specs.Calls.{text_in}
+use Rattle.deny_toml.specs.declared.value.Value.{Value}
+use Rattle.deny_entries.specs.Reasons.{ReadsReason, ReadsReasonKey, ReadsReasoned}
+use Rattle.deny_tables.specs.Bans.{ReadsBan, ReadsBanEntry, ReadsTreeSkip, ReadsTreeSkipEntry, ban_fields, tree_skip_fields}
+use Rattle.deny_tables.specs.Config.{ReadsConfig}
+use Rattle.deny_entries.proofs.RowLaws.{says_of}
+use Rattle.deny_entries.specs.PolicyKey.{name_of}
+use Rattle.deny_entries.specs.Entry.{ReadsEntry, ReadsEntryBy, ReadsEntryKeys, ReadsPair, ReadsSome}
+use Rattle.deny_tables.specs.Features.{ReadsCrateFeatures, ReadsFeatures, lists_in, nowhere}
+use Rattle.deny_entries.specs.Table.{Entries, Field, at_key}
+use Rattle.deny_entries.specs.Words.{ReadsAs, ReadsBool, ReadsCount, ReadsSpanned, ReadsText, ReadsTexts, level_of}
+use Rattle.deny_tables.specs.Highlight.{highlight_of}
+use Rattle.deny_tables.specs.declared.bans.cfg.config.Config.{Config}
+use Rattle.deny_tables.specs.declared.bans.cfg.features.CrateFeatures.{CrateFeatures}
+use Rattle.deny_tables.specs.declared.bans.cfg.highlight.GraphHighlight.TheVariants as highlight
+use Rattle.deny_entries.specs.declared.package_spec.PackageSpec.{PackageSpec}
+use Rattle.deny_entries.specs.declared.policy_key.PolicyKey.TheVariants as key
+use Rattle.deny_entries.specs.declared.spec_or_extended.PackageSpecOrExtended.{PackageSpecOrExtended}
+use Rattle.deny_entries.proofs.ReadsLaws.{ReadsAlike, ReadsOne, SpecsAlike, alike_list_or, alike_table, keys_alike, one_as, one_bool, one_count, one_optional, one_or, one_spanned, one_text, one_texts, text_alike}
+
+-- what entries say besides their specs
+one_reason : ReadsOne ReadsReason
+one_reason v x y one two =
+    let words : x.0 ≡ y.0 = one_spanned ReadsText one_text v x.0 y.0 one two in
+    λ i. record { 0 = words i }
+
+one_reason_key : ReadsOne ReadsReasonKey
+one_reason_key entries x y one two = one_optional ReadsReason one_reason (at_key key.Reason entries) x y one two
+
+one_ban : ReadsOne ReadsBan
+unfolding name_of
+one_ban entries x y one two =
+    let wrappers =
+    one_optional (ReadsSpanned ReadsTexts) (one_spanned ReadsTexts one_texts) (at_key key.Wrappers entries)
+    x.wrappers y.wrappers (says_of key.Wrappers one) (says_of key.Wrappers two) in
+    let flag =
+    one_optional (ReadsSpanned ReadsBool) (one_spanned ReadsBool one_bool) (at_key key.DenyMultipleVersions entries)
+    x.deny_multiple_versions y.deny_multiple_versions (says_of key.DenyMultipleVersions one)
+    (says_of key.DenyMultipleVersions two) in
+    let reason =
+    one_optional ReadsReason one_reason (at_key key.Reason entries) x.reason y.reason (says_of key.Reason one)
+    (says_of key.Reason two) in
+    let use_instead =
+    one_optional (ReadsSpanned ReadsText) (one_spanned ReadsText one_text) (at_key key.UseInstead entries)
+    x.use_instead y.use_instead (says_of key.UseInstead one) (says_of key.UseInstead two) in
+    λ i. record {
+      wrappers = wrappers i;
+      deny_multiple_versions = flag i;
+      reason = reason i;
+      use_instead = use_instead i;
+    }
+
+one_tree_skip : ReadsOne ReadsTreeSkip
+unfolding name_of
+one_tree_skip entries x y one two =
+    let depth =
+    one_optional ReadsCount one_count (at_key key.Depth entries) x.depth y.depth (says_of key.Depth one)
+    (says_of key.Depth two) in
+    let reason =
+    one_optional ReadsReason one_reason (at_key key.Reason entries) x.reason y.reason (says_of key.Reason one)
+    (says_of key.Reason two) in
+    λ i. record { depth = depth i; reason = reason i }
+
+one_features : ReadsOne ReadsFeatures
+unfolding name_of
+one_features entries x y one two =
+    let allow =
+    one_or (nowhere []) (ReadsSpanned ReadsTexts) (one_spanned ReadsTexts one_texts) (at_key key.Allow entries)
+    x.allow y.allow (says_of key.Allow one) (says_of key.Allow two) in
+    let deny =
+    one_or [] ReadsTexts one_texts (at_key key.Deny entries) x.deny y.deny (says_of key.Deny one)
+    (says_of key.Deny two) in
+    let exact =
+    one_or (nowhere false) (ReadsSpanned ReadsBool) (one_spanned ReadsBool one_bool) (at_key key.Exact entries)
+    x.exact y.exact (says_of key.Exact one) (says_of key.Exact two) in
+    let reason =
+    one_optional ReadsReason one_reason (at_key key.Reason entries) x.reason y.reason (says_of key.Reason one)
+    (says_of key.Reason two) in
+    λ i. record { allow = allow i; deny = deny i; exact = exact i; reason = reason i }
+
+one_some : {T : Type 0} (fields : List Field) (Reads : Entries → T → Type 0) → ReadsOne Reads
+    → ReadsOne (ReadsSome fields Reads)
+one_some fields Reads same entries None None one two = refl
+one_some fields Reads same entries None (Some y) one two = absurd (cc (one, two.0))
+one_some fields Reads same entries (Some x) None one two = absurd (cc (one.0, two))
+one_some fields Reads same entries (Some x) (Some y) one two = ap Some (same entries x y one.1 two.1)
+
+-- a spec, and what is said besides
+abbrev pub SaidAlike : {T : Type 0} → PackageSpec × T → PackageSpec × T → Type 0
+SaidAlike x y = SpecsAlike x.0 y.0 × (x.1 ≡ y.1)
+
+pair_alike : {T : Type 0} (Reads : Entries → T → Type 0) → ReadsOne Reads → ReadsAlike (ReadsPair Reads) SaidAlike
+pair_alike Reads same entries x y one two =
+    (keys_alike entries x.0 y.0 one.of_spec two.of_spec, same entries x.1 y.1 one.besides two.besides)
+
+-- two entries are alike where their specs are, and else they say the same
+abbrev pub EntriesAlike : {T : Type 0} → PackageSpecOrExtended T → PackageSpecOrExtended T → Type 0
+EntriesAlike a b = SpecsAlike a.spec b.spec × (a.inner ≡ b.inner)
+
+entry_by_alike : {T : Type 0} (Reads : Entries → Option T → Type 0) → ReadsOne Reads
+    → (text : Option (List ℕ)) (v : Value) (a b : PackageSpec) (x y : Option T)
+    → ReadsEntryBy Reads text v a x → ReadsEntryBy Reads text v b y → SpecsAlike a b × (x ≡ y)
+entry_by_alike Reads same None v a b x y one two =
+    alike_table (ReadsPair Reads) SaidAlike (pair_alike Reads same) v (a, x) (b, y) one two
+entry_by_alike Reads same (Some text) v a b x y one two = (text_alike v a b one.0 two.0, one.1 ∙ sym two.1)
+
+entry_alike : {T : Type 0} (Reads : Entries → Option T → Type 0) → ReadsOne Reads
+    → ReadsAlike (λ v (e : PackageSpecOrExtended T). ReadsEntry Reads v e.spec e.inner) EntriesAlike
+entry_alike Reads same v a b one two = entry_by_alike Reads same (text_in v) v a.spec b.spec a.inner b.inner one two
+
+reasoned_alike : ReadsAlike ReadsReasoned EntriesAlike
+reasoned_alike = entry_alike ReadsReasonKey one_reason_key
+
+ban_alike : ReadsAlike ReadsBanEntry EntriesAlike
+ban_alike = entry_alike (ReadsSome ban_fields ReadsBan) (one_some ban_fields ReadsBan one_ban)
+
+tree_skip_alike : ReadsAlike ReadsTreeSkipEntry EntriesAlike
+tree_skip_alike =
+    entry_alike (ReadsSome tree_skip_fields ReadsTreeSkip) (one_some tree_skip_fields ReadsTreeSkip one_tree_skip)
+
+abbrev pub FeaturesAlike : CrateFeatures → CrateFeatures → Type 0
+FeaturesAlike a b = SpecsAlike a.spec b.spec × (lists_in a ≡ lists_in b)
+
+features_keys_alike : ReadsAlike
+    (λ entries (read : CrateFeatures). ReadsEntryKeys ReadsFeatures entries read.spec (lists_in read)) FeaturesAlike
+features_keys_alike entries a b one two = (
+  keys_alike entries a.spec b.spec one.of_spec two.of_spec,
+  one_features entries (lists_in a) (lists_in b)
+      one.besides two.besides,
+)
+
+features_alike : ReadsAlike ReadsCrateFeatures FeaturesAlike
+features_alike v a b one two =
+    alike_table (λ entries (read : CrateFeatures). ReadsEntryKeys ReadsFeatures entries read.spec (lists_in read))
+    FeaturesAlike features_keys_alike v a b one two
+
+-- Two configurations are alike in what the rules see, and in what may clash.
+pub record ConfigsAlike (a b : Config) : Type 0 where
+  pub multiple_versions : a.multiple_versions ≡ b.multiple_versions
+  pub include_dev : a.multiple_versions_include_dev ≡ b.multiple_versions_include_dev
+  pub highlight : a.highlight ≡ b.highlight
+  pub deny : AllZip EntriesAlike a.deny b.deny
+  pub allow : AllZip EntriesAlike a.allow b.allow
+  pub allow_workspace : a.allow_workspace ≡ b.allow_workspace
+  pub features : AllZip FeaturesAlike a.features b.features
+  pub skip : AllZip EntriesAlike a.skip b.skip
+  pub skip_tree : AllZip EntriesAlike a.skip_tree b.skip_tree
+
+pub configs_alike : ReadsAlike ReadsConfig ConfigsAlike
+unfolding name_of
+configs_alike entries a b one two = record {
+  multiple_versions =
+      one_or level.Warn (ReadsAs level_of) (one_as level_of) (at_key key.MultipleVersions entries) a.multiple_versions
+      b.multiple_versions (says_of key.MultipleVersions one) (says_of key.MultipleVersions two);
+  include_dev =
+      one_or false ReadsBool one_bool (at_key key.MultipleVersionsIncludeDev entries) a.multiple_versions_include_dev
+      b.multiple_versions_include_dev (says_of key.MultipleVersionsIncludeDev one)
+      (says_of key.MultipleVersionsIncludeDev two);
+  highlight =
+      one_or highlight.All (ReadsAs highlight_of) (one_as highlight_of) (at_key key.Highlight entries) a.highlight
+      b.highlight (says_of key.Highlight one) (says_of key.Highlight two);
+  deny =
+      alike_list_or ReadsBanEntry EntriesAlike ban_alike (at_key key.Deny entries) a.deny b.deny (says_of key.Deny one)
+      (says_of key.Deny two);
+  allow =
+      alike_list_or ReadsReasoned EntriesAlike reasoned_alike (at_key key.Allow entries) a.allow b.allow
+      (says_of key.Allow one) (says_of key.Allow two);
+  allow_workspace =
+      one_or false ReadsBool one_bool (at_key key.AllowWorkspace entries) a.allow_workspace b.allow_workspace
+      (says_of key.AllowWorkspace one) (says_of key.AllowWorkspace two);
+  features =
+      alike_list_or ReadsCrateFeatures FeaturesAlike features_alike (at_key key.Features entries) a.features b.features
+      (says_of key.Features one) (says_of key.Features two);
+  skip =
+      alike_list_or ReadsReasoned EntriesAlike reasoned_alike (at_key key.Skip entries) a.skip b.skip
+      (says_of key.Skip one) (says_of key.Skip two);
+  skip_tree =
+      alike_list_or ReadsTreeSkipEntry EntriesAlike tree_skip_alike (at_key key.SkipTree entries) a.skip_tree
+      b.skip_tree (says_of key.SkipTree one) (says_of key.SkipTree two);
+}

@@ -1,0 +1,18 @@
+use Rattle.deny_entries.specs.Table.{state_of}
+use Rattle.deny_entries.proofs.RowLaws.{◌▷◌, all_read, read_rows}
+use Rattle.deny_tables.specs.Apart.{build-apart}
+use Rattle.deny_tables.specs.Build.{build_rows}
+use Rattle.deny_tables.proofs.bans.cfg.build.BuildConfigKeyed.read_keys.Goals as goal
+
+pub returns-clause-read : goal.returns-clause-read
+returns-clause-read c = read_rows build_rows build-apart (state_of c.args.helper.now) (
+    (c.in_ok-allow_build_scripts.ensures.next, c.in_ok-allow_build_scripts.ensures.read)
+    ▷ (c.in_ok-executables.ensures.next, c.in_ok-executables.ensures.read)
+    ▷ (c.in_ok-interpreted.ensures.next, c.in_ok-interpreted.ensures.read)
+    ▷ (c.in_ok-script_extensions.ensures.next, c.in_ok-script_extensions.ensures.read)
+    ▷ (c.in_ok-bypass.ensures.next, c.in_ok-bypass.ensures.read)
+    ▷ (c.in_ok-enable_builtin_globs.ensures.next, c.in_ok-enable_builtin_globs.ensures.read)
+    ▷ (c.in_ok-include_dependencies.ensures.next, c.in_ok-include_dependencies.ensures.read)
+    ▷ (c.in_ok-include_workspace.ensures.next, c.in_ok-include_workspace.ensures.read)
+    ▷ (c.in_ok-include_archives.ensures.next, c.in_ok-include_archives.ensures.read)
+    ▷ all_read)

@@ -1,0 +1,48 @@
+-- Entries of `features`.
+use Rattle.std.specs.Prelude.{List, [], ◌∷◌, false}
+use Rattle.deny_base.specs.declared.span.Spanned.{Spanned}
+use Rattle.deny_model.specs.Keys.{no_span}
+use Rattle.deny_toml.specs.declared.error.ConfigFault.{ConfigFault}
+use Rattle.deny_toml.specs.declared.value.Value.{Value}
+use Rattle.deny_entries.specs.declared.policy_key.PolicyKey.TheVariants as key
+use Rattle.deny_entries.specs.Entry.{ReadsEntryKeys, entry_fields}
+use Rattle.deny_entries.specs.Reasons.{a_reason}
+use Rattle.deny_entries.specs.Table.{Entries, Field, ReadsRows, ReadsTable, Row, faults_of_table, fields_of, holds_or, may_hold}
+use Rattle.deny_entries.specs.Words.{Kind, a_flag, placed, some_texts}
+use Rattle.deny_tables.specs.declared.bans.cfg.features.CrateFeatures.{CrateFeatures}
+use Rattle.deny_tables.specs.declared.bans.cfg.features.FeatureLists.{FeatureLists}
+
+-- what stands for a value that is left out has the range 0..0
+abbrev pub nowhere : {T : Type 0} → T → Spanned T
+nowhere value = record { value = value; span = no_span }
+
+-- what an entry of `features` says besides its spec
+abbrev pub feature_rows : List (Row FeatureLists)
+feature_rows =
+    holds_or (nowhere []) key.Allow (placed some_texts) (λ lists. lists.allow)
+    ∷ holds_or [] key.Deny some_texts (λ lists. lists.deny)
+    ∷ holds_or (nowhere false) key.Exact (placed a_flag) (λ lists. lists.exact)
+    ∷ may_hold key.Reason a_reason (λ lists. lists.reason)
+    ∷ []
+
+abbrev pub feature_fields : List Field
+feature_fields = fields_of feature_rows
+
+abbrev pub ReadsFeatures : Entries → FeatureLists → Type 0
+ReadsFeatures = ReadsRows feature_rows
+
+abbrev pub lists_in : CrateFeatures → FeatureLists
+lists_in features =
+    record { allow = features.allow; deny = features.deny; exact = features.exact; reason = features.reason }
+
+-- what is read from an entry of `features`
+abbrev pub ReadsCrateFeatures : Value → CrateFeatures → Type 0
+ReadsCrateFeatures v features =
+    ReadsTable (λ entries (read : CrateFeatures). ReadsEntryKeys ReadsFeatures entries read.spec (lists_in read)) v
+    features
+
+abbrev pub faults_of_features : Value → List ConfigFault
+faults_of_features v = faults_of_table (entry_fields feature_fields) v
+
+abbrev pub a_feature_entry : Kind CrateFeatures
+a_feature_entry = record { faults_of = faults_of_features; Reads = ReadsCrateFeatures }

@@ -1,0 +1,10 @@
+pub mod Apart
+pub mod Bans
+pub mod Build
+pub mod Checksum
+pub mod Config
+pub mod Depends
+pub mod Features
+pub mod Highlight
+pub mod StdReplacements
+pub mod Workspace

@@ -1,0 +1,3 @@
+//! What `[bans]` says.
+
+pub mod cfg;

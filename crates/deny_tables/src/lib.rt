@@ -1,0 +1,4 @@
+//! The tables of a policy: their keys, and what is read of them.
+#![tactic(auto)]
+
+pub mod bans;
