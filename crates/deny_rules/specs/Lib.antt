@@ -1,16 +1,2 @@
-pub mod Above
-pub mod Allowed
-pub mod Banned
-pub mod ByRange
 pub mod Check
-pub mod Distances
-pub mod DupEdges
-pub mod Duplicates
-pub mod EdgeLists
-pub mod Groups
-pub mod Marks
-pub mod Matching
-pub mod Meetings
-pub mod Placed
-pub mod Skipping
-pub mod WrapperRanges
+pub mod private

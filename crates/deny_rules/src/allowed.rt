@@ -5,15 +5,14 @@ ghost use Rattle.deny_base.specs.declared.code.Code.TheVariants.{NotAllowed};
 ghost use Rattle.deny_cfg.specs.PolicyView.{entry_view, policy_view};
 ghost use Rattle.deny_model.specs.Bans.{allowed_keys_of, is_exempt, not_allowed_keys};
 ghost use Rattle.deny_model.specs.Keys.{crate_key, no_span};
-ghost use Rattle.deny_rules.specs.Allowed.{allows, is_unmarked};
+ghost use Rattle.deny_rules.specs.private.Allowed.{allows, is_unmarked};
 
 use crate::crate_keys::add_crate_keys;
-use crate::marking::{mark_each, no_marks, unmarked};
-use crate::matching::matched;
-use crate::placed::are_placed;
-use deny_base::{Code, Key, List, NoMemory, Span};
+use deny_base::{Code, Key, Span};
 use deny_cfg::bans::cfg::{SpecAndReason, ValidConfig};
+use deny_facts::{are_placed, mark_each, matched, no_marks, unmarked};
 use deny_krates::Krates;
+use deny_lists::{List, NoMemory};
 use std::alloc::Global;
 
 /// Adds what stands of the allow list, if there is one.
@@ -26,7 +25,8 @@ pub fn add_allowed_keys(
 ) -> Result<(), NoMemory>
     requires { exempt.now ≡ map (is_exempt (policy_view cfg.now) krates.now) krates.now.crates }
     ensures { OnOk result (keys.new
-        ≡ keys.old ++ (flat_map (allowed_keys_of krates.now) (policy_view cfg.now).allow ++ not_allowed_keys (policy_view cfg.now) krates.now)) }
+        ≡ keys.old ++ (flat_map (allowed_keys_of krates.now) (policy_view cfg.now).allow ++ not_allowed_keys
+        (policy_view cfg.now) krates.now)) }
 {
     are_placed(krates);
     let entries = cfg.allowed.as_slice();
@@ -44,7 +44,8 @@ fn allow_each(
     entries: &[SpecAndReason],
     keys: &mut List<Key>,
 ) -> Result<List<bool>, NoMemory>
-    ensures told { OnOk result (keys.new ≡ keys.old ++ flat_map (allowed_keys_of krates.now) (map entry_view entries.now)) }
+    ensures told { OnOk result (keys.new ≡ keys.old ++ flat_map (allowed_keys_of krates.now)
+        (map entry_view entries.now)) }
     ensures marks { IfOk result (λ marks. marks ≡ map (allows (map entry_view entries.now)) krates.now.crates) }
 {
     are_placed(krates);
@@ -74,7 +75,8 @@ fn add_unmarked_keys(
     requires allowed { length allowed.now ≡ length krates.now.crates }
     requires exempt { length exempt.now ≡ length krates.now.crates }
     ensures { OnOk result (keys.new
-        ≡ keys.old ++ map (λ c. crate_key NotAllowed c.place no_span) (filter (is_unmarked allowed.now exempt.now) krates.now.crates)) }
+        ≡ keys.old ++ map (λ c. crate_key NotAllowed c.place no_span)
+        (filter (is_unmarked allowed.now exempt.now) krates.now.crates)) }
 {
     are_placed(krates);
     let all = all_places(alloc, krates.krates().len())?;

@@ -1,15 +1,16 @@
 //! What stands of bans, their wrappers, and the allow list.
 ghost use Rattle.std.specs.Prelude.{Contains, OnOk};
-ghost use Rattle.deny_base.specs.Ascending.{Adds};
+ghost use Rattle.deny_lists.specs.Ascending.{Adds};
 ghost use Rattle.deny_cfg.specs.PolicyView.{policy_view};
 ghost use Rattle.deny_model.specs.Rules.{ban_keys};
 
 use crate::allowed::add_allowed_keys;
 use crate::banned::add_banned_keys;
-use crate::exempt::exempt_marks;
-use deny_base::{Key, List, NoMemory};
+use deny_base::Key;
 use deny_cfg::bans::cfg::ValidConfig;
+use deny_facts::exempt_marks;
 use deny_krates::Krates;
+use deny_lists::{List, NoMemory};
 use std::alloc::Global;
 
 /// Adds the keys of what stands of bans, their wrappers, and the allow list.

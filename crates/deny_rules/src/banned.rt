@@ -4,28 +4,27 @@ ghost use Rattle.std.specs.Cmp.{IsTotalOrder};
 ghost use Rattle.std.specs.FinMap.{IsAntisymmetric};
 ghost use Rattle.std.specs.List.{flat_map};
 ghost use Rattle.std.specs.List.Sorted.{IsStrictlySortedBy};
-ghost use Rattle.deny_base.specs.Ascending.{Adds, Lists};
+ghost use Rattle.deny_lists.specs.Ascending.{Adds, Lists};
 ghost use Rattle.deny_base.specs.KeyOrder.{span_cmp};
 ghost use Rattle.deny_base.specs.declared.code.Code.TheVariants.{UnusedWrapper};
 ghost use Rattle.deny_base.specs.declared.span.Span.{Span};
-ghost use Rattle.deny_cfg.specs.PolicyView.{ban_view, policy_view, words_or_none};
+ghost use Rattle.deny_cfg.specs.PolicyView.{ban_view, policy_view};
 ghost use Rattle.deny_cfg.specs.SpecView.{spec_view};
 ghost use Rattle.deny_model.specs.Bans.{has_wrappers, is_exempt};
 ghost use Rattle.deny_model.specs.Keys.{unused_key};
 ghost use Rattle.deny_model.specs.Match.{matches};
 ghost use Rattle.deny_model.specs.Policy.{Policy};
-ghost use Rattle.deny_rules.specs.Banned.{AreFirst, hits_at, is_hit, is_lifted_at, keys_of_ban, places_concerned, range_at, told_code, told_keys_at};
-ghost use Rattle.deny_rules.specs.Marks.{marked};
+ghost use Rattle.deny_facts.specs.Wrappers.{range_at};
+ghost use Rattle.deny_rules.specs.private.Banned.{hits_at, is_hit, is_lifted_at, keys_of_ban, places_concerned, told_code, told_keys_at};
+ghost use Rattle.deny_facts.specs.Marks.{marked};
 
 use crate::crate_keys::{add_crate_keys, dependent_key, unused_key};
-use crate::krate_at::krate_at;
-use crate::marking::unmarked;
-use crate::matching::matched;
-use crate::placed::are_placed;
-use deny_base::{Code, Key, List, NoMemory, Span, Spanned, Text, TextMap, put_in_order};
+use deny_base::{Code, Key, Span, Spanned};
 use deny_cfg::bans::cfg::{KrateBan, ValidConfig};
 use deny_cfg::{PackageSpec, PackageSpecOrExtended};
+use deny_facts::{are_placed, matched, range_at, ranges_by_name, unmarked, wrappers_of};
 use deny_krates::Krates;
+use deny_lists::{List, NoMemory, Text, TextMap, put_in_order};
 use std::alloc::Global;
 
 /// Adds what stands of the entries that ban crates, entry by entry.
@@ -37,7 +36,8 @@ pub fn add_banned_keys(
     keys: &mut List<Key>,
 ) -> Result<(), NoMemory>
     requires { exempt.now ≡ map (is_exempt (policy_view cfg.now) krates.now) krates.now.crates }
-    ensures { OnOk result (Adds (Contains (flat_map (keys_of_ban (policy_view cfg.now) krates.now) (map ban_view cfg.now.denied))) keys.old keys.new) }
+    ensures { OnOk result (Adds (Contains (flat_map (keys_of_ban (policy_view cfg.now) krates.now)
+        (map ban_view cfg.now.denied))) keys.old keys.new) }
 {
     are_placed(krates);
     let denied = cfg.denied.as_slice();
@@ -56,7 +56,8 @@ pub fn concerned(
     exempt: &[bool],
 ) -> Result<List<u32>, NoMemory>
     ensures { IfOk result (λ places. places
-        ≡ map (λ c. c.place) (filter (λ c. matches (spec_view spec.now) c && not (marked exempt.now c)) krates.now.crates)) }
+        ≡ map (λ c. c.place) (filter (λ c. matches (spec_view spec.now) c && not
+        (marked exempt.now c)) krates.now.crates)) }
 {
     let places = matched(alloc, krates, spec)?;
     unmarked(alloc, places.as_slice(), exempt)
@@ -79,25 +80,6 @@ fn add_keys_of_ban(
         return add_crate_keys(alloc, Code::Banned, places, ban.spec.name.span, keys);
     }
     add_wrapped_keys(alloc, krates, ban, places, keys)
-}
-
-/// The wrappers of an entry.
-pub fn wrappers_of(ban: &PackageSpecOrExtended<KrateBan>) -> &[Spanned<Text>]
-    ensures { result.now ≡ (ban_view ban.now).wrappers }
-{
-    match &ban.inner {
-        Some(inner) => words_or_none(&inner.wrappers),
-        None => &[],
-    }
-}
-
-fn words_or_none(words: &Option<List<Spanned<Text>>>) -> &[Spanned<Text>]
-    ensures { result.now ≡ words_or_none words.now }
-{
-    match words {
-        Some(words) => words.as_slice(),
-        None => &[],
-    }
 }
 
 /// Adds what stands of an entry with wrappers, by the places of the crates that it concerns.
@@ -123,27 +105,6 @@ fn add_wrapped_keys(
     add_unused_keys(alloc, wrappers, hits.as_slice(), keys)
 }
 
-/// The range of the first wrapper of each name.
-pub fn ranges_by_name(alloc: Global, wrappers: &[Spanned<Text>]) -> Result<TextMap<Span>, NoMemory>
-    ensures { IfOk result (AreFirst wrappers.now) }
-{
-    let mut ranges = TextMap::new(alloc);
-    for wrapper in wrappers {
-        if !ranges.contains_key(wrapper.value.as_str()) {
-            ranges.insert(wrapper.value.clone()?, wrapper.span)?;
-        }
-    }
-    Ok(ranges)
-}
-
-/// The range at the name of the crate at a place.
-pub fn range_at(krates: &Krates, ranges: &TextMap<Span>, place: u32) -> Option<Span>
-    ensures { result ≡ range_at krates.now ranges.now place }
-{
-    let krate = krate_at(krates, place)?;
-    ranges.get(krate.name.as_str()).copied()
-}
-
 /// Whether the crate at a place is one of the wrappers.
 fn is_wrapper_at(krates: &Krates, ranges: &TextMap<Span>, place: u32) -> bool
     ensures { result ≡ is_some (range_at krates.now ranges.now place) }
@@ -159,7 +120,8 @@ fn not_lifted(
     places: &[u32],
 ) -> Result<List<u32>, NoMemory>
     requires { All (λ place. place < length krates.now.crates) places.now }
-    ensures { IfOk result (λ banned. banned ≡ filter (λ place. not (is_lifted_at krates.now ranges.now place)) places.now) }
+    ensures { IfOk result (λ banned. banned ≡ filter (λ place. not
+        (is_lifted_at krates.now ranges.now place)) places.now) }
 {
     let mut banned = List::new(alloc);
     for place in places {
@@ -195,7 +157,8 @@ fn add_told_keys(
     keys: &mut List<Key>,
 ) -> Result<(), NoMemory>
     requires { All (λ place. place < length krates.now.crates) places.now }
-    ensures { OnOk result (Adds (Contains (flat_map (told_keys_at krates.now ranges.now entry) places.now)) keys.old keys.new) }
+    ensures { OnOk result
+        (Adds (Contains (flat_map (told_keys_at krates.now ranges.now entry) places.now)) keys.old keys.new) }
 {
     for place in places {
         add_told_keys_at(alloc, krates, ranges, *place, entry, keys)?;
@@ -225,7 +188,7 @@ fn add_told_keys_at(
 }
 
 /// What a direct dependent is told as.
-#[tactic(auto, unfolding(crate::specs::Banned::told_code))]
+#[tactic(auto, unfolding(crate::specs::private::Banned::told_code))]
 fn code_at(krates: &Krates, ranges: &TextMap<Span>, place: u32) -> Code
     ensures { result ≡ told_code (is_some (range_at krates.now ranges.now place)) }
 {
@@ -283,7 +246,8 @@ fn add_unused_keys(
     keys: &mut List<Key>,
 ) -> Result<(), NoMemory>
     requires { IsStrictlySortedBy span_cmp hits.now }
-    ensures { OnOk result (keys.new ≡ keys.old ++ map (λ w. unused_key UnusedWrapper w.span) (filter (λ w. not (is_hit hits.now w.span)) wrappers.now)) }
+    ensures { OnOk result (keys.new ≡ keys.old ++ map (λ w. unused_key UnusedWrapper w.span)
+        (filter (λ w. not (is_hit hits.now w.span)) wrappers.now)) }
 {
     for wrapper in wrappers {
         if !is_hit(hits, &wrapper.span) {

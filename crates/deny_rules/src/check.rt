@@ -1,22 +1,24 @@
 //! The bans check.
 ghost use Rattle.std.specs.Prelude.{◌≡◌, IfOk, OnErr};
-ghost use Rattle.deny_base.specs.Ascending.{Lists};
+ghost use Rattle.deny_lists.specs.Ascending.{Lists};
 ghost use Rattle.deny_base.specs.KeyOrder.{key_cmp};
 ghost use Rattle.deny_cfg.specs.PolicyView.{policy_view};
 ghost use Rattle.deny_model.specs.Rules.{Stands};
-ghost use Rattle.deny_rules.specs.Check.{IsCheckOf, IsFrontOf};
-ghost use Rattle.deny_rules.specs.Marks.{facts_of};
+ghost use Rattle.deny_rules.specs.Check.{IsCheckOf, TellsPrefixOf};
+ghost use Rattle.deny_facts.specs.Marks.{facts_of};
 
 use crate::ban_keys::add_ban_keys;
-use crate::dup_edges::{DupEdges, dup_edges};
 use crate::duplicates::add_duplicate_keys;
-use crate::facts::{Marks, marks_of};
 use crate::hits::hits_of;
 use crate::skips::add_skip_keys;
-use crate::told::tell_all;
-use deny_base::{Hit, Key, List, NoMemory, Pack, PackageFiles, key_order, put_in_order};
+use deny_base::{Hit, Key, Pack, key_order};
 use deny_cfg::bans::cfg::ValidConfig;
+use deny_dup_edges::{DupEdges, dup_edges_of};
+use deny_facts::{Marks, marks_of};
 use deny_krates::Krates;
+use deny_lists::{List, NoMemory, put_in_order};
+use deny_outside::PackageFiles;
+use deny_telling::tell_all;
 use std::alloc::Global;
 
 /// What the check looks at.
@@ -55,7 +57,7 @@ fn keys_of(
 
 /// Appends the findings of the crate rules, one a pack, in the order of their keys.
 ///
-/// Where memory runs out, `sink` holds what it held before and then a front of what stands, which may
+/// Where memory runs out, `sink` holds what it held before and then a prefix of what stands, which may
 /// be empty. The disk is left as it was: nothing is read from it.
 pub fn check<D: PackageFiles>(
     alloc: Global,
@@ -64,13 +66,13 @@ pub fn check<D: PackageFiles>(
     sink: &mut List<Pack>,
 ) -> Result<BansEnd, NoMemory>
     ensures checked { IfOk result (IsCheckOf ctx.now.cfg.now ctx.now.krates.now sink.old sink.new) }
-    ensures front { OnErr result (IsFrontOf ctx.now.cfg.now ctx.now.krates.now sink.old sink.new) }
+    ensures prefix { OnErr result (TellsPrefixOf ctx.now.cfg.now ctx.now.krates.now sink.old sink.new) }
     ensures untouched { disk.new ≡ disk.old }
 {
     let marks = marks_of(alloc, ctx.cfg, ctx.krates)?;
     let keys = keys_of(alloc, ctx.cfg, ctx.krates, &marks)?;
     let hits = hits_of(alloc, ctx.cfg, ctx.krates, &marks)?;
-    let dup_edges = dup_edges(alloc, ctx.cfg, ctx.krates, keys.as_slice())?;
+    let dup_edges = dup_edges_of(alloc, ctx.cfg, ctx.krates, keys.as_slice())?;
     tell_all(alloc, ctx.cfg, ctx.krates, keys.as_slice(), sink)?;
     Ok(BansEnd { hits, dup_edges })
 }

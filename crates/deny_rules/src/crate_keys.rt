@@ -2,7 +2,8 @@
 ghost use Rattle.std.specs.Prelude.{◌≡◌, ◌++◌, OnOk, map};
 ghost use Rattle.deny_model.specs.Keys.{crate_key, dependent_key, unused_key};
 
-use deny_base::{Code, DiagnosticCode, Key, List, NoMemory, Section, Span, Text};
+use deny_base::{Code, DiagnosticCode, Key, Section, Span};
+use deny_lists::{List, NoMemory, Text};
 use std::alloc::Global;
 
 /// The key of a crate, an entry that speaks of it, and a direct dependent.

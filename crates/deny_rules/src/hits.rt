@@ -11,22 +11,19 @@ ghost use Rattle.deny_model.specs.Hits.{all_hits, hit_of, root_hit, skip_hit};
 ghost use Rattle.deny_model.specs.Match.{matches};
 ghost use Rattle.deny_model.specs.Policy.{Policy};
 ghost use Rattle.deny_model.specs.Told.{crate_at};
-ghost use Rattle.deny_rules.specs.Marks.{facts_of, mark_at};
-ghost use Rattle.deny_rules.specs.Meetings.{LeadToFirsts, hit_at, hit_by, meeting_at, meetings_at, meetings_of, wrapper_hits};
+ghost use Rattle.deny_facts.specs.Marks.{facts_of, mark_at};
+ghost use Rattle.deny_rules.specs.private.WrappedEdges.{LeadToFirsts, hit_at, hit_by, wrapped_edge_at, wrapped_edges_at, wrapped_edges_of, wrapper_hits};
 
-use crate::banned::{concerned, range_at, ranges_by_name, wrappers_of};
-use crate::exempt::exempt_marks;
-use crate::facts::Marks;
-use crate::krate_at::krate_at;
-use crate::marking::mark_at;
-use crate::matching::matched;
-use crate::placed::are_placed;
-use deny_base::{
-    EntryId, EntryKind, Hit, List, NoMemory, Span, Spanned, Text, TextMap, Witness, put_in_order,
-};
+use crate::banned::concerned;
+use deny_base::{EntryId, EntryKind, Hit, Span, Spanned, Witness};
 use deny_cfg::bans::cfg::{KrateBan, SpecAndReason, ValidConfig, ValidTreeSkip};
 use deny_cfg::{PackageSpec, PackageSpecOrExtended};
+use deny_facts::{
+    Marks, are_placed, exempt_marks, krate_at, mark_at, matched, range_at, ranges_by_name,
+    wrappers_of,
+};
 use deny_krates::{DirectDependent, Krate, Krates};
+use deny_lists::{List, NoMemory, Text, TextMap, put_in_order};
 use std::alloc::Global;
 use std::collections::BTreeMap;
 
@@ -55,7 +52,8 @@ fn krate_hit(
     range: Span,
     place: Option<u32>,
 ) -> Result<Option<Hit>, NoMemory>
-    ensures { IfOk result (λ hit. hit ≡ option_map (λ c. hit_of kind range (witness.Krate (kid_of c))) (option_and_then (crate_at krates.now) place)) }
+    ensures { IfOk result (λ hit. hit ≡ option_map (λ c. hit_of kind range (witness.Krate (kid_of c)))
+        (option_and_then (crate_at krates.now) place)) }
 {
     let Some(place) = place else {
         return Ok(None);
@@ -104,7 +102,8 @@ fn add_skip_hits(
     skips: &[SpecAndReason],
     hits: &mut List<Hit>,
 ) -> Result<(), NoMemory>
-    ensures { OnOk result (hits.new ≡ hits.old ++ filter_map (skip_hit krates.now (facts_of marks.now)) (map entry_view skips.now)) }
+    ensures { OnOk result (hits.new ≡ hits.old ++ filter_map (skip_hit krates.now (facts_of marks.now))
+        (map entry_view skips.now)) }
 {
     for skip in skips {
         if let Some(hit) = skip_hit(alloc, krates, marks, skip)? {
@@ -122,7 +121,8 @@ fn first_place(places: &[u32]) -> Option<u32>
 
 /// The hit of an entry of `skip-tree` of a spec, by the first crate that the spec speaks of.
 fn root_hit(alloc: Global, krates: &Krates, spec: &PackageSpec) -> Result<Option<Hit>, NoMemory>
-    ensures { IfOk result (λ hit. hit ≡ option_map (λ c. hit_of kind.SkipRoot spec.now.name.span (witness.Krate (kid_of c)))
+    ensures { IfOk result (λ hit. hit ≡ option_map (λ c. hit_of kind.SkipRoot spec.now.name.span
+        (witness.Krate (kid_of c)))
         (find (matches (spec_view spec.now)) krates.now.crates)) }
 {
     are_placed(krates);
@@ -148,10 +148,10 @@ fn add_root_hits(
     Ok(())
 }
 
-/// A direct dependent of a crate that bears the name of a wrapper: the wrapper's range, and the places
-/// of the two.
+/// An edge that leads to a crate that a ban concerns from one that bears the name of a wrapper: the
+/// wrapper's range, and the places of the two.
 #[derive(Clone, Copy, Debug)]
-pub struct Meeting {
+pub struct WrappedEdge {
     pub range: Span,
     pub place: u32,
     pub parent: u32,
@@ -165,7 +165,8 @@ fn add_wrapper_hits(
     hits: &mut List<Hit>,
 ) -> Result<(), NoMemory>
     requires { exempt.now ≡ map (is_exempt (policy_view cfg.now) krates.now) krates.now.crates }
-    ensures { OnOk result (hits.new ≡ hits.old ++ flat_map (wrapper_hits (policy_view cfg.now) krates.now) (map ban_view cfg.now.denied)) }
+    ensures { OnOk result (hits.new ≡ hits.old ++ flat_map (wrapper_hits (policy_view cfg.now) krates.now)
+        (map ban_view cfg.now.denied)) }
 {
     let bans = cfg.denied.as_slice();
     for ban in bans {
@@ -191,29 +192,32 @@ fn add_hits_of_ban(
         return Ok(());
     }
     let ranges = ranges_by_name(alloc, wrappers)?;
-    let met = meetings_of(alloc, krates, &ranges, exempt, ban)?;
-    let firsts = firsts_by_range(alloc, met.as_slice())?;
+    let edges = wrapped_edges_of(alloc, krates, &ranges, exempt, ban)?;
+    let firsts = firsts_by_range(alloc, edges.as_slice())?;
     add_first_hits(krates, &firsts, wrappers, hits)?;
     Ok(())
 }
 
-/// The first meeting of each range.
-fn firsts_by_range(alloc: Global, met: &[Meeting]) -> Result<BTreeMap<Span, Meeting>, NoMemory>
-    ensures { IfOk result (LeadToFirsts met.now) }
+/// The first wrapped edge of each range.
+fn firsts_by_range(
+    alloc: Global,
+    edges: &[WrappedEdge],
+) -> Result<BTreeMap<Span, WrappedEdge>, NoMemory>
+    ensures { IfOk result (LeadToFirsts edges.now) }
 {
     let mut firsts = BTreeMap::new(alloc);
-    for meeting in met {
-        if !firsts.contains_key(&meeting.range) {
-            firsts.insert(meeting.range, *meeting)?;
+    for edge in edges {
+        if !firsts.contains_key(&edge.range) {
+            firsts.insert(edge.range, *edge)?;
         }
     }
     Ok(firsts)
 }
 
-/// Adds the hit of each wrapper by its first meeting.
+/// Adds the hit of each wrapper by its first wrapped edge.
 fn add_first_hits(
     krates: &Krates,
-    firsts: &BTreeMap<Span, Meeting>,
+    firsts: &BTreeMap<Span, WrappedEdge>,
     wrappers: &[Spanned<Text>],
     hits: &mut List<Hit>,
 ) -> Result<(), NoMemory>
@@ -227,36 +231,36 @@ fn add_first_hits(
     Ok(())
 }
 
-/// The hit of a wrapper by its first meeting.
-#[tactic(auto, unfolding(crate::specs::Meetings::hit_at))]
+/// The hit of a wrapper by its first wrapped edge.
+#[tactic(auto, unfolding(crate::specs::private::WrappedEdges::hit_at))]
 fn hit_at(
     krates: &Krates,
-    firsts: &BTreeMap<Span, Meeting>,
+    firsts: &BTreeMap<Span, WrappedEdge>,
     wrapper: &Spanned<Text>,
 ) -> Result<Option<Hit>, NoMemory>
     ensures { IfOk result (λ hit. hit ≡ hit_at krates.now firsts.now wrapper.now) }
 {
     match firsts.get(&wrapper.span) {
-        Some(meeting) => hit_by(krates, meeting),
+        Some(edge) => hit_by(krates, edge),
         None => Ok(None),
     }
 }
 
-/// The hit by a meeting.
-#[tactic(auto, unfolding(crate::specs::Meetings::hit_by))]
-fn hit_by(krates: &Krates, meeting: &Meeting) -> Result<Option<Hit>, NoMemory>
-    ensures { IfOk result (λ hit. hit ≡ hit_by krates.now meeting.now) }
+/// The hit by a wrapped edge.
+#[tactic(auto, unfolding(crate::specs::private::WrappedEdges::hit_by))]
+fn hit_by(krates: &Krates, edge: &WrappedEdge) -> Result<Option<Hit>, NoMemory>
+    ensures { IfOk result (λ hit. hit ≡ hit_by krates.now edge.now) }
 {
-    let Some(krate) = krate_at(krates, meeting.place) else {
+    let Some(krate) = krate_at(krates, edge.place) else {
         return Ok(None);
     };
-    let Some(parent) = krate_at(krates, meeting.parent) else {
+    let Some(parent) = krate_at(krates, edge.parent) else {
         return Ok(None);
     };
     Ok(Some(Hit {
         entry: EntryId {
             kind: EntryKind::Wrapper,
-            range: meeting.range,
+            range: edge.range,
         },
         witness: Witness::Parent {
             krate: krate.id.clone()?,
@@ -265,70 +269,71 @@ fn hit_by(krates: &Krates, meeting: &Meeting) -> Result<Option<Hit>, NoMemory>
     }))
 }
 
-/// The meetings of a ban's wrappers with the dependents of the crates that it concerns, by the places
-/// of the crates and then of the dependents.
-#[tactic(auto, unfolding(crate::specs::Meetings::meetings_of))]
-fn meetings_of(
+/// The edges that lead from a ban's wrappers to the crates that it concerns, by the places of these
+/// crates and then of the wrappers.
+#[tactic(auto, unfolding(crate::specs::private::WrappedEdges::wrapped_edges_of))]
+fn wrapped_edges_of(
     alloc: Global,
     krates: &Krates,
     ranges: &TextMap<Span>,
     exempt: &[bool],
     ban: &PackageSpecOrExtended<KrateBan>,
-) -> Result<List<Meeting>, NoMemory>
-    ensures { IfOk result (λ met. met ≡ meetings_of krates.now ranges.now exempt.now (ban_view ban.now)) }
+) -> Result<List<WrappedEdge>, NoMemory>
+    ensures { IfOk result (λ edges. edges ≡ wrapped_edges_of krates.now ranges.now exempt.now (ban_view ban.now)) }
 {
     are_placed(krates);
-    let mut met = List::new(alloc);
+    let mut edges = List::new(alloc);
     let concerned = concerned(alloc, krates, &ban.spec, exempt)?;
-    add_all_meetings(alloc, krates, ranges, concerned.as_slice(), &mut met)?;
-    Ok(met)
+    add_all_wrapped_edges(alloc, krates, ranges, concerned.as_slice(), &mut edges)?;
+    Ok(edges)
 }
 
-fn add_all_meetings(
+fn add_all_wrapped_edges(
     alloc: Global,
     krates: &Krates,
     ranges: &TextMap<Span>,
     places: &[u32],
-    met: &mut List<Meeting>,
+    edges: &mut List<WrappedEdge>,
 ) -> Result<(), NoMemory>
     requires { All (λ place. place < length krates.now.crates) places.now }
-    ensures { OnOk result (met.new ≡ met.old ++ flat_map (meetings_at krates.now ranges.now) places.now) }
+    ensures { OnOk result (edges.new ≡ edges.old ++ flat_map (wrapped_edges_at krates.now ranges.now) places.now) }
 {
     for place in places {
-        add_meetings_at(alloc, krates, ranges, *place, met)?;
+        add_wrapped_edges_at(alloc, krates, ranges, *place, edges)?;
     }
     Ok(())
 }
 
-/// Adds the meetings of wrappers with the direct dependents of the crate at a place.
-#[tactic(auto, unfolding(crate::specs::Meetings::meetings_at))]
-fn add_meetings_at(
+/// Adds the edges that lead from wrappers to the crate at a place.
+#[tactic(auto, unfolding(crate::specs::private::WrappedEdges::wrapped_edges_at))]
+fn add_wrapped_edges_at(
     alloc: Global,
     krates: &Krates,
     ranges: &TextMap<Span>,
     place: u32,
-    met: &mut List<Meeting>,
+    edges: &mut List<WrappedEdge>,
 ) -> Result<(), NoMemory>
     requires { place < length krates.now.crates }
-    ensures { OnOk result (met.new ≡ met.old ++ meetings_at krates.now ranges.now place) }
+    ensures { OnOk result (edges.new ≡ edges.old ++ wrapped_edges_at krates.now ranges.now place) }
 {
     let parents = dependents_by_place(alloc, krates, place)?;
-    add_meetings(krates, ranges, place, parents.as_slice(), met)
+    add_wrapped_edges(krates, ranges, place, parents.as_slice(), edges)
 }
 
-/// Adds the meetings of wrappers with some dependents of the crate at a place.
-fn add_meetings(
+/// Adds the edges that lead from those of some dependents that are wrappers to the crate at a place.
+fn add_wrapped_edges(
     krates: &Krates,
     ranges: &TextMap<Span>,
     place: u32,
     parents: &[u32],
-    met: &mut List<Meeting>,
+    edges: &mut List<WrappedEdge>,
 ) -> Result<(), NoMemory>
-    ensures { OnOk result (met.new ≡ met.old ++ filter_map (meeting_at krates.now ranges.now place) parents.now) }
+    ensures { OnOk result (edges.new ≡ edges.old ++ filter_map
+        (wrapped_edge_at krates.now ranges.now place) parents.now) }
 {
     for parent in parents {
-        if let Some(meeting) = meeting_at(krates, ranges, place, *parent) {
-            met.push(meeting)?;
+        if let Some(edge) = wrapped_edge_at(krates, ranges, place, *parent) {
+            edges.push(edge)?;
         }
     }
     Ok(())
@@ -355,13 +360,18 @@ fn places_of(alloc: Global, dependents: &[DirectDependent]) -> Result<List<u32>,
     Ok(places)
 }
 
-/// The meeting of a dependent, where its name is a wrapper's.
-#[tactic(auto, unfolding(crate::specs::Meetings::meeting_at))]
-fn meeting_at(krates: &Krates, ranges: &TextMap<Span>, place: u32, parent: u32) -> Option<Meeting>
-    ensures { result ≡ meeting_at krates.now ranges.now place parent }
+/// The edge from a dependent, where its name is a wrapper's.
+#[tactic(auto, unfolding(crate::specs::private::WrappedEdges::wrapped_edge_at))]
+fn wrapped_edge_at(
+    krates: &Krates,
+    ranges: &TextMap<Span>,
+    place: u32,
+    parent: u32,
+) -> Option<WrappedEdge>
+    ensures { result ≡ wrapped_edge_at krates.now ranges.now place parent }
 {
     let range = range_at(krates, ranges, parent)?;
-    Some(Meeting {
+    Some(WrappedEdge {
         range,
         place,
         parent,

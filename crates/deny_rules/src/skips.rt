@@ -1,7 +1,7 @@
 //! What is told of skips and skipped trees.
 ghost use Rattle.std.specs.Prelude.{◌≡◌, ◌++◌, not, [], map, filter, slice_index_or, Contains, IfOk, OnOk};
 ghost use Rattle.std.specs.List.{flat_map, list_any, range_with_len};
-ghost use Rattle.deny_base.specs.Ascending.{Adds};
+ghost use Rattle.deny_lists.specs.Ascending.{Adds};
 ghost use Rattle.deny_base.specs.declared.code.Code.TheVariants as code;
 ghost use Rattle.deny_cfg.specs.PolicyView.{entry_view, policy_view, root_view, roots_from};
 ghost use Rattle.deny_cfg.specs.SpecView.{spec_view};
@@ -10,19 +10,17 @@ ghost use Rattle.deny_model.specs.Keys.{unused_key};
 ghost use Rattle.deny_model.specs.Match.{matches};
 ghost use Rattle.deny_model.specs.Rules.{skip_keys};
 ghost use Rattle.deny_model.specs.Skips.{is_skipped, skipped_keys_of, skipped_by_root_keys_of, is_hit_skip, is_needless, has_root};
-ghost use Rattle.deny_rules.specs.Groups.{AreGroups};
-ghost use Rattle.deny_rules.specs.Marks.{facts_of};
-ghost use Rattle.deny_rules.specs.Skipping.{is_left_out};
+ghost use Rattle.deny_facts.specs.Groups.{AreGroups};
+ghost use Rattle.deny_facts.specs.Marks.{facts_of};
+ghost use Rattle.deny_rules.specs.private.Skipping.{is_left_out};
 
 use crate::crate_keys::{add_crate_keys, unused_key};
-use crate::facts::Marks;
-use crate::groups::{Groups, groups_of, reduced_len};
-use crate::marking::{mark_at, marked};
-use crate::matching::matched;
-use deny_base::{Code, Key, List, NoMemory};
+use deny_base::{Code, Key};
 use deny_cfg::PackageSpec;
 use deny_cfg::bans::cfg::{SpecAndReason, ValidConfig, ValidTreeSkip};
+use deny_facts::{Groups, Marks, groups_of, mark_at, marked, matched, reduced_len};
 use deny_krates::Krates;
+use deny_lists::{List, NoMemory};
 use std::alloc::Global;
 
 /// Adds the keys of what stands of skips and skipped trees.
@@ -34,7 +32,8 @@ pub fn add_skip_keys(
     marks: &Marks,
     keys: &mut List<Key>,
 ) -> Result<(), NoMemory>
-    ensures { OnOk result (Adds (Contains (skip_keys (policy_view cfg.now) krates.now (facts_of marks.now))) keys.old keys.new) }
+    ensures { OnOk result (Adds (Contains (skip_keys (policy_view cfg.now) krates.now
+        (facts_of marks.now))) keys.old keys.new) }
 {
     let groups = groups_of(alloc, cfg, krates, marks)?;
     let skips = cfg.skipped.as_slice();
@@ -62,7 +61,8 @@ fn skipped_places(
     marks: &Marks,
     skip: &SpecAndReason,
 ) -> Result<List<u32>, NoMemory>
-    ensures { IfOk result (λ places. places ≡ map (λ c. c.place) (filter (is_skipped (facts_of marks.now) (entry_view skip.now)) krates.now.crates)) }
+    ensures { IfOk result (λ places. places ≡ map (λ c. c.place)
+        (filter (is_skipped (facts_of marks.now) (entry_view skip.now)) krates.now.crates)) }
 {
     let places = matched(alloc, krates, &skip.spec)?;
     marked(alloc, places.as_slice(), marks.counts.as_slice())
@@ -77,7 +77,8 @@ fn add_skipped_by(
     skip: &SpecAndReason,
     keys: &mut List<Key>,
 ) -> Result<(), NoMemory>
-    ensures { OnOk result (keys.new ≡ keys.old ++ skipped_keys_of krates.now (facts_of marks.now) (entry_view skip.now)) }
+    ensures { OnOk result (keys.new ≡ keys.old ++ skipped_keys_of krates.now (facts_of marks.now)
+        (entry_view skip.now)) }
 {
     let places = skipped_places(alloc, krates, marks, skip)?;
     add_crate_keys(
@@ -96,7 +97,8 @@ fn add_skipped(
     skips: &[SpecAndReason],
     keys: &mut List<Key>,
 ) -> Result<(), NoMemory>
-    ensures { OnOk result (keys.new ≡ keys.old ++ flat_map (skipped_keys_of krates.now (facts_of marks.now)) (map entry_view skips.now)) }
+    ensures { OnOk result (keys.new ≡ keys.old ++ flat_map (skipped_keys_of krates.now (facts_of marks.now))
+        (map entry_view skips.now)) }
 {
     for skip in skips {
         add_skipped_by(alloc, krates, marks, skip, keys)?;
@@ -105,7 +107,7 @@ fn add_skipped(
 }
 
 /// Whether the crate at a place counts, no skip speaks of it, and it lies in a tree.
-#[tactic(auto, unfolding(crate::specs::Skipping::is_left_out))]
+#[tactic(auto, unfolding(crate::specs::private::Skipping::is_left_out))]
 fn is_left_out(counts: &[bool], skipped: &[bool], tree: &[bool], place: u32) -> bool
     ensures { result ≡ is_left_out counts.now skipped.now tree.now place }
 {
@@ -120,7 +122,8 @@ fn left_out(
     skipped: &[bool],
     tree: &[bool],
 ) -> Result<List<u32>, NoMemory>
-    ensures { IfOk result (λ places. places ≡ filter (is_left_out counts.now skipped.now tree.now) (range_with_len 0 end)) }
+    ensures { IfOk result (λ places. places ≡ filter (is_left_out counts.now skipped.now tree.now)
+        (range_with_len 0 end)) }
 {
     let mut places = List::new(alloc);
     for place in 0..end {
@@ -154,7 +157,8 @@ fn add_skipped_by_root(
     keys: &mut List<Key>,
 ) -> Result<(), NoMemory>
     requires { skipped.now ≡ map (is_marked (policy_view cfg.now)) krates.now.crates }
-    ensures { OnOk result (keys.new ≡ keys.old ++ skipped_by_root_keys_of (policy_view cfg.now) krates.now (facts_of marks.now) (root_view number root.now)) }
+    ensures { OnOk result (keys.new ≡ keys.old ++ skipped_by_root_keys_of (policy_view cfg.now) krates.now
+        (facts_of marks.now) (root_view number root.now)) }
 {
     let tree = tree_at(marks.trees.as_slice(), number);
     if tree.is_empty() {
@@ -181,7 +185,8 @@ fn add_skipped_by_roots(
     keys: &mut List<Key>,
 ) -> Result<(), NoMemory>
     requires { skipped.now ≡ map (is_marked (policy_view cfg.now)) krates.now.crates }
-    ensures { OnOk result (keys.new ≡ keys.old ++ flat_map (skipped_by_root_keys_of (policy_view cfg.now) krates.now (facts_of marks.now)) (roots_from 0 roots.now)) }
+    ensures { OnOk result (keys.new ≡ keys.old ++ flat_map (skipped_by_root_keys_of (policy_view cfg.now) krates.now
+        (facts_of marks.now)) (roots_from 0 roots.now)) }
 {
     for number in 0..roots.len() {
         add_skipped_by_root(
@@ -221,7 +226,8 @@ fn add_unmatched_skips(
     keys: &mut List<Key>,
 ) -> Result<(), NoMemory>
     ensures { OnOk result (keys.new ≡ keys.old
-        ++ map (λ s. unused_key code.UnmatchedSkip s.spec.range) (filter (λ s. not (is_hit_skip krates.now (facts_of marks.now) s)) (map entry_view skips.now))) }
+        ++ map (λ s. unused_key code.UnmatchedSkip s.spec.range)
+        (filter (λ s. not (is_hit_skip krates.now (facts_of marks.now) s)) (map entry_view skips.now))) }
 {
     for skip in skips {
         if !is_hit(alloc, krates, marks, skip)? {
@@ -242,7 +248,8 @@ fn is_needless(
     skip: &SpecAndReason,
 ) -> Result<bool, NoMemory>
     requires { AreGroups (policy_view cfg.now) krates.now (facts_of marks.now) groups.now }
-    ensures { IfOk result (λ needless. needless ≡ is_needless (policy_view cfg.now) krates.now (facts_of marks.now) (entry_view skip.now)) }
+    ensures { IfOk result (λ needless. needless ≡ is_needless (policy_view cfg.now) krates.now (facts_of marks.now)
+        (entry_view skip.now)) }
 {
     if !is_hit(alloc, krates, marks, skip)? {
         return Ok(false);
@@ -262,7 +269,8 @@ fn add_unnecessary_skips(
 ) -> Result<(), NoMemory>
     requires { AreGroups (policy_view cfg.now) krates.now (facts_of marks.now) groups.now }
     ensures { OnOk result (keys.new ≡ keys.old
-        ++ map (λ s. unused_key code.UnnecessarySkip s.spec.range) (filter (is_needless (policy_view cfg.now) krates.now (facts_of marks.now)) (map entry_view skips.now))) }
+        ++ map (λ s. unused_key code.UnnecessarySkip s.spec.range)
+        (filter (is_needless (policy_view cfg.now) krates.now (facts_of marks.now)) (map entry_view skips.now))) }
 {
     for skip in skips {
         if is_needless(alloc, cfg, krates, marks, groups, skip)? {
@@ -289,7 +297,8 @@ fn add_unmatched_roots(
     keys: &mut List<Key>,
 ) -> Result<(), NoMemory>
     ensures { OnOk result (keys.new ≡ keys.old
-        ++ map (λ t. unused_key code.UnmatchedSkipRoot t.spec.range) (filter (λ t. not (has_root krates.now t)) (roots_from 0 roots.now))) }
+        ++ map (λ t. unused_key code.UnmatchedSkipRoot t.spec.range)
+        (filter (λ t. not (has_root krates.now t)) (roots_from 0 roots.now))) }
 {
     for root in roots {
         if !is_met(alloc, krates, &root.spec)? {

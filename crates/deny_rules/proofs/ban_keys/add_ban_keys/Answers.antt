@@ -8,5 +8,6 @@ pub returns : goal.returns
 returns c =
     let p = policy_view c.args.cfg.now in
     on_ok_weaker c.add_allowed_keys.result
-    (λ added. all_ban_keys p c.args.krates.now p.deny c.args.keys.now c.add_banned_keys.new.keys c.add_allowed_keys.new.keys refl c.in_ok-add_banned_keys.ensures added)
+    (λ added. all_ban_keys p c.args.krates.now p.deny c.args.keys.now c.add_banned_keys.new.keys
+    c.add_allowed_keys.new.keys refl c.in_ok-add_banned_keys.ensures added)
     c.add_allowed_keys.ensures

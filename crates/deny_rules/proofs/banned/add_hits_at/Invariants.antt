@@ -1,6 +1,6 @@
 use Rattle.std.proofs.Common.{◌≡◌, ◌++◌, drop}
 use Rattle.std.specs.Prelude.{filter_map}
-use Rattle.deny_rules.specs.Banned.{range_at}
+use Rattle.deny_facts.specs.Wrappers.{range_at}
 use Rattle.deny_rules.proofs.banned.add_hits_at.Given as goal
 
 abbrev pub invariant-loop-dependent : goal.invariant-loop-dependent

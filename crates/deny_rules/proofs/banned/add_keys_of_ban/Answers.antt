@@ -11,10 +11,14 @@ pub returns-then-is_empty : goal.returns-then-is_empty
 returns-then-is_empty c = λ p are.
     let ban = ban_view c.args.ban.now in
     let none : length ban.wrappers ≡ 0 =
-    ap (λ (ws : List Words). length ws) (sym c.wrappers_of-wrappers.ensures) ∙ eqb-true (length c.wrappers_of-wrappers.result.now) 0 (sym c.is_empty.ensures ∙ c.if-is_empty.true) in
-    on_ok_weaker c.add_crate_keys.result (λ added. bare_ban p c.args.krates.now ban (has_none ban none) c.args.places.now c.args.keys.now c.add_crate_keys.new.keys are added) c.add_crate_keys.ensures
+    ap (λ (ws : List Words). length ws) (sym c.wrappers_of-wrappers.ensures)
+    ∙ eqb-true (length c.wrappers_of-wrappers.result.now) 0 (sym c.is_empty.ensures ∙ c.if-is_empty.true) in
+    on_ok_weaker c.add_crate_keys.result (λ added. bare_ban p c.args.krates.now ban
+    (has_none ban none) c.args.places.now c.args.keys.now c.add_crate_keys.new.keys are added) c.add_crate_keys.ensures
 
 pub add_wrapped_keys-requires-clause-wrapped : goal.add_wrapped_keys-requires-clause-wrapped
 add_wrapped_keys-requires-clause-wrapped c =
     let ban = ban_view c.args.ban.now in
-    has_some ban (λ none. eqb-false (length c.wrappers_of-wrappers.result.now) 0 (sym c.is_empty.ensures ∙ c.if-is_empty.false) (ap (λ (ws : List Words). length ws) c.wrappers_of-wrappers.ensures ∙ none))
+    has_some ban (λ none. eqb-false (length c.wrappers_of-wrappers.result.now) 0
+    (sym c.is_empty.ensures ∙ c.if-is_empty.false)
+    (ap (λ (ws : List Words). length ws) c.wrappers_of-wrappers.ensures ∙ none))

@@ -1,5 +1,5 @@
 use Rattle.std.proofs.Common.{◌≡◌, ◌++◌, drop, map}
-use Rattle.deny_rules.proofs.DependentLemmas.{key_at}
+use Rattle.deny_rules.proofs.DependentKeyLemmas.{key_at}
 use Rattle.deny_rules.proofs.banned.add_told_keys_at.Given as goal
 
 abbrev pub invariant-loop-dependent : goal.invariant-loop-dependent

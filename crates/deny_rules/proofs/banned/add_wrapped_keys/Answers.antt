@@ -5,7 +5,8 @@ use Rattle.deny_base.specs.declared.span.Span.{Span}
 use Rattle.deny_cfg.specs.PolicyView.{ban_view}
 use Rattle.deny_model.specs.Keys.{crate_key, unused_key}
 use Rattle.deny_model.specs.Policy.{Words}
-use Rattle.deny_rules.specs.Banned.{AreFirst, is_hit}
+use Rattle.deny_facts.specs.Wrappers.{AreFirst}
+use Rattle.deny_rules.specs.private.Banned.{is_hit}
 use Rattle.deny_rules.proofs.BannedLemmas.{wrapped_ban}
 use Rattle.deny_rules.proofs.banned.add_wrapped_keys.Goals as goal
 
@@ -14,13 +15,18 @@ returns c = λ p are.
     let g = c.args.krates.now in
     let ban = ban_view c.args.ban.now in
     let hits = c.in_ok-hits.hits in
-    let first : AreFirst ban.wrappers c.in_ok-ranges.ranges = subst (λ (ws : List Words). AreFirst ws c.in_ok-ranges.ranges) c.wrappers_of-wrappers.ensures c.in_ok-ranges.ensures in
+    let first : AreFirst ban.wrappers c.in_ok-ranges.ranges = subst
+    (λ (ws : List Words). AreFirst ws c.in_ok-ranges.ranges) c.wrappers_of-wrappers.ensures c.in_ok-ranges.ensures in
     let banned = c.in_ok-add_crate_keys.ensures
-    ∙ ap (λ ps. c.args.keys.now ++ map (λ place. crate_key Banned place ban.spec.range) ps) (c.as_slice.ensures ∙ c.in_ok-banned.ensures) in
+    ∙ ap (λ ps. c.args.keys.now ++ map (λ place. crate_key Banned place ban.spec.range) ps)
+    (c.as_slice.ensures ∙ c.in_ok-banned.ensures) in
     on_ok_weaker c.add_unused_keys.result
-    (λ unused. wrapped_ban p g ban c.requires.wrapped c.in_ok-ranges.ranges first c.args.places.now hits c.args.keys.now c.add_crate_keys.new.keys c.add_told_keys.new.keys c.add_unused_keys.new.keys are
+    (λ unused. wrapped_ban p g ban c.requires.wrapped c.in_ok-ranges.ranges first c.args.places.now hits c.args.keys.now
+    c.add_crate_keys.new.keys c.add_told_keys.new.keys c.add_unused_keys.new.keys are
     banned c.in_ok-add_told_keys.ensures c.in_ok-hits.ensures
     (unused
-    ∙ (ap (λ (ws : List Words). c.add_told_keys.new.keys ++ map (λ (w : Words). unused_key UnusedWrapper w.span) (filter (λ w. not (is_hit c.as_slice-2.result.now w.span)) ws)) c.wrappers_of-wrappers.ensures
-    ∙ ap (λ (hs : List Span). c.add_told_keys.new.keys ++ map (λ (w : Words). unused_key UnusedWrapper w.span) (filter (λ w. not (is_hit hs w.span)) ban.wrappers)) c.as_slice-2.ensures)))
+    ∙ (ap (λ (ws : List Words). c.add_told_keys.new.keys ++ map (λ (w : Words). unused_key UnusedWrapper w.span)
+    (filter (λ w. not (is_hit c.as_slice-2.result.now w.span)) ws)) c.wrappers_of-wrappers.ensures
+    ∙ ap (λ (hs : List Span). c.add_told_keys.new.keys ++ map (λ (w : Words). unused_key UnusedWrapper w.span)
+    (filter (λ w. not (is_hit hs w.span)) ban.wrappers)) c.as_slice-2.ensures)))
     c.add_unused_keys.ensures

@@ -1,7 +1,7 @@
 use Rattle.std.proofs.Common.{[], Contains, take}
 use Rattle.std.specs.List.{flat_map}
-use Rattle.deny_base.specs.Ascending.{Adds}
-use Rattle.deny_rules.specs.Banned.{hits_at}
+use Rattle.deny_lists.specs.Ascending.{Adds}
+use Rattle.deny_rules.specs.private.Banned.{hits_at}
 use Rattle.deny_rules.proofs.banned.hits_of.Given as goal
 
 abbrev pub invariant-loop-place : goal.invariant-loop-place

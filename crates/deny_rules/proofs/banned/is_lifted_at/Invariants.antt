@@ -1,6 +1,6 @@
 use Rattle.std.proofs.Common.{◌≡◌, drop, is_some}
 use Rattle.std.specs.List.{list_all}
-use Rattle.deny_rules.specs.Banned.{range_at}
+use Rattle.deny_facts.specs.Wrappers.{range_at}
 use Rattle.deny_rules.proofs.banned.is_lifted_at.Given as goal
 
 abbrev pub invariant-loop-dependent : goal.invariant-loop-dependent

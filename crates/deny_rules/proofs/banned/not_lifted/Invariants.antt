@@ -1,5 +1,5 @@
 use Rattle.std.proofs.Common.{◌≡◌, ◌++◌, drop, filter, not}
-use Rattle.deny_rules.specs.Banned.{is_lifted_at}
+use Rattle.deny_rules.specs.private.Banned.{is_lifted_at}
 use Rattle.deny_rules.proofs.banned.not_lifted.Given as goal
 
 abbrev pub invariant-loop-place : goal.invariant-loop-place

@@ -1,13 +1,13 @@
 use Rattle.std.proofs.Common.{◌⊎◌, List, [], subst}
 use Rattle.std.specs.Prelude.{Contains}
-use Rattle.deny_base.specs.Ascending.{Adds}
+use Rattle.deny_lists.specs.Ascending.{Adds}
 use Rattle.deny_base.specs.KeyOrder.{key_cmp}
 use Rattle.deny_base.specs.declared.key.Key.{Key}
 use Rattle.deny_cfg.specs.PolicyView.{policy_view}
 use Rattle.deny_model.specs.Duplicates.{IsDuplicate}
 use Rattle.deny_model.specs.Rules.{Stands, ban_keys, skip_keys}
-use Rattle.deny_rules.specs.Marks.{facts_of}
-use Rattle.deny_rules.proofs.AddsLemmas.{adds_then, lists_added}
+use Rattle.deny_facts.specs.Marks.{facts_of}
+use Rattle.deny_lists.proofs.Adding.{adds_then, lists_added}
 use Rattle.deny_rules.proofs.check.keys_of.Goals as goal
 
 pub returns : goal.returns
@@ -17,8 +17,12 @@ returns c =
     let facts = facts_of c.args.marks.now in
     let bans = Contains (ban_keys p g) in
     let skips = Contains (skip_keys p g facts) in
-    let first = subst (λ (old : List Key). Adds bans old c.add_ban_keys.new.keys) c.new-keys.ensures c.in_ok-add_ban_keys.ensures in
-    let rest = adds_then skips (IsDuplicate p g facts) c.add_ban_keys.new.keys c.add_skip_keys.new.keys c.add_duplicate_keys.new.keys c.in_ok-add_skip_keys.ensures c.in_ok-add_duplicate_keys.ensures in
+    let first = subst
+    (λ (old : List Key). Adds bans old c.add_ban_keys.new.keys) c.new-keys.ensures c.in_ok-add_ban_keys.ensures in
+    let rest = adds_then skips
+    (IsDuplicate p g facts) c.add_ban_keys.new.keys c.add_skip_keys.new.keys c.add_duplicate_keys.new.keys
+    c.in_ok-add_skip_keys.ensures c.in_ok-add_duplicate_keys.ensures in
     lists_added key_cmp (Stands p g facts) c.add_duplicate_keys.new.keys c.put_in_order.new.list
-    (adds_then bans (λ key. skips key ⊎ IsDuplicate p g facts key) [] c.add_ban_keys.new.keys c.add_duplicate_keys.new.keys first rest)
+    (adds_then bans (λ key. skips key ⊎ IsDuplicate p g facts key) [] c.add_ban_keys.new.keys
+    c.add_duplicate_keys.new.keys first rest)
     c.in_ok-put_in_order.ensures.ok

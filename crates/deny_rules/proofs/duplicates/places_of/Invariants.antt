@@ -1,7 +1,8 @@
 use Rattle.std.proofs.Common.{◌≡◌, ◌++◌, drop, map}
-use Rattle.deny_rules.specs.Duplicates.{standing_view}
+use Rattle.deny_rules.specs.private.Duplicates.{placed_view}
 use Rattle.deny_rules.proofs.duplicates.places_of.Given as goal
 
 abbrev pub invariant-loop-crate_at : goal.invariant-loop-crate_at
 invariant-loop-crate_at l =
-    l.places ++ map (λ c. c.place) (map standing_view (drop l.crate_at-index l.standing)) ≡ map (λ c. c.place) (map standing_view l.standing)
+    l.places ++ map (λ c. c.place) (map placed_view (drop l.crate_at-index l.standing)) ≡ map (λ c. c.place)
+    (map placed_view l.standing)

@@ -1,7 +1,7 @@
 use Rattle.std.proofs.Common.{◌≡◌, ◌++◌, drop, map}
 use Rattle.std.specs.List.{flat_map}
 use Rattle.deny_cfg.specs.PolicyView.{ban_view, policy_view}
-use Rattle.deny_rules.specs.Meetings.{wrapper_hits}
+use Rattle.deny_rules.specs.private.WrappedEdges.{wrapper_hits}
 use Rattle.deny_rules.proofs.hits.add_wrapper_hits.Given as goal
 
 abbrev pub invariant-loop-ban : goal.invariant-loop-ban

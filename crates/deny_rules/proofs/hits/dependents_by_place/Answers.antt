@@ -1,5 +1,5 @@
 use Rattle.std.proofs.Common.{ℕ, List, Contains, nat_cmp, subst}
-use Rattle.deny_base.specs.Ascending.{Lists}
+use Rattle.deny_lists.specs.Ascending.{Lists}
 use Rattle.deny_rules.proofs.HitLemmas.{by_place}
 use Rattle.deny_rules.proofs.hits.dependents_by_place.Goals as goal
 
@@ -7,4 +7,5 @@ pub returns : goal.returns
 returns c =
     let g = c.args.krates.now in
     by_place g c.args.place c.direct_dependents.result.now c.are_placed.ensures c.direct_dependents.ensures
-    c.put_in_order.new.list (subst (λ (old : List ℕ). Lists nat_cmp (Contains old) c.put_in_order.new.list) c.in_ok-places.ensures c.in_ok-put_in_order.ensures.ok)
+    c.put_in_order.new.list (subst (λ (old : List ℕ). Lists nat_cmp
+    (Contains old) c.put_in_order.new.list) c.in_ok-places.ensures c.in_ok-put_in_order.ensures.ok)

@@ -1,5 +1,5 @@
 use Rattle.std.proofs.Common.{◌≡◌, drop, find}
-use Rattle.deny_rules.specs.Marks.{mark_at}
+use Rattle.deny_facts.specs.Marks.{mark_at}
 use Rattle.deny_rules.proofs.hits.first_marked.Given as goal
 
 abbrev pub invariant-loop-place : goal.invariant-loop-place

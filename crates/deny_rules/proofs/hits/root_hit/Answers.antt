@@ -14,7 +14,8 @@ pub returns : goal.returns
 returns c =
     let g = c.args.krates.now in
     let spec = spec_view c.args.spec.now in
-    subst (λ (met : Option Crate). IfOk c.krate_hit.result (λ hit. hit ≡ option_map (λ d. hit_of SkipRoot spec.range (Krate (kid_of d))) met))
+    subst (λ (met : Option Crate). IfOk c.krate_hit.result (λ hit. hit ≡ option_map (λ d. hit_of SkipRoot spec.range
+    (Krate (kid_of d))) met))
     (ap (option_and_then (crate_at g))
     (c.first_place-first.ensures
     ∙ ap (λ (places : List ℕ). slice_get places 0) (c.as_slice.ensures ∙ c.in_ok-places.ensures))

@@ -8,7 +8,7 @@ use Rattle.deny_model.specs.Hits.{hit_of, skip_hit}
 use Rattle.deny_model.specs.Match.{matches}
 use Rattle.deny_model.specs.Skips.{is_skipped}
 use Rattle.deny_model.specs.Told.{crate_at}
-use Rattle.deny_rules.specs.Marks.{mark_at}
+use Rattle.deny_facts.specs.Marks.{mark_at}
 use Rattle.deny_rules.proofs.HitLemmas.{first-marked}
 use Rattle.deny_rules.proofs.hits.skip_hit.Goals as goal
 
@@ -19,7 +19,8 @@ returns c =
     let skip = entry_view c.args.skip.now in
     let counts = c.args.marks.now.counts.items in
     let first = λ (marks : List Bool) (places : List ℕ). find (mark_at marks) places in
-    subst (λ (met : Option Crate). IfOk c.krate_hit.result (λ hit. hit ≡ option_map (λ d. hit_of Skip skip.spec.range (Krate (kid_of d))) met))
+    subst (λ (met : Option Crate). IfOk c.krate_hit.result (λ hit. hit ≡ option_map (λ d. hit_of Skip skip.spec.range
+    (Krate (kid_of d))) met))
     (ap (option_and_then (crate_at g))
     (c.first_marked-first.ensures
     ∙ (ap (λ (marks : List Bool). first marks c.as_slice.result.now) c.as_slice-2.ensures.value

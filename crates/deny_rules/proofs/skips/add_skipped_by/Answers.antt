@@ -5,8 +5,8 @@ use Rattle.deny_base.specs.declared.key.Key.{Key}
 use Rattle.deny_cfg.specs.PolicyView.{entry_view}
 use Rattle.deny_model.specs.Keys.{crate_key}
 use Rattle.deny_model.specs.Skips.{is_skipped, skipped_keys_of}
-use Rattle.deny_rules.specs.Marks.{facts_of}
-use Rattle.deny_rules.proofs.PlaceLemmas.{place_of}
+use Rattle.deny_facts.specs.Marks.{facts_of}
+use Rattle.deny_facts.proofs.PlaceLemmas.{place_of}
 use Rattle.deny_rules.proofs.skips.add_skipped_by.Goals as goal
 
 pub returns : goal.returns

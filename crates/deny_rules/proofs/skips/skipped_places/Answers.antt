@@ -2,7 +2,7 @@ use Rattle.std.proofs.Common.{◌≡◌, ℕ, List, Bool, IfOk, filter, ap, ◌�
 use Rattle.deny_cfg.specs.PolicyView.{entry_view}
 use Rattle.deny_model.specs.Match.{matches}
 use Rattle.deny_model.specs.Skips.{is_skipped}
-use Rattle.deny_rules.specs.Marks.{mark_at}
+use Rattle.deny_facts.specs.Marks.{mark_at}
 use Rattle.deny_rules.proofs.SkipLemmas.{marked-places}
 use Rattle.deny_rules.proofs.skips.skipped_places.Goals as goal
 

@@ -1,0 +1,12 @@
+pub mod GetLemmas
+pub mod PlaceLemmas
+pub mod RunLemmas
+pub mod MarkLemmas
+pub mod MatchingLemmas
+pub mod SpanLemmas
+pub mod WrapperLemmas
+pub mod DependentLemmas
+pub mod NeighbourLemmas
+pub mod FactLemmas
+pub mod GroupLemmas
+pub mod ExemptLemmas

@@ -1,0 +1,28 @@
+use Rattle.std.proofs.Common.{◌≡◌, ◌++◌, ℕ, List, length, map, sym, ap, ◌∙◌, arith}
+use Rattle.std.specs.List.{range_with_len}
+use Rattle.std.proofs.lemmas.List.{append-nil}
+use Rattle.std.proofs.lemmas.Simd.{map-map}
+use Rattle.deny_facts.specs.Groups.{may_stand_at}
+use Rattle.deny_facts.proofs.PlaceLemmas.{are_placed, length_of, place_of}
+use Rattle.deny_facts.proofs.RunLemmas.{no_range, pushed-run}
+use Rattle.deny_facts.proofs.groups.standing_of.Goals as goal
+
+pub loop-place-preserved : goal.loop-place-preserved
+loop-place-preserved c =
+    pushed-run (may_stand_at c.args.counts.now c.args.skipped.now c.args.rooted.now) c.loop-place.standing
+    c.push.new.self _ c.may_stand_at.result c.loop-place.place _
+    c.in_ok-push.ensures.ok c.may_stand_at.ensures c.loop-place-test.true c.loop-place.invariant
+
+pub returns : goal.returns
+returns c =
+    let crates = c.args.krates.now.crates in
+    let ks = c.krates.result.now in
+    let test = may_stand_at c.args.counts.now c.args.skipped.now c.args.rooted.now in
+    let long : length crates ≡ length ks = length_of ks crates c.krates.ensures.crates in
+    sym (append-nil c.loop-place.standing)
+    ∙ (ap (λ (ps : List ℕ). c.loop-place.standing ++ map test ps)
+    (sym (no_range c.loop-place.place (length ks) (omega (arith, c.loop-place-test.false))))
+    ∙ (c.loop-place.invariant
+    ∙ (ap (λ (n : ℕ). map test (range_with_len 0 n)) (sym long)
+    ∙ (ap (map test) (sym (are_placed ks crates c.krates.ensures.crates).places)
+    ∙ map-map test place_of crates))))

@@ -1,0 +1,48 @@
+-- The facts that the rules rest on, as the code keeps them: a mark for each crate, at its place.
+use Rattle.std.specs.Prelude.{◌≡◌, ◌||◌, ◌<◌, ◌↔◌, ℕ, max, Bool, true, false, IsTrue, List, [], Option, None, Some, length, map, slice_index_or, nat_lt, Contains}
+use Rattle.deny_cfg.specs.PolicyView.{root_view}
+use Rattle.deny_cfg.specs.TreeSkipExtended.{TreeSkipExtended}
+use Rattle.deny_cfg.specs.PackageSpecOrExtended.{PackageSpecOrExtended}
+use Rattle.deny_model.specs.Counting.{Counts}
+use Rattle.deny_model.specs.Facts.{Facts}
+use Rattle.deny_model.specs.Graph.{Crate, Graph}
+use Rattle.deny_model.specs.Roots.{IsInTree}
+use Rattle.deny_facts.specs.declared.facts.Marks.{Marks}
+
+-- the mark at a place; none is as `false`
+abbrev pub mark_at : List Bool → ℕ → Bool
+mark_at marks place = slice_index_or marks place false
+
+-- the mark of a crate
+abbrev pub marked : List Bool → Crate → Bool
+marked marks c = mark_at marks c.place
+
+-- marks come to hold besides at each place where a test is true
+pub record HaveBesides (test : ℕ → Bool) (old new : List Bool) : Type 0 where
+  pub long : length new ≡ length old
+  pub each : (place : ℕ) → place < length old → mark_at new place ≡ (mark_at old place || test place)
+
+-- marks that a test gives come to be those of it or another
+pub record AddsMarks (crates : List Crate) (other : Crate → Bool) (old new : List Bool) : Type 0 where
+  pub is : (test : Crate → Bool) → old ≡ map test crates → new ≡ map (λ c. test c || other c) crates
+
+abbrev pub facts_of : Marks → Facts
+facts_of m = record {
+  counts = λ c. marked m.counts.items c;
+  in_tree = λ t c. marked (slice_index_or m.trees t.number []) c;
+}
+
+-- the crates that count are marked
+pub record AreCounted (include_dev : Bool) (g : Graph) (marks : List Bool) : Type 0 where
+  pub each : (c : Crate) → Contains g.crates c → IsTrue (marked marks c) ↔ Counts include_dev g c
+
+-- the crates of an entry's tree are marked, whichever number the entry has
+pub record IsTreeOf (g : Graph) (entry : PackageSpecOrExtended TreeSkipExtended) (marks : List Bool) : Type 0 where
+  pub each : (number : ℕ) (c : Crate) → Contains g.crates c
+      → IsTrue (marked marks c) ↔ IsInTree g (root_view number entry) c
+
+-- a distance that is near enough for a depth, of which 0 is as 1; without a depth every distance is
+unfoldable pub is_near : Option ℕ → Option ℕ → Bool
+is_near depth None = false
+is_near None (Some distance) = true
+is_near (Some depth) (Some distance) = nat_lt distance (max depth 1)

@@ -1,0 +1,12 @@
+-- Steps along the edges of a graph, or against them.
+use Rattle.std.specs.Prelude.{◌≡◌, ℕ, Contains}
+use Rattle.deny_base.specs.declared.edge.Edge.{Edge}
+use Rattle.deny_model.specs.Graph.{Graph}
+
+-- an edge leads from one place to another
+abbrev pub HasEdge : Graph → ℕ → ℕ → Type 0
+HasEdge g parent child = (e : Edge) × Contains g.edges e × (e.parent ≡ parent) × (e.child ≡ child)
+
+-- an edge leads to a place from another
+abbrev pub HasEdgeFrom : Graph → ℕ → ℕ → Type 0
+HasEdgeFrom g child parent = HasEdge g parent child

@@ -1,0 +1,112 @@
+//! What the rules ask of chains, worked out for each crate.
+ghost use Rattle.std.specs.Prelude.{◌≡◌, IfOk, map, option_and_then};
+ghost use Rattle.std.specs.List.{AllZip};
+ghost use Rattle.deny_cfg.specs.PolicyView.{policy_view};
+ghost use Rattle.deny_model.specs.Facts.{AreFacts};
+ghost use Rattle.deny_facts.specs.Marks.{facts_of, is_near, AreCounted, IsTreeOf};
+
+use crate::distances::distances_from;
+use crate::matching::matched;
+use crate::placed::are_placed;
+use deny_base::DepKind;
+use deny_cfg::bans::cfg::{ValidConfig, ValidTreeSkip};
+use deny_krates::Krates;
+use deny_lists::{List, NoMemory};
+use std::alloc::Global;
+
+/// A mark for each crate, at its place.
+#[derive(Debug, Drop)]
+pub struct Marks {
+    /// Which crates count.
+    pub counts: Vec<bool>,
+    /// Which crates lie in the tree of each entry of `skip-tree`; empty for an entry that speaks of
+    /// no crate.
+    pub trees: List<List<bool>>,
+}
+
+/// What is true of a configuration and a graph.
+pub fn marks_of(alloc: Global, cfg: &ValidConfig, krates: &Krates) -> Result<Marks, NoMemory>
+    ensures { IfOk result (λ marks. AreFacts (policy_view cfg.now) krates.now (facts_of marks)) }
+{
+    let counts = counts_of(alloc, cfg.multiple_versions_include_dev, krates)?;
+    let trees = trees_of(alloc, krates, cfg.tree_skipped.as_slice())?;
+    Ok(Marks { counts, trees })
+}
+
+/// Marks for the crates that count.
+fn counts_of(alloc: Global, include_dev: bool, krates: &Krates) -> Result<Vec<bool>, NoMemory>
+    ensures { IfOk result (λ marks. AreCounted include_dev krates.now marks.items) }
+{
+    let size = krates.krates().len();
+    if include_dev {
+        return Ok(vec![in alloc; true; size]?);
+    }
+    krates.krates_filtered(alloc, DepKind::Dev)
+}
+
+/// Marks for the crates of each entry's tree.
+fn trees_of(
+    alloc: Global,
+    krates: &Krates,
+    entries: &[ValidTreeSkip],
+) -> Result<List<List<bool>>, NoMemory>
+    ensures { IfOk result (AllZip (IsTreeOf krates.now) entries.now) }
+{
+    let mut trees = List::new(alloc);
+    for entry in entries {
+        trees.push(tree_of(alloc, krates, entry)?)?;
+    }
+    Ok(trees)
+}
+
+/// Marks for the crates of an entry's tree; none, where the entry speaks of no crate.
+fn tree_of(alloc: Global, krates: &Krates, entry: &ValidTreeSkip) -> Result<List<bool>, NoMemory>
+    ensures { IfOk result (IsTreeOf krates.now entry.now) }
+{
+    are_placed(krates);
+    let roots = matched(alloc, krates, &entry.spec)?;
+    if roots.len() == 0 {
+        return Ok(List::new(alloc));
+    }
+    let distances = distances_from(alloc, krates, roots.as_slice())?;
+    near(alloc, depth_of(entry), distances.as_slice())
+}
+
+/// How deep an entry's tree reaches.
+fn depth_of(entry: &ValidTreeSkip) -> Option<u32>
+    ensures { result ≡ option_and_then (λ skip. skip.depth) entry.now.inner }
+{
+    match &entry.inner {
+        Some(skip) => skip.depth,
+        None => None,
+    }
+}
+
+/// Marks for the distances that are near enough.
+fn near(
+    alloc: Global,
+    depth: Option<u32>,
+    distances: &[Option<u32>],
+) -> Result<List<bool>, NoMemory>
+    ensures { IfOk result (λ marks. marks ≡ map (is_near depth) distances.now) }
+{
+    let mut marks = List::new(alloc);
+    for distance in distances {
+        marks.push(is_near(depth, *distance))?;
+    }
+    Ok(marks)
+}
+
+/// Whether a distance is near enough: there is one, and it is below the depth, of which 0 is as 1.
+#[tactic(auto, unfolding(crate::specs::Marks::is_near))]
+fn is_near(depth: Option<u32>, distance: Option<u32>) -> bool
+    ensures { result ≡ is_near depth distance }
+{
+    match distance {
+        None => false,
+        Some(distance) => match depth {
+            None => true,
+            Some(depth) => distance < depth.max(1),
+        },
+    }
+}

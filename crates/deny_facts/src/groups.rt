@@ -1,0 +1,274 @@
+//! The crates of one name that may stand side by side.
+ghost use Rattle.std.specs.Prelude.{◌≡◌, ◌++◌, ◌<◌, ◌≤◌, ◌-◌, IfOk, OnOk, All, filter, length, map, take};
+ghost use Rattle.std.specs.List.{list_all, list_any, range_with_len};
+ghost use Rattle.deny_cfg.specs.PolicyView.{entry_view, policy_view};
+ghost use Rattle.deny_cfg.specs.SpecView.{spec_view};
+ghost use Rattle.deny_model.specs.Graph.{dependents};
+ghost use Rattle.deny_model.specs.Groups.{has_name};
+ghost use Rattle.deny_model.specs.Match.{matches};
+ghost use Rattle.deny_facts.specs.Groups.{AddsLeft, AreGroups, IsReducedLength, all_bear, bears, is_left, is_left_at, may_stand_at};
+ghost use Rattle.deny_facts.specs.Marks.{AddsMarks, HaveBesides, facts_of, mark_at, marked};
+
+use crate::facts::Marks;
+use crate::marking::{mark_at, mark_each, no_marks};
+use crate::matching::matched;
+use crate::placed::are_placed;
+use deny_cfg::PackageSpec;
+use deny_cfg::bans::cfg::{SpecAndReason, ValidConfig};
+use deny_krates::{DirectDependent, Krate, Krates};
+use deny_lists::{List, NoMemory};
+use std::alloc::Global;
+use std::ops::Range;
+
+/// A mark for each crate, at its place.
+#[derive(Debug, Drop)]
+pub struct Groups {
+    /// Which crates a skip speaks of.
+    pub marked: List<bool>,
+    /// Which crates are in the reduced group of their name.
+    pub reduced: List<bool>,
+}
+
+/// The crates that skips speak of, and those of reduced groups.
+pub fn groups_of(
+    alloc: Global,
+    cfg: &ValidConfig,
+    krates: &Krates,
+    marks: &Marks,
+) -> Result<Groups, NoMemory>
+    ensures { IfOk result (AreGroups (policy_view cfg.now) krates.now (facts_of marks.now)) }
+{
+    are_placed(krates);
+    let marked = skipped_of(alloc, krates, cfg.skipped.as_slice())?;
+    let trees = first_trees(marks.trees.as_slice(), cfg.tree_skipped.len());
+    let rooted = rooted_of(alloc, krates, trees)?;
+    let standing = standing_of(
+        alloc,
+        krates,
+        marks.counts.as_slice(),
+        marked.as_slice(),
+        rooted.as_slice(),
+    )?;
+    let reduced = reduced_of(alloc, krates, standing.as_slice())?;
+    Ok(Groups { marked, reduced })
+}
+
+/// How many crates the reduced group of a name has.
+pub fn reduced_len(krates: &Krates, groups: &Groups, name: &str) -> usize
+    ensures { IsReducedLength krates.now groups.now name.now result }
+{
+    are_placed(krates);
+    let run = krates.places_by_name(name);
+    count_marked(groups.reduced.as_slice(), run.start, run.end)
+}
+
+/// Marks for the crates that specs speak of.
+pub fn spoken_of(
+    alloc: Global,
+    krates: &Krates,
+    specs: &[PackageSpec],
+) -> Result<List<bool>, NoMemory>
+    ensures { IfOk result (λ marks. marks ≡ map (λ c. list_any (λ s. matches s c)
+        (map spec_view specs.now)) krates.now.crates) }
+{
+    let mut marks = no_marks(alloc, krates)?;
+    for spec in specs {
+        mark_spec(alloc, krates, spec, &mut marks)?;
+    }
+    Ok(marks)
+}
+
+/// Marks for the crates that skips speak of.
+fn skipped_of(
+    alloc: Global,
+    krates: &Krates,
+    skips: &[SpecAndReason],
+) -> Result<List<bool>, NoMemory>
+    ensures { IfOk result (λ marks. marks ≡ map (λ c. list_any (λ s. matches s.spec c)
+        (map entry_view skips.now)) krates.now.crates) }
+{
+    let mut marks = no_marks(alloc, krates)?;
+    for skip in skips {
+        mark_spec(alloc, krates, &skip.spec, &mut marks)?;
+    }
+    Ok(marks)
+}
+
+/// Marks the crates that a spec speaks of.
+fn mark_spec(
+    alloc: Global,
+    krates: &Krates,
+    spec: &PackageSpec,
+    marks: &mut List<bool>,
+) -> Result<(), NoMemory>
+    requires { length marks.old ≡ length krates.now.crates }
+    ensures { OnOk result (AddsMarks krates.now.crates (matches (spec_view spec.now)) marks.old marks.new) }
+{
+    are_placed(krates);
+    let places = matched(alloc, krates, spec)?;
+    mark_each(marks, places.as_slice());
+    Ok(())
+}
+
+/// The first trees, so many at most.
+fn first_trees(trees: &[List<bool>], size: usize) -> &[List<bool>]
+    ensures { result.now ≡ take size trees.now }
+{
+    &trees[..size.min(trees.len())]
+}
+
+/// Marks for the crates of trees.
+fn rooted_of(alloc: Global, krates: &Krates, trees: &[List<bool>]) -> Result<List<bool>, NoMemory>
+    ensures { IfOk result (λ marks. marks ≡ map (λ c. list_any (λ tree. marked tree c) trees.now) krates.now.crates) }
+{
+    are_placed(krates);
+    let mut rooted = no_marks(alloc, krates)?;
+    for tree in trees {
+        mark_tree(tree.as_slice(), &mut rooted);
+    }
+    Ok(rooted)
+}
+
+/// Marks the crates of a tree.
+fn mark_tree(tree: &[bool], rooted: &mut List<bool>)
+    ensures { HaveBesides (mark_at tree.now) rooted.old rooted.new }
+{
+    for place in 0..tree.len() {
+        if tree[place] && place < rooted.len() {
+            rooted.vec[place] = true;
+        }
+    }
+}
+
+/// Marks for the crates that count and are not left out for a tree that they lie in.
+fn standing_of(
+    alloc: Global,
+    krates: &Krates,
+    counts: &[bool],
+    skipped: &[bool],
+    rooted: &[bool],
+) -> Result<List<bool>, NoMemory>
+    ensures { IfOk result
+        (λ marks. marks ≡ map (λ c. may_stand_at counts.now skipped.now rooted.now c.place) krates.now.crates) }
+{
+    let size = krates.krates().len() as u32;
+    let mut standing = List::new(alloc);
+    for place in 0..size {
+        standing.push(may_stand_at(counts, skipped, rooted, place))?;
+    }
+    Ok(standing)
+}
+
+/// Whether the crate at a place counts, and a skip speaks of it or no tree has it.
+#[tactic(auto, unfolding(crate::specs::Groups::may_stand_at))]
+fn may_stand_at(counts: &[bool], skipped: &[bool], rooted: &[bool], place: u32) -> bool
+    ensures { result ≡ may_stand_at counts.now skipped.now rooted.now place }
+{
+    mark_at(counts, place) && (mark_at(skipped, place) || !mark_at(rooted, place))
+}
+
+/// Marks for the crates of reduced groups, name by name.
+fn reduced_of(alloc: Global, krates: &Krates, standing: &[bool]) -> Result<List<bool>, NoMemory>
+    ensures { IfOk result (λ marks. marks ≡ map (is_left krates.now (marked standing.now)) krates.now.crates) }
+{
+    let size = krates.krates().len();
+    let mut reduced = List::new(alloc);
+    let mut next = 0;
+    while next < size {
+        next = reduce_next(krates, standing, next, &mut reduced)?;
+    }
+    Ok(reduced)
+}
+
+/// Adds the marks of the crates of the name of the crate at `place`, from that place on, and says
+/// where the run of this name ends.
+fn reduce_next(
+    krates: &Krates,
+    standing: &[bool],
+    place: usize,
+    reduced: &mut List<bool>,
+) -> Result<usize, NoMemory>
+    requires { place < length krates.now.crates }
+    ensures { IfOk result (λ next. AddsLeft krates.now standing.now place next reduced.old reduced.new) }
+{
+    let name = krates.krates()[place].name.as_str();
+    let run = krates.places_by_name(name);
+    let alone = count_marked(standing, run.start, run.end) == 1;
+    let rest = place as u32..run.end;
+    reduce_run(krates, standing, name, alone, rest, reduced)?;
+    Ok(run.end as usize)
+}
+
+/// Adds the marks of a run of crates of a name.
+fn reduce_run(
+    krates: &Krates,
+    standing: &[bool],
+    name: &str,
+    alone: bool,
+    run: Range<u32>,
+    reduced: &mut List<bool>,
+) -> Result<(), NoMemory>
+    requires upward { run.start ≤ run.end }
+    requires within { run.end ≤ length krates.now.crates }
+    ensures { OnOk result (reduced.new ≡ reduced.old ++ map (is_left_at krates.now standing.now name.now alone)
+        (range_with_len run.start (run.end - run.start))) }
+{
+    for place in run.start..run.end {
+        reduced.push(is_left_at(krates, standing, name, alone, place))?;
+    }
+    Ok(())
+}
+
+/// Whether the crate at a place stands, and is alone in that or has a dependent of another name.
+#[tactic(auto, unfolding(crate::specs::Groups::is_left_at))]
+fn is_left_at(krates: &Krates, standing: &[bool], name: &str, alone: bool, place: u32) -> bool
+    requires { place < length krates.now.crates }
+    ensures { result ≡ is_left_at krates.now standing.now name.now alone place }
+{
+    mark_at(standing, place) && (alone || !is_internal(krates, name, place))
+}
+
+/// Whether all direct dependents of the crate at a place bear a name.
+fn is_internal(krates: &Krates, name: &str, place: u32) -> bool
+    requires { place < length krates.now.crates }
+    ensures { result ≡ list_all (has_name name.now) (dependents krates.now place) }
+{
+    all_bear(krates.krates(), name, krates.direct_dependents(place))
+}
+
+/// Whether all these dependents bear a name.
+#[tactic(auto, unfolding(crate::specs::Groups::all_bear))]
+fn all_bear(krates: &[Krate], name: &str, dependents: &[DirectDependent]) -> bool
+    requires { All (λ d. d.place < length krates.now) dependents.now }
+    ensures { result ≡ all_bear krates.now name.now dependents.now }
+{
+    for dependent in dependents {
+        if !bears(krates, name, dependent.place) {
+            return false;
+        }
+    }
+    true
+}
+
+/// Whether the crate at a place bears a name.
+#[tactic(auto, unfolding(crate::specs::Groups::bears))]
+fn bears(krates: &[Krate], name: &str, place: u32) -> bool
+    requires { place < length krates.now }
+    ensures { result ≡ bears krates.now name.now place }
+{
+    krates[place as usize].name.as_str() == name
+}
+
+/// How many places from one to another are marked.
+fn count_marked(marks: &[bool], start: u32, end: u32) -> usize
+    requires { start ≤ end }
+    ensures { result ≡ length (filter (mark_at marks.now) (range_with_len start (end - start))) }
+{
+    let mut count = 0;
+    for place in start..end {
+        if mark_at(marks, place) {
+            count += 1;
+        }
+    }
+    count
+}

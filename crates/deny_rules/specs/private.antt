@@ -1,0 +1,5 @@
+pub mod Allowed
+pub mod Banned
+pub mod Duplicates
+pub mod Skipping
+pub mod WrappedEdges

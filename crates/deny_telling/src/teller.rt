@@ -1,0 +1,119 @@
+//! What findings are told from.
+ghost use Rattle.std.specs.Prelude.{◌≡◌, IfOk, map, option_map, MatchOption, ℕ, None};
+ghost use Rattle.std.specs.List.{list_any};
+ghost use Rattle.deny_cfg.specs.PolicyView.{ban_view, entry_view, policy_view, root_view};
+ghost use Rattle.deny_model.specs.Duplicates.{is_denied_multiple};
+ghost use Rattle.deny_model.specs.Told.{allow_at, ban_at, crates_at, root_at, skip_at};
+ghost use Rattle.deny_telling.specs.private.ByRange.{IsByRange};
+ghost use Rattle.deny_facts.specs.Marks.{mark_at};
+ghost use Rattle.deny_telling.specs.private.WrapperRanges.{FindsWrappers, wrapper_range};
+
+use crate::by_range::ByRange;
+use crate::wrapper_ranges::WrapperRanges;
+use deny_base::{FileId, Span};
+use deny_cfg::bans::cfg::{KrateBan, TreeSkipExtended, ValidConfig};
+use deny_cfg::{PackageSpecOrExtended, Reason};
+use deny_facts::{mark_at, spoken_of};
+use deny_krates::Krates;
+use deny_lists::{List, NoMemory};
+use std::alloc::Global;
+
+/// A configuration and a graph, with what finds the policy's entries by their ranges.
+#[derive(Drop)]
+pub struct Teller<'c> {
+    pub cfg: &'c ValidConfig,
+    pub krates: &'c Krates,
+    banned: ByRange<'c, KrateBan>,
+    allowed: ByRange<'c, Reason>,
+    skipped: ByRange<'c, Reason>,
+    roots: ByRange<'c, TreeSkipExtended>,
+    wrappers: WrapperRanges,
+    several: List<bool>,
+    ghost banned_found: { IsByRange cfg.now.denied banned },
+    ghost allowed_found: { IsByRange cfg.now.allowed allowed },
+    ghost skipped_found: { IsByRange cfg.now.skipped skipped },
+    ghost roots_found: { IsByRange cfg.now.tree_skipped roots },
+    ghost wrappers_found: { FindsWrappers (map ban_view cfg.now.denied) wrappers },
+    ghost several_marked: { several ≡ map (is_denied_multiple (policy_view cfg.now)) krates.now.crates },
+}
+
+impl<'c> Teller<'c> {
+    #[tactic(auto, unfolding(deny_model::specs::Duplicates::is_denied_multiple))]
+    pub fn new(
+        alloc: Global,
+        cfg: &'c ValidConfig,
+        krates: &'c Krates,
+    ) -> Result<Teller<'c>, NoMemory>
+        ensures cfg { IfOk result (λ teller. teller.cfg.now ≡ cfg.entry.now) }
+        ensures krates { IfOk result (λ teller. teller.krates.now ≡ krates.entry.now) }
+    {
+        Ok(Teller {
+            cfg,
+            krates,
+            banned: ByRange::new(alloc, cfg.denied.as_slice())?,
+            allowed: ByRange::new(alloc, cfg.allowed.as_slice())?,
+            skipped: ByRange::new(alloc, cfg.skipped.as_slice())?,
+            roots: ByRange::new(alloc, cfg.tree_skipped.as_slice())?,
+            wrappers: WrapperRanges::new(alloc, cfg.denied.as_slice())?,
+            several: spoken_of(alloc, krates, cfg.denied_multiple_versions.as_slice())?,
+        })
+    }
+
+    /// The file of the policy.
+    pub fn file(&self) -> FileId
+        ensures { result ≡ self.now.cfg.now.file_id }
+    {
+        self.cfg.file_id
+    }
+
+    /// The ban of a range.
+    pub fn ban(&self, range: Span) -> Option<&'c PackageSpecOrExtended<KrateBan>>
+        ensures { option_map (λ e. ban_view e.now) result ≡ ban_at (policy_view self.now.cfg.now) range }
+    {
+        self.banned.at(range)
+    }
+
+    /// The entry of the allow list of a range.
+    pub fn allow(&self, range: Span) -> Option<&'c PackageSpecOrExtended<Reason>>
+        ensures { option_map (λ e. entry_view e.now) result ≡ allow_at (policy_view self.now.cfg.now) range }
+    {
+        self.allowed.at(range)
+    }
+
+    /// The skip of a range.
+    pub fn skip(&self, range: Span) -> Option<&'c PackageSpecOrExtended<Reason>>
+        ensures { option_map (λ e. entry_view e.now) result ≡ skip_at (policy_view self.now.cfg.now) range }
+    {
+        self.skipped.at(range)
+    }
+
+    /// The skipped tree of a range.
+    pub fn root(&self, range: Span) -> Option<&'c PackageSpecOrExtended<TreeSkipExtended>>
+        ensures { MatchOption result (root_at (policy_view self.now.cfg.now) range ≡ None)
+            (λ e. (number : ℕ) × (root_at (policy_view self.now.cfg.now) range ≡ Some (root_view number e.now))) }
+    {
+        self.roots.at(range)
+    }
+
+    /// The range of the first wrapper of a name, of the ban of a range.
+    pub fn wrapper(&self, range: Span, name: &str) -> Option<Span>
+        ensures { result ≡ wrapper_range (policy_view self.now.cfg.now).deny range name.now }
+    {
+        self.wrappers.at(range, name)
+    }
+
+    /// Whether several versions are denied of a crate at these places.
+    pub fn denies_several(&self, places: &[u32]) -> bool
+        ensures { result ≡ list_any (is_denied_multiple (policy_view self.now.cfg.now))
+            (crates_at self.now.krates.now places.now) }
+    {
+        is_one_marked(self.several.as_slice(), places)
+    }
+}
+
+// Whether a mark stands at one of these places.
+fn is_one_marked(marks: &[bool], places: &[u32]) -> bool
+    ensures { result ≡ list_any (mark_at marks.now) places.now }
+{
+    places.iter().any(|place| mark_at(marks, *place))
+}
