@@ -1,12 +1,18 @@
 -- How texts of tokens are taken apart.
-use Rattle.std.proofs.Common.{◌≡◌, ℕ, List, [], ◌∷◌, ◌++◌, true, IsTrue, refl, sym, ap, subst, ◌∙◌, append_assoc, rules}
+use Rattle.std.proofs.Common.{◌≡◌, ℕ, List, [], ◌∷◌, ◌++◌, Bool, true, false, IsTrue, refl, sym, ap, subst, ◌∙◌, append_assoc, rules}
 use Rattle.std.specs.Prelude.{nat_eq}
 use Rattle.deny_globs.specs.declared.token.Class.{Class}
 use Rattle.deny_globs.specs.Class.{class_takes}
-use Rattle.deny_globs.specs.Rows.{takes}
 use Rattle.deny_globs.specs.declared.token.Token.{Token}
 use Rattle.deny_globs.specs.declared.token.Token.TheVariants.{Character, AnyCharacter, OneOf}
 use Rattle.deny_globs.specs.Fits.{IsText, itself, any_character, member, Fits, nothing, joined}
+
+-- whether the token takes the character, where it stands for one
+abbrev pub takes : Token → ℕ → Bool
+takes (Character d) c = nat_eq d c
+takes AnyCharacter c = true
+takes (OneOf class) c = class_takes class c
+takes _ c = false
 
 -- the first token's text, and the others'
 pub record Split (token : Token) (tokens : List Token) (cs : List ℕ) : Type 0 where
@@ -20,8 +26,10 @@ pub split_first : {token : Token} {tokens : List Token} {cs : List ℕ} → Fits
 split_first (joined front rest t f) = record { front = front; rest = rest; whole = refl; is_text = t; fits = f }
 
 -- tokens that fit one after the other fit together
-pub fits_joined : {token : Token} {tokens : List Token} {cs : List ℕ} (front rest : List ℕ) → cs ≡ front ++ rest → IsText token front → Fits tokens rest → Fits (token ∷ tokens) cs
-fits_joined {token} {tokens} {cs} front rest e t f = subst (λ ds. Fits (token ∷ tokens) ds) (sym e) (joined front rest t f)
+pub fits_joined : {token : Token} {tokens : List Token} {cs : List ℕ} (front rest : List ℕ) → cs ≡ front ++ rest
+    → IsText token front → Fits tokens rest → Fits (token ∷ tokens) cs
+fits_joined {token} {tokens} {cs} front rest e t f = subst (λ ds. Fits (token ∷ tokens) ds) (sym e)
+    (joined front rest t f)
 
 pub nothing_fits : {cs : List ℕ} → Fits [] cs → cs ≡ []
 nothing_fits nothing = refl
@@ -34,7 +42,8 @@ pub record SplitList (first_tokens tokens : List Token) (cs : List ℕ) : Type 0
   pub fits_first : Fits first_tokens front
   pub fits : Fits tokens rest
 
-pub split_list : (first_tokens tokens : List Token) (cs : List ℕ) → Fits (first_tokens ++ tokens) cs → SplitList first_tokens tokens cs
+pub split_list : (first_tokens tokens : List Token) (cs : List ℕ) → Fits (first_tokens ++ tokens) cs
+    → SplitList first_tokens tokens cs
 split_list [] tokens cs f = record { front = []; rest = cs; whole = refl; fits_first = nothing; fits = f }
 split_list (token ∷ more) tokens cs f =
     let s = split_first f in
@@ -47,7 +56,8 @@ split_list (token ∷ more) tokens cs f =
       fits = l.fits;
     }
 
-pub fits_list : {first_tokens tokens : List Token} {front rest : List ℕ} → Fits first_tokens front → Fits tokens rest → Fits (first_tokens ++ tokens) (front ++ rest)
+pub fits_list : {first_tokens tokens : List Token} {front rest : List ℕ} → Fits first_tokens front → Fits tokens rest
+    → Fits (first_tokens ++ tokens) (front ++ rest)
 fits_list nothing g = g
 fits_list {tokens = tokens} {rest = rest} (joined a b t f) g =
     fits_joined a (b ++ rest) (append_assoc a b rest) t (fits_list f g)

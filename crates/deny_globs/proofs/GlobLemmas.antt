@@ -32,22 +32,32 @@ length-places : (opened : List Opened) → length (places opened) ≡ length ope
 length-places [] = refl
 length-places (b ∷ opened) = ap suc (length-places opened)
 
-open_open : (c : Bool) (at : ℕ) (opened : List Opened) (tokens : List Token) (next : Reading) (pieces : List Piece) → nat_lt (length opened) most_braces ≡ c →
+open_open : (c : Bool) (at : ℕ) (opened : List Opened) (tokens : List Token) (next : Reading) (pieces : List Piece)
+    → nat_lt (length opened) most_braces ≡ c →
     cond c (Some (state (brace at tokens [] ∷ opened) [])) None ≡ Some next →
-    (cond (nat_lt (length (places opened)) most_braces) (open_behind (at ∷ places opened) pieces) None ≡ open_behind (places next.opened) pieces) × (length opened < most_braces) × (next.opened ≡ brace at tokens [] ∷ opened)
+    (cond (nat_lt (length (places opened)) most_braces) (open_behind (at ∷ places opened) pieces) None
+    ≡ open_behind (places next.opened) pieces) × (length opened < most_braces)
+    × (next.opened ≡ brace at tokens [] ∷ opened)
 open_open true at opened tokens next pieces l e =
     let same : state (brace at tokens [] ∷ opened) [] ≡ next = cc in
     let less : length opened < most_braces = search rules in
-    let lt : nat_lt (length (places opened)) most_braces ≡ true = ap (λ n. nat_lt n most_braces) (length-places opened) ∙ l in
-    (ap (λ b. cond b (open_behind (at ∷ places opened) pieces) None) lt ∙ ap (λ r. open_behind (places r.opened) pieces) same, less, ap (λ r. r.opened) (sym same))
+    let lt : nat_lt (length (places opened)) most_braces ≡ true = ap (λ n. nat_lt n most_braces) (length-places opened)
+    ∙ l in (
+      ap (λ b. cond b (open_behind (at ∷ places opened) pieces) None) lt
+          ∙ ap (λ r. open_behind (places r.opened) pieces) same,
+      less,
+      ap (λ r. r.opened) (sym same),
+    )
 open_open false at opened tokens next pieces l e = cc
 
 open_part : (opened : List Opened) (tokens : List Token) → places (parted opened tokens).opened ≡ places opened
 open_part [] tokens = refl
 open_part (b ∷ opened) tokens = refl
 
-open_close : (opened : List Opened) (tokens : List Token) (next : Reading) (to : ℕ) (pieces : List Piece) → closed opened tokens ≡ Some next →
-    (open_behind (places opened) (Close to ∷ pieces) ≡ open_behind (places next.opened) pieces) × (length next.opened ≤ length opened)
+open_close : (opened : List Opened) (tokens : List Token) (next : Reading) (to : ℕ) (pieces : List Piece)
+    → closed opened tokens ≡ Some next →
+    (open_behind (places opened) (Close to ∷ pieces) ≡ open_behind (places next.opened) pieces)
+    × (length next.opened ≤ length opened)
 open_close [] tokens next to pieces e = cc
 open_close (b ∷ opened) tokens next to pieces e =
     let same : opened ≡ next.opened = ap (λ r. r.opened) (some_is e) in
@@ -55,8 +65,10 @@ open_close (b ∷ opened) tokens next to pieces e =
     (ap (λ o. open_behind (places o) pieces) same, omega arith)
 
 -- which braces are open, and that they are few, after a piece
-open_after : (piece : Piece) (pieces : List Piece) (reading next : Reading) → after_piece reading piece ≡ Some next → length reading.opened ≤ most_braces →
-    (open_behind (places reading.opened) (piece ∷ pieces) ≡ open_behind (places next.opened) pieces) × (length next.opened ≤ most_braces)
+open_after : (piece : Piece) (pieces : List Piece) (reading next : Reading) → after_piece reading piece ≡ Some next
+    → length reading.opened ≤ most_braces →
+    (open_behind (places reading.opened) (piece ∷ pieces) ≡ open_behind (places next.opened) pieces)
+    × (length next.opened ≤ most_braces)
 open_after (Whole t) pieces reading next e few =
     let same : reading.opened ≡ next.opened = ap (λ r. r.opened) (some_is e) in
     (ap (λ o. open_behind (places o) pieces) same, subst (λ o. length o ≤ most_braces) same few)
@@ -64,19 +76,23 @@ open_after Middle pieces reading next e few =
     let same : reading.opened ≡ next.opened = ap (λ r. r.opened) (some_is e) in
     (ap (λ o. open_behind (places o) pieces) same, subst (λ o. length o ≤ most_braces) same few)
 open_after (Open at) pieces reading next e few =
-    let o = open_open (nat_lt (length reading.opened) most_braces) at reading.opened reading.tokens next pieces refl e in
+    let o = open_open (nat_lt (length reading.opened) most_braces) at reading.opened reading.tokens next pieces refl e
+    in
     let less = o.1 in
     (o.0, subst (λ l. length l ≤ most_braces) (sym o.2) (omega arith))
 open_after Comma pieces reading next e few =
-    let same : places reading.opened ≡ places next.opened = sym (open_part reading.opened reading.tokens) ∙ ap (λ r. places r.opened) (some_is e) in
-    let n : length next.opened ≡ length reading.opened = sym (length-places next.opened) ∙ ap length (sym same) ∙ length-places reading.opened in
+    let same : places reading.opened ≡ places next.opened = sym (open_part reading.opened reading.tokens)
+    ∙ ap (λ r. places r.opened) (some_is e) in
+    let n : length next.opened ≡ length reading.opened = sym (length-places next.opened) ∙ ap length (sym same)
+    ∙ length-places reading.opened in
     (ap (λ o. open_behind o pieces) same, omega arith)
 open_after (Close at) pieces reading next e few =
     let c = open_close reading.opened reading.tokens next at pieces e in
     let less = c.1 in
     (c.0, omega arith)
 
-pub open_run : (pieces : List Piece) (reading end : Reading) → run reading pieces ≡ Some end → length reading.opened ≤ most_braces →
+pub open_run : (pieces : List Piece) (reading end : Reading) → run reading pieces ≡ Some end
+    → length reading.opened ≤ most_braces →
     (open_behind (places reading.opened) pieces ≡ Some (places end.opened)) × (length end.opened ≤ most_braces)
 open_run [] reading end e few =
     let same : reading.opened ≡ end.opened = ap (λ r. r.opened) (some_is e) in
@@ -95,7 +111,8 @@ pub record IsReadSo (characters : List ℕ) (next : ℕ) (reading : Reading) : T
   pub spelled : Spells 0 (take next characters) (drop next characters) pieces
   pub read : run start pieces ≡ Some (inner_first reading)
 
-pub read_none : (characters : List ℕ) (reading : Reading) → reading.opened ≡ [] → reading.tokens ≡ [] → IsReadSo characters 0 reading
+pub read_none : (characters : List ℕ) (reading : Reading) → reading.opened ≡ [] → reading.tokens ≡ []
+    → IsReadSo characters 0 reading
 read_none characters reading e f = record {
   pieces = [];
   within = omega arith;
@@ -103,25 +120,31 @@ read_none characters reading e f = record {
   read = ap (λ o. Some (state (reverse o) [])) (sym e) ∙ ap (λ t. Some (state (reverse reading.opened) t)) (sym f);
 }
 
-pub read_more : (characters : List ℕ) (next size : ℕ) (old new : Reading) → IsReadSo characters next old → ReadsOn characters next size old new → IsReadSo characters (next + size) new
+pub read_more : (characters : List ℕ) (next size : ℕ) (old new : Reading) → IsReadSo characters next old
+    → ReadsOn characters next size old new → IsReadSo characters (next + size) new
 read_more characters next size old new so on =
     let rest = drop next characters in
     let front = take size rest in
     let behind = drop size rest in
     let w = on.is_piece.within in
-    let s = seam characters next size front behind so.within (sym (take-append-drop size rest)) (sym (length-take-le size rest w)) in
-    let count : 0 + length (take next characters) ≡ next = zero-add (length (take next characters)) ∙ length-take-le next characters so.within in
+    let s = seam characters next size front behind so.within (sym (take-append-drop size rest))
+    (sym (length-take-le size rest w)) in
+    let count : 0 + length (take next characters) ≡ next = zero-add (length (take next characters))
+    ∙ length-take-le next characters so.within in
     let spelled : Spells 0 (take next characters ++ front) behind (so.pieces ++ on.piece ∷ []) =
-    spells_more front behind (subst (λ l. Spells 0 (take next characters) l so.pieces) (sym (take-append-drop size rest)) so.spelled)
+    spells_more front behind
+    (subst (λ l. Spells 0 (take next characters) l so.pieces) (sym (take-append-drop size rest)) so.spelled)
     (subst (λ n. IsPiece n front behind on.piece) (sym count) on.is_piece.is_piece) in
     record {
       pieces = so.pieces ++ on.piece ∷ [];
       within = s.fits;
-      spelled = subst (λ l. Spells 0 l (drop (next + size) characters) (so.pieces ++ on.piece ∷ [])) (sym s.front) (subst (λ l. Spells 0 (take next characters ++ front) l (so.pieces ++ on.piece ∷ [])) (sym s.rest) spelled);
+      spelled = subst (λ l. Spells 0 l (drop (next + size) characters) (so.pieces ++ on.piece ∷ [])) (sym s.front)
+          (subst (λ l. Spells 0 (take next characters ++ front) l (so.pieces ++ on.piece ∷ [])) (sym s.rest) spelled);
       read = run_more so.pieces on.piece start (inner_first old) (inner_first new) so.read on.after;
     }
 
-pub glob_read : (characters : List ℕ) (next : ℕ) (reading : Reading) (tokens : List Token) → length characters ≤ next → IsReadSo characters next reading → (reading.opened ≡ []) × (tokens ≡ reading.tokens) → IsGlob characters tokens
+pub glob_read : (characters : List ℕ) (next : ℕ) (reading : Reading) (tokens : List Token) → length characters ≤ next
+    → IsReadSo characters next reading → (reading.opened ≡ []) × (tokens ≡ reading.tokens) → IsGlob characters tokens
 glob_read characters next reading tokens p so e =
     let w = so.within in
     let all : next ≡ length characters = omega arith in
@@ -131,13 +154,15 @@ glob_read characters next reading tokens p so e =
     so.read ∙ ap (λ o. Some (state (reverse o) reading.tokens)) e.0 ∙ ap (λ t. Some (state [] t)) (sym e.1) in
     record {
       pieces = so.pieces;
-      spelled = subst (λ l. Spells 0 l [] so.pieces) whole (subst (λ l. Spells 0 (take next characters) l so.pieces) none so.spelled);
+      spelled = subst (λ l. Spells 0 l [] so.pieces) whole
+          (subst (λ l. Spells 0 (take next characters) l so.pieces) none so.spelled);
       tree = tokens_of_run so.pieces tokens read;
     }
 
 -- faults
 
-pub read_to : (characters : List ℕ) (next : ℕ) (reading : Reading) → IsReadSo characters next reading → IsReadTo characters (take next characters) (drop next characters) (places (reverse reading.opened))
+pub read_to : (characters : List ℕ) (next : ℕ) (reading : Reading) → IsReadSo characters next reading
+    → IsReadTo characters (take next characters) (drop next characters) (places (reverse reading.opened))
 read_to characters next reading so = record {
   pieces = so.pieces;
   whole = sym (take-append-drop next characters);
@@ -156,25 +181,34 @@ outermost_is (b ∷ opened) at =
     ∙ ap (λ l. outermost l at) (map-append (λ o. o.at) (reverse opened) (b ∷ []))
     ∙ outermost_last (places (reverse opened)) b.at at
 
-stop_fault : {at unclosed i : ℕ} {rest : List ℕ} (characters before opened : List ℕ) → IsStop at unclosed rest i → IsReadTo characters before rest opened → length before ≡ at → unclosed ≡ outermost opened at →
+stop_fault : {at unclosed i : ℕ} {rest : List ℕ} (characters before opened : List ℕ) → IsStop at unclosed rest i
+    → IsReadTo characters before rest opened → length before ≡ at → unclosed ≡ outermost opened at →
     FirstFault characters i
-stop_fault characters before opened escapes_nothing read e u = subst (FirstFault characters) e (nothing_escaped before opened read)
+stop_fault characters before opened escapes_nothing read e u = subst (FirstFault characters) e
+    (nothing_escaped before opened read)
 stop_fault characters before opened (has_falling_range mark body into m f) read e u =
-    subst (FirstFault characters) (ap (λ n. n + 1 + length mark + into) e) (falling_range before mark body opened into read m f)
+    subst (FirstFault characters) (ap (λ n. n + 1 + length mark + into) e)
+    (falling_range before mark body opened into read m f)
 stop_fault characters before opened (is_unclosed mark body m c) read e u =
-    subst (FirstFault characters) (ap (outermost opened) e ∙ sym u) (unclosed_class before mark body opened read m c.members)
+    subst (FirstFault characters) (ap (outermost opened) e ∙ sym u)
+    (unclosed_class before mark body opened read m c.members)
 
-end_fault : (characters : List ℕ) (opened : List ℕ) (first at : ℕ) → IsReadTo characters characters [] opened → outermost opened at ≡ first → 0 < length opened → FirstFault characters first
+end_fault : (characters : List ℕ) (opened : List ℕ) (first at : ℕ) → IsReadTo characters characters [] opened
+    → outermost opened at ≡ first → 0 < length opened → FirstFault characters first
 end_fault characters [] first at read o p = absurd (omega arith)
-end_fault characters (last ∷ opened) first at read o p = subst (FirstFault characters) o (unclosed_brace last opened read)
+end_fault characters (last ∷ opened) first at read o p = subst (FirstFault characters) o
+    (unclosed_brace last opened read)
 
-open_shape : {at a : ℕ} {front behind : List ℕ} → IsPiece at front behind (Open a) → (front ≡ open_brace ∷ []) × (a ≡ at)
+open_shape : {at a : ℕ} {front behind : List ℕ} → IsPiece at front behind (Open a)
+    → (front ≡ open_brace ∷ []) × (a ≡ at)
 open_shape open_braces = (refl, refl)
 
-close_shape : {at a : ℕ} {front behind : List ℕ} → IsPiece at front behind (Close a) → (front ≡ close_brace ∷ []) × (a ≡ at)
+close_shape : {at a : ℕ} {front behind : List ℕ} → IsPiece at front behind (Close a)
+    → (front ≡ close_brace ∷ []) × (a ≡ at)
 close_shape close_braces = (refl, refl)
 
-too_many : (c : Bool) (n : ℕ) (some : Reading) → nat_lt n most_braces ≡ c → cond c (Some some) None ≡ None → n ≤ most_braces → n ≡ most_braces
+too_many : (c : Bool) (n : ℕ) (some : Reading) → nat_lt n most_braces ≡ c → cond c (Some some) None ≡ None
+    → n ≤ most_braces → n ≡ most_braces
 too_many true n some l e few = cc
 too_many false n some l e few = let h : most_braces ≤ n = search rules in omega arith
 
@@ -188,7 +222,8 @@ number_is e = cc
 parts_of : (rest : List ℕ) (size : ℕ) (front : List ℕ) → take size rest ≡ front → rest ≡ front ++ drop size rest
 parts_of rest size front e = sym (take-append-drop size rest) ∙ ap (λ l. l ++ drop size rest) e
 
-bad_brace : (characters : List ℕ) (next : ℕ) (old : Reading) (i size : ℕ) (piece : Piece) → IsReadSo characters next old → IsPieceOf next (drop next characters) size piece →
+bad_brace : (characters : List ℕ) (next : ℕ) (old : Reading) (i size : ℕ) (piece : Piece) → IsReadSo characters next old
+    → IsPieceOf next (drop next characters) size piece →
     after_piece (inner_first old) piece ≡ None → brace_of piece ≡ Some i → FirstFault characters i
 bad_brace characters next old i size (Whole t) so p a b = cc
 bad_brace characters next old i size Middle so p a b = cc
@@ -196,39 +231,52 @@ bad_brace characters next old i size Comma so p a b = cc
 bad_brace characters next old i size (Open at) so p a b =
     let inner = reverse old.opened in
     let shape = open_shape p.is_piece in
-    let rest : drop next characters ≡ open_brace ∷ drop size (drop next characters) = parts_of (drop next characters) size (open_brace ∷ []) shape.0 in
+    let rest : drop next characters ≡ open_brace ∷ drop size (drop next characters) = parts_of (drop next characters)
+    size (open_brace ∷ []) shape.0 in
     let few = (open_run so.pieces start (inner_first old) so.read (omega arith)).1 in
-    let deep : length inner ≡ most_braces = too_many (nat_lt (length inner) most_braces) (length inner) (state (brace at old.tokens [] ∷ inner) []) refl a few in
-    let place : length (take next characters) ≡ i = length-take-le next characters so.within ∙ sym shape.1 ∙ number_is b in
+    let deep : length inner ≡ most_braces = too_many (nat_lt (length inner) most_braces) (length inner)
+    (state (brace at old.tokens [] ∷ inner) []) refl a few in
+    let place : length (take next characters) ≡ i = length-take-le next characters so.within ∙ sym shape.1
+    ∙ number_is b in
     subst (FirstFault characters) place
     (too_deep (take next characters) (drop size (drop next characters)) (places inner)
-    (subst (λ l. IsReadTo characters (take next characters) l (places inner)) rest (read_to characters next old so)) (length-places inner ∙ deep))
+    (subst (λ l. IsReadTo characters (take next characters) l (places inner)) rest (read_to characters next old so))
+    (length-places inner ∙ deep))
 bad_brace characters next old i size (Close at) so p a b =
     let inner = reverse old.opened in
     let shape = close_shape p.is_piece in
-    let rest : drop next characters ≡ close_brace ∷ drop size (drop next characters) = parts_of (drop next characters) size (close_brace ∷ []) shape.0 in
+    let rest : drop next characters ≡ close_brace ∷ drop size (drop next characters) = parts_of (drop next characters)
+    size (close_brace ∷ []) shape.0 in
     let none : places inner ≡ [] = ap places (none_open inner old.tokens a) in
-    let place : length (take next characters) ≡ i = length-take-le next characters so.within ∙ sym shape.1 ∙ number_is b in
+    let place : length (take next characters) ≡ i = length-take-le next characters so.within ∙ sym shape.1
+    ∙ number_is b in
     subst (FirstFault characters) place
     (unopened (take next characters) (drop size (drop next characters))
     (subst (IsReadTo characters (take next characters) (close_brace ∷ drop size (drop next characters))) none
     (subst (λ l. IsReadTo characters (take next characters) l (places inner)) rest (read_to characters next old so))))
 
-pub next_stops : (characters : List ℕ) (next : ℕ) (old : Reading) (stop : Stop) → IsReadSo characters next old → StopsNext characters next old stop → StopsGlob characters stop
+pub next_stops : (characters : List ℕ) (next : ℕ) (old : Reading) (stop : Stop) → IsReadSo characters next old
+    → StopsNext characters next old stop → StopsGlob characters stop
 next_stops characters next old (Fault i) so (inl s) =
-    stop_fault characters (take next characters) (places (reverse old.opened)) s (read_to characters next old so) (length-take-le next characters so.within) (sym (outermost_is old.opened next))
-next_stops characters next old (Fault i) so (inr b) = bad_brace characters next old i b.size b.piece so b.is_piece b.after b.brace
+    stop_fault characters (take next characters) (places (reverse old.opened)) s (read_to characters next old so)
+    (length-take-le next characters so.within) (sym (outermost_is old.opened next))
+next_stops characters next old (Fault i) so (inr b) = bad_brace characters next old i b.size b.piece so b.is_piece
+    b.after b.brace
 next_stops characters next old Memory so s = tt
 
-pub end_stops : (characters : List ℕ) (next : ℕ) (reading : Reading) (stop : Stop) → length characters ≤ next → IsReadSo characters next reading → StopsEnd reading.opened stop → StopsGlob characters stop
+pub end_stops : (characters : List ℕ) (next : ℕ) (reading : Reading) (stop : Stop) → length characters ≤ next
+    → IsReadSo characters next reading → StopsEnd reading.opened stop → StopsGlob characters stop
 end_stops characters next reading (Fault i) p so s =
     let w = so.within in
     let all : next ≡ length characters = omega arith in
     let whole : take next characters ≡ characters = ap (λ n. take n characters) all ∙ take-length characters in
     let none : drop next characters ≡ [] = ap (λ n. drop n characters) all ∙ drop-length characters in
     let inner = reverse reading.opened in
-    let count : length (places inner) ≡ suc (length s.1) = length-places inner ∙ length-reverse reading.opened ∙ ap length s.2 in
+    let count : length (places inner) ≡ suc (length s.1) = length-places inner ∙ length-reverse reading.opened
+    ∙ ap length s.2 in
     end_fault characters (places inner) i 0
-    (subst (λ l. IsReadTo characters l [] (places inner)) whole (subst (λ l. IsReadTo characters (take next characters) l (places inner)) none (read_to characters next reading so)))
+    (subst (λ l. IsReadTo characters l [] (places inner)) whole
+    (subst (λ l. IsReadTo characters (take next characters) l (places inner)) none
+    (read_to characters next reading so)))
     (outermost_is reading.opened 0 ∙ ap (λ o. outermost_of o 0) s.2 ∙ sym s.3) (omega arith)
 end_stops characters next reading Memory p so s = tt

@@ -17,7 +17,7 @@ use Rattle.deny_globs.proofs.Braces.{state, start, run, run_of_tokens}
 use Rattle.deny_globs.proofs.GlobLemmas.{some_is, open_run}
 use Rattle.deny_globs.proofs.ClassLemmas.{same_number, and_yes, and_no}
 use Rattle.deny_globs.proofs.PieceLemmas.{is_star}
-use Rattle.deny_globs.proofs.RowLemmas.{both_true}
+use Rattle.deny_globs.proofs.ClassLemmas.{both_true}
 
 pub cond_true : {A : Type 0} (b : Bool) (x y : A) → b ≡ true → cond b x y ≡ x
 cond_true b x y e = ap (λ c. cond c x y) e
@@ -42,7 +42,8 @@ members_at is_first (suc skip) (c ∷ cs) = members_at is_first skip cs
 members_at is_first zero (c ∷ cs) =
     cond (may_be_member is_first c)
     (cond (begins_range cs)
-    (cond (nat_le c (get_or cs 1 0)) (with_range (record { first = c; last = get_or cs 1 0 }) (members_at false 2 cs)) None)
+    (cond (nat_le c (get_or cs 1 0)) (with_range (record { first = c; last = get_or cs 1 0 }) (members_at false 2 cs))
+    None)
     (with_range (record { first = c; last = c }) (members_at false zero cs)))
     (Some ([], cs))
 
@@ -50,7 +51,8 @@ with_none : (o : Members) → with_ranges [] o ≡ o
 with_none None = refl
 with_none (Some p) = refl
 
-with_one : (r : CharacterRange) (rs : List CharacterRange) (o : Members) → with_range r (with_ranges rs o) ≡ with_ranges (r ∷ rs) o
+with_one : (r : CharacterRange) (rs : List CharacterRange) (o : Members)
+    → with_range r (with_ranges rs o) ≡ with_ranges (r ∷ rs) o
 with_one r rs None = refl
 with_one r rs (Some p) = refl
 
@@ -60,9 +62,11 @@ nat_le_true a b p = search rules
 pub nat_le_false : (a b : ℕ) → b < a → nat_le a b ≡ false
 nat_le_false a b p = search rules
 
-members_read : {is_first : Bool} {cs behind : List ℕ} {ranges : List CharacterRange} → AreMembers is_first cs behind ranges →
+members_read : {is_first : Bool} {cs behind : List ℕ} {ranges : List CharacterRange}
+    → AreMembers is_first cs behind ranges →
     members_at is_first zero (cs ++ behind) ≡ with_ranges ranges (members_at (is_first && is_empty cs) zero behind)
-members_read {is_first} {behind = behind} no_more = ap (λ b. members_at b zero behind) (sym (and_yes is_first)) ∙ sym (with_none (members_at (is_first && true) zero behind))
+members_read {is_first} {behind = behind} no_more = ap (λ b. members_at b zero behind) (sym (and_yes is_first))
+    ∙ sym (with_none (members_at (is_first && true) zero behind))
 members_read {is_first} {behind = behind} (range {first = x} {last = y} {cs} {ranges = rs} m l le rest) =
     let r : CharacterRange = record { first = x; last = y } in
     cond_true (may_be_member is_first x) _ _ m
@@ -83,17 +87,22 @@ not_empty : (cs : List ℕ) → 0 < length cs → is_empty cs ≡ false
 not_empty [] p = absurd (omega arith)
 not_empty (c ∷ cs) p = refl
 
-members_closed : (cs behind : List ℕ) (ranges : List CharacterRange) → AreMembers true cs (close_bracket ∷ behind) ranges → 0 < length cs → members_at true zero (cs ++ close_bracket ∷ behind) ≡ Some (ranges, behind)
+members_closed : (cs behind : List ℕ) (ranges : List CharacterRange)
+    → AreMembers true cs (close_bracket ∷ behind) ranges → 0 < length cs
+    → members_at true zero (cs ++ close_bracket ∷ behind) ≡ Some (ranges, behind)
 members_closed cs behind ranges m p =
-    members_read m ∙ ap (λ b. with_ranges ranges (members_at b zero (close_bracket ∷ behind))) (not_empty cs p) ∙ ap (λ rs. Some (rs, behind)) (append-nil ranges)
+    members_read m ∙ ap (λ b. with_ranges ranges (members_at b zero (close_bracket ∷ behind))) (not_empty cs p)
+    ∙ ap (λ rs. Some (rs, behind)) (append-nil ranges)
 
-members_open : (cs : List ℕ) (ranges : List CharacterRange) → AreMembers true cs [] ranges → members_at true zero cs ≡ None
+members_open : (cs : List ℕ) (ranges : List CharacterRange) → AreMembers true cs [] ranges
+    → members_at true zero cs ≡ None
 members_open cs ranges m = ap (members_at true zero) (sym (append-nil cs)) ∙ members_read m
 
 members_falling : {body : List ℕ} {into : ℕ} → FallsAt body into → members_at true zero body ≡ None
 members_falling (falls {ranges} members behind x y m may l lt) =
     members_read m
-    ∙ ap (with_ranges ranges) (cond_true (may_be_member (is_empty members) x) _ _ may ∙ cond_true (not (y == close_bracket)) _ _ l ∙ cond_false (nat_le x y) _ _ (nat_le_false x y lt))
+    ∙ ap (with_ranges ranges) (cond_true (may_be_member (is_empty members) x) _ _ may
+    ∙ cond_true (not (y == close_bracket)) _ _ l ∙ cond_false (nat_le x y) _ _ (nat_le_false x y lt))
 
 -- what the characters begin with, if with a piece, and what is behind it
 
@@ -104,14 +113,18 @@ abbrev pub class_of : Bool → Members → Begun
 class_of negated o = option_map (λ p. (Token (OneOf (record { negated = negated; ranges = p.0 })), p.1)) o
 
 abbrev pub class_at : List ℕ → Begun
-class_at cs = cond (begins_mark cs) (class_of true (members_at true zero (drop 1 cs))) (class_of false (members_at true zero cs))
+class_at cs = cond (begins_mark cs) (class_of true (members_at true zero (drop 1 cs)))
+    (class_of false (members_at true zero cs))
 
 abbrev pub stars_at : ℕ → List ℕ → Begun
 stars_at at cs =
-    cond (is_leading at (prefix_len is_star cs) (drop (prefix_len is_star cs) cs)) (Some (Token LeadingFolders, drop (suc (prefix_len is_star cs)) cs)) (Some (Token AnyText, drop (prefix_len is_star cs) cs))
+    cond (is_leading at (prefix_len is_star cs) (drop (prefix_len is_star cs) cs))
+    (Some (Token LeadingFolders, drop (suc (prefix_len is_star cs)) cs))
+    (Some (Token AnyText, drop (prefix_len is_star cs) cs))
 
 abbrev pub slash_at : List ℕ → Begun
-slash_at cs = cond (is_trailing cs) (Some (Token TrailingPath, [])) (cond (is_middle cs) (Some (Middle, drop 3 cs)) (Some (Token (Character slash), cs)))
+slash_at cs = cond (is_trailing cs) (Some (Token TrailingPath, []))
+    (cond (is_middle cs) (Some (Middle, drop 3 cs)) (Some (Token (Character slash), cs)))
 
 abbrev pub escaped_at : List ℕ → Begun
 escaped_at [] = None
@@ -134,7 +147,8 @@ not_true : (b : Bool) → not b ≡ true → b ≡ false
 not_true true e = cc
 not_true false e = refl
 
-plain_at : (at c : ℕ) (cs : List ℕ) → IsTrue (is_plain c) → IsTrue (not (c == slash)) → piece_at at (c ∷ cs) ≡ Some (Token (Character c), cs)
+plain_at : (at c : ℕ) (cs : List ℕ) → IsTrue (is_plain c) → IsTrue (not (c == slash))
+    → piece_at at (c ∷ cs) ≡ Some (Token (Character c), cs)
 plain_at at c cs p s =
     let a = both_true (not (c == question_mark)) _ p in
     let b = both_true (not (c == star)) _ a.1 in
@@ -151,7 +165,8 @@ plain_at at c cs p s =
     ∙ cond_false (c == open_brace) _ _ (not_true _ g.0)
     ∙ cond_false (c == close_brace) _ _ (not_true _ g.1)
 
-stars_len : (front behind : List ℕ) → IsTrue (list_all (λ c. c == star) front) → begins star behind ≡ false → prefix_len is_star (front ++ behind) ≡ length front
+stars_len : (front behind : List ℕ) → IsTrue (list_all (λ c. c == star) front) → begins star behind ≡ false
+    → prefix_len is_star (front ++ behind) ≡ length front
 stars_len [] [] a b = refl
 stars_len [] (c ∷ behind) a b = cond_false (c == star) _ _ b
 stars_len (c ∷ front) behind a b =
@@ -159,41 +174,53 @@ stars_len (c ∷ front) behind a b =
     let n : prefix_len is_star (front ++ behind) ≡ length front = stars_len front behind h.1 b in
     cond_true (c == star) _ _ h.0 ∙ (omega arith)
 
-stars_begun : (at : ℕ) (front behind : List ℕ) → IsTrue (list_all (λ c. c == star) front) → 0 < length front → begins star behind ≡ false → is_leading at (length front) behind ≡ false →
+stars_begun : (at : ℕ) (front behind : List ℕ) → IsTrue (list_all (λ c. c == star) front) → 0 < length front
+    → begins star behind ≡ false → is_leading at (length front) behind ≡ false →
     piece_at at (front ++ behind) ≡ Some (Token AnyText, behind)
 stars_begun at [] behind a p b l = absurd (omega arith)
 stars_begun at (c ∷ front) behind a p b l =
     let h = both_true (c == star) (list_all (λ d. d == star) front) a in
     let is : c ≡ star = same_number c star h.0 in
     let n : prefix_len is_star ((c ∷ front) ++ behind) ≡ length (c ∷ front) = stars_len (c ∷ front) behind a b in
-    let d : drop (prefix_len is_star ((c ∷ front) ++ behind)) ((c ∷ front) ++ behind) ≡ behind = ap (λ k. drop k ((c ∷ front) ++ behind)) n ∙ drop_at (c ∷ front) behind (length (c ∷ front)) refl in
-    let no : is_leading at (prefix_len is_star ((c ∷ front) ++ behind)) (drop (prefix_len is_star ((c ∷ front) ++ behind)) ((c ∷ front) ++ behind)) ≡ false =
+    let d : drop (prefix_len is_star ((c ∷ front) ++ behind)) ((c ∷ front) ++ behind)
+    ≡ behind = ap (λ k. drop k ((c ∷ front) ++ behind)) n ∙ drop_at (c ∷ front) behind (length (c ∷ front)) refl in
+    let no : is_leading at (prefix_len is_star ((c ∷ front) ++ behind))
+    (drop (prefix_len is_star ((c ∷ front) ++ behind)) ((c ∷ front) ++ behind)) ≡ false =
     ap (is_leading at (prefix_len is_star ((c ∷ front) ++ behind))) d ∙ ap (λ k. is_leading at k behind) n ∙ l in
     cond_false (c == question_mark) _ _ (ap (λ x. x == question_mark) is)
     ∙ cond_true (c == star) _ _ h.0
-    ∙ cond_false (is_leading at (prefix_len is_star ((c ∷ front) ++ behind)) (drop (prefix_len is_star ((c ∷ front) ++ behind)) ((c ∷ front) ++ behind))) _ _ no
+    ∙ cond_false (is_leading at (prefix_len is_star ((c ∷ front) ++ behind))
+    (drop (prefix_len is_star ((c ∷ front) ++ behind)) ((c ∷ front) ++ behind))) _ _ no
     ∙ ap (λ r. Some (Token AnyText, r)) d
 
-class_marked : {mark : List ℕ} {negated : Bool} (body : List ℕ) → IsMark mark body negated → class_at (mark ++ body) ≡ class_of negated (members_at true zero body)
+class_marked : {mark : List ℕ} {negated : Bool} (body : List ℕ) → IsMark mark body negated
+    → class_at (mark ++ body) ≡ class_of negated (members_at true zero body)
 class_marked body (negates {c} m) = cond_true (is_mark c) _ _ m
 class_marked body (no_mark b) = cond_false (begins_mark body) _ _ b
 
-class_begun : (at : ℕ) (negated : Bool) (ranges : List CharacterRange) (mark members behind : List ℕ) → IsMark mark (members ++ close_bracket ∷ behind) negated → AreMembers true members (close_bracket ∷ behind) ranges → 0 < length members →
-    piece_at at ((open_bracket ∷ (mark ++ (members ++ close_bracket ∷ []))) ++ behind) ≡ Some (Token (OneOf (record { negated = negated; ranges = ranges })), behind)
+class_begun : (at : ℕ) (negated : Bool) (ranges : List CharacterRange) (mark members behind : List ℕ)
+    → IsMark mark (members ++ close_bracket ∷ behind) negated → AreMembers true members (close_bracket ∷ behind) ranges
+    → 0 < length members →
+    piece_at at ((open_bracket ∷ (mark ++ (members ++ close_bracket ∷ []))) ++ behind)
+    ≡ Some (Token (OneOf (record { negated = negated; ranges = ranges })), behind)
 class_begun at negated ranges mark members behind m a p =
-    ap class_at (append_assoc mark (members ++ close_bracket ∷ []) behind ∙ ap (λ l. mark ++ l) (append_assoc members (close_bracket ∷ []) behind))
+    ap class_at (append_assoc mark (members ++ close_bracket ∷ []) behind
+    ∙ ap (λ l. mark ++ l) (append_assoc members (close_bracket ∷ []) behind))
     ∙ class_marked (members ++ close_bracket ∷ behind) m
     ∙ ap (class_of negated) (members_closed members behind ranges a p)
 
-pub begun : {at : ℕ} {front behind : List ℕ} {piece : Piece} → IsPiece at front behind piece → piece_at at (front ++ behind) ≡ Some (piece, behind)
+pub begun : {at : ℕ} {front behind : List ℕ} {piece : Piece} → IsPiece at front behind piece
+    → piece_at at (front ++ behind) ≡ Some (piece, behind)
 begun question = refl
-begun {behind = behind} (leading e) = subst (λ n. piece_at n (star ∷ star ∷ slash ∷ behind) ≡ Some (Token LeadingFolders, behind)) (sym e) refl
+begun {behind = behind} (leading e) = subst
+    (λ n. piece_at n (star ∷ star ∷ slash ∷ behind) ≡ Some (Token LeadingFolders, behind)) (sym e) refl
 begun {at} {front} {behind} (stars a p b l) = stars_begun at front behind a p b l
 begun middle = refl
 begun trailing = refl
 begun {behind = behind} (lone_slash t m) = cond_false (is_trailing behind) _ _ t ∙ cond_false (is_middle behind) _ _ m
 begun escaped = refl
-begun {at} {behind = behind} (class {negated = negated} {ranges} mark members m a p) = class_begun at negated ranges mark members behind m a p
+begun {at} {behind = behind} (class {negated = negated} {ranges} mark members m a p) = class_begun at negated ranges
+    mark members behind m a p
 begun open_braces = refl
 begun parting_comma = refl
 begun close_braces = refl
@@ -221,7 +248,8 @@ pub record SamePiece (front other behind rest : List ℕ) (piece second : Piece)
   pub behinds : behind ≡ rest
   pub pieces : piece ≡ second
 
-pub same_piece : {at : ℕ} {front other behind rest : List ℕ} {piece second : Piece} → IsPiece at front behind piece → IsPiece at other rest second → front ++ behind ≡ other ++ rest → SamePiece front other behind rest piece second
+pub same_piece : {at : ℕ} {front other behind rest : List ℕ} {piece second : Piece} → IsPiece at front behind piece
+    → IsPiece at other rest second → front ++ behind ≡ other ++ rest → SamePiece front other behind rest piece second
 same_piece {at} {front} {other} {behind} {rest} {piece} {second} p q e =
     let pair : (piece, behind) ≡ (second, rest) = some_pair (sym (begun p) ∙ ap (piece_at at) e ∙ begun q) in
     let b : behind ≡ rest = ap (λ x. x.1) pair in
@@ -242,26 +270,32 @@ pub nothing_longer : (front more behind : List ℕ) → [] ≡ (front ++ more) +
 nothing_longer [] more behind e p = absurd (omega arith)
 nothing_longer (c ∷ front) more behind e p = cc
 
-pub goes_on : {at : ℕ} {before behind cs : List ℕ} {first pieces : List Piece} → Spells at before behind first → Spells at cs [] pieces → cs ≡ before ++ behind → GoesOn (at + length before) behind first pieces
+pub goes_on : {at : ℕ} {before behind cs : List ℕ} {first pieces : List Piece} → Spells at before behind first
+    → Spells at cs [] pieces → cs ≡ before ++ behind → GoesOn (at + length before) behind first pieces
 goes_on {at} {behind = behind} {cs} {pieces = pieces} nothing s e = record {
   more = pieces;
   whole = refl;
   spelled = subst (λ n. Spells n behind [] pieces) (sym (add-zero at)) (subst (λ l. Spells at l [] pieces) e s);
 }
-goes_on {behind = behind} (next front more is rest) nothing e = absurd (nothing_longer front more behind e (piece_some is))
-goes_on {at} {behind = behind} (next {piece = p} {pieces = ps} front more is rest) (next {piece = q} {pieces = qs} other after is' rest') e =
-    let same = same_piece is is' (sym (append_assoc front more behind) ∙ sym e ∙ ap (λ l. other ++ l) (sym (append-nil after))) in
+goes_on {behind = behind} (next front more is rest) nothing e = absurd
+    (nothing_longer front more behind e (piece_some is))
+goes_on {at} {behind = behind} (next {piece = p} {pieces = ps} front more is rest)
+    (next {piece = q} {pieces = qs} other after is' rest') e =
+    let same = same_piece is is' (sym (append_assoc front more behind) ∙ sym e
+    ∙ ap (λ l. other ++ l) (sym (append-nil after))) in
     let left : after ≡ more ++ behind = sym (append-nil after) ∙ sym same.behinds in
     let g = goes_on rest (subst (λ l. Spells (at + length l) after [] qs) (sym same.fronts) rest') left in
     record {
       more = g.more;
       whole = ap (λ l. q ∷ l) g.whole ∙ ap (λ x. x ∷ (ps ++ g.more)) (sym same.pieces);
-      spelled = subst (λ n. Spells n behind [] g.more) (add_assoc at (length front) (length more) ∙ ap (λ n. at + n) (sym (length-append front more))) g.spelled;
+      spelled = subst (λ n. Spells n behind [] g.more) (add_assoc at (length front) (length more)
+          ∙ ap (λ n. at + n) (sym (length-append front more))) g.spelled;
     }
 
 none_longer : {at : ℕ} {cs : List ℕ} {pieces : List Piece} → Spells at cs [] pieces → cs ≡ [] → pieces ≡ []
 none_longer nothing e = refl
-none_longer (next front more is rest) e = absurd (nothing_longer front more [] (sym e ∙ sym (append-nil (front ++ more))) (piece_some is))
+none_longer (next front more is rest) e = absurd
+    (nothing_longer front more [] (sym e ∙ sym (append-nil (front ++ more))) (piece_some is))
 
 pub record Begins (at : ℕ) (cs : List ℕ) (pieces : List Piece) : Type 0 where
   pub piece : Piece
@@ -270,19 +304,22 @@ pub record Begins (at : ℕ) (cs : List ℕ) (pieces : List Piece) : Type 0 wher
   pub whole : pieces ≡ piece ∷ more
   pub is_at : piece_at at cs ≡ Some (piece, behind)
 
-pub begins_piece : {at : ℕ} {cs : List ℕ} {pieces : List Piece} → Spells at cs [] pieces → 0 < length cs → Begins at cs pieces
+pub begins_piece : {at : ℕ} {cs : List ℕ} {pieces : List Piece} → Spells at cs [] pieces → 0 < length cs
+    → Begins at cs pieces
 begins_piece nothing p = absurd (omega arith)
 begins_piece {at} (next {piece = q} {pieces = qs} front more is rest) p = record {
   piece = q;
   more = qs;
   behind = more;
   whole = refl;
-  is_at = ap (λ l. piece_at at (front ++ l)) (sym (append-nil more)) ∙ begun is ∙ ap (λ l. Some (q, l)) (append-nil more);
+  is_at = ap (λ l. piece_at at (front ++ l)) (sym (append-nil more)) ∙ begun is
+      ∙ ap (λ l. Some (q, l)) (append-nil more);
 }
 
 -- one list of tokens
 
-pieces_once : {cs : List ℕ} {pieces others : List Piece} → Spells 0 cs [] pieces → Spells 0 cs [] others → others ≡ pieces
+pieces_once : {cs : List ℕ} {pieces others : List Piece} → Spells 0 cs [] pieces → Spells 0 cs [] others
+    → others ≡ pieces
 pieces_once {cs} {pieces} s o =
     let g = goes_on s o (sym (append-nil cs)) in
     g.whole ∙ ap (λ l. pieces ++ l) (none_longer g.spelled refl) ∙ append-nil pieces
@@ -290,20 +327,24 @@ pieces_once {cs} {pieces} s o =
 same_tokens : {a b : List Token'} → Some (state [] a) ≡ Some (state [] b) → a ≡ b
 same_tokens e = ap (λ r. r.tokens) (some_is e)
 
-pub glob_once : (characters : List ℕ) (tokens other : List Token') → IsGlob characters tokens → IsGlob characters other → other ≡ tokens
+pub glob_once : (characters : List ℕ) (tokens other : List Token') → IsGlob characters tokens → IsGlob characters other
+    → other ≡ tokens
 glob_once characters tokens other g h =
     same_tokens (sym (run_of_tokens h.tree) ∙ ap (run start) (pieces_once g.spelled h.spelled) ∙ run_of_tokens g.tree)
 
 -- no fault in a glob
 
-pub open_append : (first more : List Piece) (opened : List ℕ) → open_behind opened (first ++ more) ≡ option_and_then (λ o. open_behind o more) (open_behind opened first)
+pub open_append : (first more : List Piece) (opened : List ℕ)
+    → open_behind opened (first ++ more) ≡ option_and_then (λ o. open_behind o more) (open_behind opened first)
 open_append [] more opened = refl
 open_append (Token t ∷ first) more opened = open_append first more opened
 open_append (Middle ∷ first) more opened = open_append first more opened
 open_append (Comma ∷ first) more opened = open_append first more opened
 open_append (Open at ∷ first) more opened = cases (nat_lt (length opened) most_braces) (open_append first more (at ∷ opened)) where
-  cases : (b : Bool) → open_behind (at ∷ opened) (first ++ more) ≡ option_and_then (λ o. open_behind o more) (open_behind (at ∷ opened) first) →
-      cond b (open_behind (at ∷ opened) (first ++ more)) None ≡ option_and_then (λ o. open_behind o more) (cond b (open_behind (at ∷ opened) first) None)
+  cases : (b : Bool) → open_behind (at ∷ opened) (first ++ more) ≡ option_and_then (λ o. open_behind o more)
+      (open_behind (at ∷ opened) first) →
+      cond b (open_behind (at ∷ opened) (first ++ more)) None ≡ option_and_then (λ o. open_behind o more)
+      (cond b (open_behind (at ∷ opened) first) None)
   cases true e = e
   cases false e = refl
 open_append (Close at ∷ first) more [] = refl
@@ -315,14 +356,17 @@ pub record IsLeft (characters before behind opened : List ℕ) : Type 0 where
   pub closes : open_behind opened more ≡ Some []
 
 -- a glob goes on behind what is read of it, and closes its braces
-pub glob_left : (characters before behind opened : List ℕ) (tokens : List Token') → IsReadTo characters before behind opened → IsGlob characters tokens → IsLeft characters before behind opened
+pub glob_left : (characters before behind opened : List ℕ) (tokens : List Token')
+    → IsReadTo characters before behind opened → IsGlob characters tokens → IsLeft characters before behind opened
 glob_left characters before behind opened tokens r g =
     let o = goes_on r.spelled g.spelled r.whole in
-    let all : open_behind [] g.pieces ≡ Some [] = (open_run g.pieces start (state [] tokens) (run_of_tokens g.tree) (omega arith)).0 in
+    let all : open_behind [] g.pieces
+    ≡ Some [] = (open_run g.pieces start (state [] tokens) (run_of_tokens g.tree) (omega arith)).0 in
     record {
       more = o.more;
       spelled = subst (λ n. Spells n behind [] o.more) (zero-add (length before)) o.spelled;
-      closes = ap (option_and_then (λ l. open_behind l o.more)) (sym r.braces) ∙ sym (open_append r.pieces o.more []) ∙ ap (open_behind []) (sym o.whole) ∙ all;
+      closes = ap (option_and_then (λ l. open_behind l o.more)) (sym r.braces) ∙ sym (open_append r.pieces o.more [])
+          ∙ ap (open_behind []) (sym o.whole) ∙ all;
     }
 
 abbrev pub begun_by : Piece → List ℕ → Begun
@@ -331,21 +375,25 @@ begun_by piece behind = Some (piece, behind)
 pub first_of_pair : {p q : Piece} {a b : List ℕ} → begun_by p a ≡ begun_by q b → p ≡ q
 first_of_pair e = ap (λ x. x.0) (some_pair e)
 
-pub not_open : (opened : List ℕ) (at : ℕ) (more : List Piece) → length opened ≡ most_braces → open_behind opened (Open at ∷ more) ≡ None
+pub not_open : (opened : List ℕ) (at : ℕ) (more : List Piece) → length opened ≡ most_braces
+    → open_behind opened (Open at ∷ more) ≡ None
 not_open opened at more e = ap (λ n. cond (nat_lt n most_braces) (open_behind (at ∷ opened) more) None) e
 
-pub no_fault : {characters : List ℕ} {i : ℕ} (tokens : List Token') → FirstFault characters i → IsGlob characters tokens → ⊥
+pub no_fault : {characters : List ℕ} {i : ℕ} (tokens : List Token') → FirstFault characters i → IsGlob characters tokens
+    → ⊥
 no_fault {characters} tokens (unopened before behind r) g =
     let l = glob_left characters before (close_brace ∷ behind) [] tokens r g in
     let b = begins_piece l.spelled (omega arith) in
     let p : Close (length before) ≡ b.piece = first_of_pair b.is_at in
-    let h : open_behind [] (Close (length before) ∷ b.more) ≡ Some [] = ap (λ q. open_behind [] (q ∷ b.more)) p ∙ ap (open_behind []) (sym b.whole) ∙ l.closes in
+    let h : open_behind [] (Close (length before) ∷ b.more) ≡ Some [] = ap (λ q. open_behind [] (q ∷ b.more)) p
+    ∙ ap (open_behind []) (sym b.whole) ∙ l.closes in
     cc
 no_fault {characters} tokens (too_deep before behind opened r e) g =
     let l = glob_left characters before (open_brace ∷ behind) opened tokens r g in
     let b = begins_piece l.spelled (omega arith) in
     let p : Open (length before) ≡ b.piece = first_of_pair b.is_at in
-    let h : open_behind opened (Open (length before) ∷ b.more) ≡ Some [] = ap (λ q. open_behind opened (q ∷ b.more)) p ∙ ap (open_behind opened) (sym b.whole) ∙ l.closes in
+    let h : open_behind opened (Open (length before) ∷ b.more) ≡ Some [] = ap (λ q. open_behind opened (q ∷ b.more)) p
+    ∙ ap (open_behind opened) (sym b.whole) ∙ l.closes in
     let n = not_open opened (length before) b.more e in
     cc
 no_fault {characters} tokens (nothing_escaped before opened r) g =
@@ -356,14 +404,17 @@ no_fault {characters} tokens (nothing_escaped before opened r) g =
 no_fault {characters} tokens (falling_range {negated = negated} before mark body opened into r m f) g =
     let l = glob_left characters before (open_bracket ∷ (mark ++ body)) opened tokens r g in
     let b = begins_piece l.spelled (omega arith) in
-    let h : None ≡ begun_by b.piece b.behind = sym (class_marked body m ∙ ap (class_of negated) (members_falling f)) ∙ b.is_at in
+    let h : None ≡ begun_by b.piece b.behind = sym (class_marked body m ∙ ap (class_of negated) (members_falling f))
+    ∙ b.is_at in
     cc
 no_fault {characters} tokens (unclosed_class {negated = negated} {ranges} before mark members opened r m a) g =
     let l = glob_left characters before (open_bracket ∷ (mark ++ members)) opened tokens r g in
     let b = begins_piece l.spelled (omega arith) in
-    let h : None ≡ begun_by b.piece b.behind = sym (class_marked members m ∙ ap (class_of negated) (members_open members ranges a)) ∙ b.is_at in
+    let h : None ≡ begun_by b.piece b.behind = sym (class_marked members m
+    ∙ ap (class_of negated) (members_open members ranges a)) ∙ b.is_at in
     cc
 no_fault {characters} tokens (unclosed_brace last opened r) g =
     let l = glob_left characters characters [] (last ∷ opened) tokens r g in
-    let h : Some (last ∷ opened) ≡ Some [] = ap (open_behind (last ∷ opened)) (sym (none_longer l.spelled refl)) ∙ l.closes in
+    let h : Some (last ∷ opened) ≡ Some [] = ap (open_behind (last ∷ opened)) (sym (none_longer l.spelled refl))
+    ∙ l.closes in
     cc

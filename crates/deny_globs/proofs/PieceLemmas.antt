@@ -15,9 +15,10 @@ use Rattle.deny_globs.specs.Characters.{slash, star, backslash, open_bracket, cl
 use Rattle.deny_globs.specs.Pieces.{AreMembers, IsMark, negates, no_mark, is_leading, is_trailing, is_middle, IsPiece, leading, stars, middle, trailing, lone_slash, escaped, class}
 use Rattle.deny_globs.specs.Steps.{IsClosedClass, StopsMembers, IsPieceOf, IsStop, escapes_nothing, has_falling_range, is_unclosed, StopsPiece, piece_of_class}
 use Rattle.deny_globs.proofs.ClassLemmas.{same_number}
-use Rattle.deny_globs.proofs.RowLemmas.{both_true, and_true}
+use Rattle.deny_globs.proofs.ClassLemmas.{both_true, and_true}
 
-pub piece_of : (at : ℕ) (rest : List ℕ) (size : ℕ) (piece : Piece) (front behind : List ℕ) → rest ≡ front ++ behind → size ≡ length front → 0 < size → IsPiece at front behind piece → IsPieceOf at rest size piece
+pub piece_of : (at : ℕ) (rest : List ℕ) (size : ℕ) (piece : Piece) (front behind : List ℕ) → rest ≡ front ++ behind
+    → size ≡ length front → 0 < size → IsPiece at front behind piece → IsPieceOf at rest size piece
 piece_of at rest size piece front behind w s p is =
     let t : take size rest ≡ front = ap (take size) w ∙ take_at front behind size (sym s) in
     let d : drop size rest ≡ behind = ap (drop size) w ∙ drop_at front behind size (sym s) in
@@ -25,7 +26,8 @@ piece_of at rest size piece front behind w s p is =
     record {
       some = p;
       within = omega arith;
-      is_piece = subst (λ f. IsPiece at f (drop size rest) piece) (sym t) (subst (λ b. IsPiece at front b piece) (sym d) is);
+      is_piece = subst (λ f. IsPiece at f (drop size rest) piece) (sym t)
+          (subst (λ b. IsPiece at front b piece) (sym d) is);
     }
 
 -- what begins with a character is that and the rest
@@ -33,28 +35,38 @@ begin_with : (c : ℕ) (cs : List ℕ) → IsTrue (begins c cs) → cs ≡ c ∷
 begin_with c [] h = cc
 begin_with c (d ∷ cs) h = ap (λ x. x ∷ cs) (same_number d c h)
 
-pub class_closed : (at : ℕ) (negated : Bool) (rest mark body : List ℕ) (size total : ℕ) (ranges : List CharacterRange) → rest ≡ open_bracket ∷ (mark ++ body) → IsMark mark body negated →
-    IsClosedClass body size ranges → total ≡ length mark + size + 2 → IsPieceOf at rest total (piece_of_class negated ranges)
+pub class_closed : (at : ℕ) (negated : Bool) (rest mark body : List ℕ) (size total : ℕ) (ranges : List CharacterRange)
+    → rest ≡ open_bracket ∷ (mark ++ body) → IsMark mark body negated →
+    IsClosedClass body size ranges → total ≡ length mark + size + 2
+    → IsPieceOf at rest total (piece_of_class negated ranges)
 class_closed at negated rest mark body size total ranges w m closed t =
     let members = take size body in
     let behind = drop 1 (drop size body) in
     let bracket : drop size body ≡ close_bracket ∷ behind = begin_with close_bracket (drop size body) closed.closed in
-    let parts : body ≡ members ++ close_bracket ∷ behind = sym (take-append-drop size body) ∙ ap (λ l. members ++ l) bracket in
+    let parts : body ≡ members ++ close_bracket ∷ behind = sym (take-append-drop size body)
+    ∙ ap (λ l. members ++ l) bracket in
     let count : length members ≡ size = length-take-le size body (let h = closed.within in omega arith) in
     let whole : rest ≡ (open_bracket ∷ (mark ++ (members ++ close_bracket ∷ []))) ++ behind =
-    w ∙ ap (λ b. open_bracket ∷ (mark ++ b)) (parts ∙ sym (append_assoc members (close_bracket ∷ []) behind)) ∙ ap (λ l. open_bracket ∷ l) (sym (append_assoc mark (members ++ close_bracket ∷ []) behind)) in
-    let long : length (mark ++ (members ++ close_bracket ∷ [])) ≡ length mark + (length members + 1) = length-append mark (members ++ close_bracket ∷ []) ∙ ap (λ n. length mark + n) (length-append members (close_bracket ∷ [])) in
+    w ∙ ap (λ b. open_bracket ∷ (mark ++ b)) (parts ∙ sym (append_assoc members (close_bracket ∷ []) behind))
+    ∙ ap (λ l. open_bracket ∷ l) (sym (append_assoc mark (members ++ close_bracket ∷ []) behind)) in
+    let long : length (mark ++ (members ++ close_bracket ∷ [])) ≡ length mark + (length members + 1) = length-append
+    mark (members ++ close_bracket ∷ []) ∙ ap (λ n. length mark + n) (length-append members (close_bracket ∷ [])) in
     let some = closed.some in
-    piece_of at rest total (piece_of_class negated ranges) (open_bracket ∷ (mark ++ (members ++ close_bracket ∷ []))) behind whole (omega arith) (omega arith)
-    (class mark members (subst (λ b. IsMark mark b negated) parts m) (subst (λ b. AreMembers true members b ranges) bracket closed.members) (omega arith))
+    piece_of at rest total (piece_of_class negated ranges) (open_bracket ∷ (mark ++ (members ++ close_bracket ∷ [])))
+    behind whole (omega arith) (omega arith)
+    (class mark members (subst (λ b. IsMark mark b negated) parts m)
+    (subst (λ b. AreMembers true members b ranges) bracket closed.members) (omega arith))
 
-pub class_stops : (at unclosed : ℕ) (negated : Bool) (rest mark body : List ℕ) (from : ℕ) (stop : Stop) → rest ≡ open_bracket ∷ (mark ++ body) → IsMark mark body negated → from ≡ at + 1 + length mark →
+pub class_stops : (at unclosed : ℕ) (negated : Bool) (rest mark body : List ℕ) (from : ℕ) (stop : Stop)
+    → rest ≡ open_bracket ∷ (mark ++ body) → IsMark mark body negated → from ≡ at + 1 + length mark →
     StopsMembers from unclosed body stop → StopsPiece at unclosed rest stop
 class_stops at unclosed negated rest mark body from (Fault i) w m f (inl s) =
     let place : at + 1 + length mark + s.0 ≡ i = sym (s.2 ∙ ap (λ n. n + s.0) f) in
-    subst (λ n. IsStop at unclosed rest n) place (subst (λ r. IsStop at unclosed r (at + 1 + length mark + s.0)) (sym w) (has_falling_range mark body s.0 m s.1))
+    subst (λ n. IsStop at unclosed rest n) place
+    (subst (λ r. IsStop at unclosed r (at + 1 + length mark + s.0)) (sym w) (has_falling_range mark body s.0 m s.1))
 class_stops at unclosed negated rest mark body from (Fault i) w m f (inr s) =
-    subst (λ n. IsStop at unclosed rest n) (sym s.1) (subst (λ r. IsStop at unclosed r unclosed) (sym w) (is_unclosed mark body m s.0))
+    subst (λ n. IsStop at unclosed rest n) (sym s.1)
+    (subst (λ r. IsStop at unclosed r unclosed) (sym w) (is_unclosed mark body m s.0))
 class_stops at unclosed negated rest mark body from Memory w m f s = tt
 
 -- a class with a mark, and one with none
@@ -64,10 +76,12 @@ pub record IsNegated (rest : List ℕ) : Type 0 where
   pub whole : rest ≡ open_bracket ∷ ((mark ∷ []) ++ drop 2 rest)
   pub is : IsMark (mark ∷ []) (drop 2 rest) true
 
-pub negated_class : (rest : List ℕ) → IsTrue (begins open_bracket rest) → true ≡ begins_mark (drop 1 rest) → IsNegated rest
+pub negated_class : (rest : List ℕ) → IsTrue (begins open_bracket rest) → true ≡ begins_mark (drop 1 rest)
+    → IsNegated rest
 negated_class [] b h = cc
 negated_class (c ∷ []) b h = cc
-negated_class (c ∷ mark ∷ rest) b h = record { mark = mark; whole = ap (λ x. x ∷ mark ∷ rest) (same_number c open_bracket b); is = negates (sym h) }
+negated_class (c ∷ mark ∷ rest) b h = record
+    { mark = mark; whole = ap (λ x. x ∷ mark ∷ rest) (same_number c open_bracket b); is = negates (sym h) }
 
 pub plain_class : (rest : List ℕ) → IsTrue (begins open_bracket rest) → rest ≡ open_bracket ∷ ([] ++ drop 1 rest)
 plain_class rest b = begin_with open_bracket rest b
@@ -88,7 +102,8 @@ record StarRun (rest : List ℕ) (count : ℕ) : Type 0 where
   stops : begins star behind ≡ false
   size : length front ≡ count
 
-run_of : (b : Bool) (c : ℕ) (rest : List ℕ) → (c == star) ≡ b → StarRun rest (prefix_len is_star rest) → StarRun (c ∷ rest) (cond b (1 + prefix_len is_star rest) 0)
+run_of : (b : Bool) (c : ℕ) (rest : List ℕ) → (c == star) ≡ b → StarRun rest (prefix_len is_star rest)
+    → StarRun (c ∷ rest) (cond b (1 + prefix_len is_star rest) 0)
 run_of true c rest e r = record {
   front = c ∷ r.front;
   behind = r.behind;
@@ -106,19 +121,23 @@ star_run (c ∷ rest) = run_of (c == star) c rest refl (star_run rest)
 run_counted : (rest : List ℕ) (count : ℕ) → count ≡ length (take_while is_star rest) → StarRun rest count
 run_counted rest count e = subst (StarRun rest) (sym (e ∙ length-prefix_len is_star rest)) (star_run rest)
 
-some_stars : (rest front behind : List ℕ) → IsTrue (begins star rest) → rest ≡ front ++ behind → begins star behind ≡ false → 0 < length front
+some_stars : (rest front behind : List ℕ) → IsTrue (begins star rest) → rest ≡ front ++ behind
+    → begins star behind ≡ false → 0 < length front
 some_stars rest [] behind b w s = let h : begins star rest ≡ false = ap (begins star) w ∙ s in cc
 some_stars rest (c ∷ front) behind b w s = omega arith
 
-pub stars_piece : (at : ℕ) (rest : List ℕ) (count : ℕ) → IsTrue (begins star rest) → count ≡ length (take_while is_star rest) → false ≡ is_leading at count (drop count rest) →
+pub stars_piece : (at : ℕ) (rest : List ℕ) (count : ℕ) → IsTrue (begins star rest)
+    → count ≡ length (take_while is_star rest) → false ≡ is_leading at count (drop count rest) →
     IsPieceOf at rest count (Token AnyText)
 stars_piece at rest count b e l =
     let r = run_counted rest count e in
     let some : 0 < length r.front = some_stars rest r.front r.behind b r.whole r.stops in
     let size = r.size in
     let behind : drop count rest ≡ r.behind = ap (drop count) r.whole ∙ drop_at r.front r.behind count size in
-    let not_leading : is_leading at (length r.front) r.behind ≡ false = ap (λ n. is_leading at n r.behind) size ∙ ap (is_leading at count) (sym behind) ∙ sym l in
-    piece_of at rest count (Token AnyText) r.front r.behind r.whole (sym size) (omega arith) (stars r.all some r.stops not_leading)
+    let not_leading : is_leading at (length r.front) r.behind ≡ false = ap (λ n. is_leading at n r.behind) size
+    ∙ ap (is_leading at count) (sym behind) ∙ sym l in
+    piece_of at rest count (Token AnyText) r.front r.behind r.whole (sym size) (omega arith)
+    (stars r.all some r.stops not_leading)
 
 two_stars : (cs : List ℕ) → IsTrue (list_all (λ c. c == star) cs) → length cs ≡ 2 → cs ≡ star ∷ star ∷ []
 two_stars [] h e = absurd (omega arith)
@@ -131,7 +150,8 @@ two_stars (a ∷ b ∷ []) h e =
     cc
 two_stars (a ∷ b ∷ c ∷ cs) h e = absurd (omega arith)
 
-pub leading_piece : (at : ℕ) (rest : List ℕ) (count : ℕ) → count ≡ length (take_while is_star rest) → true ≡ is_leading at count (drop count rest) →
+pub leading_piece : (at : ℕ) (rest : List ℕ) (count : ℕ) → count ≡ length (take_while is_star rest)
+    → true ≡ is_leading at count (drop count rest) →
     IsPieceOf at rest 3 (Token LeadingFolders)
 leading_piece at rest count e l =
     let r = run_counted rest count e in
@@ -140,10 +160,12 @@ leading_piece at rest count e l =
     let start : at ≡ 0 = same_number at 0 p.0 in
     let two : length r.front ≡ 2 = r.size ∙ same_number count 2 q.0 in
     let behind : r.behind ≡ slash ∷ drop 1 r.behind =
-    begin_with slash r.behind (subst (λ l. IsTrue (begins slash l)) (ap (drop count) r.whole ∙ drop_at r.front r.behind count r.size) q.1) in
+    begin_with slash r.behind
+    (subst (λ l. IsTrue (begins slash l)) (ap (drop count) r.whole ∙ drop_at r.front r.behind count r.size) q.1) in
     let whole : rest ≡ (star ∷ star ∷ slash ∷ []) ++ drop 1 r.behind =
     r.whole ∙ ap (λ l. r.front ++ l) behind ∙ ap (λ l. l ++ slash ∷ drop 1 r.behind) (two_stars r.front r.all two) in
-    piece_of at rest 3 (Token LeadingFolders) (star ∷ star ∷ slash ∷ []) (drop 1 r.behind) whole refl (omega arith) (leading start)
+    piece_of at rest 3 (Token LeadingFolders) (star ∷ star ∷ slash ∷ []) (drop 1 r.behind) whole refl (omega arith)
+    (leading start)
 
 -- a slash
 
@@ -169,21 +191,28 @@ middle_shape (a ∷ b ∷ c ∷ cs) h =
     let z : c ≡ slash = same_number c slash q.1 in
     cc
 
-pub trailing_piece : (at : ℕ) (rest : List ℕ) → IsTrue (begins slash rest) → true ≡ is_trailing (drop 1 rest) → IsPieceOf at rest 3 (Token TrailingPath)
+pub trailing_piece : (at : ℕ) (rest : List ℕ) → IsTrue (begins slash rest) → true ≡ is_trailing (drop 1 rest)
+    → IsPieceOf at rest 3 (Token TrailingPath)
 trailing_piece at rest b h =
-    piece_of at rest 3 (Token TrailingPath) (slash ∷ star ∷ star ∷ []) [] (begin_with slash rest b ∙ ap (λ l. slash ∷ l) (trailing_shape (drop 1 rest) (sym h))) refl (omega arith) trailing
+    piece_of at rest 3 (Token TrailingPath) (slash ∷ star ∷ star ∷ []) [] (begin_with slash rest b
+    ∙ ap (λ l. slash ∷ l) (trailing_shape (drop 1 rest) (sym h))) refl (omega arith) trailing
 
-pub middle_piece : (at : ℕ) (rest : List ℕ) → IsTrue (begins slash rest) → true ≡ is_middle (drop 1 rest) → IsPieceOf at rest 4 Middle
+pub middle_piece : (at : ℕ) (rest : List ℕ) → IsTrue (begins slash rest) → true ≡ is_middle (drop 1 rest)
+    → IsPieceOf at rest 4 Middle
 middle_piece at rest b h =
-    piece_of at rest 4 Middle (slash ∷ star ∷ star ∷ slash ∷ []) (drop 3 (drop 1 rest)) (begin_with slash rest b ∙ ap (λ l. slash ∷ l) (middle_shape (drop 1 rest) (sym h))) refl (omega arith) middle
+    piece_of at rest 4 Middle (slash ∷ star ∷ star ∷ slash ∷ []) (drop 3 (drop 1 rest)) (begin_with slash rest b
+    ∙ ap (λ l. slash ∷ l) (middle_shape (drop 1 rest) (sym h))) refl (omega arith) middle
 
-pub slash_piece : (at : ℕ) (rest : List ℕ) → IsTrue (begins slash rest) → false ≡ is_trailing (drop 1 rest) → false ≡ is_middle (drop 1 rest) → IsPieceOf at rest 1 (Token (Character slash))
+pub slash_piece : (at : ℕ) (rest : List ℕ) → IsTrue (begins slash rest) → false ≡ is_trailing (drop 1 rest)
+    → false ≡ is_middle (drop 1 rest) → IsPieceOf at rest 1 (Token (Character slash))
 slash_piece at rest b t m =
-    piece_of at rest 1 (Token (Character slash)) (slash ∷ []) (drop 1 rest) (begin_with slash rest b) refl (omega arith) (lone_slash (sym t) (sym m))
+    piece_of at rest 1 (Token (Character slash)) (slash ∷ []) (drop 1 rest) (begin_with slash rest b) refl (omega arith)
+    (lone_slash (sym t) (sym m))
 
 -- an escape
 
-pub escaped_piece : (at : ℕ) (rest : List ℕ) (c : ℕ) → IsTrue (begins backslash rest) → 2 ≤ length rest → c ≡ get_or rest 1 c → IsPieceOf at rest 2 (Token (Character c))
+pub escaped_piece : (at : ℕ) (rest : List ℕ) (c : ℕ) → IsTrue (begins backslash rest) → 2 ≤ length rest
+    → c ≡ get_or rest 1 c → IsPieceOf at rest 2 (Token (Character c))
 escaped_piece at [] c b l e = absurd (omega arith)
 escaped_piece at (a ∷ []) c b l e = absurd (omega arith)
 escaped_piece at (a ∷ d ∷ rest) c b l e =
@@ -191,13 +220,17 @@ escaped_piece at (a ∷ d ∷ rest) c b l e =
     let whole : a ∷ d ∷ rest ≡ backslash ∷ c ∷ rest = cc in
     piece_of at (a ∷ d ∷ rest) 2 (Token (Character c)) (backslash ∷ c ∷ []) rest whole refl (omega arith) escaped
 
-pub escapes_none : (at unclosed : ℕ) (rest : List ℕ) → IsTrue (begins backslash rest) → length rest < 2 → IsStop at unclosed rest at
+pub escapes_none : (at unclosed : ℕ) (rest : List ℕ) → IsTrue (begins backslash rest) → length rest < 2
+    → IsStop at unclosed rest at
 escapes_none at unclosed [] b l = cc
-escapes_none at unclosed (a ∷ []) b l = let x : backslash ≡ a = sym (same_number a backslash b) in subst (λ c. IsStop at unclosed (c ∷ []) at) x escapes_nothing
+escapes_none at unclosed (a ∷ []) b l = let x : backslash ≡ a = sym (same_number a backslash b) in
+    subst (λ c. IsStop at unclosed (c ∷ []) at) x escapes_nothing
 escapes_none at unclosed (a ∷ d ∷ rest) b l = absurd (omega arith)
 
 -- one character
 
-pub one_piece : (at c d : ℕ) (rest : List ℕ) (piece : Piece) → 0 < length rest → d ≡ get_or rest 0 d → d ≡ c → ((behind : List ℕ) → IsPiece at (c ∷ []) behind piece) → IsPieceOf at rest 1 piece
+pub one_piece : (at c d : ℕ) (rest : List ℕ) (piece : Piece) → 0 < length rest → d ≡ get_or rest 0 d → d ≡ c
+    → ((behind : List ℕ) → IsPiece at (c ∷ []) behind piece) → IsPieceOf at rest 1 piece
 one_piece at c d [] piece p e f is = absurd (omega arith)
-one_piece at c d (b ∷ rest) piece p e f is = piece_of at (b ∷ rest) 1 piece (c ∷ []) rest (ap (λ x. x ∷ rest) (sym e ∙ f)) refl (omega arith) (is rest)
+one_piece at c d (b ∷ rest) piece p e f is = piece_of at (b ∷ rest) 1 piece (c ∷ []) rest
+    (ap (λ x. x ∷ rest) (sym e ∙ f)) refl (omega arith) (is rest)

@@ -34,25 +34,30 @@ members_end is_first zero into (c ∷ cs) =
     (members_end false zero (suc into) cs))
     closes
 
-end_read : {is_first : Bool} {cs behind : List ℕ} {ranges : List CharacterRange} (into : ℕ) → AreMembers is_first cs behind ranges →
+end_read : {is_first : Bool} {cs behind : List ℕ} {ranges : List CharacterRange} (into : ℕ)
+    → AreMembers is_first cs behind ranges →
     members_end is_first zero into (cs ++ behind) ≡ members_end (is_first && is_empty cs) zero (into + length cs) behind
 end_read {is_first} {behind = behind} into no_more =
-    ap (λ b. members_end b zero into behind) (sym (and_yes is_first)) ∙ ap (λ n. members_end (is_first && true) zero n behind) (sym (add-zero into))
+    ap (λ b. members_end b zero into behind) (sym (and_yes is_first))
+    ∙ ap (λ n. members_end (is_first && true) zero n behind) (sym (add-zero into))
 end_read {is_first} {behind = behind} into (range {first = x} {last = y} {cs} m l le rest) =
     cond_true (may_be_member is_first x) _ _ m
     ∙ cond_true (not (y == close_bracket)) _ _ l
     ∙ cond_true (nat_le x y) _ _ (nat_le_true x y le)
     ∙ end_read (suc (suc (suc into))) rest
-    ∙ ap (λ n. members_end false zero n behind) (let h : suc (suc (suc into)) + length cs ≡ into + suc (suc (suc (length cs))) = omega arith in h)
+    ∙ ap (λ n. members_end false zero n behind)
+    (let h : suc (suc (suc into)) + length cs ≡ into + suc (suc (suc (length cs))) = omega arith in h)
     ∙ ap (λ b. members_end b zero (into + suc (suc (suc (length cs)))) behind) (sym (and_no is_first))
 end_read {is_first} {behind = behind} into (one {c = c} {cs} m b rest) =
     cond_true (may_be_member is_first c) _ _ m
     ∙ cond_false (begins_range (cs ++ behind)) _ _ b
     ∙ end_read (suc into) rest
-    ∙ ap (λ n. members_end false zero n behind) (let h : suc into + length cs ≡ into + suc (length cs) = omega arith in h)
+    ∙ ap (λ n. members_end false zero n behind) (let h : suc into + length cs ≡ into + suc (length cs) = omega arith in
+    h)
     ∙ ap (λ b'. members_end b' zero (into + suc (length cs)) behind) (sym (and_no is_first))
 
-end_open : (cs : List ℕ) (ranges : List CharacterRange) → AreMembers true cs [] ranges → members_end true zero 0 cs ≡ goes_on
+end_open : (cs : List ℕ) (ranges : List CharacterRange) → AreMembers true cs [] ranges
+    → members_end true zero 0 cs ≡ goes_on
 end_open cs ranges m = ap (members_end true zero 0) (sym (append-nil cs)) ∙ end_read 0 m
 
 end_falling : {body : List ℕ} {into : ℕ} → FallsAt body into → members_end true zero 0 body ≡ falls_at into
@@ -72,7 +77,8 @@ end_place body unclosed goes_on = Some unclosed
 
 abbrev class_place : ℕ → List ℕ → List ℕ → Option ℕ
 class_place at opened cs =
-    cond (begins_mark cs) (end_place (at + 2) (outermost opened at) (members_end true zero 0 (drop 1 cs))) (end_place (at + 1) (outermost opened at) (members_end true zero 0 cs))
+    cond (begins_mark cs) (end_place (at + 2) (outermost opened at) (members_end true zero 0 (drop 1 cs)))
+    (end_place (at + 1) (outermost opened at) (members_end true zero 0 cs))
 
 abbrev lone : ℕ → List ℕ → Option ℕ
 lone at [] = Some at
@@ -97,34 +103,52 @@ record IsStuck (characters : List ℕ) (place : ℕ) : Type 0 where
   read : IsReadTo characters before behind opened
   is_at : place_at (length before) opened behind ≡ Some place
 
-class_place_is : {mark : List ℕ} {negated : Bool} (at : ℕ) (opened body : List ℕ) → IsMark mark body negated → class_place at opened (mark ++ body) ≡ end_place (at + 1 + length mark) (outermost opened at) (members_end true zero 0 body)
+class_place_is : {mark : List ℕ} {negated : Bool} (at : ℕ) (opened body : List ℕ) → IsMark mark body negated
+    → class_place at opened (mark ++ body) ≡ end_place (at + 1 + length mark) (outermost opened at)
+    (members_end true zero 0 body)
 class_place_is at opened body (negates {c} m) =
-    cond_true (is_mark c) _ _ m ∙ ap (λ n. end_place n (outermost opened at) (members_end true zero 0 body)) (let h : at + 2 ≡ at + 1 + 1 = omega arith in h)
+    cond_true (is_mark c) _ _ m
+    ∙ ap (λ n. end_place n (outermost opened at) (members_end true zero 0 body))
+    (let h : at + 2 ≡ at + 1 + 1 = omega arith in h)
 class_place_is at opened body (no_mark b) =
-    cond_false (begins_mark body) _ _ b ∙ ap (λ n. end_place n (outermost opened at) (members_end true zero 0 body)) (sym (add-zero (at + 1)))
+    cond_false (begins_mark body) _ _ b
+    ∙ ap (λ n. end_place n (outermost opened at) (members_end true zero 0 body)) (sym (add-zero (at + 1)))
 
-deep_place : (at : ℕ) (opened : List ℕ) → length opened ≡ most_braces → cond (nat_lt (length opened) most_braces) None (Some at) ≡ Some at
+deep_place : (at : ℕ) (opened : List ℕ) → length opened ≡ most_braces
+    → cond (nat_lt (length opened) most_braces) None (Some at) ≡ Some at
 deep_place at opened e = ap (λ n. cond (nat_lt n most_braces) None (Some at)) e
 
 stuck : {characters : List ℕ} {place : ℕ} → FirstFault characters place → IsStuck characters place
-stuck (unopened before behind r) = record { before = before; behind = close_brace ∷ behind; opened = []; read = r; is_at = refl }
-stuck (too_deep before behind opened r e) = record { before = before; behind = open_brace ∷ behind; opened = opened; read = r; is_at = deep_place (length before) opened e }
-stuck (nothing_escaped before opened r) = record { before = before; behind = backslash ∷ []; opened = opened; read = r; is_at = refl }
+stuck (unopened before behind r) = record
+    { before = before; behind = close_brace ∷ behind; opened = []; read = r; is_at = refl }
+stuck (too_deep before behind opened r e) = record {
+  before = before;
+  behind = open_brace ∷ behind;
+  opened = opened;
+  read = r;
+  is_at = deep_place (length before)
+      opened e;
+}
+stuck (nothing_escaped before opened r) = record
+    { before = before; behind = backslash ∷ []; opened = opened; read = r; is_at = refl }
 stuck (falling_range before mark body opened into r m f) = record {
   before = before;
   behind = open_bracket ∷ (mark ++ body);
   opened = opened;
   read = r;
-  is_at = class_place_is (length before) opened body m ∙ ap (end_place (length before + 1 + length mark) (outermost opened (length before))) (end_falling f);
+  is_at = class_place_is (length before) opened body m
+      ∙ ap (end_place (length before + 1 + length mark) (outermost opened (length before))) (end_falling f);
 }
 stuck (unclosed_class {ranges = ranges} before mark members opened r m a) = record {
   before = before;
   behind = open_bracket ∷ (mark ++ members);
   opened = opened;
   read = r;
-  is_at = class_place_is (length before) opened members m ∙ ap (end_place (length before + 1 + length mark) (outermost opened (length before))) (end_open members ranges a);
+  is_at = class_place_is (length before) opened members m
+      ∙ ap (end_place (length before + 1 + length mark) (outermost opened (length before))) (end_open members ranges a);
 }
-stuck {characters} (unclosed_brace last opened r) = record { before = characters; behind = []; opened = last ∷ opened; read = r; is_at = refl }
+stuck {characters} (unclosed_brace last opened r) = record
+    { before = characters; behind = []; opened = last ∷ opened; read = r; is_at = refl }
 
 -- nothing is read on from there
 
@@ -133,19 +157,25 @@ IsNotClosed closes = ⊥
 IsNotClosed (falls_at into) = Unit {0}
 IsNotClosed goes_on = Unit {0}
 
-none_of : (a b d : Bool) (into : ℕ) (e f : End) (m n : Members) (r s : CharacterRange) (cs : List ℕ) → (IsNotClosed e → m ≡ None) → (IsNotClosed f → n ≡ None) →
-    IsNotClosed (cond a (cond b (cond d e (falls_at into)) f) closes) → cond a (cond b (cond d (with_range r m) None) (with_range s n)) (Some ([], cs)) ≡ None
+none_of : (a b d : Bool) (into : ℕ) (e f : End) (m n : Members) (r s : CharacterRange) (cs : List ℕ)
+    → (IsNotClosed e → m ≡ None) → (IsNotClosed f → n ≡ None) →
+    IsNotClosed (cond a (cond b (cond d e (falls_at into)) f) closes)
+    → cond a (cond b (cond d (with_range r m) None) (with_range s n)) (Some ([], cs)) ≡ None
 none_of true true true into e f m n r s cs x y h = ap (with_range r) (x h)
 none_of true true false into e f m n r s cs x y h = refl
 none_of true false d into e f m n r s cs x y h = ap (with_range s) (y h)
 none_of false b d into e f m n r s cs x y h = absurd h
 
-members_none : (is_first : Bool) (skip into : ℕ) (cs : List ℕ) → IsNotClosed (members_end is_first skip into cs) → members_at is_first skip cs ≡ None
+members_none : (is_first : Bool) (skip into : ℕ) (cs : List ℕ) → IsNotClosed (members_end is_first skip into cs)
+    → members_at is_first skip cs ≡ None
 members_none is_first skip into [] h = refl
 members_none is_first (suc skip) into (c ∷ cs) h = members_none is_first skip (suc into) cs h
 members_none is_first zero into (c ∷ cs) h =
-    none_of (may_be_member is_first c) (begins_range cs) (nat_le c (get_or cs 1 0)) into (members_end false 2 (suc into) cs) (members_end false zero (suc into) cs) (members_at false 2 cs) (members_at false zero cs)
-    (record { first = c; last = get_or cs 1 0 }) (record { first = c; last = c }) cs (members_none false 2 (suc into) cs) (members_none false zero (suc into) cs) h
+    none_of (may_be_member is_first c) (begins_range cs) (nat_le c (get_or cs 1 0)) into
+    (members_end false 2 (suc into) cs) (members_end false zero (suc into) cs) (members_at false 2 cs)
+    (members_at false zero cs)
+    (record { first = c; last = get_or cs 1 0 }) (record { first = c; last = c }) cs
+    (members_none false 2 (suc into) cs) (members_none false zero (suc into) cs) h
 
 not_closed : (body unclosed place : ℕ) (end : End) → end_place body unclosed end ≡ Some place → IsNotClosed end
 not_closed body unclosed place closes e = cc
@@ -154,21 +184,28 @@ not_closed body unclosed place goes_on e = tt
 
 class_none : (at place : ℕ) (opened cs : List ℕ) → class_place at opened cs ≡ Some place → class_at cs ≡ None
 class_none at place opened cs e = cases (begins_mark cs) e where
-  cases : (b : Bool) → cond b (end_place (at + 2) (outermost opened at) (members_end true zero 0 (drop 1 cs))) (end_place (at + 1) (outermost opened at) (members_end true zero 0 cs)) ≡ Some place →
+  cases : (b : Bool) → cond b (end_place (at + 2) (outermost opened at) (members_end true zero 0 (drop 1 cs)))
+      (end_place (at + 1) (outermost opened at) (members_end true zero 0 cs)) ≡ Some place →
       cond b (class_of true (members_at true zero (drop 1 cs))) (class_of false (members_at true zero cs)) ≡ None
-  cases true h = ap (class_of true) (members_none true zero 0 (drop 1 cs) (not_closed (at + 2) (outermost opened at) place (members_end true zero 0 (drop 1 cs)) h))
-  cases false h = ap (class_of false) (members_none true zero 0 cs (not_closed (at + 1) (outermost opened at) place (members_end true zero 0 cs) h))
+  cases true h = ap (class_of true)
+      (members_none true zero 0 (drop 1 cs)
+      (not_closed (at + 2) (outermost opened at) place (members_end true zero 0 (drop 1 cs)) h))
+  cases false h = ap (class_of false)
+      (members_none true zero 0 cs (not_closed (at + 1) (outermost opened at) place (members_end true zero 0 cs) h))
 
 lone_is : (at place : ℕ) (cs : List ℕ) → lone at cs ≡ Some place → cs ≡ []
 lone_is at place [] e = refl
 lone_is at place (c ∷ cs) e = cc
 
-bad_close : (at place : ℕ) (opened cs rest : List ℕ) (q : Piece) (more : List Piece) → lone at opened ≡ Some place → piece_at at (close_brace ∷ cs) ≡ begun_by q rest → open_behind opened (q ∷ more) ≡ None
+bad_close : (at place : ℕ) (opened cs rest : List ℕ) (q : Piece) (more : List Piece) → lone at opened ≡ Some place
+    → piece_at at (close_brace ∷ cs) ≡ begun_by q rest → open_behind opened (q ∷ more) ≡ None
 bad_close at place opened cs rest q more e p =
     let is : Close at ≡ q = first_of_pair p in
     ap (λ o. open_behind o (q ∷ more)) (lone_is at place opened e) ∙ ap (λ x. open_behind [] (x ∷ more)) (sym is)
 
-bad_open : (at place : ℕ) (opened cs rest : List ℕ) (q : Piece) (more : List Piece) → cond (nat_lt (length opened) most_braces) None (Some at) ≡ Some place → piece_at at (open_brace ∷ cs) ≡ begun_by q rest → open_behind opened (q ∷ more) ≡ None
+bad_open : (at place : ℕ) (opened cs rest : List ℕ) (q : Piece) (more : List Piece)
+    → cond (nat_lt (length opened) most_braces) None (Some at) ≡ Some place
+    → piece_at at (open_brace ∷ cs) ≡ begun_by q rest → open_behind opened (q ∷ more) ≡ None
 bad_open at place opened cs rest q more e p =
     let is : Open at ≡ q = first_of_pair p in
     ap (λ x. open_behind opened (x ∷ more)) (sym is) ∙ cases (nat_lt (length opened) most_braces) e
@@ -177,34 +214,52 @@ bad_open at place opened cs rest q more e p =
     cases true h = cc
     cases false h = refl
 
-bad_escape : (at place : ℕ) (opened cs rest : List ℕ) (q : Piece) (more : List Piece) → lone at cs ≡ Some place → piece_at at (backslash ∷ cs) ≡ begun_by q rest → open_behind opened (q ∷ more) ≡ None
+bad_escape : (at place : ℕ) (opened cs rest : List ℕ) (q : Piece) (more : List Piece) → lone at cs ≡ Some place
+    → piece_at at (backslash ∷ cs) ≡ begun_by q rest → open_behind opened (q ∷ more) ≡ None
 bad_escape at place opened cs rest q more e p =
     let h : None ≡ begun_by q rest = ap (λ l. piece_at at (backslash ∷ l)) (sym (lone_is at place cs e)) ∙ p in
     cc
 
-bad_class : (at place : ℕ) (opened cs rest : List ℕ) (q : Piece) (more : List Piece) → class_place at opened cs ≡ Some place → piece_at at (open_bracket ∷ cs) ≡ begun_by q rest → open_behind opened (q ∷ more) ≡ None
-bad_class at place opened cs rest q more e p = let h : None ≡ begun_by q rest = sym (class_none at place opened cs e) ∙ p in cc
+bad_class : (at place : ℕ) (opened cs rest : List ℕ) (q : Piece) (more : List Piece)
+    → class_place at opened cs ≡ Some place → piece_at at (open_bracket ∷ cs) ≡ begun_by q rest
+    → open_behind opened (q ∷ more) ≡ None
+bad_class at place opened cs rest q more e p = let h : None ≡ begun_by q rest = sym (class_none at place opened cs e)
+    ∙ p in cc
 
-ends_there : (at place : ℕ) (opened behind rest : List ℕ) (q : Piece) (more : List Piece) → place_at at opened behind ≡ Some place → piece_at at behind ≡ begun_by q rest → open_behind opened (q ∷ more) ≡ None
+ends_there : (at place : ℕ) (opened behind rest : List ℕ) (q : Piece) (more : List Piece)
+    → place_at at opened behind ≡ Some place → piece_at at behind ≡ begun_by q rest
+    → open_behind opened (q ∷ more) ≡ None
 ends_there at place opened [] rest q more e p = cc
 ends_there at place opened (c ∷ cs) rest q more e p = close (c == close_brace) refl e where
-  bracket : (b : Bool) → (c == open_bracket) ≡ b → cond b (class_place at opened cs) None ≡ Some place → open_behind opened (q ∷ more) ≡ None
-  bracket true i h = bad_class at place opened cs rest q more h (ap (λ x. piece_at at (x ∷ cs)) (sym (same_number c open_bracket i)) ∙ p)
+  bracket : (b : Bool) → (c == open_bracket) ≡ b → cond b (class_place at opened cs) None ≡ Some place
+      → open_behind opened (q ∷ more) ≡ None
+  bracket true i h = bad_class at place opened cs rest q more h
+      (ap (λ x. piece_at at (x ∷ cs)) (sym (same_number c open_bracket i)) ∙ p)
   bracket false i h = cc
 
-  escape : (b : Bool) → (c == backslash) ≡ b → cond b (lone at cs) (cond (c == open_bracket) (class_place at opened cs) None) ≡ Some place → open_behind opened (q ∷ more) ≡ None
-  escape true i h = bad_escape at place opened cs rest q more h (ap (λ x. piece_at at (x ∷ cs)) (sym (same_number c backslash i)) ∙ p)
+  escape : (b : Bool) → (c == backslash) ≡ b
+      → cond b (lone at cs) (cond (c == open_bracket) (class_place at opened cs) None) ≡ Some place
+      → open_behind opened (q ∷ more) ≡ None
+  escape true i h = bad_escape at place opened cs rest q more h
+      (ap (λ x. piece_at at (x ∷ cs)) (sym (same_number c backslash i)) ∙ p)
   escape false i h = bracket (c == open_bracket) refl h
 
-  open_ : (b : Bool) → (c == open_brace) ≡ b → cond b (cond (nat_lt (length opened) most_braces) None (Some at)) (cond (c == backslash) (lone at cs) (cond (c == open_bracket) (class_place at opened cs) None)) ≡ Some place →
+  open_ : (b : Bool) → (c == open_brace) ≡ b
+      → cond b (cond (nat_lt (length opened) most_braces) None (Some at))
+      (cond (c == backslash) (lone at cs) (cond (c == open_bracket) (class_place at opened cs) None)) ≡ Some place →
       open_behind opened (q ∷ more) ≡ None
-  open_ true i h = bad_open at place opened cs rest q more h (ap (λ x. piece_at at (x ∷ cs)) (sym (same_number c open_brace i)) ∙ p)
+  open_ true i h = bad_open at place opened cs rest q more h
+      (ap (λ x. piece_at at (x ∷ cs)) (sym (same_number c open_brace i)) ∙ p)
   open_ false i h = escape (c == backslash) refl h
 
   close : (b : Bool) → (c == close_brace) ≡ b →
-      cond b (lone at opened) (cond (c == open_brace) (cond (nat_lt (length opened) most_braces) None (Some at)) (cond (c == backslash) (lone at cs) (cond (c == open_bracket) (class_place at opened cs) None))) ≡ Some place →
+      cond b (lone at opened)
+      (cond (c == open_brace) (cond (nat_lt (length opened) most_braces) None (Some at))
+      (cond (c == backslash) (lone at cs) (cond (c == open_bracket) (class_place at opened cs) None)))
+      ≡ Some place →
       open_behind opened (q ∷ more) ≡ None
-  close true i h = bad_close at place opened cs rest q more h (ap (λ x. piece_at at (x ∷ cs)) (sym (same_number c close_brace i)) ∙ p)
+  close true i h = bad_close at place opened cs rest q more h
+      (ap (λ x. piece_at at (x ∷ cs)) (sym (same_number c close_brace i)) ∙ p)
   close false i h = open_ (c == open_brace) refl h
 
 -- of two ways of reading one is the beginning of the other
@@ -216,7 +271,8 @@ record Longer (at : ℕ) (behind left : List ℕ) (first second : List Piece) : 
   pieces : second ≡ first ++ more
   spelled : Spells at middle left more
 
-further : {at : ℕ} {behind left : List ℕ} {first second : List Piece} (from : ℕ) (p q : Piece) → from ≡ at → p ≡ q → Longer from behind left first second → Longer at behind left (p ∷ first) (q ∷ second)
+further : {at : ℕ} {behind left : List ℕ} {first second : List Piece} (from : ℕ) (p q : Piece) → from ≡ at → p ≡ q
+    → Longer from behind left first second → Longer at behind left (p ∷ first) (q ∷ second)
 further {at} {behind} {left} {first} {second} from p q e same l = record {
   middle = l.middle;
   more = l.more;
@@ -225,23 +281,46 @@ further {at} {behind} {left} {first} {second} from p q e same l = record {
   spelled = subst (λ n. Spells n l.middle left l.more) e l.spelled;
 }
 
-meet : {at : ℕ} {before behind cs left : List ℕ} {first second : List Piece} → Spells at before behind first → Spells at cs left second → cs ++ left ≡ before ++ behind →
+meet : {at : ℕ} {before behind cs left : List ℕ} {first second : List Piece} → Spells at before behind first
+    → Spells at cs left second → cs ++ left ≡ before ++ behind →
     Longer (at + length before) behind left first second ⊎ Longer (at + length cs) left behind second first
-meet {at} {cs = cs} {left} {second = second} nothing s e = inl (record { middle = cs; more = second; whole = sym e; pieces = refl; spelled = subst (λ n. Spells n cs left second) (sym (add-zero at)) s })
+meet {at} {cs = cs} {left} {second = second} nothing s e = inl
+    (record {
+      middle = cs;
+      more = second;
+      whole = sym e;
+      pieces = refl;
+      spelled = subst (λ n. Spells n cs left second)
+          (sym (add-zero at)) s;
+    })
 meet {at} {before} {behind} {first = first} (next {piece = p} {pieces = ps} front more is rest) nothing e =
-    inr (record { middle = front ++ more; more = p ∷ ps; whole = e; pieces = refl; spelled = subst (λ n. Spells n (front ++ more) behind (p ∷ ps)) (sym (add-zero at)) (next front more is rest) })
-meet {at} {behind = behind} {left = left} (next {piece = p} {pieces = ps} front more is rest) (next {piece = q} {pieces = qs} other after is' rest') e =
+    inr (record {
+      middle = front ++ more;
+      more = p ∷ ps;
+      whole = e;
+      pieces = refl;
+      spelled = subst
+          (λ n. Spells n (front ++ more) behind (p ∷ ps)) (sym (add-zero at)) (next front more is rest);
+    })
+meet {at} {behind = behind} {left = left} (next {piece = p} {pieces = ps} front more is rest)
+    (next {piece = q} {pieces = qs} other after is' rest') e =
     let same = same_piece is is' (sym (append_assoc front more behind) ∙ sym e ∙ append_assoc other after left) in
-    let here : at + length front + length more ≡ at + length (front ++ more) = add_assoc at (length front) (length more) ∙ ap (λ n. at + n) (sym (length-append front more)) in
+    let here : at + length front + length more ≡ at + length (front ++ more) = add_assoc at (length front) (length more)
+    ∙ ap (λ n. at + n) (sym (length-append front more)) in
     let there : at + length front + length after ≡ at + length (other ++ after) =
-    ap (λ l. at + length l + length after) same.fronts ∙ add_assoc at (length other) (length after) ∙ ap (λ n. at + n) (sym (length-append other after)) in
+    ap (λ l. at + length l + length after) same.fronts ∙ add_assoc at (length other) (length after)
+    ∙ ap (λ n. at + n) (sym (length-append other after)) in
     elim (meet rest (subst (λ l. Spells (at + length l) after left qs) (sym same.fronts) rest') (sym same.behinds)) [
       | inl l ↦ inl (further (at + length front + length more) p q here same.pieces l)
       | inr l ↦ inr (further (at + length front + length after) q p there (sym same.pieces) l)
     ]
 
-begins_with : {at : ℕ} {cs left : List ℕ} {piece : Piece} {pieces : List Piece} → Spells at cs left (piece ∷ pieces) → (rest : List ℕ) × (piece_at at (cs ++ left) ≡ begun_by piece rest)
-begins_with {at} {left = left} (next front more is rest) = (more ++ left, ap (piece_at at) (append_assoc front more left) ∙ begun is)
+begins_with : {at : ℕ} {cs left : List ℕ} {piece : Piece} {pieces : List Piece} → Spells at cs left (piece ∷ pieces)
+    → (rest : List ℕ) × (piece_at at (cs ++ left) ≡ begun_by piece rest)
+begins_with {at} {left = left} (next front more is rest) = (
+  more ++ left,
+  ap (piece_at at) (append_assoc front more left) ∙ begun is,
+)
 
 spells_none : {at : ℕ} {cs left : List ℕ} → Spells at cs left [] → cs ≡ []
 spells_none nothing = refl
@@ -253,19 +332,29 @@ same_list : {a b : List ℕ} → Some a ≡ Some b → a ≡ b
 same_list e = cc
 
 -- what is read of one begins what is read of the other, and then both are at the same place
-at_same : (characters : List ℕ) (i j : ℕ) (s : IsStuck characters i) (t : IsStuck characters j) → Longer (0 + length s.before) s.behind t.behind s.read.pieces t.read.pieces → i ≡ j
+at_same : (characters : List ℕ) (i j : ℕ) (s : IsStuck characters i) (t : IsStuck characters j)
+    → Longer (0 + length s.before) s.behind t.behind s.read.pieces t.read.pieces → i ≡ j
 at_same characters i j s t l = cases l.more l.pieces l.spelled where
-  cases : (more : List Piece) → t.read.pieces ≡ s.read.pieces ++ more → Spells (0 + length s.before) l.middle t.behind more → i ≡ j
+  cases : (more : List Piece) → t.read.pieces ≡ s.read.pieces ++ more
+      → Spells (0 + length s.before) l.middle t.behind more → i ≡ j
   cases [] e sp =
       let behind : s.behind ≡ t.behind = l.whole ∙ ap (λ m. m ++ t.behind) (spells_none sp) in
-      let before : s.before ≡ t.before = append_cancel_right s.before t.before t.behind (ap (λ b. s.before ++ b) (sym behind) ∙ sym s.read.whole ∙ t.read.whole) in
-      let opened : s.opened ≡ t.opened = same_list (sym s.read.braces ∙ ap (open_behind []) (sym (append-nil s.read.pieces) ∙ sym e) ∙ t.read.braces) in
-      same_some (sym s.is_at ∙ ap (λ b. place_at (length b) s.opened s.behind) before ∙ ap (λ o. place_at (length t.before) o s.behind) opened ∙ ap (place_at (length t.before) t.opened) behind ∙ t.is_at)
+      let before : s.before ≡ t.before = append_cancel_right s.before t.before t.behind
+      (ap (λ b. s.before ++ b) (sym behind) ∙ sym s.read.whole ∙ t.read.whole) in
+      let opened : s.opened
+      ≡ t.opened = same_list (sym s.read.braces ∙ ap (open_behind []) (sym (append-nil s.read.pieces) ∙ sym e)
+      ∙ t.read.braces) in
+      same_some (sym s.is_at ∙ ap (λ b. place_at (length b) s.opened s.behind) before
+      ∙ ap (λ o. place_at (length t.before) o s.behind) opened ∙ ap (place_at (length t.before) t.opened) behind
+      ∙ t.is_at)
   cases (q ∷ more) e sp =
       let b = begins_with sp in
-      let at : piece_at (length s.before) s.behind ≡ begun_by q b.0 = ap (λ n. piece_at n s.behind) (sym (zero-add (length s.before))) ∙ ap (piece_at (0 + length s.before)) l.whole ∙ b.1 in
+      let at : piece_at (length s.before) s.behind ≡ begun_by q b.0 = ap (λ n. piece_at n s.behind)
+      (sym (zero-add (length s.before))) ∙ ap (piece_at (0 + length s.before)) l.whole ∙ b.1 in
       let h : Some t.opened ≡ None =
-      sym t.read.braces ∙ ap (open_behind []) e ∙ open_append s.read.pieces (q ∷ more) [] ∙ ap (option_and_then (λ o. open_behind o (q ∷ more))) s.read.braces ∙ ends_there (length s.before) i s.opened s.behind b.0 q more s.is_at at in
+      sym t.read.braces ∙ ap (open_behind []) e ∙ open_append s.read.pieces (q ∷ more) []
+      ∙ ap (option_and_then (λ o. open_behind o (q ∷ more))) s.read.braces
+      ∙ ends_there (length s.before) i s.opened s.behind b.0 q more s.is_at at in
       cc
 
 pub fault_once : {characters : List ℕ} {i j : ℕ} → FirstFault characters i → FirstFault characters j → i ≡ j
@@ -278,7 +367,8 @@ fault_once {characters} {i} {j} f g =
     ]
 
 pub bad_once : (text : List ℕ) (byte other : ℕ) → IsBadAt text byte → IsBadAt text other → other ≡ byte
-bad_once text byte other b o = o.place ∙ ap (λ n. length (encode_utf8_all (take n (chars text)))) (fault_once o.fault b.fault) ∙ sym b.place
+bad_once text byte other b o = o.place
+    ∙ ap (λ n. length (encode_utf8_all (take n (chars text)))) (fault_once o.fault b.fault) ∙ sym b.place
 
 pub bad_byte : {T : Type 0} {a b : ℕ} → ◌≡◌ {A = Result T GlobError} (Err (Bad a)) (Err (Bad b)) → b ≡ a
 bad_byte e = cc

@@ -7,11 +7,16 @@ use Rattle.deny_globs.specs.declared.reading.Reading.{Reading}
 use Rattle.deny_globs.specs.Characters.{comma}
 use Rattle.deny_globs.specs.Reading.{Parts, itself, parts}
 
-pub part_none : (old : Reading) (left : List Opened) (new : Reading) → (old.opened ≡ []) × (left ≡ []) → new ≡ record { opened = left; tokens = old.tokens ++ Character comma ∷ [] } → Parts old new
-part_none old left new e h = itself e.0 (h ∙ ap (λ o. let r : Reading = record { opened = o; tokens = old.tokens ++ Character comma ∷ [] } in r) (e.1 ∙ sym e.0))
+pub part_none : (old : Reading) (left : List Opened) (new : Reading) → (old.opened ≡ []) × (left ≡ [])
+    → new ≡ record { opened = left; tokens = old.tokens ++ Character comma ∷ [] } → Parts old new
+part_none old left new e h = itself e.0 (h
+    ∙ ap (λ o. let r : Reading = record { opened = o; tokens = old.tokens ++ Character comma ∷ [] } in r) (e.1
+    ∙ sym e.0))
 
-pub part_some : (old : Reading) (outer : List Opened) (brace : Opened) (alternatives : List (List Token)) (tokens : List Token) (opened : List Opened) (rest : List Token) →
-    old.opened ≡ outer ++ brace ∷ [] → alternatives ≡ brace.alternatives ++ tokens ∷ [] → tokens ≡ old.tokens → opened ≡ outer ++ record brace { alternatives = alternatives } ∷ [] → rest ≡ [] →
+pub part_some : (old : Reading) (outer : List Opened) (brace : Opened) (alternatives : List (List Token))
+    (tokens : List Token) (opened : List Opened) (rest : List Token) →
+    old.opened ≡ outer ++ brace ∷ [] → alternatives ≡ brace.alternatives ++ tokens ∷ [] → tokens ≡ old.tokens
+    → opened ≡ outer ++ record brace { alternatives = alternatives } ∷ [] → rest ≡ [] →
     Parts old (record { opened = opened; tokens = rest })
 part_some old outer brace alternatives tokens opened rest w a t o r =
     let b : alternatives ≡ brace.alternatives ++ old.tokens ∷ [] = a ∙ ap (λ ts. brace.alternatives ++ ts ∷ []) t in
@@ -19,4 +24,6 @@ part_some old outer brace alternatives tokens opened rest w a t o r =
     o ∙ ap (λ l. outer ++ (let n : Opened = record brace { alternatives = l } in n) ∷ []) b in
     parts outer brace w
     (ap (λ l. let n : Reading = record { opened = l; tokens = rest } in n) p
-    ∙ ap (λ l. let n : Reading = record { opened = outer ++ record brace { alternatives = brace.alternatives ++ old.tokens ∷ [] } ∷ []; tokens = l } in n) r)
+    ∙ ap (λ l. let n : Reading = record
+    { opened = outer ++ record brace { alternatives = brace.alternatives ++ old.tokens ∷ [] } ∷ []; tokens = l } in
+    n) r)

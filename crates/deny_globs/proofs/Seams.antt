@@ -8,7 +8,8 @@ pub record Seam (whole : List ℕ) (at size : ℕ) (piece behind : List ℕ) : T
   pub front : take (at + size) whole ≡ take at whole ++ piece
   pub rest : drop (at + size) whole ≡ behind
 
-seam_here : (whole : List ℕ) (at : ℕ) (piece behind : List ℕ) → at ≤ length whole → drop at whole ≡ piece ++ behind → Seam whole at (length piece) piece behind
+seam_here : (whole : List ℕ) (at : ℕ) (piece behind : List ℕ) → at ≤ length whole → drop at whole ≡ piece ++ behind
+    → Seam whole at (length piece) piece behind
 seam_here whole zero piece behind p e = record {
   fits = rw (zero-add (length piece), e, length-append piece behind) (omega arith);
   front = rw (zero-add (length piece), e) (take-append_seam piece behind);
@@ -23,5 +24,7 @@ seam_here (c ∷ whole) (suc at) piece behind p e =
       rest = rw (suc-add at (length piece)) s.rest;
     }
 
-pub seam : (whole : List ℕ) (at size : ℕ) (piece behind : List ℕ) → at ≤ length whole → drop at whole ≡ piece ++ behind → size ≡ length piece → Seam whole at size piece behind
-seam whole at size piece behind p e s = subst (λ n. Seam whole at n piece behind) (sym s) (seam_here whole at piece behind p e)
+pub seam : (whole : List ℕ) (at size : ℕ) (piece behind : List ℕ) → at ≤ length whole → drop at whole ≡ piece ++ behind
+    → size ≡ length piece → Seam whole at size piece behind
+seam whole at size piece behind p e s = subst (λ n. Seam whole at n piece behind) (sym s)
+    (seam_here whole at piece behind p e)

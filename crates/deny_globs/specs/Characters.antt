@@ -7,6 +7,9 @@ slash = 47
 abbrev pub star : ℕ
 star = 42
 
+abbrev pub dot : ℕ
+dot = 46
+
 abbrev pub question_mark : ℕ
 question_mark = 63
 
@@ -37,7 +40,9 @@ is_mark c = (c == 33) || (c == 94)
 
 -- a character that stands for itself wherever it is, but for what `/` begins
 abbrev pub is_plain : ℕ → Bool
-is_plain c = not (c == question_mark) && (not (c == star) && (not (c == backslash) && (not (c == open_bracket) && (not (c == comma) && (not (c == open_brace) && not (c == close_brace))))))
+is_plain c = not (c == question_mark) &&
+    (not (c == star) && (not (c == backslash) &&
+    (not (c == open_bracket) && (not (c == comma) && (not (c == open_brace) && not (c == close_brace))))))
 
 -- the characters begin with this one
 abbrev pub begins : ℕ → List ℕ → Bool

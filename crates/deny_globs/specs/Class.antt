@@ -9,4 +9,5 @@ in_range c range = nat_le range.first c && nat_le c range.last
 
 -- whether the character is one that the class takes
 abbrev pub class_takes : Class → ℕ → Bool
-class_takes class c = if class.negated then not (list_any (in_range c) class.ranges) else list_any (in_range c) class.ranges
+class_takes class c = if class.negated then not (list_any (in_range c) class.ranges) else list_any (in_range c)
+    class.ranges

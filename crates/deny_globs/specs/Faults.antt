@@ -11,7 +11,8 @@ use Rattle.deny_globs.specs.Tree.{most_braces}
 -- the numbers of the `{` that are still open behind the pieces, the innermost first; none where a brace is wrong
 abbrev pub open_behind : List ℕ → List Piece → Option (List ℕ)
 open_behind opened [] = Some opened
-open_behind opened (Open at ∷ pieces) = if nat_lt (length opened) most_braces then open_behind (at ∷ opened) pieces else None
+open_behind opened (Open at ∷ pieces) = if nat_lt (length opened) most_braces then open_behind (at ∷ opened) pieces
+    else None
 open_behind [] (Close at ∷ pieces) = None
 open_behind (last ∷ opened) (Close at ∷ pieces) = open_behind opened pieces
 open_behind opened (Token token ∷ pieces) = open_behind opened pieces
@@ -30,7 +31,8 @@ is_empty (c ∷ cs) = false
 -- after members that are good, a range whose ends fall begins this many characters into the class
 pub data FallsAt : List ℕ → ℕ → Type 0 where
   falls : {ranges : List CharacterRange} (members behind : List ℕ) (first last : ℕ) →
-      AreMembers true members (first ∷ dash ∷ last ∷ behind) ranges → IsTrue (may_be_member (is_empty members) first) → IsTrue (not (last == close_bracket)) → last < first →
+      AreMembers true members (first ∷ dash ∷ last ∷ behind) ranges → IsTrue (may_be_member (is_empty members) first)
+      → IsTrue (not (last == close_bracket)) → last < first →
       FallsAt (members ++ first ∷ dash ∷ last ∷ behind) (length members)
 
 -- what the text spells before its end, where all is good so far, and what comes then
@@ -42,15 +44,23 @@ pub record IsReadTo (characters before behind opened : List ℕ) : Type 0 where
 
 -- the first bad character has this number
 pub data FirstFault : List ℕ → ℕ → Type 0 where
-  unopened : {characters : List ℕ} (before behind : List ℕ) → IsReadTo characters before (close_brace ∷ behind) [] → FirstFault characters (length before)
-  too_deep : {characters : List ℕ} (before behind opened : List ℕ) → IsReadTo characters before (open_brace ∷ behind) opened → length opened ≡ most_braces → FirstFault characters (length before)
-  nothing_escaped : {characters : List ℕ} (before opened : List ℕ) → IsReadTo characters before (backslash ∷ []) opened → FirstFault characters (length before)
-  falling_range : {characters : List ℕ} {negated : Bool} (before mark body opened : List ℕ) (into : ℕ) → IsReadTo characters before (open_bracket ∷ (mark ++ body)) opened →
+  unopened : {characters : List ℕ} (before behind : List ℕ) → IsReadTo characters before (close_brace ∷ behind) []
+      → FirstFault characters (length before)
+  too_deep : {characters : List ℕ} (before behind opened : List ℕ)
+      → IsReadTo characters before (open_brace ∷ behind) opened → length opened ≡ most_braces
+      → FirstFault characters (length before)
+  nothing_escaped : {characters : List ℕ} (before opened : List ℕ) → IsReadTo characters before (backslash ∷ []) opened
+      → FirstFault characters (length before)
+  falling_range : {characters : List ℕ} {negated : Bool} (before mark body opened : List ℕ) (into : ℕ)
+      → IsReadTo characters before (open_bracket ∷ (mark ++ body)) opened →
       IsMark mark body negated → FallsAt body into → FirstFault characters (length before + 1 + length mark + into)
   -- nothing else is bad: the first of what is not closed
-  unclosed_class : {characters : List ℕ} {negated : Bool} {ranges : List CharacterRange} (before mark members opened : List ℕ) → IsReadTo characters before (open_bracket ∷ (mark ++ members)) opened →
-      IsMark mark members negated → AreMembers true members [] ranges → FirstFault characters (outermost opened (length before))
-  unclosed_brace : {characters : List ℕ} (last : ℕ) (opened : List ℕ) → IsReadTo characters characters [] (last ∷ opened) → FirstFault characters (outermost opened last)
+  unclosed_class : {characters : List ℕ} {negated : Bool} {ranges : List CharacterRange}
+      (before mark members opened : List ℕ) → IsReadTo characters before (open_bracket ∷ (mark ++ members)) opened →
+      IsMark mark members negated → AreMembers true members [] ranges
+      → FirstFault characters (outermost opened (length before))
+  unclosed_brace : {characters : List ℕ} (last : ℕ) (opened : List ℕ)
+      → IsReadTo characters characters [] (last ∷ opened) → FirstFault characters (outermost opened last)
 
 -- the text is bad at this byte
 pub record IsBadAt (text : List ℕ) (byte : ℕ) : Type 0 where

@@ -1,4 +1,4 @@
-use Rattle.std.specs.Prelude.{ℕ, List, [], ◌∷◌, ◌++◌, IsTrue, IsSomeAnd, slice_get}
+use Rattle.std.specs.Prelude.{ℕ, List, [], ◌∷◌, ◌++◌, IsTrue}
 use Rattle.deny_globs.specs.declared.token.Class.{Class}
 use Rattle.deny_globs.specs.declared.token.Token.{Token}
 use Rattle.deny_globs.specs.declared.token.Token.TheVariants.{Character, AnyCharacter, OneOf, AnyText, LeadingFolders, TrailingPath, MiddleFolders, Alternatives}
@@ -17,18 +17,18 @@ mutual
     at_the_end : (cs : List ℕ) → IsText TrailingPath (slash ∷ cs)
     one_slash : IsText MiddleFolders (slash ∷ [])
     between_slashes : (cs : List ℕ) → IsText MiddleFolders (slash ∷ (cs ++ slash ∷ []))
-    alternative : {alternatives : List (List Token)} {cs : List ℕ} → IsTextOfOne alternatives cs → IsText (Alternatives alternatives) cs
+    alternative : {alternatives : List (List Token)} {cs : List ℕ} → IsTextOfOne alternatives cs
+        → IsText (Alternatives alternatives) cs
 
   -- the characters are a text of one of the alternatives
   pub data IsTextOfOne : List (List Token) → List ℕ → Type 0 where
-    first : {tokens : List Token} {others : List (List Token)} {cs : List ℕ} → Fits tokens cs → IsTextOfOne (tokens ∷ others) cs
-    later : {tokens : List Token} {others : List (List Token)} {cs : List ℕ} → IsTextOfOne others cs → IsTextOfOne (tokens ∷ others) cs
+    first : {tokens : List Token} {others : List (List Token)} {cs : List ℕ} → Fits tokens cs
+        → IsTextOfOne (tokens ∷ others) cs
+    later : {tokens : List Token} {others : List (List Token)} {cs : List ℕ} → IsTextOfOne others cs
+        → IsTextOfOne (tokens ∷ others) cs
 
   -- the characters are the tokens' texts, one after the other
   pub data Fits : List Token → List ℕ → Type 0 where
     nothing : Fits [] []
-    joined : {token : Token} {tokens : List Token} (front rest : List ℕ) → IsText token front → Fits tokens rest → Fits (token ∷ tokens) (front ++ rest)
-
--- the glob with this number fits
-abbrev pub FitsAt : List (List Token) → ℕ → List ℕ → Type 0
-FitsAt globs i path = IsSomeAnd (slice_get globs i) (λ glob. Fits glob path)
+    joined : {token : Token} {tokens : List Token} (front rest : List ℕ) → IsText token front → Fits tokens rest
+        → Fits (token ∷ tokens) (front ++ rest)

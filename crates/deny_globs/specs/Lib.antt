@@ -1,9 +1,16 @@
 pub mod Characters
 pub mod Class
+pub mod Compiled
 pub mod Faults
 pub mod Fits
+pub mod Index
+pub mod Marked
+pub mod Patterns
 pub mod Pieces
 pub mod Reading
-pub mod Rows
+pub mod Sets
+pub mod Sizes
+pub mod States
 pub mod Steps
 pub mod Tree
+pub mod Walk

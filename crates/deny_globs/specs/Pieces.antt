@@ -21,7 +21,8 @@ begins_range (c ∷ last ∷ rest) = (c == dash) && not (last == close_bracket)
 pub data AreMembers : Bool → List ℕ → List ℕ → List CharacterRange → Type 0 where
   no_more : {is_first : Bool} {behind : List ℕ} → AreMembers is_first [] behind []
   range : {is_first : Bool} {first last : ℕ} {cs behind : List ℕ} {ranges : List CharacterRange} →
-      IsTrue (may_be_member is_first first) → IsTrue (not (last == close_bracket)) → first ≤ last → AreMembers false cs behind ranges →
+      IsTrue (may_be_member is_first first) → IsTrue (not (last == close_bracket)) → first ≤ last
+      → AreMembers false cs behind ranges →
       AreMembers is_first (first ∷ dash ∷ last ∷ cs) behind (record { first = first; last = last } ∷ ranges)
   one : {is_first : Bool} {c : ℕ} {cs behind : List ℕ} {ranges : List CharacterRange} →
       IsTrue (may_be_member is_first c) → begins_range (cs ++ behind) ≡ false → AreMembers false cs behind ranges →
@@ -54,21 +55,27 @@ is_leading at count behind = (at == 0) && ((count == 2) && begins slash behind)
 pub data IsPiece : ℕ → List ℕ → List ℕ → Piece → Type 0 where
   question : {at : ℕ} {behind : List ℕ} → IsPiece at (question_mark ∷ []) behind (Token AnyCharacter)
   leading : {at : ℕ} {behind : List ℕ} → at ≡ 0 → IsPiece at (star ∷ star ∷ slash ∷ []) behind (Token LeadingFolders)
-  stars : {at : ℕ} {cs behind : List ℕ} → IsTrue (list_all (λ c. c == star) cs) → 0 < length cs → begins star behind ≡ false → is_leading at (length cs) behind ≡ false → IsPiece at cs behind (Token AnyText)
+  stars : {at : ℕ} {cs behind : List ℕ} → IsTrue (list_all (λ c. c == star) cs) → 0 < length cs
+      → begins star behind ≡ false → is_leading at (length cs) behind ≡ false → IsPiece at cs behind (Token AnyText)
   middle : {at : ℕ} {behind : List ℕ} → IsPiece at (slash ∷ star ∷ star ∷ slash ∷ []) behind Middle
   trailing : {at : ℕ} → IsPiece at (slash ∷ star ∷ star ∷ []) [] (Token TrailingPath)
-  lone_slash : {at : ℕ} {behind : List ℕ} → is_trailing behind ≡ false → is_middle behind ≡ false → IsPiece at (slash ∷ []) behind (Token (Character slash))
+  lone_slash : {at : ℕ} {behind : List ℕ} → is_trailing behind ≡ false → is_middle behind ≡ false
+      → IsPiece at (slash ∷ []) behind (Token (Character slash))
   escaped : {at c : ℕ} {behind : List ℕ} → IsPiece at (backslash ∷ c ∷ []) behind (Token (Character c))
   class : {at : ℕ} {negated : Bool} {ranges : List CharacterRange} (mark members : List ℕ) {behind : List ℕ} →
-      IsMark mark (members ++ close_bracket ∷ behind) negated → AreMembers true members (close_bracket ∷ behind) ranges → 0 < length members →
-      IsPiece at (open_bracket ∷ (mark ++ (members ++ close_bracket ∷ []))) behind (Token (OneOf (record { negated = negated; ranges = ranges })))
+      IsMark mark (members ++ close_bracket ∷ behind) negated → AreMembers true members (close_bracket ∷ behind) ranges
+      → 0 < length members →
+      IsPiece at (open_bracket ∷ (mark ++ (members ++ close_bracket ∷ []))) behind
+      (Token (OneOf (record { negated = negated; ranges = ranges })))
   open_braces : {at : ℕ} {behind : List ℕ} → IsPiece at (open_brace ∷ []) behind (Open at)
   parting_comma : {at : ℕ} {behind : List ℕ} → IsPiece at (comma ∷ []) behind Comma
   close_braces : {at : ℕ} {behind : List ℕ} → IsPiece at (close_brace ∷ []) behind (Close at)
-  itself : {at c : ℕ} {behind : List ℕ} → IsTrue (is_plain c) → IsTrue (not (c == slash)) → IsPiece at (c ∷ []) behind (Token (Character c))
+  itself : {at c : ℕ} {behind : List ℕ} → IsTrue (is_plain c) → IsTrue (not (c == slash))
+      → IsPiece at (c ∷ []) behind (Token (Character c))
 
 -- characters, the first with this number, are these pieces, with what comes behind them
 pub data Spells : ℕ → List ℕ → List ℕ → List Piece → Type 0 where
   nothing : {at : ℕ} {behind : List ℕ} → Spells at [] behind []
   next : {at : ℕ} {behind : List ℕ} {piece : Piece} {pieces : List Piece} (front more : List ℕ) →
-      IsPiece at front (more ++ behind) piece → Spells (at + length front) more behind pieces → Spells at (front ++ more) behind (piece ∷ pieces)
+      IsPiece at front (more ++ behind) piece → Spells (at + length front) more behind pieces
+      → Spells at (front ++ more) behind (piece ∷ pieces)

@@ -23,18 +23,25 @@ middle_of (brace ∷ opened) = Character slash ∷ AnyText ∷ Character slash �
 
 abbrev pub parted : List Opened → List Token → Reading
 parted [] tokens = record { opened = []; tokens = tokens ++ Character comma ∷ [] }
-parted (brace ∷ opened) tokens = record { opened = record brace { alternatives = brace.alternatives ++ tokens ∷ [] } ∷ opened; tokens = [] }
+parted (brace ∷ opened) tokens = record
+    { opened = record brace { alternatives = brace.alternatives ++ tokens ∷ [] } ∷ opened; tokens = [] }
 
 abbrev pub closed : List Opened → List Token → Option Reading
 closed [] tokens = None
-closed (brace ∷ opened) tokens = Some (record { opened = opened; tokens = brace.before ++ Alternatives (brace.alternatives ++ tokens ∷ []) ∷ [] })
+closed (brace ∷ opened) tokens = Some
+    (record { opened = opened; tokens = brace.before ++ Alternatives (brace.alternatives ++ tokens ∷ []) ∷ [] })
 
 -- what is read with the piece, or none where it is a brace that is bad here
 abbrev pub after_piece : Reading → Piece → Option Reading
 after_piece reading (Whole token) = Some (record { opened = reading.opened; tokens = reading.tokens ++ token ∷ [] })
-after_piece reading Middle = Some (record { opened = reading.opened; tokens = reading.tokens ++ middle_of reading.opened })
+after_piece reading Middle = Some
+    (record { opened = reading.opened; tokens = reading.tokens ++ middle_of reading.opened })
 after_piece reading (Open at) =
-    if nat_lt (length reading.opened) most_braces then Some (record { opened = record { at = at; before = reading.tokens; alternatives = [] } ∷ reading.opened; tokens = [] }) else None
+    if nat_lt (length reading.opened) most_braces then Some
+    (record {
+      opened = record { at = at; before = reading.tokens; alternatives = [] } ∷ reading.opened;
+      tokens = [];
+    }) else None
 after_piece reading Comma = Some (parted reading.opened reading.tokens)
 after_piece reading (Close at) = closed reading.opened reading.tokens
 
@@ -57,20 +64,29 @@ StopsAt at why (Fault i) = (i ≡ at) × why
 StopsAt at why Memory = Unit {0}
 
 abbrev pub OpensAt : ℕ → Reading → Reading → Type 0
-OpensAt at old new = (length old.opened < most_braces) × (new ≡ record { opened = old.opened ++ record { at = at; before = old.tokens; alternatives = [] } ∷ []; tokens = [] })
+OpensAt at old new = (length old.opened < most_braces)
+    × (new ≡ record {
+      opened = old.opened ++ record { at = at; before = old.tokens; alternatives = [] } ∷ [];
+      tokens = [];
+    })
 
 -- a comma: outside braces it is itself, and inside it ends an alternative of the innermost
 pub data Parts : Reading → Reading → Type 0 where
-  itself : {old new : Reading} → old.opened ≡ [] → new ≡ record old { tokens = old.tokens ++ Character comma ∷ [] } → Parts old new
+  itself : {old new : Reading} → old.opened ≡ [] → new ≡ record old { tokens = old.tokens ++ Character comma ∷ [] }
+      → Parts old new
   parts : {old new : Reading} (outer : List Opened) (brace : Opened) → old.opened ≡ outer ++ brace ∷ [] →
-      new ≡ record { opened = outer ++ record brace { alternatives = brace.alternatives ++ old.tokens ∷ [] } ∷ []; tokens = [] } → Parts old new
+      new ≡ record {
+        opened = outer ++ record brace { alternatives = brace.alternatives ++ old.tokens ∷ [] } ∷ [];
+        tokens = [];
+      } → Parts old new
 
 -- a closing brace, which makes one token of the innermost brace
 pub record Closes (old new : Reading) : Type 0 where
   pub outer : List Opened
   pub brace : Opened
   pub was : old.opened ≡ outer ++ brace ∷ []
-  pub now_is : new ≡ record { opened = outer; tokens = brace.before ++ Alternatives (brace.alternatives ++ old.tokens ∷ []) ∷ [] }
+  pub now_is : new ≡ record
+      { opened = outer; tokens = brace.before ++ Alternatives (brace.alternatives ++ old.tokens ∷ []) ∷ [] }
 
 -- the number of the first of the braces, or this number
 abbrev pub outermost_of : List Opened → ℕ → ℕ
@@ -97,7 +113,8 @@ pub record IsBadBrace (characters : List ℕ) (next : ℕ) (old : Reading) (i : 
   pub brace : brace_of piece ≡ Some i
 
 abbrev pub StopsNext : List ℕ → ℕ → Reading → Stop → Type 0
-StopsNext characters next old (Fault i) = IsStop next (outermost_of old.opened next) (drop next characters) i ⊎ IsBadBrace characters next old i
+StopsNext characters next old (Fault i) = IsStop next (outermost_of old.opened next) (drop next characters) i ⊎
+    IsBadBrace characters next old i
 StopsNext characters next old Memory = Unit {0}
 
 -- a fault is the first bad character

@@ -12,9 +12,11 @@ use Rattle.deny_globs.specs.Faults.{FallsAt}
 
 -- one more member, of this many characters
 pub data AddsMember : List ℕ → ℕ → List CharacterRange → List CharacterRange → Type 0 where
-  adds_range : {rest behind : List ℕ} {first last size : ℕ} {old new : List CharacterRange} → rest ≡ first ∷ dash ∷ last ∷ behind → IsTrue (not (last == close_bracket)) → first ≤ last → size ≡ 3 →
+  adds_range : {rest behind : List ℕ} {first last size : ℕ} {old new : List CharacterRange}
+      → rest ≡ first ∷ dash ∷ last ∷ behind → IsTrue (not (last == close_bracket)) → first ≤ last → size ≡ 3 →
       new ≡ old ++ record { first = first; last = last } ∷ [] → AddsMember rest size old new
-  adds_one : {rest behind : List ℕ} {c size : ℕ} {old new : List CharacterRange} → rest ≡ c ∷ behind → begins_range behind ≡ false → size ≡ 1 →
+  adds_one : {rest behind : List ℕ} {c size : ℕ} {old new : List CharacterRange} → rest ≡ c ∷ behind
+      → begins_range behind ≡ false → size ≡ 1 →
       new ≡ old ++ record { first = c; last = c } ∷ [] → AddsMember rest size old new
 
 -- a range whose ends fall stands here
@@ -53,7 +55,8 @@ pub record IsUnclosed (body : List ℕ) : Type 0 where
   pub members : AreMembers true body [] ranges
 
 abbrev pub StopsMembers : ℕ → ℕ → List ℕ → Stop → Type 0
-StopsMembers at unclosed body (Fault i) = ((into : ℕ) × FallsAt body into × (i ≡ at + into)) ⊎ (IsUnclosed body × (i ≡ unclosed))
+StopsMembers at unclosed body (Fault i) = ((into : ℕ) × FallsAt body into × (i ≡ at + into)) ⊎
+    (IsUnclosed body × (i ≡ unclosed))
 StopsMembers at unclosed body Memory = Unit {0}
 
 -- so many characters are the piece
@@ -65,8 +68,10 @@ pub record IsPieceOf (at : ℕ) (rest : List ℕ) (size : ℕ) (piece : Piece) :
 -- no piece can be read
 pub data IsStop (at unclosed : ℕ) : List ℕ → ℕ → Type 0 where
   escapes_nothing : IsStop at unclosed (backslash ∷ []) at
-  has_falling_range : {negated : Bool} (mark body : List ℕ) (into : ℕ) → IsMark mark body negated → FallsAt body into → IsStop at unclosed (open_bracket ∷ (mark ++ body)) (at + 1 + length mark + into)
-  is_unclosed : {negated : Bool} (mark body : List ℕ) → IsMark mark body negated → IsUnclosed body → IsStop at unclosed (open_bracket ∷ (mark ++ body)) unclosed
+  has_falling_range : {negated : Bool} (mark body : List ℕ) (into : ℕ) → IsMark mark body negated → FallsAt body into
+      → IsStop at unclosed (open_bracket ∷ (mark ++ body)) (at + 1 + length mark + into)
+  is_unclosed : {negated : Bool} (mark body : List ℕ) → IsMark mark body negated → IsUnclosed body
+      → IsStop at unclosed (open_bracket ∷ (mark ++ body)) unclosed
 
 abbrev pub StopsPiece : ℕ → ℕ → List ℕ → Stop → Type 0
 StopsPiece at unclosed rest (Fault i) = IsStop at unclosed rest i

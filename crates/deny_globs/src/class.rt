@@ -7,7 +7,7 @@ ghost use Rattle.deny_globs.specs.Steps.{AddsMember, StopsMember, ClosesAt, Goes
 use crate::piece::Piece;
 use crate::stop::Stop;
 use crate::token::{CharacterRange, Class, Token};
-use deny_base::List;
+use deny_lists::List;
 use std::alloc::Global;
 
 /// Whether the first character begins a range.

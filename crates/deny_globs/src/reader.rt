@@ -10,7 +10,7 @@ use crate::piece::Piece;
 use crate::reading::{Reading, finish, outermost, read_on};
 use crate::stop::Stop;
 use crate::token::Token;
-use deny_base::List;
+use deny_lists::List;
 use std::alloc::Global;
 
 /// How many `*` come first.

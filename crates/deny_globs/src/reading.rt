@@ -5,7 +5,7 @@ ghost use Rattle.deny_globs.specs.Tree.{most_braces};
 use crate::piece::Piece;
 use crate::stop::Stop;
 use crate::token::Token;
-use deny_base::List;
+use deny_lists::List;
 use std::alloc::Global;
 use std::mem;
 

@@ -1,4 +1,4 @@
-use deny_base::NoMemory;
+use deny_lists::NoMemory;
 
 /// Why a pattern is not read on.
 #[derive(Debug, Drop)]

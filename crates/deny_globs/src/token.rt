@@ -1,4 +1,4 @@
-use deny_base::List;
+use deny_lists::List;
 
 /// The characters from `first` to `last`, both taken in.
 #[derive(Clone, Copy)]

@@ -11,10 +11,12 @@ pub returns-in_err-next-clause-stop : goal.returns-in_err-next-clause-stop
 returns-in_err-next-clause-stop c =
     let p = err_from_is_err_and c.from_residual.result c.from_residual.ensures.1 in
     rw (p.1, p.2)
-    (members_stop c.args.body.now c.loop-next.next c.args.at c.args.unclosed c.loop-next.ranges c.in_err-next.field-0.0 c.loop-next.invariant
+    (members_stop c.args.body.now c.loop-next.next c.args.at c.args.unclosed c.loop-next.ranges c.in_err-next.field-0.0
+    c.loop-next.invariant
     (rw take_rest at c.in_err-next.ensures.stop) c.if-is_closed.ensures)
 
 pub loop-next-preserved : goal.loop-next-preserved
 loop-next-preserved c =
-    members_more c.args.body.now c.loop-next.next c.in_ok-next.field-0 c.loop-next.ranges c.read_member.new.ranges c.loop-next.invariant
+    members_more c.args.body.now c.loop-next.next c.in_ok-next.field-0 c.loop-next.ranges c.read_member.new.ranges
+    c.loop-next.invariant
     (rw take_rest at c.in_ok-next.ensures.ok) c.if-is_closed.ensures

@@ -5,8 +5,10 @@ use Rattle.deny_globs.proofs.glob.byte_of.Goals as goal
 
 pub bytes_in-requires : goal.bytes_in-requires
 bytes_in-requires c =
-    let h : length (encode_utf8_all (take c.args.number c.args.characters.now)) ≤ length c.args.text.now = bytes_before c.args.text.now c.args.characters.now c.args.number c.utf8.text c.requires in
+    let h : length (encode_utf8_all (take c.args.number c.args.characters.now)) ≤ length c.args.text.now = bytes_before
+    c.args.text.now c.args.characters.now c.args.number c.utf8.text c.requires in
     omega arith
 
 pub returns : goal.returns
-returns c = bytes_of_all c.args.text.now c.args.characters.now c.args.number c.utf8.text c.requires c.if-number-characters.false
+returns c = bytes_of_all c.args.text.now c.args.characters.now c.args.number c.utf8.text c.requires
+    c.if-number-characters.false

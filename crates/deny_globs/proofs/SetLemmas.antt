@@ -1,0 +1,403 @@
+-- A set with a glob more, and what it finds.
+use Rattle.std.proofs.Common.{◌≡◌, ◌≢◌, ℕ, zero, suc, ◌+◌, ◌*◌, ◌^◌, ◌<◌, ◌≤◌, List, [], ◌∷◌, ◌++◌, length, map, replicate, Bool, true, false, get_or, refl, sym, ap, subst, inl, inr, ◌∙◌, arith, append-nil}
+use Rattle.std.specs.Prelude.{◌⊎◌, ◌↔◌, Option, Some, None, Contains, IsSomeAnd, slice_get, if◌then◌else◌}
+use Rattle.std.specs.Option.{option_map}
+use Rattle.std.specs.Cmp.Lexicographic.{nat_list_cmp_total}
+use Rattle.std.proofs.lemmas.Bool.{cases_eq, false≢true}
+use Rattle.std.proofs.lemmas.Cmp.{nat_cmp_total}
+use Rattle.std.proofs.lemmas.Nat.{mul-le}
+use Rattle.std.proofs.lemmas.Option.{slice_get-map, slice_get_read, slice_get_within}
+use Rattle.std.proofs.lemmas.List.{length-map}
+use Rattle.std.proofs.lemmas.List.Sums.{sum_by-append, sum_by-cons}
+use Rattle.std.proofs.lemmas.List.Elements.{Contains-push, Contains-push_cases, Contains-append_left}
+use Rattle.deny_lists.proofs.Sorted.{length-ascending}
+use Rattle.deny_globs.specs.declared.extensions.Extension.{Extension}
+use Rattle.deny_globs.specs.declared.token.Token.{Token}
+use Rattle.deny_globs.specs.declared.token.Token.TheVariants.{Alternatives}
+use Rattle.deny_globs.specs.declared.state.State.{State}
+use Rattle.deny_globs.specs.declared.state.State.TheVariants.{End}
+use Rattle.deny_globs.specs.Compiled.{Grows, StandsFor, AddsStates}
+use Rattle.deny_globs.specs.Fits.{Fits, nothing}
+use Rattle.deny_globs.specs.Index.{name_of, IsNamedAt, IsGap, IsExtended, IsIndexed, AreCompiled, FitsSimply, NotesNamed, BoundsNamed, BoundsSimple, Indexes, AreNoted, AreFirstNoted}
+use Rattle.deny_globs.specs.Patterns.{Pattern, characters_of, tokens_of}
+use Rattle.deny_globs.specs.Sets.{FitsAt, is_simple, extension_of, AsksFor, FitsOther, HasExtensions, weight, weight_of, KeepsBound, AreFitting, AreFirstFitting}
+use Rattle.deny_globs.specs.States.{end_of, Leads, ends, SomeLeads}
+use Rattle.deny_globs.specs.Tree.{IsGlob}
+use Rattle.deny_globs.specs.Walk.{Notes}
+use Rattle.deny_globs.proofs.BuildLemmas.{grows_on, grows_push, length_grown, length_pushed, leads_grown, leads_ungrown, pushed_at}
+use Rattle.deny_globs.proofs.FitsLemmas.{nothing_fits, split_list}
+use Rattle.deny_globs.proofs.FormLemmas.{one_from_fits, none_fits}
+use Rattle.deny_globs.proofs.GlobSizes.{glob_states}
+use Rattle.deny_globs.proofs.IndexLemmas.{get_more, get_left, get_last, none_at, no_asks, indexed_simple, indexed_other}
+use Rattle.deny_globs.proofs.MarkedLemmas.{contains_none, marked_inside}
+use Rattle.deny_globs.proofs.SimpleLemmas.{simple_fits}
+use Rattle.deny_globs.proofs.StateLemmas.{some_inj, Turn, ended, took, moved, turn}
+use Rattle.deny_globs.proofs.WalkLemmas.{notes_same, notes_on, notes_none}
+
+globs_more : (globs : List Pattern) (glob : Pattern) → IsGlob (characters_of glob) (tokens_of glob)
+    → ((i : ℕ) (g : Pattern) → slice_get globs i ≡ Some g → IsGlob (characters_of g) (tokens_of g)) →
+    (i : ℕ) (g : Pattern) → slice_get (globs ++ glob ∷ []) i ≡ Some g → IsGlob (characters_of g) (tokens_of g)
+globs_more globs glob own old i g e = elim (get_more globs glob i e) [
+  | inl h ↦ old i g h
+  | inr same ↦ subst (λ p. IsGlob (characters_of p) (tokens_of p)) (sym same.1) own
+]
+
+-- weights
+
+weight_more : (globs : List Pattern) (glob : Pattern) → weight_of (globs ++ glob ∷ []) ≡ weight_of globs + weight glob
+weight_more globs glob = omega (arith, sum_by-append weight globs (glob ∷ []), sum_by-cons weight glob [])
+
+weight_other : (glob : Pattern) → is_simple (characters_of glob) ≡ false
+    → weight glob ≡ 2 * length (characters_of glob) + 2
+weight_other glob isnt = ap (λ b. if b then 0 else 2 * length (characters_of glob) + 2) isnt
+
+-- what fits and is not simple, as a glob comes
+
+other_more : (globs : List Pattern) (glob : Pattern) (i : ℕ) (path : List ℕ) → FitsOther globs i path
+    → FitsOther (globs ++ glob ∷ []) i path
+other_more globs glob i path h = record
+    { glob = h.glob; at = get_left globs glob i h.at; not_simple = h.not_simple; fits = h.fits }
+
+other_cases : (globs : List Pattern) (glob : Pattern) (i : ℕ) (path : List ℕ) → FitsOther (globs ++ glob ∷ []) i path →
+    FitsOther globs i path ⊎
+    ((i ≡ length globs) × (is_simple (characters_of glob) ≡ false) × Fits (tokens_of glob) path)
+other_cases globs glob i path h = elim (get_more globs glob i h.at) [
+  | inl old ↦ inl (record { glob = h.glob; at = old; not_simple = h.not_simple; fits = h.fits })
+  | inr new ↦ inr (
+    new.0,
+    ap (λ g. is_simple (characters_of g)) (sym new.1) ∙ h.not_simple,
+    subst (λ g. Fits (tokens_of g) path) new.1 h.fits,
+  )
+]
+
+pub compiled_simple : (globs : List Pattern) (glob : Pattern) (states : List State) (starts : List ℕ)
+    → IsGlob (characters_of glob) (tokens_of glob) → is_simple (characters_of glob) ≡ true →
+    AreCompiled globs states starts → AreCompiled (globs ++ glob ∷ []) states starts
+compiled_simple globs glob states starts own is x = record {
+  globs_are = globs_more globs glob own x.globs_are;
+  program = x.program;
+  within = x.within;
+  leads = λ i path. (
+    λ s. other_more globs glob i path ((x.leads i path).0 s),
+    λ h. (x.leads i path).1 (old i path (other_cases globs glob i path h)),
+  );
+  size = omega (arith, x.size, weight_more globs glob);
+} where
+  old : (i : ℕ) (path : List ℕ)
+      → FitsOther globs i path ⊎
+      ((i ≡ length globs) × (is_simple (characters_of glob) ≡ false) × Fits (tokens_of glob) path)
+      → FitsOther globs i path
+  old i path (inl h) = h
+  old i path (inr h) = absurd (false≢true (sym h.1 ∙ is))
+
+-- the end of a glob
+
+end_inj : {a b : ℕ} → End a ≡ End b → a ≡ b
+end_inj e = some_inj (ap end_of e)
+
+end_turn : {states : List State} {number glob own : ℕ} {ds : List ℕ} → Turn states glob number (End own) ds
+    → (glob ≡ own) × (ds ≡ [])
+end_turn (ended e) = (end_inj (sym e), refl)
+end_turn (took h l) = absurd h
+end_turn (moved h l) = absurd h
+
+end_is : {states : List State} {number glob own : ℕ} {cs : List ℕ} → slice_get states number ≡ Some (End own)
+    → Leads states glob number cs → (glob ≡ own) × (cs ≡ [])
+end_is at l = end_turn (turn at l)
+
+stands_end : {states : List State} {number own : ℕ} → slice_get states number ≡ Some (End own)
+    → StandsFor states own number []
+stands_end {states} {number} {own} at cs = (
+  λ l. subst (λ ds. Fits [] ds) (sym (end_is at l).1) nothing,
+  λ f. subst (λ ds. Leads states own number ds) (sym (nothing_fits f)) (ends at),
+)
+
+no_fit : {cs : List ℕ} {more : List Token} → Fits (Alternatives [] ∷ more) cs → ⊥
+no_fit {cs} {more} f = none_fits more cs (one_from_fits more [] cs f)
+
+stands_none : {states : List State} {number own glob : ℕ} → slice_get states number ≡ Some (End own) → glob ≢ own
+    → StandsFor states glob number (Alternatives [] ∷ [])
+stands_none at other cs = (λ l. absurd (other (end_is at l).0), λ f. absurd (no_fit f))
+
+pub compiled_other : (globs : List Pattern) (glob : Pattern) (states states' : List State) (starts starts' : List ℕ)
+    → is_simple (characters_of glob) ≡ false → AreCompiled globs states starts →
+    AddsStates glob (length globs) states starts states' starts' → AreCompiled (globs ++ glob ∷ []) states' starts'
+compiled_other globs glob states states' starts starts' isnt x a = record {
+  globs_are = globs_more globs glob a.is_glob x.globs_are;
+  program = a.built.program;
+  within = λ n h. within n (cases n h);
+  leads = λ i path. (
+    λ s. to i path s.number s.leads (cases s.number s.is_marked),
+    λ h. from i path (other_cases globs glob i path h),
+  );
+  size = omega (
+    arith,
+    a.built.size,
+    glob_states a.is_glob,
+    length_pushed a.pushed,
+    x.size,
+    weight_more globs glob,
+    weight_other glob isnt,
+  );
+} where
+  grows : Grows states states'
+  grows = grows_on (grows_push a.pushed) a.built.grows
+
+  cases : (n : ℕ) → Contains starts' n → Contains starts n ⊎ (a.start ≡ n)
+  cases n h = Contains-push_cases starts a.start n (subst (λ l. Contains l n) a.whole h)
+
+  old_start : (n : ℕ) → Contains starts n → Contains starts' n
+  old_start n h = subst (λ l. Contains l n) (sym a.whole) (Contains-append_left starts (a.start ∷ []) n h)
+
+  new_start : Contains starts' a.start
+  new_start = subst (λ l. Contains l a.start) (sym a.whole) (Contains-push starts a.start)
+
+  within : (n : ℕ) → Contains starts n ⊎ (a.start ≡ n) → n < length states'
+  within n (inl h) = omega (arith, x.within n h, length_grown grows)
+  within n (inr e) = omega (arith, e, a.built.in_range)
+
+  own : (path : List ℕ) → Leads states' (length globs) a.start path ↔ Fits (tokens_of glob) path
+  own path =
+      let stands = a.built.stands (length globs) [] (stands_end (pushed_at a.pushed)) path in (
+        λ l. subst (λ ts. Fits ts path) (append-nil (tokens_of glob)) (stands.0 l),
+        λ f. stands.1 (subst (λ ts. Fits ts path) (sym (append-nil (tokens_of glob))) f),
+      )
+
+  none : (i : ℕ) (path : List ℕ) → i ≢ length globs → Leads states' i a.start path → ⊥
+  none i path other l =
+      let f = (a.built.stands i (Alternatives [] ∷ []) (stands_none (pushed_at a.pushed) other) path).0 l in
+      let s = split_list (tokens_of glob) (Alternatives [] ∷ []) path f in
+      no_fit s.fits
+
+  at_new : (i : ℕ) (path : List ℕ) → Leads states' i a.start path → (i ≡ length globs) ⊎ (i ≢ length globs)
+      → FitsOther (globs ++ glob ∷ []) i path
+  at_new i path l (inr other) = absurd (none i path other l)
+  at_new i path l (inl same) = record {
+    glob = glob;
+    at = get_last globs glob i same;
+    not_simple = isnt;
+    fits = (own path).0 (subst (λ k. Leads states' k a.start path) same l);
+  }
+
+  to : (i : ℕ) (path : List ℕ) (n : ℕ) → Leads states' i n path → Contains starts n ⊎ (a.start ≡ n)
+      → FitsOther (globs ++ glob ∷ []) i path
+  to i path n l (inl h) = other_more globs glob i path
+      ((x.leads i path).0 (record
+      { number = n; is_marked = h; leads = leads_ungrown x.program (x.within n h) grows l }))
+  to i path n l (inr e) = at_new i path (subst (λ k. Leads states' i k path) (sym e) l) (cases_eq i (length globs))
+
+  from : (i : ℕ) (path : List ℕ)
+      → FitsOther globs i path ⊎
+      ((i ≡ length globs) × (is_simple (characters_of glob) ≡ false) × Fits (tokens_of glob) path)
+      → SomeLeads states' starts' i path
+  from i path (inl h) = let s = (x.leads i path).1 h in
+      record { number = s.number; is_marked = old_start s.number s.is_marked; leads = leads_grown grows s.leads }
+  from i path (inr h) = record {
+    number = a.start;
+    is_marked = new_start;
+    leads = subst (λ k. Leads states' k a.start path) (sym h.0)
+        ((own path).1 h.2);
+  }
+
+pub compiled_none : {states : List State} {starts : List ℕ} → states ≡ [] → starts ≡ [] → AreCompiled [] states starts
+compiled_none {states} {starts} e f = subst (λ s. AreCompiled [] s starts) (sym e)
+    (subst (λ s. AreCompiled [] [] s) (sym f) (record {
+      globs_are = λ i g at. none_at at;
+      program = record { points = λ n s at. none_at at };
+      within = λ n h. contains_none h;
+      leads = λ i path. (λ s. contains_none s.is_marked, λ h. none_at h.at);
+      size = omega arith;
+    }))
+
+-- the whole index, with a glob more
+
+pub indexes_simple : {glob : Pattern} {number : ℕ} {name : List ℕ} {extensions extensions' : List Extension}
+    {states : List State} {starts : List ℕ} → IsGlob (characters_of glob) (tokens_of glob) →
+    is_simple (characters_of glob) ≡ true → extension_of (characters_of glob) ≡ name
+    → IsExtended extensions name number extensions'
+    → Indexes glob number extensions states starts extensions' states starts
+indexes_simple {glob} {number} {name} {extensions} {extensions'} {states} {starts} own is named e = record {
+  more = λ globs size x y. (
+    indexed_simple globs glob extensions extensions' is x
+        (subst (λ n. IsExtended extensions n (length globs) extensions') (sym named)
+        (subst (λ k. IsExtended extensions name k extensions') (sym size) e)),
+    compiled_simple globs glob states starts own is y,
+  );
+}
+
+pub indexes_other : {glob : Pattern} {number : ℕ} {extensions : List Extension} {states states' : List State}
+    {starts starts' : List ℕ} → is_simple (characters_of glob) ≡ false →
+    AddsStates glob number states starts states' starts'
+    → Indexes glob number extensions states starts extensions states' starts'
+indexes_other {glob} {number} {extensions} {states} {states'} {starts} {starts'} isnt a = record {
+  more = λ globs size x y. (
+    indexed_other globs glob extensions isnt x,
+    compiled_other globs glob states states' starts starts' isnt y
+        (subst (λ k. AddsStates glob k states starts states' starts') (sym size) a),
+  );
+}
+
+-- the globs that fit
+
+record GlobAt (globs : List Pattern) (i : ℕ) (path : List ℕ) : Type 0 where
+  glob : Pattern
+  at : slice_get globs i ≡ Some glob
+  fits : Fits (tokens_of glob) path
+
+glob_at : (globs : List Pattern) (i : ℕ) (path : List ℕ) → FitsAt globs i path → GlobAt globs i path
+glob_at [] i path h = absurd h
+glob_at (glob ∷ globs) zero path h = record { glob = glob; at = refl; fits = h }
+glob_at (glob ∷ globs) (suc i) path h = let g = glob_at globs i path h in
+    record { glob = g.glob; at = g.at; fits = g.fits }
+
+fits_at : (globs : List Pattern) (i : ℕ) (path : List ℕ) (glob : Pattern) → slice_get globs i ≡ Some glob
+    → Fits (tokens_of glob) path → FitsAt globs i path
+fits_at globs i path glob e h = subst (λ o. IsSomeAnd o (λ g. Fits (tokens_of g) path)) (sym e) h
+
+fits_by : (globs : List Pattern) (states : List State) (starts : List ℕ) → AreCompiled globs states starts
+    → (i : ℕ) (path : List ℕ) → FitsAt globs i path → FitsSimply globs path i ⊎ SomeLeads states starts i path
+fits_by globs states starts x i path f = go (glob_at globs i path f) where
+  by_test : (g : GlobAt globs i path) (test : Bool) → is_simple (characters_of g.glob) ≡ test
+      → FitsSimply globs path i ⊎ SomeLeads states starts i path
+  by_test g true is = inl (
+    extension_of (characters_of g.glob),
+    (simple_fits (x.globs_are i g.glob g.at) is).0 g.fits,
+    record { glob = g.glob; at = g.at; simple = is; named = refl },
+  )
+  by_test g false isnt = inr
+      ((x.leads i path).1 (record { glob = g.glob; at = g.at; not_simple = isnt; fits = g.fits }))
+
+  go : GlobAt globs i path → FitsSimply globs path i ⊎ SomeLeads states starts i path
+  go g = by_test g (is_simple (characters_of g.glob)) refl
+
+pub simply_fits : (globs : List Pattern) (states : List State) (starts : List ℕ) → AreCompiled globs states starts
+    → (i : ℕ) (path : List ℕ) → FitsSimply globs path i → FitsAt globs i path
+simply_fits globs states starts x i path h =
+    let asks = h.2 in
+    fits_at globs i path asks.glob asks.at
+    ((simple_fits (x.globs_are i asks.glob asks.at) asks.simple).1 (h.1 ∙ ap (λ n. Some n) (sym asks.named)))
+
+by_fits : (globs : List Pattern) (states : List State) (starts : List ℕ) → AreCompiled globs states starts
+    → (i : ℕ) (path : List ℕ) → FitsSimply globs path i ⊎ SomeLeads states starts i path → FitsAt globs i path
+by_fits globs states starts x i path (inl h) = simply_fits globs states starts x i path h
+by_fits globs states starts x i path (inr s) = let o = (x.leads i path).0 s in fits_at globs i path o.glob o.at o.fits
+
+at_inside : (globs : List Pattern) (i : ℕ) (path : List ℕ) → FitsAt globs i path → i < length globs
+at_inside globs i path f = let g = glob_at globs i path f in slice_get_within globs i g.glob g.at
+
+none_noted : (n i : ℕ) → get_or (replicate n false) i false ≡ true → ⊥
+none_noted zero i e = absurd (false≢true e)
+none_noted (suc n) zero e = absurd (false≢true e)
+none_noted (suc n) (suc i) e = none_noted n i e
+
+pub noted_fit : (globs : List Pattern) (states : List State) (starts path : List ℕ) (old mid new : List Bool)
+    → AreCompiled globs states starts → old ≡ replicate (length globs) false → length old ≡ length globs →
+    length mid ≡ length old → length new ≡ length mid → Notes (FitsSimply globs path) old mid
+    → Notes (λ i. SomeLeads states starts i path) mid new → (i : ℕ)
+    → (get_or new i false ≡ true) ↔ FitsAt globs i path
+noted_fit globs states starts path old mid new x none size one two first second i = (λ e. to e, λ f. from f) where
+  whole : Notes (λ k. FitsAt globs k path) old new
+  whole = notes_on one (λ k f. fits_by globs states starts x k path f) (λ k h. by_fits globs states starts x k path h)
+      first second
+
+  go : (get_or old i false ≡ true) ⊎ FitsAt globs i path → FitsAt globs i path
+  go (inl e) = absurd (none_noted (length globs) i (subst (λ l. get_or l i false ≡ true) none e))
+  go (inr f) = f
+
+  to : get_or new i false ≡ true → FitsAt globs i path
+  to e = let p = marked_inside new i e in go ((whole.each i (omega (arith, p, one, two))).0 e)
+
+  from : FitsAt globs i path → get_or new i false ≡ true
+  from f = let p = at_inside globs i path f in (whole.each i (omega (arith, p, size))).1 (inr f)
+
+pub fitting_of : (globs : List Pattern) (path : List ℕ) {indices : List ℕ} (fitting : List Bool)
+    → ((i : ℕ) → (get_or fitting i false ≡ true) ↔ FitsAt globs i path) → AreNoted fitting indices
+    → AreFitting globs path indices
+fitting_of globs path fitting same noted = record {
+  ascending = noted.ascending;
+  exact = λ i. (
+    λ c. (same i).0 ((noted.exact i).0 c),
+    λ f. (noted.exact i).1 ((same i).1 f),
+  );
+}
+
+pub first_fitting_of : (globs : List Pattern) (path : List ℕ) {indices : List ℕ} (fitting : List Bool)
+    → ((i : ℕ) → (get_or fitting i false ≡ true) ↔ FitsAt globs i path) → AreFirstNoted fitting indices
+    → AreFirstFitting globs path indices
+first_fitting_of globs path fitting same noted = record {
+  ascending = noted.ascending;
+  fit = λ i c. (same i).0 (noted.noted i c);
+  first = λ i j c below f. noted.first i j c below ((same i).1 f);
+}
+
+pub first_of_none : (globs : List Pattern) (path : List ℕ) {indices : List ℕ} → indices ≡ []
+    → AreFirstFitting globs path indices
+first_of_none globs path {indices} e = subst (AreFirstFitting globs path) (sym e) (record {
+  ascending = λ k p. absurd (omega arith);
+  fit = λ i c. contains_none c;
+  first = λ i j c below f. contains_none c;
+})
+
+-- steps
+
+pub names_fewer : (globs : List Pattern) (extensions : List Extension) (names : List (List ℕ))
+    → IsIndexed globs extensions → HasExtensions globs names → length extensions ≤ length names
+names_fewer globs extensions names x has = omega (arith, length-ascending nat_list_cmp_total (map name_of extensions) names x.ascend there, length-map extensions name_of) where
+  mapped : (o : Option Extension) (z : List ℕ) → option_map name_of o ≡ Some z
+      → (e : Extension) × (o ≡ Some e) × (e.name ≡ z)
+  mapped None z e = cc
+  mapped (Some e) z same = (e, refl, some_inj same)
+
+  there : (z : List ℕ) → Contains (map name_of extensions) z → Contains names z
+  there z h =
+      let at = slice_get_read (map name_of extensions) (length (map name_of extensions)) h.0 z refl h.1 (sym h.2) in
+      let m = mapped (slice_get extensions h.0) z (sym (slice_get-map name_of extensions h.0) ∙ at) in
+      let some = x.some h.0 m.0 m.1 in
+      subst (λ n. Contains names n) m.2 (has some.0 m.0.name ((x.numbers h.0 m.0 m.1 some.0).0 some.1))
+
+pub named_bound : (extensions : List Extension) (name : List ℕ) (place start steps : ℕ) (extension : Extension)
+    → slice_get extensions place ≡ Some extension → extension.name ≡ name →
+    ((d : ℕ) → length extensions < 2 ^ d → steps ≤ start + d)
+    → BoundsNamed extensions name start (steps + length extension.globs)
+named_bound extensions name place start steps extension at named bound globs hits d x covers less =
+    let fewer = length-ascending nat_cmp_total extension.globs hits (x.once place extension at)
+    (λ i c. covers i (subst (λ n. AsksFor globs i n) named ((x.numbers place extension at i).0 c))) in
+    omega (arith, bound d less, fewer)
+
+walk_bound : (places states weights : ℕ) → states ≤ weights → places * states ≤ places * weights
+walk_bound places states weights p = mul-le places states places weights (omega arith) p
+
+pub total_bound : (globs : List Pattern) (extensions : List Extension) (states : List State) (starts path : List ℕ)
+    (first second third : ℕ) → IsIndexed globs extensions → AreCompiled globs states starts →
+    BoundsSimple extensions path first second → third ≤ second + (length path + 1) * length states
+    → KeepsBound globs path first third
+total_bound globs extensions states starts path first second third x y simple walk names hits d has covers less =
+    let fewer = names_fewer globs extensions names x has in
+    let one = simple globs hits d x (λ i h. covers i h.0 h.2 (simply_fits globs states starts y i path h))
+    (omega (arith, fewer, less)) in
+    let two = walk_bound (length path + 1) (length states) (weight_of globs) y.size in
+    omega (arith, one, two, walk)
+
+-- the extension that was found
+
+pub named_at : {extensions : List Extension} {name : List ℕ} {place : ℕ} {extension : Extension}
+    → IsNamedAt extensions name place → extension ≡ get_or extensions place extension →
+    (slice_get extensions place ≡ Some extension) × (extension.name ≡ name)
+named_at {extensions} {name} {place} {extension} found is =
+    let at = slice_get_read extensions (length extensions) place extension refl
+    (slice_get_within extensions place found.extension found.at) is in
+    (at, ap name_of (some_inj (sym at ∙ found.at)) ∙ found.named)
+
+pub notes_named : {extensions : List Extension} {name : List ℕ} (place : ℕ) (extension : Extension)
+    {old new : List Bool} → slice_get extensions place ≡ Some extension → extension.name ≡ name →
+    Notes (Contains extension.globs) old new → NotesNamed extensions name old new
+notes_named place extension at named notes globs x =
+    notes_same (λ i. (
+      λ c. subst (λ n. AsksFor globs i n) named ((x.numbers place extension at i).0 c),
+      λ h. (x.numbers place extension at i).1 (subst (λ n. AsksFor globs i n) (sym named) h),
+    )) notes
+
+pub notes_gap : {extensions : List Extension} {name : List ℕ} {place : ℕ} {old : List Bool}
+    → IsGap extensions name place → NotesNamed extensions name old old
+notes_gap {extensions} {name} {place} gap globs x = notes_none refl
+    (λ i p h. no_asks globs extensions name place x gap i h)

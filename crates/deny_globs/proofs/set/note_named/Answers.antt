@@ -1,0 +1,30 @@
+use Rattle.std.proofs.Common.{arith, ap, length, subst, sym, ◌∙◌}
+use Rattle.deny_globs.specs.Index.{globs_of}
+use Rattle.std.specs.Prelude.{Contains}
+use Rattle.deny_globs.specs.Walk.{Notes}
+use Rattle.deny_globs.proofs.SetLemmas.{named_at, named_bound, notes_named, notes_gap}
+use Rattle.deny_globs.proofs.set.note_named.Goals as goal
+
+pub returns-in-Ok-clause-steps : goal.returns-in-Ok-clause-steps
+returns-in-Ok-clause-steps g c globs hits d x covers less =
+    let extension = c.index-extensions-place.result in
+    let at = named_at c.in-Ok.ensures.found c.index-extensions-place.is in
+    let bound = named_bound c.args.extensions.now c.args.name.now c.in-Ok.place c.args.steps.now
+    c.find_extension.new.steps extension at.0 at.1 c.find_extension.ensures.steps globs hits d x covers less in
+    omega (
+      arith,
+      bound,
+      c.note_all.ensures.steps,
+      ap length c.as_slice.ensures,
+      ap (λ e. length (globs_of e)) c.index-extensions-place.is,
+    )
+
+pub returns-in-Ok-clause-notes : goal.returns-in-Ok-clause-notes
+returns-in-Ok-clause-notes g c =
+    let at = named_at c.in-Ok.ensures.found c.index-extensions-place.is in
+    notes_named c.in-Ok.place c.index-extensions-place.result at.0 at.1
+    (subst (λ l. Notes (Contains l) c.args.fitting.now c.note_all.new.fitting) (c.as_slice.ensures
+    ∙ ap globs_of (sym c.index-extensions-place.is)) c.note_all.ensures.notes)
+
+pub returns-in_default-clause-notes : goal.returns-in_default-clause-notes
+returns-in_default-clause-notes g c = notes_gap c.in_default.ensures.absent

@@ -1,0 +1,79 @@
+use Rattle.std.proofs.Common.{arith, ap, sym, subst, length, drop, length-drop, ◌∙◌, ◌≡◌, ◌+◌, ◌-◌, ◌*◌}
+use Rattle.std.specs.Prelude.{Contains}
+use Rattle.deny_globs.specs.Walk.{HasEnd, Notes}
+use Rattle.deny_globs.proofs.MarkedLemmas.{take_all}
+use Rattle.deny_globs.proofs.WalkLemmas.{IsAtPlace, at_next_place, at_last_place, rest_at_end, notes_back, times}
+use Rattle.deny_globs.proofs.walk.walk.Goals as goal
+
+pub mark_starts-requires-clause-within : goal.mark_starts-requires-clause-within
+mark_starts-requires-clause-within g c n h = omega (arith, c.requires.within n h, c.in_ok-now.ensures.room)
+
+pub loop-place-preserved : goal.loop-place-preserved
+loop-place-preserved g c =
+    let p = c.in_ok-pass.ensures in
+    let old = c.loop-place.invariant in
+    record {
+      at = subst (λ v. IsAtPlace c.args.states.now c.args.starts.now c.args.path.now (c.loop-place.place + 1) v.0)
+          (sym c.swap.ensures.x_after)
+          (at_next_place c.loop-place.place (omega arith)
+          (take_all (drop c.loop-place.place c.args.path.now) (length c.args.path.now - c.loop-place.place)
+          (omega (arith, length-drop c.loop-place.place c.args.path.now))) old.at p.ok);
+      none = ap (λ v. v.0) c.swap.ensures.y_after ∙ c.clear.ensures.empty;
+      now = omega (arith, ap (λ v. v.1) c.swap.ensures.x_after, p.next, old.next);
+      next = omega (arith, ap (λ v. v.1) c.swap.ensures.y_after, c.clear.ensures.room, p.now, old.now);
+      bound = omega (
+        arith,
+        ap (λ v. length v.0) c.swap.ensures.x_after,
+        ap (λ v. v.1) c.swap.ensures.x_after,
+        p.next_bound,
+      );
+      steps = omega (
+        arith,
+        p.steps,
+        old.steps,
+        p.now_bound,
+        p.now,
+        old.now,
+        ap (λ v. length v.0) c.swap.ensures.x_after,
+        times c.loop-place.place (length c.args.states.now),
+      );
+    }
+
+pub returns-in_err-pass-2-clause-steps : goal.returns-in_err-pass-2-clause-steps
+returns-in_err-pass-2-clause-steps g c =
+    let p = c.in_err-pass-2.ensures in
+    let n = length c.args.states.now in
+    let size = length c.args.path.now in
+    let rest_is = take_all (drop size c.args.path.now) (size - size) (omega (arith, length-drop size c.args.path.now))
+    in
+    let none = p.none (rest_at_end c.args.path.now rest_is) in
+    let last : c.loop-place.place ≡ size = omega arith in
+    omega (
+      arith,
+      p.steps,
+      p.now_bound,
+      p.now,
+      c.loop-place.invariant.now,
+      c.loop-place.invariant.steps,
+      ap length none,
+      ap (λ k. k * n) last,
+      times size n,
+    )
+
+pub note_ends-requires : goal.note_ends-requires
+note_ends-requires g c n h =
+    omega (
+      arith,
+      c.as_slice.ensures.inside n (subst (λ l. Contains l n) c.as_slice.ensures.value h),
+      c.in_ok-pass-2.ensures.now,
+      c.loop-place.invariant.now,
+    )
+
+pub returns-clause-notes : goal.returns-clause-notes
+returns-clause-notes g c =
+    notes_back (at_last_place c.loop-place.place (omega arith)
+    (take_all (drop (length c.args.path.now) c.args.path.now) (length c.args.path.now - length c.args.path.now)
+    (omega (arith, length-drop (length c.args.path.now) c.args.path.now))) c.loop-place.invariant.at
+    c.in_ok-pass-2.ensures.ok)
+    (subst (λ l. Notes (HasEnd c.args.states.now l) c.args.fitting.now c.note_ends.new.fitting) c.as_slice.ensures.value
+    c.note_ends.ensures.notes)

@@ -1,0 +1,59 @@
+-- A compiled glob: its states, and what leads from one of them to the glob's end.
+use Rattle.std.specs.Prelude.{ℕ, ◌≡◌, ◌<◌, ◌⊎◌, List, [], ◌∷◌, Option, Some, None, IsTrue, Contains, slice_get, nat_eq}
+use Rattle.deny_globs.specs.declared.state.State.{State}
+use Rattle.deny_globs.specs.declared.state.State.TheVariants.{End, Character, AnyCharacter, OneOf, AnyText, Either, Never}
+use Rattle.deny_globs.specs.Class.{class_takes}
+
+-- the glob whose end the state is
+abbrev pub end_of : State → Option ℕ
+end_of (End glob) = Some glob
+end_of (Character d next) = None
+end_of (AnyCharacter next) = None
+end_of (OneOf class next) = None
+end_of (AnyText next) = None
+end_of (Either first second) = None
+end_of Never = None
+
+-- what this state stands for is also what the state with that number stands for, without a character more
+abbrev pub IsAtOnce : State → ℕ → Type 0
+IsAtOnce (End glob) number = ⊥
+IsAtOnce (Character d next) number = ⊥
+IsAtOnce (AnyCharacter next) number = ⊥
+IsAtOnce (OneOf class next) number = ⊥
+IsAtOnce (AnyText next) number = number ≡ next
+IsAtOnce (Either first second) number = (number ≡ first) ⊎ (number ≡ second)
+IsAtOnce Never number = ⊥
+
+-- from this state, which has its own number, the character leads to the state with that number
+abbrev pub IsBehind : ℕ → State → ℕ → ℕ → Type 0
+IsBehind own (End glob) c number = ⊥
+IsBehind own (Character d next) c number = IsTrue (nat_eq d c) × (number ≡ next)
+IsBehind own (AnyCharacter next) c number = number ≡ next
+IsBehind own (OneOf class next) c number = IsTrue (class_takes class c) × (number ≡ next)
+IsBehind own (AnyText next) c number = number ≡ own
+IsBehind own (Either first second) c number = ⊥
+IsBehind own Never c number = ⊥
+
+-- the characters lead from the state with this number to the end of the glob with that number
+pub data Leads (states : List State) (glob : ℕ) : ℕ → List ℕ → Type 0 where
+  ends : {number : ℕ} → slice_get states number ≡ Some (End glob) → Leads states glob number []
+  over : {number next c : ℕ} {cs : List ℕ} (state : State) → slice_get states number ≡ Some state →
+      IsBehind number state c next → Leads states glob next cs → Leads states glob number (c ∷ cs)
+  aside : {number next : ℕ} {cs : List ℕ} (state : State) → slice_get states number ≡ Some state →
+      IsAtOnce state next → Leads states glob next cs → Leads states glob number cs
+
+-- the states that come next have numbers below this one
+abbrev pub PointsBelow : ℕ → State → Type 0
+PointsBelow n (End glob) = Unit {0}
+PointsBelow n (Character d next) = next < n
+PointsBelow n (AnyCharacter next) = next < n
+PointsBelow n (OneOf class next) = next < n
+PointsBelow n (AnyText next) = next < n
+PointsBelow n (Either first second) = (first < n) × (second < n)
+PointsBelow n Never = Unit {0}
+
+-- some of the marked states is one from which the characters lead to the end of the glob
+pub record SomeLeads (states : List State) (marked : List ℕ) (glob : ℕ) (cs : List ℕ) : Type 0 where
+  pub number : ℕ
+  pub is_marked : Contains marked number
+  pub leads : Leads states glob number cs

@@ -1,0 +1,290 @@
+ghost use Rattle.std.specs.Prelude.{ℕ, List, ◌≡◌, ◌<◌, ◌≤◌, ◌+◌, ◌*◌, ◌^◌, ◌↔◌, ◌∷◌, ◌++◌, [], length, OnOk, OnErr, Contains, IfOk, if◌then◌else◌, replicate, false};
+ghost use Rattle.std.specs.List.Sorted.{IsStrictlyIncreasing};
+ghost use Rattle.std.specs.Str.{chars};
+ghost use Rattle.deny_globs.specs.Compiled.{IsProgram, Grows, AddsStates};
+ghost use Rattle.deny_globs.specs.Index.{Ascend, IsIndexed, AreCompiled, NotesNamed, NotesSimple, BoundsNamed, BoundsSimple, Indexes, AreNoted, AreFirstNoted};
+ghost use Rattle.deny_globs.specs.Sets.{FitsAt, KeepsBound, AreFitting, AreFirstFitting};
+ghost use Rattle.deny_globs.specs.Walk.{Notes};
+
+use crate::compile::{compile, push_state};
+use crate::extensions::{Extension, add_extension, find_extension, is_simple, last_extension};
+use crate::glob::{Glob, characters_of};
+use crate::state::State;
+use crate::walk::{note, walk};
+use deny_lists::{List, NoMemory, Steps};
+use std::alloc::Global;
+use std::marker::{Brand, Model};
+use std::sync::ledger::{Blank, Ledger};
+
+/// Globs, each with the number that it was added as.
+#[derive(Drop)]
+pub struct GlobSet {
+    globs: List<Glob>,
+    extensions: Vec<Extension>,
+    states: Vec<State>,
+    starts: Vec<usize>,
+}
+
+impl Model for GlobSet {
+    ghost use Rattle.std.specs.Prelude.{List};
+    ghost use Rattle.std.specs.Coded.{codes};
+    ghost use Rattle.deny_globs.specs.Index.{IsIndexed, AreCompiled};
+    ghost use Rattle.deny_globs.specs.Patterns.{Pattern};
+    ghost use Rattle.deny_globs.specs.contracts.token.Token as token;
+
+    ghost Value = { List Pattern };
+
+    ghost coded = { Prim.hlevel (codes, token.the_row.coded) };
+
+    ghost view = { λ s. s.globs };
+
+    ghost invariant = { λ s. IsIndexed s.globs s.extensions.items × AreCompiled s.globs s.states.items s.starts.items };
+}
+
+impl GlobSet {
+    /// The set with no globs.
+    pub fn empty(alloc: Global) -> GlobSet
+        ensures { result ≡ [] }
+    {
+        GlobSet {
+            globs: List::new(alloc),
+            extensions: Vec::new(alloc),
+            states: Vec::new(alloc),
+            starts: Vec::new(alloc),
+        }
+    }
+
+    /// Adds a glob, whose number is how many there were.
+    pub fn add(&mut self, glob: Glob) -> Result<(), NoMemory>
+        ensures ok { OnOk result (self.new ≡ self.old ++ glob ∷ []) }
+        ensures err { OnErr result (self.new ≡ self.old) }
+    {
+        let number = self.globs.len();
+        self.globs.vec.reserve(1)?;
+        index_glob(
+            &glob,
+            number,
+            &mut self.extensions,
+            &mut self.states,
+            &mut self.starts,
+        )?;
+        self.globs.vec.push(glob)?;
+        Ok(())
+    }
+
+    /// Clears the list, and puts into it the numbers of the globs that fit the whole path,
+    /// ascending. On want of memory the list holds the first of them.
+    pub fn matches(&self, path: &str, indices: &mut Vec<usize>) -> Result<(), NoMemory>
+        ensures ascending { OnOk result (IsStrictlyIncreasing indices.new.items) }
+        ensures exact { OnOk result ((i : ℕ) → Contains indices.new.items i ↔ FitsAt self.now i (chars path.now)) }
+        ensures short { OnErr result (AreFirstFitting self.now (chars path.now) indices.new.items) }
+    {
+        indices.clear();
+        let characters = characters_of(*indices.allocator(), path)?;
+        find_uncounted::<Brand>(self, &characters, indices, Blank::new(1))
+    }
+
+    /// The same, and counts its steps: a step is one comparison of extensions, one number of a
+    /// simple glob given, or one state marked at one place of the path.
+    pub fn matches_counted<L: Ledger>(
+        &self,
+        path: &str,
+        indices: &mut Vec<usize>,
+        steps: &mut Steps<L>,
+    ) -> Result<(), NoMemory>
+        ensures ascending { OnOk result (IsStrictlyIncreasing indices.new.items) }
+        ensures exact { OnOk result ((i : ℕ) → Contains indices.new.items i ↔ FitsAt self.now i (chars path.now)) }
+        ensures short { OnErr result (AreFirstFitting self.now (chars path.now) indices.new.items) }
+        ensures steps { KeepsBound self.now (chars path.now) steps.old steps.new }
+    {
+        indices.clear();
+        let characters = characters_of(*indices.allocator(), path)?;
+        find_fitting(self, &characters, indices, steps)
+    }
+}
+
+/// Puts the numbers of the globs that fit into the list, which is empty.
+fn find_fitting<L: Ledger>(
+    set: &GlobSet,
+    path: &[char],
+    indices: &mut Vec<usize>,
+    steps: &mut Steps<L>,
+) -> Result<(), NoMemory>
+    requires { indices.old.items ≡ [] }
+    ensures ok { OnOk result (AreFitting set.now path.now indices.new.items) }
+    ensures err { OnErr result (AreFirstFitting set.now path.now indices.new.items) }
+    ensures steps { KeepsBound set.now path.now steps.old steps.new }
+{
+    let mut fitting = vec![in *indices.allocator(); false; set.globs.len()]?;
+    list_fitting(set, path, &mut fitting, indices, steps)
+}
+
+/// The same, where no steps are counted.
+fn find_uncounted<L: Ledger>(
+    set: &GlobSet,
+    path: &[char],
+    indices: &mut Vec<usize>,
+    blank: Blank,
+) -> Result<(), NoMemory>
+    requires name { blank.name ≡ L.name }
+    requires parts { blank.parts ≡ L.parts }
+    requires whole { 0 < L.parts }
+    requires empty { indices.old.items ≡ [] }
+    ensures ok { OnOk result (AreFitting set.now path.now indices.new.items) }
+    ensures err { OnErr result (AreFirstFitting set.now path.now indices.new.items) }
+{
+    let mut steps: Steps<L> = Steps::new(blank);
+    find_fitting(set, path, indices, &mut steps)
+}
+
+/// Puts the numbers of the globs that fit into the list, which is empty; none is noted yet.
+fn list_fitting<L: Ledger>(
+    set: &GlobSet,
+    path: &[char],
+    fitting: &mut [bool],
+    indices: &mut Vec<usize>,
+    steps: &mut Steps<L>,
+) -> Result<(), NoMemory>
+    requires none { fitting.old ≡ replicate (length set.now) false }
+    requires empty { indices.old.items ≡ [] }
+    ensures ok { OnOk result (AreFitting set.now path.now indices.new.items) }
+    ensures err { OnErr result (AreFirstFitting set.now path.now indices.new.items) }
+    ensures steps { KeepsBound set.now path.now steps.old steps.new }
+{
+    let alloc = *indices.allocator();
+    note_simple(&set.extensions, path, fitting, steps);
+    walk(alloc, &set.states, &set.starts, path, fitting, steps)?;
+    list_noted(fitting, indices)
+}
+
+/// Puts a glob into the index, under this number.
+fn index_glob(
+    glob: &Glob,
+    number: usize,
+    extensions: &mut Vec<Extension>,
+    states: &mut Vec<State>,
+    starts: &mut Vec<usize>,
+) -> Result<(), NoMemory>
+    requires ascend { Ascend extensions.old.items }
+    requires program { IsProgram states.old.items }
+    ensures ok { OnOk result (Indexes glob.now number extensions.old.items states.old.items starts.old.items extensions.new.items states.new.items starts.new.items) }
+    ensures extensions { OnErr result (extensions.new.items ≡ extensions.old.items) }
+    ensures states { OnErr result (states.new.items ≡ states.old.items) }
+    ensures starts { OnErr result (starts.new.items ≡ starts.old.items) }
+{
+    let characters = glob.characters();
+    if is_simple(characters) {
+        return add_extension(extensions, &characters[2..], number);
+    }
+    add_states(glob, number, states, starts)
+}
+
+/// Puts a glob that is not simple among the states; without memory for all of it, nothing comes.
+fn add_states(
+    glob: &Glob,
+    number: usize,
+    states: &mut Vec<State>,
+    starts: &mut Vec<usize>,
+) -> Result<(), NoMemory>
+    requires { IsProgram states.old.items }
+    ensures ok { OnOk result (AddsStates glob.now number states.old.items starts.old.items states.new.items starts.new.items) }
+    ensures states { OnErr result (states.new.items ≡ states.old.items) }
+    ensures starts { OnErr result (starts.new.items ≡ starts.old.items) }
+{
+    let old = states.len();
+    match push_glob(glob, number, states, starts) {
+        Ok(()) => Ok(()),
+        Err(error) => {
+            states.truncate(old);
+            Err(error)
+        }
+    }
+}
+
+/// Puts a glob among the states.
+fn push_glob(
+    glob: &Glob,
+    number: usize,
+    states: &mut Vec<State>,
+    starts: &mut Vec<usize>,
+) -> Result<(), NoMemory>
+    requires { IsProgram states.old.items }
+    ensures ok { OnOk result (AddsStates glob.now number states.old.items starts.old.items states.new.items starts.new.items) }
+    ensures grows { OnErr result (Grows states.old.items states.new.items) }
+    ensures starts { OnErr result (starts.new.items ≡ starts.old.items) }
+{
+    let alloc = *states.allocator();
+    let end = push_state(states, State::End(number))?;
+    let start = compile(alloc, states, glob.tokens(), end)?;
+    starts.push(start)?;
+    Ok(())
+}
+
+/// Notes the simple globs that fit by the path's extension.
+fn note_simple<L: Ledger>(
+    extensions: &[Extension],
+    path: &[char],
+    fitting: &mut [bool],
+    steps: &mut Steps<L>,
+)
+    requires { Ascend extensions.now }
+    ensures notes { NotesSimple extensions.now path.now fitting.old fitting.new }
+    ensures room { length fitting.new ≡ length fitting.old }
+    ensures steps { BoundsSimple extensions.now path.now steps.old steps.new }
+{
+    if let Some(place) = last_extension(path) {
+        note_named(extensions, &path[place..], fitting, steps);
+    }
+}
+
+/// Notes the simple globs that ask for this extension.
+fn note_named<L: Ledger>(
+    extensions: &[Extension],
+    name: &[char],
+    fitting: &mut [bool],
+    steps: &mut Steps<L>,
+)
+    requires { Ascend extensions.now }
+    ensures notes { NotesNamed extensions.now name.now fitting.old fitting.new }
+    ensures room { length fitting.new ≡ length fitting.old }
+    ensures steps { BoundsNamed extensions.now name.now steps.old steps.new }
+{
+    if let Ok(place) = find_extension(extensions, name, steps) {
+        note_all(extensions[place].globs.as_slice(), fitting, steps);
+    }
+}
+
+/// Notes these globs, with a step for each.
+fn note_all<L: Ledger>(globs: &[usize], fitting: &mut [bool], steps: &mut Steps<L>)
+    ensures notes { Notes (Contains globs.now) fitting.old fitting.new }
+    ensures room { length fitting.new ≡ length fitting.old }
+    ensures steps { steps.new ≡ steps.old + length globs.now }
+{
+    for glob in globs {
+        note(fitting, *glob);
+        steps.tick();
+    }
+}
+
+/// Puts the numbers of the noted globs into the list, which is empty.
+fn list_noted(fitting: &[bool], indices: &mut Vec<usize>) -> Result<(), NoMemory>
+    requires { indices.old.items ≡ [] }
+    ensures ok { OnOk result (AreNoted fitting.now indices.new.items) }
+    ensures err { OnErr result (AreFirstNoted fitting.now indices.new.items) }
+{
+    for (index, is_fitting) in fitting.iter().enumerate() {
+        list_if(*is_fitting, index, indices)?;
+    }
+    Ok(())
+}
+
+/// Adds the number where the test holds.
+fn list_if(test: bool, index: usize, indices: &mut Vec<usize>) -> Result<(), NoMemory>
+    ensures ok { OnOk result (indices.new.items ≡ (if test then indices.old.items ++ index ∷ [] else indices.old.items)) }
+    ensures err { OnErr result (indices.new.items ≡ indices.old.items) }
+{
+    if test {
+        indices.push(index)?;
+    }
+    Ok(())
+}
