@@ -11,12 +11,15 @@ use Rattle.deny_spdx.proofs.StepsLemmas.{LeadsTo, run_by-stuck}
 use Rattle.deny_spdx.proofs.BadLemmas.{IsClear}
 
 -- the reader takes what S spells, and nothing else
-pub record KeepsTo {R A : Type 0} (S : List Token → A → Type 0) (step : R → Token → Option R) (start : R) (whole : R → Option A) : Type 0 where
+pub record KeepsTo {R A : Type 0} (S : List Token → A → Type 0) (step : R → Token → Option R) (start : R)
+    (whole : R → Option A) : Type 0 where
   pub reads : (tokens : List Token) (x : A) → S tokens x → LeadsTo step start whole tokens x
-  pub spelled : (tokens : List Token) (r : R) (x : A) → run_by step start tokens ≡ Some r → whole r ≡ Some x → S tokens x
+  pub spelled : (tokens : List Token) (r : R) (x : A) → run_by step start tokens ≡ Some r → whole r ≡ Some x
+      → S tokens x
   pub begins : (tokens : List Token) (r : R) → run_by step start tokens ≡ Some r → Begin S tokens
 
-pub is_clear : {R A : Type 0} (S : List Token → A → Type 0) (step : R → Token → Option R) (start : R) (whole : R → Option A) → KeepsTo S step start whole → IsClear S
+pub is_clear : {R A : Type 0} (S : List Token → A → Type 0) (step : R → Token → Option R) (start : R) (whole : R
+    → Option A) → KeepsTo S step start whole → IsClear S
 is_clear {R} {A} S step start whole k tokens x y d e =
     let first = k.reads tokens x d in
     let second = k.reads tokens y e in
@@ -25,10 +28,15 @@ is_clear {R} {A} S step start whole k tokens x y d e =
     let found : Some x ≡ Some y = sym first.is ∙ (ap whole same ∙ second.is) in
     cc
 
-pub spells : {R A : Type 0} (S : List Token → A → Type 0) (step : R → Token → Option R) (start : R) (whole : R → Option A) → KeepsTo S step start whole → (text : List ℕ) (last : R) (found : Option A) (x : A) → IsRead step start text last → found ≡ whole last → found ≡ Some x → Spells S text x
-spells S step start whole k text last found x d e f = record { tokens = d.tokens; all = d.all; spelled = k.spelled d.tokens last x d.runs (sym e ∙ f) }
+pub spells : {R A : Type 0} (S : List Token → A → Type 0) (step : R → Token → Option R) (start : R) (whole : R
+    → Option A) → KeepsTo S step start whole → (text : List ℕ) (last : R) (found : Option A) (x : A)
+    → IsRead step start text last → found ≡ whole last → found ≡ Some x → Spells S text x
+spells S step start whole k text last found x d e f = record
+    { tokens = d.tokens; all = d.all; spelled = k.spelled d.tokens last x d.runs (sym e ∙ f) }
 
-not_whole : {R A : Type 0} (S : List Token → A → Type 0) (step : R → Token → Option R) (start : R) (whole : R → Option A) → KeepsTo S step start whole → (tokens : List Token) (last : R) → run_by step start tokens ≡ Some last → whole last ≡ None → AreWhole S tokens → ⊥
+not_whole : {R A : Type 0} (S : List Token → A → Type 0) (step : R → Token → Option R) (start : R) (whole : R
+    → Option A) → KeepsTo S step start whole → (tokens : List Token) (last : R) → run_by step start tokens ≡ Some last
+    → whole last ≡ None → AreWhole S tokens → ⊥
 not_whole S step start whole k tokens last runs nothing w =
     let lead = k.reads tokens w.0 w.1 in
     let to_same : Some lead.to ≡ Some last = sym lead.runs ∙ runs in
@@ -37,7 +45,9 @@ not_whole S step start whole k tokens last runs nothing w =
     cc
 
 -- the text ends too early
-pub ends_bad : {R A : Type 0} (S : List Token → A → Type 0) (step : R → Token → Option R) (start : R) (whole : R → Option A) → KeepsTo S step start whole → (text : List ℕ) (last : R) (found : Option A) → IsRead step start text last → found ≡ whole last → found ≡ None → IsBadAt S text (length text)
+pub ends_bad : {R A : Type 0} (S : List Token → A → Type 0) (step : R → Token → Option R) (start : R) (whole : R
+    → Option A) → KeepsTo S step start whole → (text : List ℕ) (last : R) (found : Option A)
+    → IsRead step start text last → found ≡ whole last → found ≡ None → IsBadAt S text (length text)
 ends_bad S step start whole k text last found d e f = record {
   tokens = d.tokens;
   rest = [];
@@ -47,9 +57,12 @@ ends_bad S step start whole k text last found d e f = record {
   at = omega arith;
 }
 
-wrong_at : {R A : Type 0} (S : List Token → A → Type 0) (step : R → Token → Option R) (start : R) (whole : R → Option A) → KeepsTo S step start whole → (tokens : List Token) (last : R) (rest : List ℕ) → run_by step start tokens ≡ Some last → NoBlankFirst rest → IsStuck step last rest → GoesWrong S tokens rest
+wrong_at : {R A : Type 0} (S : List Token → A → Type 0) (step : R → Token → Option R) (start : R) (whole : R → Option A)
+    → KeepsTo S step start whole → (tokens : List Token) (last : R) (rest : List ℕ)
+    → run_by step start tokens ≡ Some last → NoBlankFirst rest → IsStuck step last rest → GoesWrong S tokens rest
 wrong_at S step start whole k tokens last rest runs plain (reading.no_token b other) = no_token b plain other
-wrong_at {A = A} S step start whole k tokens last rest runs plain (reading.token t begins stuck) = token t begins refuses
+wrong_at {A = A} S step start whole k tokens last rest runs plain (reading.token t begins stuck) = token t begins
+    refuses
   where
     refuses : Begin S (tokens ++ t ∷ []) → ⊥
     refuses b =
@@ -58,7 +71,9 @@ wrong_at {A = A} S step start whole k tokens last rest runs plain (reading.token
         cc
 
 -- a byte or a token can't stand there
-pub stops_bad : {R A : Type 0} (S : List Token → A → Type 0) (step : R → Token → Option R) (start : R) (whole : R → Option A) → KeepsTo S step start whole → (text : List ℕ) (place : ℕ) → StopsAt step start text place → IsBadAt S text place
+pub stops_bad : {R A : Type 0} (S : List Token → A → Type 0) (step : R → Token → Option R) (start : R) (whole : R
+    → Option A) → KeepsTo S step start whole → (text : List ℕ) (place : ℕ) → StopsAt step start text place
+    → IsBadAt S text place
 stops_bad S step start whole k text place d = record {
   tokens = d.to.tokens;
   rest = d.rest;
@@ -68,9 +83,12 @@ stops_bad S step start whole k text place d = record {
   at = d.at;
 }
 
-pub stops_answer : {R A : Type 0} (S : List Token → A → Type 0) (step : R → Token → Option R) (start : R) (whole : R → Option A) → KeepsTo S step start whole → (text : List ℕ) (e : SpdxError) → Stops step start text e → IsAnswer S text (Err e)
+pub stops_answer : {R A : Type 0} (S : List Token → A → Type 0) (step : R → Token → Option R) (start : R) (whole : R
+    → Option A) → KeepsTo S step start whole → (text : List ℕ) (e : SpdxError) → Stops step start text e
+    → IsAnswer S text (Err e)
 stops_answer S step start whole k text (Bad place) d = stops_bad S step start whole k text place d
 stops_answer S step start whole k text Memory d = tt
 
-pub refused_at : {A : Type 0} (S : List Token → A → Type 0) (text : List ℕ) (result : Result A SpdxError) (place : ℕ) → IsAnswer S text result → result ≡ Err (Bad place) → IsBadAt S text place
+pub refused_at : {A : Type 0} (S : List Token → A → Type 0) (text : List ℕ) (result : Result A SpdxError) (place : ℕ)
+    → IsAnswer S text result → result ≡ Err (Bad place) → IsBadAt S text place
 refused_at {A} S text result place d e = let P : Result A SpdxError → Type 0 = λ x. IsAnswer S text x in subst P e d

@@ -11,77 +11,105 @@ use Rattle.deny_spdx.proofs.TokenLemmas.{begins_same, begins_first, begins_some,
 abbrev pub IsClear : {A : Type 0} → (List Token → A → Type 0) → Type 0
 IsClear {A} S = (tokens : List Token) (x y : A) → S tokens x → S tokens y → x ≡ y
 
-no_tokens : {rest : List ℕ} {tokens : List Token} (text : List ℕ) → text ≡ [] → HasTokens text tokens rest → (tokens ≡ []) × (rest ≡ [])
+no_tokens : {rest : List ℕ} {tokens : List Token} (text : List ℕ) → text ≡ [] → HasTokens text tokens rest
+    → (tokens ≡ []) × (rest ≡ [])
 no_tokens text e none = (refl, e)
 no_tokens text e (blank b is d) = cc
 no_tokens text e (more begins d) = absurd (begins_some begins e)
 
-begin_first : {A : Type 0} (S : List Token → A → Type 0) (tokens others : List Token) (t t' : Token) → t' ≡ t → Begin S (tokens ++ t' ∷ others) → Begin S (tokens ++ t ∷ [])
+begin_first : {A : Type 0} (S : List Token → A → Type 0) (tokens others : List Token) (t t' : Token) → t' ≡ t
+    → Begin S (tokens ++ t' ∷ others) → Begin S (tokens ++ t ∷ [])
 begin_first {A} S tokens others t t' e b =
     let P : Token → Type 0 = λ x. Begin S (tokens ++ x ∷ []) in
     let Q : List Token → Type 0 = λ x. AreWhole S x in
-    subst P e (others ++ b.0, subst Q (append_assoc tokens (t' ∷ others) b.0 ∙ sym (append_assoc tokens (t' ∷ []) (others ++ b.0))) b.1)
+    subst P e (
+      others ++ b.0,
+      subst Q (append_assoc tokens (t' ∷ others) b.0 ∙ sym (append_assoc tokens (t' ∷ []) (others ++ b.0))) b.1,
+    )
 
 -- behind a place where it goes wrong nothing goes on
-wrong_ends : {A : Type 0} (S : List Token → A → Type 0) (tokens : List Token) (rest text : List ℕ) (others : List Token) (rest' : List ℕ) → rest ≡ text → GoesWrong S tokens rest → HasTokens text others rest' → Begin S (tokens ++ others) → (others ≡ []) × (rest' ≡ rest)
+wrong_ends : {A : Type 0} (S : List Token → A → Type 0) (tokens : List Token) (rest text : List ℕ) (others : List Token)
+    (rest' : List ℕ) → rest ≡ text → GoesWrong S tokens rest → HasTokens text others rest' → Begin S (tokens ++ others)
+    → (others ≡ []) × (rest' ≡ rest)
 wrong_ends S tokens rest text others rest' same w none b = (refl, sym same)
 wrong_ends S tokens rest text others rest' same (ends whole) (blank b' is d) b = cc
-wrong_ends S tokens rest text others rest' same (no_token b other _) (blank b' is d) b'' = let here : b ≡ b' = cc in let not_blank : is_blank b' ≡ false = ap is_blank (sym here) ∙ other in cc
-wrong_ends S tokens rest text others rest' same (token t begins stuck) (blank b' is d) b = absurd (not_blank b' _ begins same is)
+wrong_ends S tokens rest text others rest' same (no_token b other _) (blank b' is d) b'' = let here : b ≡ b' = cc in
+    let not_blank : is_blank b' ≡ false = ap is_blank (sym here) ∙ other in cc
+wrong_ends S tokens rest text others rest' same (token t begins stuck) (blank b' is d) b = absurd
+    (not_blank b' _ begins same is)
 wrong_ends S tokens rest text others rest' same (ends whole) (more begins d) b = absurd (begins_some begins (sym same))
-wrong_ends S tokens rest text others rest' same (no_token b other nothing) (more begins d) b' = let starts : begins_token b ≡ true = begins_first begins b _ (sym same) in cc
-wrong_ends S tokens rest text others rest' same (token t begins stuck) (more {t = t'} {tokens = those} begins' d) b = absurd (stuck (begin_first S tokens those t t' (sym (begins_same (begins_from same begins) begins').0) b))
+wrong_ends S tokens rest text others rest' same (no_token b other nothing) (more begins d)
+    b' = let starts : begins_token b ≡ true = begins_first begins b _ (sym same) in cc
+wrong_ends S tokens rest text others rest' same (token t begins stuck) (more {t = t'} {tokens = those} begins' d)
+    b = absurd (stuck (begin_first S tokens those t t' (sym (begins_same (begins_from same begins) begins').0) b))
 
-begin_as : {A : Type 0} (S : List Token → A → Type 0) (tokens tokens' : List Token) → tokens ≡ tokens' → Begin S tokens → Begin S tokens'
+begin_as : {A : Type 0} (S : List Token → A → Type 0) (tokens tokens' : List Token) → tokens ≡ tokens' → Begin S tokens
+    → Begin S tokens'
 begin_as S tokens tokens' e b = let P : List Token → Type 0 = λ x. Begin S x in subst P e b
 
-rest_same : {A : Type 0} (S : List Token → A → Type 0) (tokens tokens' : List Token) (rest rest' : List ℕ) → GoesOn tokens rest tokens' rest' → GoesWrong S tokens rest → Begin S tokens' → rest' ≡ rest
-rest_same S tokens tokens' rest rest' g w b = (wrong_ends S tokens rest rest g.others rest' refl w g.between (begin_as S _ _ g.all b)).1
+rest_same : {A : Type 0} (S : List Token → A → Type 0) (tokens tokens' : List Token) (rest rest' : List ℕ)
+    → GoesOn tokens rest tokens' rest' → GoesWrong S tokens rest → Begin S tokens' → rest' ≡ rest
+rest_same S tokens tokens' rest rest' g w
+    b = (wrong_ends S tokens rest rest g.others rest' refl w g.between (begin_as S _ _ g.all b)).1
 
 -- a text goes wrong at one place
-pub place_same : {A : Type 0} (S : List Token → A → Type 0) (text : List ℕ) (p q : ℕ) → IsBadAt S text p → IsBadAt S text q → p ≡ q
+pub place_same : {A : Type 0} (S : List Token → A → Type 0) (text : List ℕ) (p q : ℕ) → IsBadAt S text p
+    → IsBadAt S text q → p ≡ q
 place_same S text p q d e = elim (tokens_meet refl d.before e.before) [
   | inl g ↦ omega (arith, d.at, e.at, ap length (rest_same S _ _ _ _ g d.wrong e.begins))
   | inr g ↦ omega (arith, d.at, e.at, ap length (rest_same S _ _ _ _ g e.wrong d.begins))
 ]
 
-whole_not_wrong : {A : Type 0} (S : List Token → A → Type 0) (tokens : List Token) (rest : List ℕ) → GoesWrong S tokens rest → rest ≡ [] → AreWhole S tokens → ⊥
+whole_not_wrong : {A : Type 0} (S : List Token → A → Type 0) (tokens : List Token) (rest : List ℕ)
+    → GoesWrong S tokens rest → rest ≡ [] → AreWhole S tokens → ⊥
 whole_not_wrong S tokens rest (ends other) e whole = other whole
 whole_not_wrong S tokens rest (no_token b blank_not begins_not) e whole = cc
 whole_not_wrong S tokens rest (token t begins stuck) e whole = begins_some begins e
 
-whole_as : {A : Type 0} (S : List Token → A → Type 0) (tokens tokens' : List Token) → tokens ≡ tokens' → AreWhole S tokens → AreWhole S tokens'
+whole_as : {A : Type 0} (S : List Token → A → Type 0) (tokens tokens' : List Token) → tokens ≡ tokens'
+    → AreWhole S tokens → AreWhole S tokens'
 whole_as S tokens tokens' e b = let P : List Token → Type 0 = λ x. AreWhole S x in subst P e b
 
 no_others : (tokens tokens' others : List Token) → tokens' ≡ tokens ++ others → others ≡ [] → tokens' ≡ tokens
 no_others tokens tokens' others e empty = e ∙ (ap (λ x. tokens ++ x) empty ∙ append-nil tokens)
 
 -- a text that goes wrong spells nothing
-pub bad_spells : {A : Type 0} (S : List Token → A → Type 0) (text : List ℕ) (p : ℕ) (x : A) → IsBadAt S text p → Spells S text x → ⊥
+pub bad_spells : {A : Type 0} (S : List Token → A → Type 0) (text : List ℕ) (p : ℕ) (x : A) → IsBadAt S text p
+    → Spells S text x → ⊥
 bad_spells S text p x d e = elim (tokens_meet refl d.before e.all) [
-  | inl g ↦ (let end = wrong_ends S d.tokens d.rest d.rest g.others [] refl d.wrong g.between (begin_as S _ _ g.all ([], whole_as S _ _ (sym (append-nil e.tokens)) (x, e.spelled))) in
-      whole_not_wrong S d.tokens d.rest d.wrong (sym end.1) (whole_as S _ _ (no_others _ _ _ g.all end.0) (x, e.spelled)))
-  | inr g ↦ (let end = no_tokens [] refl g.between in whole_not_wrong S d.tokens d.rest d.wrong end.1 (whole_as S _ _ (sym (no_others _ _ _ g.all end.0)) (x, e.spelled)))
+  | inl g ↦ (let end = wrong_ends S d.tokens d.rest d.rest g.others [] refl d.wrong g.between
+      (begin_as S _ _ g.all ([], whole_as S _ _ (sym (append-nil e.tokens)) (x, e.spelled))) in
+      whole_not_wrong S d.tokens d.rest d.wrong (sym end.1)
+      (whole_as S _ _ (no_others _ _ _ g.all end.0) (x, e.spelled)))
+  | inr g ↦ (let end = no_tokens [] refl g.between in
+      whole_not_wrong S d.tokens d.rest d.wrong end.1
+      (whole_as S _ _ (sym (no_others _ _ _ g.all end.0)) (x, e.spelled)))
 ]
 
-tokens_same : (text : List ℕ) (tokens tokens' : List Token) → HasTokens text tokens [] → HasTokens text tokens' [] → tokens ≡ tokens'
+tokens_same : (text : List ℕ) (tokens tokens' : List Token) → HasTokens text tokens [] → HasTokens text tokens' []
+    → tokens ≡ tokens'
 tokens_same text tokens tokens' d e = elim (tokens_meet refl d e) [
   | inl g ↦ sym (no_others _ _ _ g.all (no_tokens [] refl g.between).0)
   | inr g ↦ no_others _ _ _ g.all (no_tokens [] refl g.between).0
 ]
 
 -- a text spells one thing
-pub spells_same : {A : Type 0} (S : List Token → A → Type 0) → IsClear S → (text : List ℕ) (x y : A) → Spells S text x → Spells S text y → x ≡ y
-spells_same {A} S clear text x y d e = let P : List Token → Type 0 = λ t. S t x in clear e.tokens x y (subst P (tokens_same text d.tokens e.tokens d.all e.all) d.spelled) e.spelled
+pub spells_same : {A : Type 0} (S : List Token → A → Type 0) → IsClear S → (text : List ℕ) (x y : A) → Spells S text x
+    → Spells S text y → x ≡ y
+spells_same {A} S clear text x y d e = let P : List Token → Type 0 = λ t. S t x in
+    clear e.tokens x y (subst P (tokens_same text d.tokens e.tokens d.all e.all) d.spelled) e.spelled
 
 -- what is spelled is the answer
-pub only_answer : {A : Type 0} (S : List Token → A → Type 0) → IsClear S → (text : List ℕ) (result : Result A SpdxError) → IsAnswer S text result → (x : A) → Spells S text x → Answers (Ok x) result
+pub only_answer : {A : Type 0} (S : List Token → A → Type 0) → IsClear S → (text : List ℕ) (result : Result A SpdxError)
+    → IsAnswer S text result → (x : A) → Spells S text x → Answers (Ok x) result
 only_answer S clear text (Ok y) d x e = ap Ok (spells_same S clear text y x d e)
 only_answer S clear text (Err (Bad p)) d x e = absurd (bad_spells S text p x d e)
 only_answer S clear text (Err Memory) d x e = tt
 
 -- the place at which it goes wrong is the answer
-pub only_place : {A : Type 0} (S : List Token → A → Type 0) (text : List ℕ) (result : Result A SpdxError) → IsAnswer S text result → (p : ℕ) → IsBadAt S text p → Answers (Err (Bad p)) result
+pub only_place : {A : Type 0} (S : List Token → A → Type 0) (text : List ℕ) (result : Result A SpdxError)
+    → IsAnswer S text result → (p : ℕ) → IsBadAt S text p → Answers (Err (Bad p)) result
 only_place S text (Ok x) d p e = absurd (bad_spells S text p x e d)
-only_place {A} S text (Err (Bad q)) d p e = let P : ℕ → Type 0 = λ n. Answers {A = A} (Err (Bad p)) (Err (Bad n)) in subst P (place_same S text p q e d) refl
+only_place {A} S text (Err (Bad q)) d p e = let P : ℕ → Type 0 = λ n. Answers {A = A} (Err (Bad p)) (Err (Bad n)) in
+    subst P (place_same S text p q e d) refl
 only_place S text (Err Memory) d p e = tt

@@ -1,8 +1,8 @@
 pub mod AfterLemmas
 pub mod AnswerLemmas
 pub mod BadLemmas
-pub mod FrontLemmas
 pub mod KeepsLemmas
+pub mod PrefixLemmas
 pub mod ReadingLemmas
 pub mod RunLemmas
 pub mod StepsLemmas

@@ -25,9 +25,11 @@ pub data GoesWrong {A : Type 0} (S : List Token → A → Type 0) : List Token �
   -- the text ends, and the tokens are not whole
   ends : {tokens : List Token} → ¬ AreWhole S tokens → GoesWrong S tokens []
   -- a byte comes that is no blank and begins no token
-  no_token : {tokens : List Token} (b : ℕ) {bytes : List ℕ} → is_blank b ≡ false → begins_token b ≡ false → GoesWrong S tokens (b ∷ bytes)
+  no_token : {tokens : List Token} (b : ℕ) {bytes : List ℕ} → is_blank b ≡ false → begins_token b ≡ false
+      → GoesWrong S tokens (b ∷ bytes)
   -- a token comes with which the tokens begin nothing, as one more `(` where the most are open
-  token : {tokens : List Token} {rest after : List ℕ} (t : Token) → BeginsWith rest t after → ¬ Begin S (tokens ++ t ∷ []) → GoesWrong S tokens rest
+  token : {tokens : List Token} {rest after : List ℕ} (t : Token) → BeginsWith rest t after
+      → ¬ Begin S (tokens ++ t ∷ []) → GoesWrong S tokens rest
 
 -- The text goes wrong first at this byte: the tokens before it begin something.
 pub record IsBadAt {A : Type 0} (S : List Token → A → Type 0) (text : List ℕ) (place : ℕ) : Type 0 where

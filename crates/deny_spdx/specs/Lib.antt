@@ -1,6 +1,6 @@
 pub mod Bad
-pub mod Front
 pub mod Grammar
+pub mod Prefix
 pub mod Reader
 pub mod Reading
 pub mod RequirementReader

@@ -6,6 +6,7 @@ use Rattle.deny_spdx.specs.declared.requirement.Requirement.{Requirement}
 use Rattle.deny_spdx.specs.declared.expression.Expression.{Expression}
 use Rattle.deny_spdx.specs.declared.expression.Tree.{Tree}
 use Rattle.deny_spdx.specs.declared.expression.Tree.TheVariants as tree
+use Rattle.deny_spdx.specs.Grammar.{all_of, any_of}
 use Rattle.deny_spdx.specs.declared.level.Level.{Level}
 use Rattle.deny_spdx.specs.declared.reader.Phase.{Phase}
 use Rattle.deny_spdx.specs.declared.reader.Phase.TheVariants.{Operand, Named, Excepted, Operator}
@@ -23,11 +24,17 @@ with_part l t = record { alternatives = l.alternatives; parts = l.parts ++ t ∷
 
 -- the alternatives with the last one
 abbrev pub all_alternatives : Level → List Tree
-all_alternatives l = l.alternatives ++ tree.All l.parts ∷ []
+all_alternatives l = l.alternatives ++ all_of l.parts ∷ []
 
 -- a whole requirement has come
 abbrev pub with_requirement : Reader → Requirement → Reader
-with_requirement s r = record { requirements = s.requirements ++ r ∷ []; outer = s.outer; level = with_part s.level (tree.Requirement (length s.requirements)); phase = Operator }
+with_requirement s r = record {
+  requirements = s.requirements ++ r ∷ [];
+  outer = s.outer;
+  level = with_part s.level
+      (tree.Requirement (length s.requirements));
+  phase = Operator;
+}
 
 -- a word that stands last is a whole requirement
 abbrev pub settled_at : Phase → Reader → Reader
@@ -61,7 +68,12 @@ unfoldable pub with_step : Reader → Option Reader
 with_step s = with_step_at s.phase s
 
 abbrev pub opened : Reader → Reader
-opened s = record { requirements = s.requirements; outer = s.outer ++ s.level ∷ []; level = empty_level; phase = Operand }
+opened s = record {
+  requirements = s.requirements;
+  outer = s.outer ++ s.level ∷ [];
+  level = empty_level;
+  phase = Operand;
+}
 
 abbrev pub open_step_at : Phase → Reader → Option Reader
 open_step_at Operand s = if nat_lt (length s.outer) 64 then Some (opened s) else None
@@ -83,22 +95,33 @@ unfoldable pub and_step : Reader → Option Reader
 and_step s = if_operator s.phase (Some (with_phase s Operand))
 
 abbrev pub next_alternative : Reader → Reader
-next_alternative s = record { requirements = s.requirements; outer = s.outer; level = record { alternatives = all_alternatives s.level; parts = [] }; phase = Operand }
+next_alternative s = record {
+  requirements = s.requirements;
+  outer = s.outer;
+  level = record
+      { alternatives = all_alternatives s.level; parts = [] };
+  phase = Operand;
+}
 
 unfoldable pub or_step : Reader → Option Reader
 or_step s = if_operator s.phase (Some (next_alternative s))
 
 -- the elements before the last, and the last
-abbrev pub and_front : {A : Type 0} → A → Option (List A × A) → Option (List A × A)
-and_front x None = Some ([], x)
-and_front x (Some found) = Some (x ∷ found.0, found.1)
+abbrev pub with_first : {A : Type 0} → A → Option (List A × A) → Option (List A × A)
+with_first x None = Some ([], x)
+with_first x (Some found) = Some (x ∷ found.0, found.1)
 
 abbrev pub split_last : {A : Type 0} → List A → Option (List A × A)
 split_last [] = None
-split_last (x ∷ xs) = and_front x (split_last xs)
+split_last (x ∷ xs) = with_first x (split_last xs)
 
 abbrev pub closed_to : Reader → List Level × Level → Reader
-closed_to s found = record { requirements = s.requirements; outer = found.0; level = with_part found.1 (tree.Any (all_alternatives s.level)); phase = Operator }
+closed_to s found = record {
+  requirements = s.requirements;
+  outer = found.0;
+  level = with_part found.1 (any_of (all_alternatives s.level));
+  phase = Operator;
+}
 
 abbrev pub closed : Reader → Option (List Level × Level) → Option Reader
 closed s None = None
@@ -125,7 +148,7 @@ abbrev pub run : Reader → List Token → Option Reader
 run = run_by step
 
 abbrev pub expression_of : Reader → Expression
-expression_of s = record { requirements = s.requirements; tree = tree.Any (all_alternatives s.level) }
+expression_of s = record { requirements = s.requirements; tree = any_of (all_alternatives s.level) }
 
 abbrev pub if_closed : List Level → Reader → Option Expression
 if_closed [] s = Some (expression_of s)

@@ -6,7 +6,7 @@ use Rattle.deny_spdx.specs.declared.error.SpdxError.TheVariants.{Bad, Memory}
 use Rattle.deny_spdx.specs.declared.reading.Turn.{Turn}
 use Rattle.deny_spdx.specs.declared.reading.Turn.TheVariants.{On, Wrong, End}
 use Rattle.deny_spdx.specs.Tokens.{is_blank, begins_token, BeginsWith, HasTokens}
-use Rattle.deny_spdx.specs.Front.{IsTokenFront}
+use Rattle.deny_spdx.specs.Prefix.{HasTokenPrefix}
 use Rattle.deny_spdx.specs.Reader.{run_by}
 
 -- no blank comes first
@@ -22,7 +22,7 @@ pub data IsStuck {R : Type 0} (step : R → Token → Option R) (r : R) : List �
 -- the rest begins with a token, which makes this of the reader
 pub record StepsOn {R : Type 0} (step : R → Token → Option R) (r : R) (rest : List ℕ) (after : R) (n : ℕ) : Type 0 where
   pub next : Token
-  pub front : IsTokenFront rest next n
+  pub prefix : HasTokenPrefix rest next n
   pub steps : step r next ≡ Some after
 
 abbrev pub IsTurn : {R : Type 0} → (R → Token → Option R) → R → List ℕ → Turn R → Type 0
@@ -37,7 +37,8 @@ pub record IsRead {R : Type 0} (step : R → Token → Option R) (start : R) (te
   pub runs : run_by step start tokens ≡ Some last
 
 -- the tokens so far lead to this reader, and no blank comes next
-pub record IsReadTo {R : Type 0} (step : R → Token → Option R) (start : R) (text rest : List ℕ) (last : R) : Type 0 where
+pub record IsReadTo {R : Type 0} (step : R → Token → Option R) (start : R) (text rest : List ℕ)
+    (last : R) : Type 0 where
   pub tokens : List Token
   pub before : HasTokens text tokens rest
   pub runs : run_by step start tokens ≡ Some last

@@ -11,7 +11,8 @@ is_blank b = b == 32 || b == 9
 
 -- an ASCII letter or digit, '-' or '.'
 unfoldable pub is_word_byte : ℕ → Bool
-is_word_byte b = (nat_le 97 b && nat_le b 122) || (nat_le 65 b && nat_le b 90) || (nat_le 48 b && nat_le b 57) || b == 45 || b == 46
+is_word_byte b = (nat_le 97 b && nat_le b 122) || (nat_le 65 b && nat_le b 90) || (nat_le 48 b && nat_le b 57) || b
+    == 45 || b == 46
 
 -- a byte of a word, '(', ')' or '/'
 unfoldable pub begins_token : ℕ → Bool
@@ -37,7 +38,8 @@ EndsWord (b ∷ bs) = (is_word_byte b ≡ false) × (b ≢ 43)
 -- the text begins with this token, and the rest follows it
 pub data BeginsWith : List ℕ → Token → List ℕ → Type 0 where
   -- a word that is as long as can be, without '+'
-  word : (bytes : List ℕ) {rest : List ℕ} → IsWord bytes → EndsWord rest → BeginsWith (bytes ++ rest) (token_of bytes) rest
+  word : (bytes : List ℕ) {rest : List ℕ} → IsWord bytes → EndsWord rest
+      → BeginsWith (bytes ++ rest) (token_of bytes) rest
   -- a word and '+', which is not kept, and with which it is no operator
   plus : (bytes : List ℕ) {rest : List ℕ} → IsWord bytes → BeginsWith (bytes ++ 43 ∷ rest) (Word bytes) rest
   -- '/'
@@ -50,5 +52,7 @@ pub data BeginsWith : List ℕ → Token → List ℕ → Type 0 where
 -- the text begins with these tokens, with blanks before or behind them, and the rest follows
 pub data HasTokens : List ℕ → List Token → List ℕ → Type 0 where
   none : {text : List ℕ} → HasTokens text [] text
-  blank : (b : ℕ) {text rest : List ℕ} {tokens : List Token} → is_blank b ≡ true → HasTokens text tokens rest → HasTokens (b ∷ text) tokens rest
-  more : {text after rest : List ℕ} {t : Token} {tokens : List Token} → BeginsWith text t after → HasTokens after tokens rest → HasTokens text (t ∷ tokens) rest
+  blank : (b : ℕ) {text rest : List ℕ} {tokens : List Token} → is_blank b ≡ true → HasTokens text tokens rest
+      → HasTokens (b ∷ text) tokens rest
+  more : {text after rest : List ℕ} {t : Token} {tokens : List Token} → BeginsWith text t after
+      → HasTokens after tokens rest → HasTokens text (t ∷ tokens) rest

@@ -1,13 +1,13 @@
-ghost use Rattle.std.specs.Prelude.{◌≡◌, ℕ, length, false, slice_get, unwrap_or, IfOk, Ok, Err};
+ghost use Rattle.std.specs.Prelude.{◌≡◌, ◌≢◌, ◌∷◌, [], ℕ, length, false, slice_get, unwrap_or, IfOk, MatchResult, Ok, Err};
 ghost use Rattle.std.specs.List.{list_any, list_all};
 ghost use Rattle.deny_spdx.specs.Truth.{truth};
-ghost use Rattle.deny_spdx.specs.Grammar.{IsExpression};
+ghost use Rattle.deny_spdx.specs.Grammar.{IsExpression, all_of, any_of};
 ghost use Rattle.deny_spdx.specs.Bad.{Spells, IsBadAt, Answers};
 
 use crate::error::SpdxError;
 use crate::parse::read_expression;
 use crate::requirement::Requirement;
-use deny_base::List;
+use deny_lists::List;
 use std::alloc::Global;
 
 /// How an expression is put together. The requirements stand in it by their numbers, which count
@@ -55,6 +55,40 @@ impl Expression {
         ensures { result ≡ truth allowed.now self.now.tree }
     {
         holds(&self.tree, allowed)
+    }
+}
+
+/// The tree of these parts, each of which has to hold. A part that stands alone is the tree.
+pub(crate) fn all_of(parts: List<Tree>) -> Tree
+    ensures { result ≡ all_of parts }
+{
+    match alone(parts) {
+        Ok(part) => part,
+        Err(parts) => Tree::All(parts),
+    }
+}
+
+/// The tree of these parts, one of which has to hold. A part that stands alone is the tree.
+pub(crate) fn any_of(parts: List<Tree>) -> Tree
+    ensures { result ≡ any_of parts }
+{
+    match alone(parts) {
+        Ok(part) => part,
+        Err(parts) => Tree::Any(parts),
+    }
+}
+
+/// The one part, or the parts as they are where there is not just one.
+fn alone(parts: List<Tree>) -> Result<Tree, List<Tree>>
+    ensures { MatchResult result (λ part. parts ≡ part ∷ []) (λ others. (others ≡ parts) × (length parts ≢ 1)) }
+{
+    let mut parts = parts;
+    if parts.len() != 1 {
+        return Err(parts);
+    }
+    match parts.vec.pop() {
+        Some(part) => Ok(part),
+        None => Err(parts),
     }
 }
 

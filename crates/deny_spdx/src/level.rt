@@ -1,8 +1,8 @@
 ghost use Rattle.std.specs.Prelude.{◌≡◌, IfOk};
 ghost use Rattle.deny_spdx.specs.Reader.{empty_level, with_part, all_alternatives};
 
-use crate::expression::Tree;
-use deny_base::{List, NoMemory};
+use crate::expression::{Tree, all_of};
+use deny_lists::{List, NoMemory};
 use std::alloc::Global;
 
 /// What stands between a parenthesis that is open, or the begin of the text, and the place that is
@@ -47,7 +47,7 @@ impl Level {
             mut alternatives,
             parts,
         } = self;
-        alternatives.push(Tree::All(parts))?;
+        alternatives.push(all_of(parts))?;
         Ok(alternatives)
     }
 }

@@ -1,12 +1,12 @@
 ghost use Rattle.std.specs.Prelude.{◌≡◌, IfOk};
 ghost use Rattle.deny_spdx.specs.Reader.{start, settled, with_requirement, word_step, with_step, open_step, and_step, or_step, close_step, step, whole};
 
-use crate::expression::{Expression, Tree};
+use crate::expression::{Expression, Tree, any_of};
 use crate::level::Level;
 use crate::requirement::Requirement;
 use crate::token::Token;
 use crate::token_reader::TokenReader;
-use deny_base::{List, NoMemory, Text};
+use deny_lists::{List, NoMemory, Text};
 use std::alloc::Global;
 
 /// How many parentheses may be open at a place.
@@ -67,7 +67,7 @@ impl Reader {
         match phase {
             Phase::Operator if outer.len() == 0 => Ok(Some(Expression {
                 requirements,
-                tree: Tree::Any(level.into_alternatives()?),
+                tree: any_of(level.into_alternatives()?),
             })),
             _ => Ok(None),
         }
@@ -268,7 +268,7 @@ impl Reader {
         let Some(enclosing) = outer.vec.pop() else {
             return Ok(None);
         };
-        let group = Tree::Any(level.into_alternatives()?);
+        let group = any_of(level.into_alternatives()?);
         Ok(Some(Reader {
             requirements,
             outer,

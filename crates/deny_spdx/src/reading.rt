@@ -2,9 +2,9 @@ ghost use Rattle.std.specs.Prelude.{MatchResult, IfOk};
 ghost use Rattle.deny_spdx.specs.Reading.{IsTurn, IsRead, Stops};
 
 use crate::error::SpdxError;
-use crate::token::{Front, read_front, skip_blanks, split};
+use crate::token::{Prefix, read_prefix, skip_blanks, split};
 use crate::token_reader::TokenReader;
-use deny_base::NoMemory;
+use deny_lists::NoMemory;
 use std::alloc::Global;
 
 /// What a reader makes of what a text begins with.
@@ -40,10 +40,10 @@ pub fn read_tokens<R: TokenReader>(alloc: Global, text: &str, start: R) -> Resul
 fn take_turn<R: TokenReader>(alloc: Global, reader: R, rest: &str) -> Result<Turn<R>, NoMemory>
     ensures { IfOk result (IsTurn R.step reader rest.now) }
 {
-    match read_front(alloc, rest)? {
-        Front::End => Ok(Turn::End(reader)),
-        Front::NoToken => Ok(Turn::Wrong),
-        Front::Token(token, length) => match reader.take(alloc, token)? {
+    match read_prefix(alloc, rest)? {
+        Prefix::End => Ok(Turn::End(reader)),
+        Prefix::NoToken => Ok(Turn::Wrong),
+        Prefix::Token(token, length) => match reader.take(alloc, token)? {
             Some(after) => Ok(Turn::On(after, length)),
             None => Ok(Turn::Wrong),
         },

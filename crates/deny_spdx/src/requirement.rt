@@ -5,7 +5,7 @@ ghost use Rattle.deny_spdx.specs.Bad.{Spells, IsBadAt, Answers};
 
 use crate::error::SpdxError;
 use crate::parse::read_requirement;
-use deny_base::{Plain, Text};
+use deny_lists::{Plain, Text};
 use std::alloc::Global;
 
 /// A licence that an expression asks for, with the exception to it where one is named. A `+` behind

@@ -4,7 +4,7 @@ ghost use Rattle.deny_spdx.specs.RequirementReader.{requirement_step, whole_requ
 use crate::requirement::Requirement;
 use crate::token::Token;
 use crate::token_reader::TokenReader;
-use deny_base::{NoMemory, Text};
+use deny_lists::{NoMemory, Text};
 use std::alloc::Global;
 
 /// A reader of one requirement's tokens, behind some of them.

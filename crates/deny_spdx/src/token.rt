@@ -1,9 +1,9 @@
 ghost use Rattle.std.specs.Prelude.{◌≡◌, ◌<◌, ◌≤◌, ℕ, take, drop, length, slice_index, slice_get, IfOk};
 ghost use Rattle.std.specs.List.{prefix_len};
 ghost use Rattle.deny_spdx.specs.Tokens.{is_blank, is_word_byte, token_of};
-ghost use Rattle.deny_spdx.specs.Front.{IsFront, is_plus, mark_of};
+ghost use Rattle.deny_spdx.specs.Prefix.{HasPrefix, is_plus, mark_of};
 
-use deny_base::{NoMemory, Text};
+use deny_lists::{NoMemory, Text};
 use std::alloc::Global;
 
 /// A token of a licence expression.
@@ -25,7 +25,7 @@ pub enum Token {
 
 /// What a text begins with.
 #[derive(Drop)]
-pub enum Front {
+pub enum Prefix {
     /// Nothing: the text is empty.
     End,
     /// A byte that begins no token.
@@ -35,41 +35,41 @@ pub enum Front {
 }
 
 /// What the text begins with.
-pub fn read_front(alloc: Global, text: &str) -> Result<Front, NoMemory>
-    ensures { IfOk result (IsFront text.now) }
+pub fn read_prefix(alloc: Global, text: &str) -> Result<Prefix, NoMemory>
+    ensures { IfOk result (HasPrefix text.now) }
 {
     match first_byte(text) {
-        None => Ok(Front::End),
+        None => Ok(Prefix::End),
         Some(byte) if is_word_byte(byte) => word(alloc, text),
         Some(byte) => Ok(mark(byte)),
     }
 }
 
 /// The word at the begin of the text.
-fn word(alloc: Global, text: &str) -> Result<Front, NoMemory>
+fn word(alloc: Global, text: &str) -> Result<Prefix, NoMemory>
     requires { 0 < prefix_len is_word_byte text.now }
-    ensures { IfOk result (IsFront text.now) }
+    ensures { IfOk result (HasPrefix text.now) }
 {
     let length = word_length(text.as_bytes());
     let (word, after) = split(text, length);
     if has_plus(after) {
         let id = Text::from_str(alloc, word)?;
-        Ok(Front::Token(Token::Word(id), length + 1))
+        Ok(Prefix::Token(Token::Word(id), length + 1))
     } else {
-        Ok(Front::Token(token_of(alloc, word)?, length))
+        Ok(Prefix::Token(token_of(alloc, word)?, length))
     }
 }
 
 /// What a text begins with whose first byte is in no word.
-#[tactic(auto, unfolding(crate::specs::Front::mark_of))]
-fn mark(byte: u8) -> Front
+#[tactic(auto, unfolding(crate::specs::Prefix::mark_of))]
+fn mark(byte: u8) -> Prefix
     ensures { result ≡ mark_of byte }
 {
     match byte {
-        b'(' => Front::Token(Token::Open, 1),
-        b')' => Front::Token(Token::Close, 1),
-        b'/' => Front::Token(Token::Or, 1),
-        _ => Front::NoToken,
+        b'(' => Prefix::Token(Token::Open, 1),
+        b')' => Prefix::Token(Token::Close, 1),
+        b'/' => Prefix::Token(Token::Or, 1),
+        _ => Prefix::NoToken,
     }
 }
 
@@ -100,7 +100,7 @@ pub fn skip_blanks(text: &str) -> &str
 pub fn split(text: &str, count: usize) -> (&str, &str)
     requires within { count ≤ length text.now }
     requires ascii { (k : ℕ) → k < count → slice_index text.now k < 128 }
-    ensures front { result.0.now ≡ take count text.now }
+    ensures prefix { result.0.now ≡ take count text.now }
     ensures rest { result.1.now ≡ drop count text.now }
 {
     text.split_at(count)

@@ -2,7 +2,7 @@ ghost use Rattle.std.specs.Prelude.{◌≡◌, Option, IfOk};
 ghost use Rattle.deny_spdx.specs.declared.token.Token.{Token};
 
 use crate::token::Token;
-use deny_base::NoMemory;
+use deny_lists::NoMemory;
 use std::alloc::Global;
 
 /// A reader of tokens.

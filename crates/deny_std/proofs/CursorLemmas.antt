@@ -26,7 +26,8 @@ many-first reader left at all is =
     let others = bind-ok (many reader left first.0.next) _ all first.2 in
     (first.0, first.1, others.0, others.1, cc)
 
-many-zero : {A : Type 0} (reader : ℕ → Result (Read A) ReplacementError) (at : ℕ) → many reader zero at ≡ Ok (read [] at)
+many-zero : {A : Type 0} (reader : ℕ → Result (Read A) ReplacementError) (at : ℕ)
+    → many reader zero at ≡ Ok (read [] at)
 unfolding many
 many-zero reader at = refl
 
@@ -60,7 +61,8 @@ coming-parts b minor stable counts at items is =
     let others = bind-ok (many (group b) counts.groups own.0.next) _ rest.0 rest.1 in
     let unstable = bind-ok (many (replacement b) counts.unstable others.0.next) _ rest.0 others.2 in
     let unavailable = bind-ok (many (api b) counts.unavailable unstable.0.next) _ rest.0 unstable.2 in
-    let same : read (record { groups = others.0.value; unstable = unstable.0.value; unavailable = unavailable.0.value }) unavailable.0.next ≡ rest.0 = cc in
+    let same : read (record { groups = others.0.value; unstable = unstable.0.value; unavailable = unavailable.0.value })
+    unavailable.0.next ≡ rest.0 = cc in
     let whole : map (λ r. Stable r minor) own.0.value ++ items_of rest.0.value ≡ items = cc in
     record {
       own = own.0;
@@ -81,75 +83,95 @@ coming-whole b minor stable counts at items is =
     rw (is.own_read, is.others_read, is.unstable_read, is.unavailable_read) (ap Ok is.all)
 
 -- What comes after one item.
-pub record IsStep (b : Bounds) (minor stable : ℕ) (counts : Counts) (at : ℕ) (items : List ItemPlace) (place : ItemPlace) : Type 0 where
+pub record IsStep (b : Bounds) (minor stable : ℕ) (counts : Counts) (at : ℕ) (items : List ItemPlace)
+    (place : ItemPlace) : Type 0 where
   pub rest : List ItemPlace
   pub reads : coming b minor stable counts at ≡ Ok rest
   pub item : items ≡ place ∷ rest
 
 stable_step : (b : Bounds) (minor left : ℕ) (counts : Counts) (at : ℕ) (items : List ItemPlace)
     → IsComing b minor (suc left) counts at items
-    → (first : Read ReplacementPlace) × (replacement b at ≡ Ok first) × IsStep b minor left counts first.next items (Stable first.value minor)
+    → (first : Read ReplacementPlace) × (replacement b at ≡ Ok first) × IsStep b minor left counts first.next items
+    (Stable first.value minor)
 stable_step b minor left counts at items is =
     let parts = many-first (replacement b) left at is.own is.own_read in
-    let later : List ItemPlace = flat_map group_items is.others.value ++ map Unstable is.unstable.value ++ map Unavailable is.unavailable.value in (
+    let later : List ItemPlace = flat_map group_items is.others.value ++ map Unstable is.unstable.value
+    ++ map Unavailable is.unavailable.value in (
       parts.0,
       parts.1,
       record {
         rest = map (λ r. Stable r minor) parts.2.value ++ later;
-        reads = coming-whole b minor left counts parts.0.next (map (λ r. Stable r minor) parts.2.value ++ later) (record {
-          own = parts.2;
-          others = is.others;
-          unstable = is.unstable;
-          unavailable = is.unavailable;
-          own_read = parts.3;
-          others_read = subst (λ (r : Read (List ReplacementPlace)). many (group b) counts.groups r.next ≡ Ok is.others) (sym parts.4) is.others_read;
-          unstable_read = is.unstable_read;
-          unavailable_read = is.unavailable_read;
-          all = refl;
-        });
-        item = sym is.all ∙ sym (ap (λ (r : Read (List ReplacementPlace)). map (λ p. Stable p minor) r.value ++ later) parts.4);
+        reads = coming-whole b minor left counts parts.0.next (map (λ r. Stable r minor) parts.2.value ++ later)
+            (record {
+              own = parts.2;
+              others = is.others;
+              unstable = is.unstable;
+              unavailable = is.unavailable;
+              own_read = parts.3;
+              others_read = subst
+                  (λ (r : Read (List ReplacementPlace)). many (group b) counts.groups r.next ≡ Ok is.others)
+                  (sym parts.4) is.others_read;
+              unstable_read = is.unstable_read;
+              unavailable_read = is.unavailable_read;
+              all = refl;
+            });
+        item = sym is.all ∙ sym
+            (ap (λ (r : Read (List ReplacementPlace)). map (λ p. Stable p minor) r.value ++ later) parts.4);
       },
     )
 
 -- with nothing left of the group at hand, the other groups come at once
-others-first : (b : Bounds) (minor : ℕ) (counts : Counts) (at : ℕ) (items : List ItemPlace) (is : IsComing b minor 0 counts at items)
+others-first : (b : Bounds) (minor : ℕ) (counts : Counts) (at : ℕ) (items : List ItemPlace)
+    (is : IsComing b minor 0 counts at items)
     → (many (group b) counts.groups at ≡ Ok is.others)
-    × (flat_map group_items is.others.value ++ map Unstable is.unstable.value ++ map Unavailable is.unavailable.value ≡ items)
+    × (flat_map group_items is.others.value ++ map Unstable is.unstable.value ++ map Unavailable is.unavailable.value
+    ≡ items)
 others-first b minor counts at items is =
     let none : read [] at ≡ is.own = zero-is (replacement b) at is.own is.own_read in
-    let later : List ItemPlace = flat_map group_items is.others.value ++ map Unstable is.unstable.value ++ map Unavailable is.unavailable.value in (
-      subst (λ (r : Read (List ReplacementPlace)). many (group b) counts.groups r.next ≡ Ok is.others) (sym none) is.others_read,
-      subst (λ (r : Read (List ReplacementPlace)). map (λ p. Stable p minor) r.value ++ later ≡ items) (sym none) is.all,
+    let later : List ItemPlace = flat_map group_items is.others.value ++ map Unstable is.unstable.value
+    ++ map Unavailable is.unavailable.value in (
+      subst (λ (r : Read (List ReplacementPlace)). many (group b) counts.groups r.next ≡ Ok is.others) (sym none)
+          is.others_read,
+      subst (λ (r : Read (List ReplacementPlace)). map (λ p. Stable p minor) r.value ++ later ≡ items) (sym none)
+          is.all,
     )
 
 unstable_step : (b : Bounds) (minor left unavailable at : ℕ) (items : List ItemPlace)
     → IsComing b minor 0 (record { groups = 0; unstable = suc left; unavailable = unavailable }) at items
     → (first : Read ReplacementPlace) × (replacement b at ≡ Ok first)
-    × IsStep b minor 0 (record { groups = 0; unstable = left; unavailable = unavailable }) first.next items (Unstable first.value)
+    × IsStep b minor 0 (record { groups = 0; unstable = left; unavailable = unavailable }) first.next items
+    (Unstable first.value)
 unstable_step b minor left unavailable at items is =
-    let front = others-first b minor (record { groups = 0; unstable = suc left; unavailable = unavailable }) at items is in
+    let front = others-first b minor (record { groups = 0; unstable = suc left; unavailable = unavailable }) at items is
+    in
     let none : read [] at ≡ is.others = zero-is (group b) at is.others front.0 in
     let last : List ItemPlace = map Unavailable is.unavailable.value in
     let here : many (replacement b) (suc left) at ≡ Ok is.unstable =
-    subst (λ (r : Read (List Group)). many (replacement b) (suc left) r.next ≡ Ok is.unstable) (sym none) is.unstable_read in
+    subst (λ (r : Read (List Group)). many (replacement b) (suc left) r.next ≡ Ok is.unstable) (sym none)
+    is.unstable_read in
     let all : map Unstable is.unstable.value ++ last ≡ items =
-    subst (λ (r : Read (List Group)). flat_map group_items r.value ++ map Unstable is.unstable.value ++ last ≡ items) (sym none) front.1 in
+    subst (λ (r : Read (List Group)). flat_map group_items r.value ++ map Unstable is.unstable.value ++ last ≡ items)
+    (sym none) front.1 in
     let parts = many-first (replacement b) left at is.unstable here in (
       parts.0,
       parts.1,
       record {
         rest = map Unstable parts.2.value ++ last;
-        reads = coming-whole b minor 0 (record { groups = 0; unstable = left; unavailable = unavailable }) parts.0.next (map Unstable parts.2.value ++ last) (record {
-          own = read [] parts.0.next;
-          others = read [] parts.0.next;
-          unstable = parts.2;
-          unavailable = is.unavailable;
-          own_read = many-zero (replacement b) parts.0.next;
-          others_read = many-zero (group b) parts.0.next;
-          unstable_read = parts.3;
-          unavailable_read = subst (λ (r : Read (List ReplacementPlace)). many (api b) unavailable r.next ≡ Ok is.unavailable) (sym parts.4) is.unavailable_read;
-          all = refl;
-        });
+        reads = coming-whole b minor 0 (record { groups = 0; unstable = left; unavailable = unavailable }) parts.0.next
+            (map Unstable parts.2.value ++ last) (record {
+              own = read [] parts.0.next;
+              others = read [] parts.0.next;
+              unstable = parts.2;
+              unavailable = is.unavailable;
+              own_read = many-zero (replacement b) parts.0.next;
+              others_read = many-zero (group b) parts.0.next;
+              unstable_read = parts.3;
+              unavailable_read = subst
+                  (λ (r : Read (List ReplacementPlace)).
+                  many (api b) unavailable r.next ≡ Ok is.unavailable) (sym parts.4)
+                  is.unavailable_read;
+              all = refl;
+            });
         item = sym all ∙ sym (ap (λ (r : Read (List ReplacementPlace)). map Unstable r.value ++ last) parts.4);
       },
     )
@@ -157,42 +179,49 @@ unstable_step b minor left unavailable at items is =
 unavailable_step : (b : Bounds) (minor left at : ℕ) (items : List ItemPlace)
     → IsComing b minor 0 (record { groups = 0; unstable = 0; unavailable = suc left }) at items
     → (first : Read ApiPlace) × (api b at ≡ Ok first)
-    × IsStep b minor 0 (record { groups = 0; unstable = 0; unavailable = left }) first.next items (Unavailable first.value)
+    × IsStep b minor 0 (record { groups = 0; unstable = 0; unavailable = left }) first.next items
+    (Unavailable first.value)
 unavailable_step b minor left at items is =
     let front = others-first b minor (record { groups = 0; unstable = 0; unavailable = suc left }) at items is in
     let no_groups : read [] at ≡ is.others = zero-is (group b) at is.others front.0 in
     let unstable_read : many (replacement b) 0 at ≡ Ok is.unstable =
-    subst (λ (r : Read (List Group)). many (replacement b) 0 r.next ≡ Ok is.unstable) (sym no_groups) is.unstable_read in
+    subst (λ (r : Read (List Group)). many (replacement b) 0 r.next ≡ Ok is.unstable) (sym no_groups) is.unstable_read
+    in
     let no_unstable : read [] at ≡ is.unstable = zero-is (replacement b) at is.unstable unstable_read in
     let here : many (api b) (suc left) at ≡ Ok is.unavailable =
-    subst (λ (r : Read (List ReplacementPlace)). many (api b) (suc left) r.next ≡ Ok is.unavailable) (sym no_unstable) is.unavailable_read in
+    subst (λ (r : Read (List ReplacementPlace)). many (api b) (suc left) r.next ≡ Ok is.unavailable) (sym no_unstable)
+    is.unavailable_read in
     let behind : map Unstable is.unstable.value ++ map Unavailable is.unavailable.value ≡ items =
-    subst (λ (r : Read (List Group)). flat_map group_items r.value ++ map Unstable is.unstable.value ++ map Unavailable is.unavailable.value ≡ items)
+    subst (λ (r : Read (List Group)). flat_map group_items r.value ++ map Unstable is.unstable.value
+    ++ map Unavailable is.unavailable.value ≡ items)
     (sym no_groups) front.1 in
     let all : map Unavailable is.unavailable.value ≡ items =
-    subst (λ (r : Read (List ReplacementPlace)). map Unstable r.value ++ map Unavailable is.unavailable.value ≡ items) (sym no_unstable) behind in
+    subst (λ (r : Read (List ReplacementPlace)). map Unstable r.value ++ map Unavailable is.unavailable.value ≡ items)
+    (sym no_unstable) behind in
     let parts = many-first (api b) left at is.unavailable here in (
       parts.0,
       parts.1,
       record {
         rest = map Unavailable parts.2.value;
-        reads = coming-whole b minor 0 (record { groups = 0; unstable = 0; unavailable = left }) parts.0.next (map Unavailable parts.2.value) (record {
-          own = read [] parts.0.next;
-          others = read [] parts.0.next;
-          unstable = read [] parts.0.next;
-          unavailable = parts.2;
-          own_read = many-zero (replacement b) parts.0.next;
-          others_read = many-zero (group b) parts.0.next;
-          unstable_read = many-zero (replacement b) parts.0.next;
-          unavailable_read = parts.3;
-          all = refl;
-        });
+        reads = coming-whole b minor 0 (record { groups = 0; unstable = 0; unavailable = left }) parts.0.next
+            (map Unavailable parts.2.value) (record {
+              own = read [] parts.0.next;
+              others = read [] parts.0.next;
+              unstable = read [] parts.0.next;
+              unavailable = parts.2;
+              own_read = many-zero (replacement b) parts.0.next;
+              others_read = many-zero (group b) parts.0.next;
+              unstable_read = many-zero (replacement b) parts.0.next;
+              unavailable_read = parts.3;
+              all = refl;
+            });
         item = sym all ∙ sym (ap (λ (r : Read (List ApiPlace)). map Unavailable r.value) parts.4);
       },
     )
 
 -- none is left
-pub none_left : (b : Bounds) (minor at : ℕ) → coming b minor 0 (record { groups = 0; unstable = 0; unavailable = 0 }) at ≡ Ok []
+pub none_left : (b : Bounds) (minor at : ℕ)
+    → coming b minor 0 (record { groups = 0; unstable = 0; unavailable = 0 }) at ≡ Ok []
 unfolding coming counted_items many
 none_left b minor at = refl
 
@@ -207,38 +236,47 @@ group-parts b at whole is =
     let own = bind-ok (many (replacement b) head.0.value.count head.0.next) _ whole head.2 in
     (head.0, head.1, own.0, own.1, cc)
 
-regrouped : (own later unstable unavailable : List ItemPlace) → own ++ (later ++ unstable ++ unavailable) ≡ (own ++ later) ++ unstable ++ unavailable
+regrouped : (own later unstable unavailable : List ItemPlace)
+    → own ++ (later ++ unstable ++ unavailable) ≡ (own ++ later) ++ unstable ++ unavailable
 regrouped own later unstable unavailable = simp append_assoc
 
 -- the next group is at hand, with all of its replacements
 group_step : (b : Bounds) (minor left unstable unavailable at : ℕ) (items : List ItemPlace)
     → IsComing b minor 0 (record { groups = suc left; unstable = unstable; unavailable = unavailable }) at items
     → (head : Read GroupHead) × (group_head b at ≡ Ok head)
-    × (coming b head.value.minor head.value.count (record { groups = left; unstable = unstable; unavailable = unavailable }) head.next ≡ Ok items)
+    × (coming b head.value.minor head.value.count
+    (record { groups = left; unstable = unstable; unavailable = unavailable }) head.next ≡ Ok items)
 group_step b minor left unstable unavailable at items is =
-    let front = others-first b minor (record { groups = suc left; unstable = unstable; unavailable = unavailable }) at items is in
+    let front = others-first b minor (record { groups = suc left; unstable = unstable; unavailable = unavailable }) at
+    items is in
     let parts = many-first (group b) left at is.others front.0 in
     let own = group-parts b at parts.0 parts.1 in
     let later : List ItemPlace = map Unstable is.unstable.value ++ map Unavailable is.unavailable.value in
-    let all : (group_items parts.0.value ++ flat_map group_items parts.2.value) ++ map Unstable is.unstable.value ++ map Unavailable is.unavailable.value ≡ items =
-    ap (λ (r : Read (List Group)). flat_map group_items r.value ++ map Unstable is.unstable.value ++ map Unavailable is.unavailable.value) parts.4 ∙ front.1 in
+    let all : (group_items parts.0.value ++ flat_map group_items parts.2.value) ++ map Unstable is.unstable.value
+    ++ map Unavailable is.unavailable.value ≡ items =
+    ap (λ (r : Read (List Group)). flat_map group_items r.value ++ map Unstable is.unstable.value
+    ++ map Unavailable is.unavailable.value) parts.4 ∙ front.1 in
     let own_items : map (λ r. Stable r own.0.value.minor) own.2.value ≡ group_items parts.0.value =
     ap (λ (r : Read Group). group_items r.value) own.4 in (
       own.0,
       own.1,
-      coming-whole b own.0.value.minor own.0.value.count (record { groups = left; unstable = unstable; unavailable = unavailable }) own.0.next items (record {
-        own = own.2;
-        others = parts.2;
-        unstable = is.unstable;
-        unavailable = is.unavailable;
-        own_read = own.3;
-        others_read = subst (λ (r : Read Group). many (group b) left r.next ≡ Ok parts.2) (sym own.4) parts.3;
-        unstable_read = subst (λ (r : Read (List Group)). many (replacement b) unstable r.next ≡ Ok is.unstable) (sym parts.4) is.unstable_read;
-        unavailable_read = is.unavailable_read;
-        all = ap (λ l. l ++ (flat_map group_items parts.2.value ++ map Unstable is.unstable.value ++ map Unavailable is.unavailable.value)) own_items
-            ∙ regrouped (group_items parts.0.value) (flat_map group_items parts.2.value) (map Unstable is.unstable.value) (map Unavailable is.unavailable.value)
-            ∙ all;
-      }),
+      coming-whole b own.0.value.minor own.0.value.count
+          (record { groups = left; unstable = unstable; unavailable = unavailable }) own.0.next items (record {
+            own = own.2;
+            others = parts.2;
+            unstable = is.unstable;
+            unavailable = is.unavailable;
+            own_read = own.3;
+            others_read = subst (λ (r : Read Group). many (group b) left r.next ≡ Ok parts.2) (sym own.4) parts.3;
+            unstable_read = subst (λ (r : Read (List Group)). many (replacement b) unstable r.next ≡ Ok is.unstable)
+                (sym parts.4) is.unstable_read;
+            unavailable_read = is.unavailable_read;
+            all = ap (λ l. l ++ (flat_map group_items parts.2.value ++ map Unstable is.unstable.value
+                ++ map Unavailable is.unavailable.value)) own_items
+                ∙ regrouped (group_items parts.0.value) (flat_map group_items parts.2.value)
+                (map Unstable is.unstable.value) (map Unavailable is.unavailable.value)
+                ∙ all;
+          }),
     )
 
 -- all items of an entry come, where no group is at hand yet
@@ -251,14 +289,17 @@ coming-begin b minor counts at all is = rw is refl
 
 pub stable_gives : (b : Bounds) (minor stable : ℕ) (counts : Counts) (at : ℕ) (items : List ItemPlace) → 0 < stable
     → coming b minor stable counts at ≡ Ok items
-    → (first : Read ReplacementPlace) × (replacement b at ≡ Ok first) × IsStep b minor (stable - 1) counts first.next items (Stable first.value minor)
+    → (first : Read ReplacementPlace) × (replacement b at ≡ Ok first) × IsStep b minor (stable - 1) counts first.next
+    items (Stable first.value minor)
 stable_gives b minor stable counts at items some is =
     let e : stable ≡ suc (stable - 1) = omega arith in
     stable_step b minor (stable - 1) counts at items
     (coming-parts b minor (suc (stable - 1)) counts at items (subst (λ n. coming b minor n counts at ≡ Ok items) e is))
 
-pub counts_are : (counts : Counts) (groups unstable unavailable : ℕ) → counts.groups ≡ groups → counts.unstable ≡ unstable
-    → counts.unavailable ≡ unavailable → counts ≡ record { groups = groups; unstable = unstable; unavailable = unavailable }
+pub counts_are : (counts : Counts) (groups unstable unavailable : ℕ) → counts.groups ≡ groups
+    → counts.unstable ≡ unstable
+    → counts.unavailable ≡ unavailable
+    → counts ≡ record { groups = groups; unstable = unstable; unavailable = unavailable }
 counts_are counts groups unstable unavailable first second third = rw (← first, ← second, ← third) refl
 
 pub unstable_gives : (b : Bounds) (minor stable : ℕ) (counts : Counts) (at : ℕ) (items : List ItemPlace) → stable ≡ 0
@@ -267,34 +308,46 @@ pub unstable_gives : (b : Bounds) (minor stable : ℕ) (counts : Counts) (at : �
     × IsStep b minor stable (record counts { unstable = counts.unstable - 1 }) first.next items (Unstable first.value)
 unstable_gives b minor stable counts at items none groups some is =
     let e : counts.unstable ≡ suc (counts.unstable - 1) = omega arith in
-    let whole : coming b minor 0 (record { groups = 0; unstable = suc (counts.unstable - 1); unavailable = counts.unavailable }) at ≡ Ok items =
-    subst (λ c. coming b minor 0 c at ≡ Ok items) (counts_are counts 0 (suc (counts.unstable - 1)) counts.unavailable groups e refl)
+    let whole : coming b minor 0
+    (record { groups = 0; unstable = suc (counts.unstable - 1); unavailable = counts.unavailable }) at ≡ Ok items =
+    subst (λ c. coming b minor 0 c at ≡ Ok items)
+    (counts_are counts 0 (suc (counts.unstable - 1)) counts.unavailable groups e refl)
     (subst (λ n. coming b minor n counts at ≡ Ok items) none is) in
-    let step = unstable_step b minor (counts.unstable - 1) counts.unavailable at items (coming-parts b minor 0 _ at items whole) in (
+    let step = unstable_step b minor (counts.unstable - 1) counts.unavailable at items
+    (coming-parts b minor 0 _ at items whole) in (
       step.0,
       step.1,
-      subst (λ n. IsStep b minor n (record counts { unstable = counts.unstable - 1 }) step.0.next items (Unstable step.0.value)) (sym none)
-          (subst (λ g. IsStep b minor 0 (record { groups = g; unstable = counts.unstable - 1; unavailable = counts.unavailable }) step.0.next items (Unstable step.0.value))
+      subst (λ n. IsStep b minor n (record counts { unstable = counts.unstable - 1 }) step.0.next items
+          (Unstable step.0.value)) (sym none)
+          (subst (λ g. IsStep b minor 0
+          (record { groups = g; unstable = counts.unstable - 1; unavailable = counts.unavailable }) step.0.next
+          items (Unstable step.0.value))
           (sym groups) step.2),
     )
 
 pub unavailable_gives : (b : Bounds) (minor stable : ℕ) (counts : Counts) (at : ℕ) (items : List ItemPlace) → stable ≡ 0
     → counts.groups ≡ 0 → counts.unstable ≡ 0 → 0 < counts.unavailable → coming b minor stable counts at ≡ Ok items
     → (first : Read ApiPlace) × (api b at ≡ Ok first)
-    × IsStep b minor stable (record counts { unavailable = counts.unavailable - 1 }) first.next items (Unavailable first.value)
+    × IsStep b minor stable (record counts { unavailable = counts.unavailable - 1 }) first.next items
+    (Unavailable first.value)
 unavailable_gives b minor stable counts at items none groups unstable some is =
     let e : counts.unavailable ≡ suc (counts.unavailable - 1) = omega arith in
-    let whole : coming b minor 0 (record { groups = 0; unstable = 0; unavailable = suc (counts.unavailable - 1) }) at ≡ Ok items =
+    let whole : coming b minor 0 (record { groups = 0; unstable = 0; unavailable = suc (counts.unavailable - 1) }) at
+    ≡ Ok items =
     subst (λ n. coming b minor 0 (record { groups = 0; unstable = 0; unavailable = n }) at ≡ Ok items) e
     (subst (λ c. coming b minor 0 c at ≡ Ok items) (counts_are counts 0 0 counts.unavailable groups unstable refl)
     (subst (λ n. coming b minor n counts at ≡ Ok items) none is)) in
     let step = unavailable_step b minor (counts.unavailable - 1) at items (coming-parts b minor 0 _ at items whole) in (
       step.0,
       step.1,
-      subst (λ n. IsStep b minor n (record counts { unavailable = counts.unavailable - 1 }) step.0.next items (Unavailable step.0.value)) (sym none)
-          (subst (λ g. IsStep b minor 0 (record { groups = g; unstable = counts.unstable; unavailable = counts.unavailable - 1 }) step.0.next items (Unavailable step.0.value))
+      subst (λ n. IsStep b minor n (record counts { unavailable = counts.unavailable - 1 }) step.0.next items
+          (Unavailable step.0.value)) (sym none)
+          (subst (λ g. IsStep b minor 0
+          (record { groups = g; unstable = counts.unstable; unavailable = counts.unavailable - 1 }) step.0.next
+          items (Unavailable step.0.value))
           (sym groups)
-          (subst (λ u. IsStep b minor 0 (record { groups = 0; unstable = u; unavailable = counts.unavailable - 1 }) step.0.next items (Unavailable step.0.value))
+          (subst (λ u. IsStep b minor 0 (record { groups = 0; unstable = u; unavailable = counts.unavailable - 1 })
+          step.0.next items (Unavailable step.0.value))
           (sym unstable) step.2)),
     )
 
@@ -304,7 +357,11 @@ pub group_gives : (b : Bounds) (minor stable : ℕ) (counts : Counts) (at : ℕ)
     × (coming b head.value.minor head.value.count (record counts { groups = counts.groups - 1 }) head.next ≡ Ok items)
 group_gives b minor stable counts at items none some is =
     let e : counts.groups ≡ suc (counts.groups - 1) = omega arith in
-    let whole : coming b minor 0 (record { groups = suc (counts.groups - 1); unstable = counts.unstable; unavailable = counts.unavailable }) at ≡ Ok items =
-    subst (λ c. coming b minor 0 c at ≡ Ok items) (counts_are counts (suc (counts.groups - 1)) counts.unstable counts.unavailable e refl refl)
+    let whole : coming b minor 0
+    (record { groups = suc (counts.groups - 1); unstable = counts.unstable; unavailable = counts.unavailable }) at
+    ≡ Ok items =
+    subst (λ c. coming b minor 0 c at ≡ Ok items)
+    (counts_are counts (suc (counts.groups - 1)) counts.unstable counts.unavailable e refl refl)
     (subst (λ n. coming b minor n counts at ≡ Ok items) none is) in
-    group_step b minor (counts.groups - 1) counts.unstable counts.unavailable at items (coming-parts b minor 0 _ at items whole)
+    group_step b minor (counts.groups - 1) counts.unstable counts.unavailable at items
+    (coming-parts b minor 0 _ at items whole)

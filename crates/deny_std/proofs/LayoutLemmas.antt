@@ -29,7 +29,8 @@ pub unless_bad-then : {A : Type 0} (test : Bool) (offset : ℕ) (r : Result A Re
 unless_bad-then true offset r y is = (refl, is)
 unless_bad-then false offset r y is = cc
 
-pub test-ok : {A : Type 0} (test : Bool) (x y : A) (e : ReplacementError) → (if test then Ok x else Err e) ≡ Ok y → (test ≡ true) × (x ≡ y)
+pub test-ok : {A : Type 0} (test : Bool) (x y : A) (e : ReplacementError) → (if test then Ok x else Err e) ≡ Ok y
+    → (test ≡ true) × (x ≡ y)
 test-ok true x y e is = (refl, cc)
 test-ok false x y e is = cc
 
@@ -41,7 +42,8 @@ pub byte-sound : (b : Bounds) (at : ℕ) (r : Read ℕ) → byte b at ≡ Ok r �
 unfolding byte
 byte-sound b at r is =
     let parts = test-ok (nat_lt at b.stop) (read (slice_index b.bytes at) (at + 1)) r (Bad b.stop) is in
-    subst (λ t. IsByte b at t.value t.next) parts.1 (record { inside = ltb-true at b.stop parts.0; is = refl; after = refl })
+    subst (λ t. IsByte b at t.value t.next) parts.1
+    (record { inside = ltb-true at b.stop parts.0; is = refl; after = refl })
 
 pub byte-complete : (b : Bounds) (at value next : ℕ) → IsByte b at value next → byte b at ≡ Ok (read value next)
 unfolding byte
@@ -52,9 +54,11 @@ pub text-sound : (b : Bounds) (at : ℕ) (r : Read TextPlace) → text b at ≡ 
 unfolding text
 text-sound b at r is =
     let place = text_place b at in
-    let parts = test-ok (nat_le place.at b.stop && nat_le (place.at + place.size) b.stop && is_utf8 (contents b.bytes place))
+    let parts = test-ok (nat_le place.at b.stop && nat_le (place.at + place.size) b.stop && is_utf8
+    (contents b.bytes place))
     (read place (place.at + place.size)) r (Bad at) is in
-    let both = and_parts (nat_le place.at b.stop && nat_le (place.at + place.size) b.stop) (is_utf8 (contents b.bytes place)) parts.0 in
+    let both = and_parts (nat_le place.at b.stop && nat_le (place.at + place.size) b.stop)
+    (is_utf8 (contents b.bytes place)) parts.0 in
     let within = and_parts (nat_le place.at b.stop) (nat_le (place.at + place.size) b.stop) both.0 in
     let last : nat_le (place.at + place.size) b.stop ≡ true = within.1 in
     subst (λ t. IsText b at t.value t.next) parts.1 (record {
@@ -77,13 +81,15 @@ api-sound b at r is =
       url = text-sound b first.0.next second.0 second.1;
     })
 
-pub replacement-sound : (b : Bounds) (at : ℕ) (r : Read ReplacementPlace) → replacement b at ≡ Ok r → IsReplacement b at r.value r.next
+pub replacement-sound : (b : Bounds) (at : ℕ) (r : Read ReplacementPlace) → replacement b at ≡ Ok r
+    → IsReplacement b at r.value r.next
 unfolding replacement
 replacement-sound b at r is =
     let krate = bind-ok (api b at) _ r is in
     let std = bind-ok (api b krate.0.next) _ r krate.2 in
     let note = bind-ok (text b std.0.next) _ r std.2 in
-    let same : read (record { krate = krate.0.value; std = std.0.value; note = note_of note.0.value }) note.0.next ≡ r = cc in
+    let same : read (record { krate = krate.0.value; std = std.0.value; note = note_of note.0.value }) note.0.next
+    ≡ r = cc in
     subst (λ t. IsReplacement b at t.value t.next) same (record {
       after_krate = krate.0.next;
       after_std = std.0.next;
@@ -97,7 +103,8 @@ replacement-sound b at r is =
 -- so many of a kind were read: they stand in a row, and are so many
 pub many-sound : {A : Type 0} (reader : ℕ → Result (Read A) ReplacementError) (IsOne : ℕ → A → ℕ → Type 0)
     → ((at : ℕ) (r : Read A) → reader at ≡ Ok r → IsOne at r.value r.next)
-    → (count at : ℕ) (r : Read (List A)) → many reader count at ≡ Ok r → IsRow IsOne at r.value r.next × (length r.value ≡ count)
+    → (count at : ℕ) (r : Read (List A)) → many reader count at ≡ Ok r
+    → IsRow IsOne at r.value r.next × (length r.value ≡ count)
 unfolding many
 many-sound {A} reader IsOne one zero at r is =
     let same : read [] at ≡ r = cc in
@@ -116,10 +123,17 @@ unfolding group_head
 group_head-sound b at r is =
     let minor = bind-ok (byte b at) _ r is in
     let count = bind-ok (byte b minor.0.next) _ r minor.2 in
-    let tested = unless_bad-then (nat_lt 0 count.0.value) minor.0.next (Ok (read (record { minor = minor.0.value; count = count.0.value }) count.0.next)) r count.2 in
+    let tested = unless_bad-then (nat_lt 0 count.0.value) minor.0.next
+    (Ok (read (record { minor = minor.0.value; count = count.0.value }) count.0.next)) r count.2 in
     let same : read (record { minor = minor.0.value; count = count.0.value }) count.0.next ≡ r = cc in
-    subst (λ (t : Read GroupHead). (middle : ℕ) × IsByte b at t.value.minor middle × IsByte b middle t.value.count t.next × (0 < t.value.count))
-    same (minor.0.next, byte-sound b at minor.0 minor.1, byte-sound b minor.0.next count.0 count.1, ltb-true 0 count.0.value tested.0)
+    subst (λ (t : Read GroupHead). (middle : ℕ) × IsByte b at t.value.minor middle
+    × IsByte b middle t.value.count t.next × (0 < t.value.count))
+    same (
+      minor.0.next,
+      byte-sound b at minor.0 minor.1,
+      byte-sound b minor.0.next count.0 count.1,
+      ltb-true 0 count.0.value tested.0,
+    )
 
 pub group-sound : (b : Bounds) (at : ℕ) (r : Read Group) → group b at ≡ Ok r → IsGroup b at r.value r.next
 unfolding group
@@ -128,7 +142,8 @@ group-sound b at r is =
     let rest = bind-ok (many (replacement b) head.0.value.count head.0.next) _ r head.2 in
     let same : read (record { minor = head.0.value.minor; replacements = rest.0.value }) rest.0.next ≡ r = cc in
     let top = group_head-sound b at head.0 head.1 in
-    let row = many-sound (replacement b) (IsReplacement b) (replacement-sound b) head.0.value.count head.0.next rest.0 rest.1 in
+    let row = many-sound (replacement b) (IsReplacement b) (replacement-sound b) head.0.value.count head.0.next rest.0
+    rest.1 in
     subst (λ t. IsGroup b at t.value t.next) same (record {
       after_minor = top.0;
       after_count = head.0.next;
@@ -139,14 +154,17 @@ group-sound b at r is =
     })
 
 pub counts-sound : (b : Bounds) (at : ℕ) (r : Read Counts) → counts b at ≡ Ok r
-    → (one : ℕ) × (two : ℕ) × IsByte b at r.value.groups one × IsByte b one r.value.unstable two × IsByte b two r.value.unavailable r.next
+    → (one : ℕ) × (two : ℕ) × IsByte b at r.value.groups one × IsByte b one r.value.unstable two
+    × IsByte b two r.value.unavailable r.next
 unfolding counts
 counts-sound b at r is =
     let groups = bind-ok (byte b at) _ r is in
     let unstable = bind-ok (byte b groups.0.next) _ r groups.2 in
     let unavailable = bind-ok (byte b unstable.0.next) _ r unstable.2 in
-    let same : read (record { groups = groups.0.value; unstable = unstable.0.value; unavailable = unavailable.0.value }) unavailable.0.next ≡ r = cc in
-    subst (λ (t : Read Counts). (one : ℕ) × (two : ℕ) × IsByte b at t.value.groups one × IsByte b one t.value.unstable two × IsByte b two t.value.unavailable t.next)
+    let same : read (record { groups = groups.0.value; unstable = unstable.0.value; unavailable = unavailable.0.value })
+    unavailable.0.next ≡ r = cc in
+    subst (λ (t : Read Counts). (one : ℕ) × (two : ℕ) × IsByte b at t.value.groups one
+    × IsByte b one t.value.unstable two × IsByte b two t.value.unavailable t.next)
     same (
       groups.0.next,
       unstable.0.next,
@@ -162,11 +180,15 @@ items-sound b at r is =
     let groups = bind-ok (many (group b) count.0.value.groups count.0.next) _ r count.2 in
     let unstable = bind-ok (many (replacement b) count.0.value.unstable groups.0.next) _ r groups.2 in
     let unavailable = bind-ok (many (api b) count.0.value.unavailable unstable.0.next) _ r unstable.2 in
-    let same : read (record { groups = groups.0.value; unstable = unstable.0.value; unavailable = unavailable.0.value }) unavailable.0.next ≡ r = cc in
+    let same : read (record { groups = groups.0.value; unstable = unstable.0.value; unavailable = unavailable.0.value })
+    unavailable.0.next ≡ r = cc in
     let top = counts-sound b at count.0 count.1 in
-    let group_row = many-sound (group b) (IsGroup b) (group-sound b) count.0.value.groups count.0.next groups.0 groups.1 in
-    let unstable_row = many-sound (replacement b) (IsReplacement b) (replacement-sound b) count.0.value.unstable groups.0.next unstable.0 unstable.1 in
-    let unavailable_row = many-sound (api b) (IsApi b) (api-sound b) count.0.value.unavailable unstable.0.next unavailable.0 unavailable.1 in
+    let group_row = many-sound (group b) (IsGroup b) (group-sound b) count.0.value.groups count.0.next groups.0 groups.1
+    in
+    let unstable_row = many-sound (replacement b) (IsReplacement b) (replacement-sound b) count.0.value.unstable
+    groups.0.next unstable.0 unstable.1 in
+    let unavailable_row = many-sound (api b) (IsApi b) (api-sound b) count.0.value.unavailable unstable.0.next
+    unavailable.0 unavailable.1 in
     subst (λ t. IsItems b at t.value t.next) same (record {
       after_groups = top.0;
       after_unstable = top.1;
@@ -181,23 +203,28 @@ items-sound b at r is =
       unavailable = unavailable_row.0;
     })
 
-pub place_is : (at size : ℕ) (place : TextPlace) → place.at ≡ at → place.size ≡ size → place ≡ record { at = at; size = size }
+pub place_is : (at size : ℕ) (place : TextPlace) → place.at ≡ at → place.size ≡ size
+    → place ≡ record { at = at; size = size }
 place_is at size place first second = rw (← first, ← second) refl
 
-pub text-complete : (b : Bounds) (at : ℕ) (place : TextPlace) (next : ℕ) → IsText b at place next → text b at ≡ Ok (read place next)
+pub text-complete : (b : Bounds) (at : ℕ) (place : TextPlace) (next : ℕ) → IsText b at place next
+    → text b at ≡ Ok (read place next)
 unfolding text
 text-complete b at place next is =
-    let same : place ≡ text_place b at = place_is (at + b.width) (number b.width b.bytes at) place is.after_length is.size in
+    let same : place ≡ text_place b at = place_is (at + b.width) (number b.width b.bytes at) place is.after_length
+    is.size in
     let ends : place.at + place.size ≡ next = sym is.after in
     let last : place.at + place.size ≤ b.stop = omega arith in
     let inside : nat_le place.at b.stop ≡ true = grind (arith, nat_tests) in
     let whole : nat_le (place.at + place.size) b.stop ≡ true = grind (arith, nat_tests) in
     let utf8 : is_utf8 (contents b.bytes place) ≡ true = is_utf8-from_IsUtf8 (contents b.bytes place) is.utf8 in
-    let P : TextPlace → Type 0 = λ p. (if nat_le p.at b.stop && nat_le (p.at + p.size) b.stop && is_utf8 (contents b.bytes p)
+    let P : TextPlace → Type
+    0 = λ p. (if nat_le p.at b.stop && nat_le (p.at + p.size) b.stop && is_utf8 (contents b.bytes p)
     then Ok (read p (p.at + p.size)) else Err (Bad at)) ≡ Ok (read place next) in
     subst P same (rw (inside, whole, utf8, ends) refl)
 
-pub api-complete : (b : Bounds) (at : ℕ) (place : ApiPlace) (next : ℕ) → IsApi b at place next → api b at ≡ Ok (read place next)
+pub api-complete : (b : Bounds) (at : ℕ) (place : ApiPlace) (next : ℕ) → IsApi b at place next
+    → api b at ≡ Ok (read place next)
 unfolding api
 api-complete b at place next is =
     rw (text-complete b at place.name is.after_name is.name, text-complete b is.after_name place.url next is.url) refl
@@ -229,10 +256,12 @@ group-complete b at g next is =
       byte-complete b at g.minor is.after_minor is.minor,
       byte-complete b is.after_minor (length g.replacements) is.after_count is.count,
       test,
-      many-complete (replacement b) (IsReplacement b) (replacement-complete b) is.after_count g.replacements next is.replacements,
+      many-complete (replacement b) (IsReplacement b) (replacement-complete b) is.after_count g.replacements next
+          is.replacements,
     ) refl
 
-pub items-complete : (b : Bounds) (at : ℕ) (all : Items) (next : ℕ) → IsItems b at all next → items b at ≡ Ok (read all next)
+pub items-complete : (b : Bounds) (at : ℕ) (all : Items) (next : ℕ) → IsItems b at all next
+    → items b at ≡ Ok (read all next)
 unfolding items counts counted_items
 items-complete b at all next is =
     rw (
@@ -240,6 +269,7 @@ items-complete b at all next is =
       byte-complete b is.after_groups (length all.unstable) is.after_unstable is.unstable_count,
       byte-complete b is.after_unstable (length all.unavailable) is.after_counts is.unavailable_count,
       many-complete (group b) (IsGroup b) (group-complete b) is.after_counts all.groups is.unstable_at is.groups,
-      many-complete (replacement b) (IsReplacement b) (replacement-complete b) is.unstable_at all.unstable is.unavailable_at is.unstable,
+      many-complete (replacement b) (IsReplacement b) (replacement-complete b) is.unstable_at all.unstable
+          is.unavailable_at is.unstable,
       many-complete (api b) (IsApi b) (api-complete b) is.unavailable_at all.unavailable next is.unavailable,
     ) refl

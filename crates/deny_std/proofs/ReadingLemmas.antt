@@ -11,14 +11,16 @@ next_of-last (Ok x) f = refl
 next_of-last (Err e) f = refl
 
 -- the next reader starts where this one stopped
-pub next_of-then : {A B : Type 0} (r : Result (Read A) ReplacementError) (next : ℕ) (later : Read A → Result (Read B) ReplacementError)
+pub next_of-then : {A B : Type 0} (r : Result (Read A) ReplacementError) (next : ℕ) (later : Read A
+    → Result (Read B) ReplacementError)
     (from : ℕ → Result ℕ ReplacementError)
     → ((x : Read A) → next_of (later x) ≡ from x.next) → next_of r ≡ Ok next → next_of (r >>= later) ≡ from next
 next_of-then (Ok x) next later from same is =
     let at : x.next ≡ next = cc in same x ∙ ap from at
 next_of-then (Err e) next later from same is = cc
 
-pub next_of-break : {A B : Type 0} (r : Result (Read A) ReplacementError) (e : ReplacementError) (later : Read A → Result (Read B) ReplacementError)
+pub next_of-break : {A B : Type 0} (r : Result (Read A) ReplacementError) (e : ReplacementError) (later : Read A
+    → Result (Read B) ReplacementError)
     → next_of r ≡ Err e → next_of (r >>= later) ≡ Err e
 next_of-break (Ok x) e later is = cc
 next_of-break (Err d) e later is = is
@@ -27,11 +29,13 @@ many_one : {A : Type 0} (reader : ℕ → Result (Read A) ReplacementError) (lef
     → next_of (reader at) ≡ Ok next → next_of (many reader (suc left) at) ≡ next_of (many reader left next)
 unfolding many
 many_one reader left at next first =
-    next_of-then (reader at) next _ (λ n. next_of (many reader left n)) (λ x. next_of-last (many reader left x.next) _) first
+    next_of-then (reader at) next _ (λ n. next_of (many reader left n)) (λ x. next_of-last (many reader left x.next) _)
+    first
 
 -- one of several was read, and the others come next
 pub next_of-many_more : {A : Type 0} (reader : ℕ → Result (Read A) ReplacementError) (count left at next : ℕ)
-    → left + 1 ≡ count → next_of (reader at) ≡ Ok next → next_of (many reader count at) ≡ next_of (many reader left next)
+    → left + 1 ≡ count → next_of (reader at) ≡ Ok next
+    → next_of (many reader count at) ≡ next_of (many reader left next)
 next_of-many_more reader count left at next is first =
     let e : suc left ≡ count = omega arith in
     subst (λ n. next_of (many reader n at) ≡ next_of (many reader left next)) e (many_one reader left at next first)
@@ -42,7 +46,8 @@ unfolding many
 many_stop reader left at e is = next_of-break (reader at) e _ is
 
 -- the first of several breaks
-pub next_of-many_break : {A : Type 0} (reader : ℕ → Result (Read A) ReplacementError) (count left at : ℕ) (e : ReplacementError)
+pub next_of-many_break : {A : Type 0} (reader : ℕ → Result (Read A) ReplacementError) (count left at : ℕ)
+    (e : ReplacementError)
     → left + 1 ≡ count → next_of (reader at) ≡ Err e → next_of (many reader count at) ≡ Err e
 next_of-many_break reader count left at e is broken =
     let is_suc : suc left ≡ count = omega arith in

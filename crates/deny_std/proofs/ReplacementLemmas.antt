@@ -14,13 +14,15 @@ use Rattle.deny_std.specs.Cursor.{coming}
 use Rattle.deny_std.specs.Replacement.{items_read}
 use Rattle.deny_std.proofs.LayoutLemmas.{bind-ok}
 use Rattle.deny_std.proofs.CursorLemmas.{ok-is, coming-begin}
+use Rattle.deny_std.proofs.CursorSteps.{is-ok}
 
 -- what a reading that holds answered
 ok-of : {A : Type 0} (r : Result A ReplacementError) → IsOk r → (x : A) × (r ≡ Ok x)
 ok-of (Ok x) is = (x, refl)
 ok-of (Err e) is = cc
 
-ok-left : (r : Result (List ItemPlace) ReplacementError) (x : List ItemPlace) → r ≡ Ok x → (r ≡ Ok (result_unwrap_or r [])) × (result_unwrap_or r [] ≡ x)
+ok-left : (r : Result (List ItemPlace) ReplacementError) (x : List ItemPlace) → r ≡ Ok x
+    → (r ≡ Ok (result_unwrap_or r [])) × (result_unwrap_or r [] ≡ x)
 ok-left r x is =
     let left : result_unwrap_or r [] ≡ x = ap (λ t. result_unwrap_or t []) is in
     (is ∙ ap Ok (sym left), left)
@@ -60,16 +62,15 @@ open-parts b start e is =
       items = ap (λ (t : Entry). t.items) same;
     }
 
-is-ok : {A : Type 0} (r s : Result A ReplacementError) (x : A) → r ≡ s → s ≡ Ok x → IsOk r
-is-ok r s x first second = subst IsOk (sym (first ∙ second)) refl
-
-pub open_name : (b : Bounds) (start : ℕ) (r : Result (Read TextPlace) ReplacementError) → IsOk (entry b None start) → r ≡ text b start → IsOk r
+pub open_name : (b : Bounds) (start : ℕ) (r : Result (Read TextPlace) ReplacementError) → IsOk (entry b None start)
+    → r ≡ text b start → IsOk r
 open_name b start r is same =
     let e = ok-of (entry b None start) is in
     let parts = open-parts b start e.0 e.1 in
     is-ok r _ parts.name same parts.name_read
 
-pub open_counts : (b : Bounds) (start : ℕ) (name : Read TextPlace) (r : Result (Read Counts) ReplacementError) → IsOk (entry b None start)
+pub open_counts : (b : Bounds) (start : ℕ) (name : Read TextPlace) (r : Result (Read Counts) ReplacementError)
+    → IsOk (entry b None start)
     → text b start ≡ Ok name → r ≡ counts b name.next → IsOk r
 open_counts b start name r is named same =
     let e = ok-of (entry b None start) is in
@@ -77,7 +78,8 @@ open_counts b start name r is named same =
     let one : parts.name ≡ name = ok-is _ parts.name_read named in
     is-ok r _ parts.count same (subst (λ (n : Read TextPlace). counts b n.next ≡ Ok parts.count) one parts.count_read)
 
-pub open_items : (b : Bounds) (start : ℕ) (name : Read TextPlace) (count : Read Counts) (e : Entry) → entry b None start ≡ Ok e
+pub open_items : (b : Bounds) (start : ℕ) (name : Read TextPlace) (count : Read Counts) (e : Entry)
+    → entry b None start ≡ Ok e
     → text b start ≡ Ok name → counts b name.next ≡ Ok count
     → IsOk (counted_items b count.value count.next) × (items_read (counted_items b count.value count.next) ≡ e.items)
 open_items b start name count e is named counted =

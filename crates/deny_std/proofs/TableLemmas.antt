@@ -10,7 +10,7 @@ use Rattle.deny_std.specs.Reading.{◌>>=◌, ◌>>◌, unless_bad, done_of}
 use Rattle.deny_std.specs.Region.{bounds}
 use Rattle.deny_std.specs.Head.{start_of, is_offset, IsOffset, HasOffsets, offsets, header, count_of}
 use Rattle.deny_std.specs.Entries.{stop_of, Entry, entry, name_of, bounds_of, entries}
-use Rattle.deny_std.specs.Table.{table, read_entries, IsRead}
+use Rattle.deny_std.specs.Table.{table, IsRead}
 
 -- a test that breaks nothing holds
 pub unless_bad-ok : (test : Bool) (offset : ℕ) → unless_bad test offset ≡ Ok tt → test ≡ true
@@ -28,7 +28,8 @@ offset_facts : (whole_end size head start before i : ℕ)
     → (nat_le whole_end size && nat_le head start && (i == 0 || nat_lt before start) && nat_lt start size) ≡ true
     → (whole_end ≤ size) × (head ≤ start) × (0 < i → before < start) × (start < size)
 offset_facts whole_end size head start before i is =
-    let parts = four_tests (nat_le whole_end size) (nat_le head start) (i == 0 || nat_lt before start) (nat_lt start size) is in
+    let parts = four_tests (nat_le whole_end size) (nat_le head start) (i == 0 || nat_lt before start)
+    (nat_lt start size) is in
     let whole : nat_le whole_end size ≡ true = parts.0 in
     let after : nat_le head start ≡ true = parts.1 in
     let rises : (i == 0 || nat_lt before start) ≡ true = parts.2 in
@@ -37,16 +38,19 @@ offset_facts whole_end size head start before i is =
 
 pub is_offset-true : (bytes : List ℕ) (count i : ℕ) → is_offset bytes count i ≡ true → IsOffset bytes count i
 is_offset-true bytes count i is =
-    let facts = offset_facts (8 + 4 * i + 4) (length bytes) (8 + 4 * count) (start_of bytes i) (start_of bytes (i - 1)) i is in
+    let facts = offset_facts (8 + 4 * i + 4) (length bytes) (8 + 4 * count) (start_of bytes i) (start_of bytes (i - 1))
+    i is in
     record { whole = facts.0; after_head = facts.1; rises = facts.2; below = facts.3 }
 
 -- one offset holds, and the others come next
-pub offsets-more : (bytes : List ℕ) (count i left now : ℕ) → left + 1 ≡ now → unless_bad (is_offset bytes count i) (8 + 4 * i) ≡ Ok tt
+pub offsets-more : (bytes : List ℕ) (count i left now : ℕ) → left + 1 ≡ now
+    → unless_bad (is_offset bytes count i) (8 + 4 * i) ≡ Ok tt
     → offsets bytes count i now ≡ offsets bytes count (i + 1) left
 unfolding offsets
 offsets-more bytes count i left now is holds =
     let e : suc left ≡ now = omega arith in
-    let one : offsets bytes count i (suc left) ≡ offsets bytes count (i + 1) left = ap (λ r. r >> offsets bytes count (i + 1) left) holds in
+    let one : offsets bytes count i (suc left) ≡ offsets bytes count (i + 1) left = ap
+    (λ r. r >> offsets bytes count (i + 1) left) holds in
     subst (λ n. offsets bytes count i n ≡ offsets bytes count (i + 1) left) e one
 
 pub offsets-break : (bytes : List ℕ) (count i left now : ℕ) (e : ReplacementError) → left + 1 ≡ now
@@ -73,25 +77,30 @@ unfolding offsets
 offsets-ok bytes count i zero is k from to = absurd (omega arith)
 offsets-ok bytes count i (suc left) is k from to =
     let both = first_offset bytes count i left (unless_bad (is_offset bytes count i) (8 + 4 * i)) is in
-    let here : IsOffset bytes count i = is_offset-true bytes count i (unless_bad-ok (is_offset bytes count i) (8 + 4 * i) both.0) in
+    let here : IsOffset bytes count i = is_offset-true bytes count i
+    (unless_bad-ok (is_offset bytes count i) (8 + 4 * i) both.0) in
     elim (eq-or-lt_of_le from) [
       | inl same ↦ subst (λ n. IsOffset bytes count n) same here
       | inr later ↦ offsets-ok bytes count (i + 1) left both.1 k (omega arith) (omega arith)
     ]
 
 pub offsets-all : (bytes : List ℕ) (count : ℕ) → offsets bytes count 0 count ≡ Ok tt → HasOffsets bytes count
-offsets-all bytes count is = record { each = λ i below. offsets-ok bytes count 0 count is i (omega arith) (omega arith) }
+offsets-all bytes count is = record
+    { each = λ i below. offsets-ok bytes count 0 count is i (omega arith) (omega arith) }
 
-done_entries : (r : Result Entry ReplacementError) (e : ReplacementError) (later : Entry → Result (List Entry) ReplacementError)
+done_entries : (r : Result Entry ReplacementError) (e : ReplacementError) (later : Entry
+    → Result (List Entry) ReplacementError)
     → name_of r ≡ Err e → done_of (r >>= (λ first. later first >>= (λ others. Ok (first ∷ others)))) ≡ Err e
 done_entries (Ok x) e later is = cc
 done_entries (Err d) e later is = cc
 
-done_cons : (x : Entry) (r : Result (List Entry) ReplacementError) → done_of (r >>= (λ others. Ok (x ∷ others))) ≡ done_of r
+done_cons : (x : Entry) (r : Result (List Entry) ReplacementError)
+    → done_of (r >>= (λ others. Ok (x ∷ others))) ≡ done_of r
 done_cons x (Ok es) = refl
 done_cons x (Err e) = refl
 
-done_more : (r : Result Entry ReplacementError) (name : TextPlace) (later : TextPlace → Result (List Entry) ReplacementError)
+done_more : (r : Result Entry ReplacementError) (name : TextPlace) (later : TextPlace
+    → Result (List Entry) ReplacementError)
     → name_of r ≡ Ok name
     → done_of (r >>= (λ first. later first.name >>= (λ others. Ok (first ∷ others)))) ≡ done_of (later name)
 done_more (Ok x) name later is =
@@ -100,7 +109,8 @@ done_more (Ok x) name later is =
 done_more (Err e) name later is = cc
 
 -- an entry breaks
-pub entries-break : (width : ℕ) (bytes : List ℕ) (count : ℕ) (before : Option TextPlace) (i left now : ℕ) (e : ReplacementError)
+pub entries-break : (width : ℕ) (bytes : List ℕ) (count : ℕ) (before : Option TextPlace) (i left now : ℕ)
+    (e : ReplacementError)
     → left + 1 ≡ now → name_of (entry (bounds_of width bytes count i) before (start_of bytes i)) ≡ Err e
     → done_of (entries width bytes count before i now) ≡ Err e
 unfolding entries
@@ -111,13 +121,15 @@ entries-break width bytes count before i left now e is broken =
     (λ first. entries width bytes count (Some first.name) (i + 1) left) broken)
 
 -- an entry holds, and the others come next
-pub entries-more : (width : ℕ) (bytes : List ℕ) (count : ℕ) (before : Option TextPlace) (i left now : ℕ) (name : TextPlace)
+pub entries-more : (width : ℕ) (bytes : List ℕ) (count : ℕ) (before : Option TextPlace) (i left now : ℕ)
+    (name : TextPlace)
     → left + 1 ≡ now → name_of (entry (bounds_of width bytes count i) before (start_of bytes i)) ≡ Ok name
     → done_of (entries width bytes count before i now) ≡ done_of (entries width bytes count (Some name) (i + 1) left)
 unfolding entries
 entries-more width bytes count before i left now name is holds =
     let is_suc : suc left ≡ now = omega arith in
-    subst (λ n. done_of (entries width bytes count before i n) ≡ done_of (entries width bytes count (Some name) (i + 1) left)) is_suc
+    subst (λ n. done_of (entries width bytes count before i n) ≡ done_of
+    (entries width bytes count (Some name) (i + 1) left)) is_suc
     (done_more (entry (bounds_of width bytes count i) before (start_of bytes i)) name
     (λ first. entries width bytes count (Some first) (i + 1) left) holds)
 
@@ -128,11 +140,12 @@ entries-none width bytes count before i left is =
     subst (λ n. done_of (entries width bytes count before i n) ≡ Ok tt) (sym is) refl
 
 -- what was checked in a region is the entry there
-pub name_of-region : (bytes of_region : List ℕ) (count i stop at : ℕ) (before : Option TextPlace) (r : Result TextPlace ReplacementError)
-    → of_region ≡ bytes → stop ≡ stop_of bytes count i → at ≡ start_of bytes i → r ≡ name_of (entry (bounds of_region stop) before at)
-    → name_of (entry (bounds_of 1 bytes count i) before (start_of bytes i)) ≡ r
-name_of-region bytes of_region count i stop at before r same ends begins is =
-    rw (← begins, ← ends, ← same) (sym is)
+pub name_of-region : (width of_width : ℕ) (bytes of_region : List ℕ) (count i stop at : ℕ) (before : Option TextPlace)
+    (r : Result TextPlace ReplacementError) → of_width ≡ width → of_region ≡ bytes → stop ≡ stop_of bytes count i
+    → at ≡ start_of bytes i → r ≡ name_of (entry (bounds of_width of_region stop) before at)
+    → name_of (entry (bounds_of width bytes count i) before (start_of bytes i)) ≡ r
+name_of-region width of_width bytes of_region count i stop at before r wide same ends begins is =
+    rw (← begins, ← ends, ← same, ← wide) (sym is)
 
 -- a place that was read in a region is inside the bytes
 pub place_in-region : (bytes of_region : List ℕ) (read here : TextPlace) → of_region ≡ bytes
@@ -146,36 +159,45 @@ pub table-header : (bytes : List ℕ) (e : ReplacementError) → header bytes �
 unfolding table
 table-header bytes e h = rw h refl
 
-pub table-count : (bytes : List ℕ) (e : ReplacementError) → header bytes ≡ Ok 1 → count_of bytes ≡ Err e → table bytes ≡ Err e
+pub table-count : (width : ℕ) (bytes : List ℕ) (e : ReplacementError) → header bytes ≡ Ok width → count_of bytes ≡ Err e
+    → table bytes ≡ Err e
 unfolding table
-table-count bytes e h c = rw (h, c) refl
+table-count width bytes e h c = rw (h, c) refl
 
-pub table-offsets : (bytes : List ℕ) (count : ℕ) (e : ReplacementError) → header bytes ≡ Ok 1 → count_of bytes ≡ Ok count
+pub table-offsets : (width : ℕ) (bytes : List ℕ) (count : ℕ) (e : ReplacementError) → header bytes ≡ Ok width
+    → count_of bytes ≡ Ok count
     → offsets bytes count 0 count ≡ Err e → table bytes ≡ Err e
 unfolding table
-table-offsets bytes count e h c o = rw (h, c, o) refl
+table-offsets width bytes count e h c o = rw (h, c, o) refl
 
-pub table-entries : (bytes : List ℕ) (count : ℕ) → header bytes ≡ Ok 1 → count_of bytes ≡ Ok count
-    → offsets bytes count 0 count ≡ Ok tt → table bytes ≡ entries 1 bytes count None 0 count
+pub table-entries : (width : ℕ) (bytes : List ℕ) (count : ℕ) → header bytes ≡ Ok width → count_of bytes ≡ Ok count
+    → offsets bytes count 0 count ≡ Ok tt → table bytes ≡ entries width bytes count None 0 count
 unfolding table
-table-entries bytes count h c o = rw (h, c, o) refl
+table-entries width bytes count h c o = rw (h, c, o) refl
 
 done-err : {A : Type 0} (r : Result A ReplacementError) (e : ReplacementError) → done_of r ≡ Err e → r ≡ Err e
 done-err (Ok x) e is = cc
 done-err (Err d) e is = let same : d ≡ e = cc in ap Err same
 
-done-ok : {A : Type 0} (r : Result A ReplacementError) (other : A) → done_of r ≡ Ok tt → r ≡ Ok (result_unwrap_or r other)
+done-ok : {A : Type 0} (r : Result A ReplacementError) (other : A) → done_of r ≡ Ok tt
+    → r ≡ Ok (result_unwrap_or r other)
 done-ok (Ok x) other is = refl
 done-ok (Err d) other is = cc
 
-pub table-bad : (bytes : List ℕ) (count : ℕ) (e : ReplacementError) → header bytes ≡ Ok 1 → count_of bytes ≡ Ok count
-    → offsets bytes count 0 count ≡ Ok tt → done_of (entries 1 bytes count None 0 count) ≡ Err e → table bytes ≡ Err e
-table-bad bytes count e h c o es = table-entries bytes count h c o ∙ done-err (entries 1 bytes count None 0 count) e es
+pub table-bad : (width : ℕ) (bytes : List ℕ) (count : ℕ) (e : ReplacementError) → header bytes ≡ Ok width
+    → count_of bytes ≡ Ok count
+    → offsets bytes count 0 count ≡ Ok tt → done_of (entries width bytes count None 0 count) ≡ Err e
+    → table bytes ≡ Err e
+table-bad width bytes count e h c o es = table-entries width bytes count h c o
+    ∙ done-err (entries width bytes count None 0 count) e es
 
-pub table-read : (bytes : List ℕ) (count : ℕ) → header bytes ≡ Ok 1 → count_of bytes ≡ Ok count
-    → offsets bytes count 0 count ≡ Ok tt → IsRead bytes count → table bytes ≡ Ok (read_entries bytes count)
-table-read bytes count h c o es = table-entries bytes count h c o ∙ es.entries
-
-pub entries-read : (bytes : List ℕ) (count : ℕ) → offsets bytes count 0 count ≡ Ok tt
-    → done_of (entries 1 bytes count None 0 count) ≡ Ok tt → IsRead bytes count
-entries-read bytes count o es = record { offsets = offsets-all bytes count o; entries = done-ok (entries 1 bytes count None 0 count) [] es }
+pub entries-read : (width : ℕ) (bytes : List ℕ) (count : ℕ) → header bytes ≡ Ok width → count_of bytes ≡ Ok count
+    → offsets bytes count 0 count ≡ Ok tt → done_of (entries width bytes count None 0 count) ≡ Ok tt
+    → IsRead width bytes count
+entries-read width bytes count h c o es =
+    let read = done-ok (entries width bytes count None 0 count) [] es in
+    record {
+      offsets = offsets-all bytes count o;
+      entries = read;
+      whole = table-entries width bytes count h c o ∙ read;
+    }

@@ -7,6 +7,7 @@ use Rattle.deny_std.specs.declared.place.ItemPlace.TheVariants.{Stable}
 use Rattle.deny_std.specs.declared.place.Counts.{Counts}
 use Rattle.deny_std.specs.Reading.{◌>>=◌, many}
 use Rattle.deny_std.specs.declared.cursor.Cursor.{Cursor}
+use Rattle.deny_std.specs.Width.{width_of}
 use Rattle.deny_std.specs.Region.{Bounds, bounds, replacement, counted_items}
 use Rattle.deny_std.specs.Place.{IsItemIn}
 use Rattle.deny_std.specs.Item.{items_of}
@@ -21,7 +22,7 @@ coming b minor stable counts at = do
 
 -- the items that a cursor still has to give
 abbrev pub coming_of : Cursor → Result (List ItemPlace) ReplacementError
-coming_of c = coming (bounds c.region.bytes.now c.region.stop) c.minor c.stable c.counts c.at
+coming_of c = coming (bounds (width_of c.region.width) c.region.bytes.now c.region.stop) c.minor c.stable c.counts c.at
 
 abbrev pub left_of : Cursor → List ItemPlace
 left_of c = result_unwrap_or (coming_of c) []

@@ -1,20 +1,24 @@
 -- The head of a table, in the order in which it is tested. Numbers are little endian.
-use Rattle.std.specs.Prelude.{ℕ, zero, suc, ◌+◌, ◌-◌, ◌*◌, ◌==◌, ◌&&◌, ◌||◌, ◌<◌, ◌≤◌, Bool, nat_lt, nat_le, List, length, Result, Ok, slice_index}
+use Rattle.std.specs.Prelude.{ℕ, zero, suc, ◌+◌, ◌-◌, ◌*◌, ◌==◌, ◌&&◌, ◌||◌, ◌<◌, ◌≤◌, Bool, nat_lt, nat_le, List, length, Result, Ok, Err, slice_index, if◌then◌else◌}
 use Rattle.deny_std.specs.declared.error.ReplacementError.{ReplacementError}
+use Rattle.deny_std.specs.declared.error.ReplacementError.TheVariants.{Bad}
 use Rattle.deny_std.specs.Reading.{◌>>◌, unless_bad, number}
 
 -- whether this byte stands at an offset
 abbrev pub has_byte : List ℕ → ℕ → ℕ → Bool
 has_byte bytes at value = nat_lt at (length bytes) && slice_index bytes at == value
 
--- cd cd cd and the version: how many bytes a text's length has in that version
+-- the version: how many bytes a text's length has, which is one in version 1 and two in version 2
+unfoldable pub version : List ℕ → Result ℕ ReplacementError
+version bytes = if has_byte bytes 3 1 then Ok 1 else (if has_byte bytes 3 2 then Ok 2 else Err (Bad 3))
+
+-- cd cd cd and the version
 unfoldable pub header : List ℕ → Result ℕ ReplacementError
 header bytes = do
   unless_bad (has_byte bytes 0 0xcd) 0
   unless_bad (has_byte bytes 1 0xcd) 1
   unless_bad (has_byte bytes 2 0xcd) 2
-  unless_bad (has_byte bytes 3 1) 3
-  Ok 1
+  version bytes
 
 -- the number of entries, which is not 0
 unfoldable pub count_of : List ℕ → Result ℕ ReplacementError

@@ -32,7 +32,8 @@ pub record IsReplacementAt (bytes : List ℕ) (place : ReplacementPlace) (replac
 
 -- So has an item, which is of the same kind.
 abbrev pub IsItemAt : List ℕ → ItemPlace → ReplacementItem → Type 0
-IsItemAt bytes (Stable place minor) (item.Stable replacement since) = IsReplacementAt bytes place replacement × (since ≡ minor)
+IsItemAt bytes (Stable place minor) (item.Stable replacement since) = IsReplacementAt bytes place replacement
+    × (since ≡ minor)
 IsItemAt bytes (Unstable place) (item.Unstable replacement) = IsReplacementAt bytes place replacement
 IsItemAt bytes (Unavailable place) (item.Unavailable api) = IsApiAt bytes place api
 IsItemAt bytes place other = ⊥

@@ -1,5 +1,5 @@
 -- What a table is: which bytes spell which entries, with no word on the order in which they are tested.
-use Rattle.std.specs.Prelude.{◌≡◌, ℕ, ◌+◌, ◌<◌, ◌≤◌, List, [], ◌∷◌, length, take, Some, slice_index, slice_get, IsUtf8}
+use Rattle.std.specs.Prelude.{◌≡◌, ◌⊎◌, ℕ, ◌+◌, ◌<◌, ◌≤◌, List, [], ◌∷◌, length, take, Some, slice_index, slice_get, IsUtf8}
 use Rattle.std.specs.Cmp.Lexicographic.{slice_cmp}
 use Rattle.std.specs.Ordering.{nat_cmp}
 use Rattle.std.specs.declared.cmp.Ordering.TheVariants.{Less}
@@ -45,7 +45,8 @@ pub record IsReplacement (b : Bounds) (at : ℕ) (place : ReplacementPlace) (nex
 -- Several of a kind, one right after the other.
 pub data IsRow {A : Type 0} (IsOne : ℕ → A → ℕ → Type 0) : ℕ → List A → ℕ → Type 0 where
   ended : {at : ℕ} → IsRow IsOne at [] at
-  more : {at between next : ℕ} {x : A} {xs : List A} → IsOne at x between → IsRow IsOne between xs next → IsRow IsOne at (x ∷ xs) next
+  more : {at between next : ℕ} {x : A} {xs : List A} → IsOne at x between → IsRow IsOne between xs next
+      → IsRow IsOne at (x ∷ xs) next
 
 -- A group: the minor version, the number of its replacements, which is not 0, and these.
 pub record IsGroup (b : Bounds) (at : ℕ) (group : Group) (next : ℕ) : Type 0 where
@@ -77,13 +78,17 @@ pub record IsEntry (b : Bounds) (at : ℕ) (entry : Entry) : Type 0 where
   pub name : IsText b at entry.name after_name
   pub items : IsItems b after_name entry.items next
 
--- A table: its mark and version, the number of its entries, their offsets, and each entry in the bytes
--- from its offset to the next one. The names rise in byte order.
+-- A table: its mark and its version, 1 or 2, which is how many bytes the length of a text has; the number of
+-- its entries, their offsets, and each entry in the bytes from its offset to the next one. The names rise in
+-- byte order.
 pub record IsTable (bytes : List ℕ) (entries : List Entry) : Type 0 where
-  pub mark : take 4 bytes ≡ 0xcd ∷ 0xcd ∷ 0xcd ∷ 1 ∷ []
+  pub width : ℕ
+  pub known : (width ≡ 1) ⊎ (width ≡ 2)
+  pub mark : take 4 bytes ≡ 0xcd ∷ 0xcd ∷ 0xcd ∷ width ∷ []
   pub some : 0 < length entries
   pub count : number 4 bytes 4 ≡ length entries
   pub offsets : HasOffsets bytes (length entries)
-  pub each : (i : ℕ) (e : Entry) → slice_get entries i ≡ Some e → IsEntry (bounds_of 1 bytes (length entries) i) (start_of bytes i) e
+  pub each : (i : ℕ) (e : Entry) → slice_get entries i ≡ Some e
+      → IsEntry (bounds_of width bytes (length entries) i) (start_of bytes i) e
   pub rising : (i : ℕ) (e f : Entry) → slice_get entries i ≡ Some e → slice_get entries (i + 1) ≡ Some f
       → slice_cmp nat_cmp (contents bytes e.name) (contents bytes f.name) ≡ Less

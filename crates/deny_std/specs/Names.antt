@@ -9,15 +9,15 @@ use Rattle.deny_std.specs.Region.{bounds, text_place}
 use Rattle.deny_std.specs.Head.{start_of, HasOffsets}
 
 -- the place of an entry's name
-abbrev pub name_place : List ℕ → ℕ → TextPlace
-name_place bytes i = text_place (bounds bytes 0) (start_of bytes i)
+abbrev pub name_place : ℕ → List ℕ → ℕ → TextPlace
+name_place width bytes i = text_place (bounds width bytes 0) (start_of bytes i)
 
 -- the bytes of an entry's name
-unfoldable pub name_at : List ℕ → ℕ → List ℕ
-name_at bytes i = contents bytes (name_place bytes i)
+unfoldable pub name_at : ℕ → List ℕ → ℕ → List ℕ
+name_at width bytes i = contents bytes (name_place width bytes i)
 
 -- All names are inside the bytes, and rise.
-pub record HasNames (bytes : List ℕ) (count : ℕ) : Type 0 where
+pub record HasNames (width : ℕ) (bytes : List ℕ) (count : ℕ) : Type 0 where
   pub offsets : HasOffsets bytes count
-  pub inside : (i : ℕ) → i < count → (name_place bytes i).at + (name_place bytes i).size ≤ length bytes
-  pub rising : (i : ℕ) → i + 1 < count → slice_cmp nat_cmp (name_at bytes i) (name_at bytes (i + 1)) ≡ Less
+  pub inside : (i : ℕ) → i < count → (name_place width bytes i).at + (name_place width bytes i).size ≤ length bytes
+  pub rising : (i : ℕ) → i + 1 < count → slice_cmp nat_cmp (name_at width bytes i) (name_at width bytes (i + 1)) ≡ Less

@@ -7,7 +7,8 @@ use Rattle.deny_std.specs.declared.place.Read.{Read}
 
 infixl 10 ◌>>=◌
 -- the first break ends the reading
-abbrev pub ◌>>=◌ : {A B : Type 0} → Result A ReplacementError → (A → Result B ReplacementError) → Result B ReplacementError
+abbrev pub ◌>>=◌ : {A B : Type 0} → Result A ReplacementError → (A → Result B ReplacementError)
+    → Result B ReplacementError
 Ok x >>= rest = rest x
 Err e >>= rest = Err e
 
@@ -29,7 +30,8 @@ number zero bytes at = 0
 number (suc width) bytes at = slice_index bytes at + 256 * number width bytes (at + 1)
 
 -- so many of a kind, one right after the other
-unfoldable pub many : {A : Type 0} → (ℕ → Result (Read A) ReplacementError) → ℕ → ℕ → Result (Read (List A)) ReplacementError
+unfoldable pub many : {A : Type 0} → (ℕ → Result (Read A) ReplacementError) → ℕ → ℕ
+    → Result (Read (List A)) ReplacementError
 many reader zero at = Ok (read [] at)
 many reader (suc count) at = do
   first ← reader at

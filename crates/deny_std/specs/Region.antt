@@ -19,9 +19,9 @@ pub record Bounds : Type 0 where
   pub width : ℕ
   pub stop : ℕ
 
--- what a region of version 1 holds
-abbrev pub bounds : List ℕ → ℕ → Bounds
-bounds bytes stop = record { bytes = bytes; width = 1; stop = stop }
+-- what is known of a region
+abbrev pub bounds : ℕ → List ℕ → ℕ → Bounds
+bounds width bytes stop = record { bytes = bytes; width = width; stop = stop }
 
 -- a single byte; where it is missing, the entry's end is the break
 unfoldable pub byte : Bounds → ℕ → Result (Read ℕ) ReplacementError
@@ -84,7 +84,8 @@ counts b at = do
   groups ← byte b at
   unstable ← byte b groups.next
   unavailable ← byte b unstable.next
-  Ok (read (record { groups = groups.value; unstable = unstable.value; unavailable = unavailable.value }) unavailable.next)
+  Ok (read (record { groups = groups.value; unstable = unstable.value; unavailable = unavailable.value })
+      unavailable.next)
 
 -- All that an entry says of its crate.
 pub record Items : Type 0 where
@@ -98,7 +99,8 @@ counted_items b count at = do
   groups ← many (group b) count.groups at
   unstable ← many (replacement b) count.unstable groups.next
   unavailable ← many (api b) count.unavailable unstable.next
-  Ok (read (record { groups = groups.value; unstable = unstable.value; unavailable = unavailable.value }) unavailable.next)
+  Ok (read (record { groups = groups.value; unstable = unstable.value; unavailable = unavailable.value })
+      unavailable.next)
 
 -- the items, after their numbers
 unfoldable pub items : Bounds → ℕ → Result (Read Items) ReplacementError

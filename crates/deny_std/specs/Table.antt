@@ -30,10 +30,11 @@ abbrev pub items_in : Table → Entry → EntryItems
 items_in t e = record { bytes = t.bytes; items = e.items }
 
 -- what a list is where its reading is known to hold
-abbrev pub read_entries : List ℕ → ℕ → List Entry
-read_entries bytes count = result_unwrap_or (entries 1 bytes count None 0 count) []
+abbrev pub read_entries : ℕ → List ℕ → ℕ → List Entry
+read_entries width bytes count = result_unwrap_or (entries width bytes count None 0 count) []
 
--- that reading holds, and the offsets before it
-pub record IsRead (bytes : List ℕ) (count : ℕ) : Type 0 where
+-- that reading holds, and so does all that was read before it
+pub record IsRead (width : ℕ) (bytes : List ℕ) (count : ℕ) : Type 0 where
   pub offsets : HasOffsets bytes count
-  pub entries : entries 1 bytes count None 0 count ≡ Ok (read_entries bytes count)
+  pub entries : entries width bytes count None 0 count ≡ Ok (read_entries width bytes count)
+  pub whole : table bytes ≡ Ok (read_entries width bytes count)

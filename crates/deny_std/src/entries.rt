@@ -3,6 +3,7 @@
 ghost use Rattle.std.specs.Prelude.{◌≡◌, ◌+◌, ◌≤◌, ◌<◌, None, length, IfOk};
 ghost use Rattle.std.specs.Option.{ForSome};
 ghost use Rattle.deny_std.specs.Reading.{done_of};
+ghost use Rattle.deny_std.specs.Width.{width_of};
 ghost use Rattle.deny_std.specs.Region.{bounds};
 ghost use Rattle.deny_std.specs.Head.{start_of, HasOffsets};
 ghost use Rattle.deny_std.specs.Entries.{is_above, entry, name_of, stop_of, entries};
@@ -11,6 +12,7 @@ use crate::error::ReplacementError;
 use crate::head::start_of;
 use crate::place::{TextPlace, slice_at};
 use crate::region::Region;
+use crate::width::Width;
 
 /// A name is above the one before it.
 fn is_above(bytes: &[u8], before: Option<TextPlace>, name: TextPlace) -> bool
@@ -32,7 +34,8 @@ fn check_entry(
     start: usize,
 ) -> Result<TextPlace, ReplacementError>
     requires { ForSome before (λ p. p.at + p.size ≤ length region.now.bytes.now) }
-    ensures value { result ≡ name_of (entry (bounds region.now.bytes.now region.now.stop) before start) }
+    ensures value { result
+        ≡ name_of (entry (bounds (width_of region.now.width) region.now.bytes.now region.now.stop) before start) }
     ensures inside { IfOk result (λ p. p.at + p.size ≤ length region.now.bytes.now) }
 {
     let name = region.text(start)?;
@@ -45,10 +48,11 @@ fn check_entry(
 
 /// The region of an entry.
 #[tactic(auto, unfolding(crate::specs::Entries::stop_of))]
-pub(crate) fn region_of(bytes: &[u8], count: u32, i: u32) -> Region
+pub(crate) fn region_of(width: Width, bytes: &[u8], count: u32, i: u32) -> Region
     requires entry { i < count }
     requires offsets { HasOffsets bytes.now count }
     ensures bytes { result.bytes.now ≡ bytes.now }
+    ensures width { result.width ≡ width }
     ensures stop { result.stop ≡ stop_of bytes.now count i }
 {
     let stop = if i + 1 < count {
@@ -56,17 +60,17 @@ pub(crate) fn region_of(bytes: &[u8], count: u32, i: u32) -> Region
     } else {
         bytes.len()
     };
-    Region { bytes, stop }
+    Region { bytes, width, stop }
 }
 
 /// All entries in turn.
-pub(crate) fn check_entries(bytes: &[u8], count: u32) -> Result<(), ReplacementError>
+pub(crate) fn check_entries(width: Width, bytes: &[u8], count: u32) -> Result<(), ReplacementError>
     requires { HasOffsets bytes.now count }
-    ensures { result ≡ done_of (entries 1 bytes.now count None 0 count) }
+    ensures { result ≡ done_of (entries (width_of width) bytes.now count None 0 count) }
 {
     let mut before = None;
     for i in 0..count {
-        let region = region_of(bytes, count, i);
+        let region = region_of(width, bytes, count, i);
         before = Some(check_entry(&region, before, start_of(bytes, i))?);
     }
     Ok(())

@@ -2,34 +2,55 @@
 
 ghost use Rattle.std.specs.Prelude.{◌≡◌, ◌+◌, ◌*◌, ◌≤◌, ◌<◌, ◌==◌, ◌||◌, ◌-◌, nat_lt, Ok, Err, length, MatchResult};
 ghost use Rattle.deny_std.specs.Reading.{unless_bad, number};
-ghost use Rattle.deny_std.specs.Head.{has_byte, header, count_of, start_of, is_offset, offsets};
+ghost use Rattle.deny_std.specs.Width.{width_of};
+ghost use Rattle.deny_std.specs.Head.{has_byte, version, header, count_of, start_of, is_offset, offsets};
 
 use crate::error::ReplacementError;
+use crate::width::Width;
 
 const MARK: u8 = 0xcd;
 
-const VERSION: u8 = 1;
+/// Whether this byte stands at an offset.
+fn has_byte(bytes: &[u8], at: usize, value: u8) -> bool
+    ensures { result ≡ has_byte bytes.now at value }
+{
+    at < bytes.len() && bytes[at] == value
+}
 
 /// The byte at an offset has to be this one.
 fn check_byte(bytes: &[u8], at: usize, value: u8) -> Result<(), ReplacementError>
     ensures { result ≡ unless_bad (has_byte bytes.now at value) at }
 {
-    if at < bytes.len() && bytes[at] == value {
+    if has_byte(bytes, at, value) {
         Ok(())
     } else {
         Err(ReplacementError::Bad(at))
     }
 }
 
-/// The first four bytes are the mark three times, and the version.
+/// The version at its place.
+#[tactic(auto, unfolding(crate::specs::Head::version))]
+fn version(bytes: &[u8]) -> Result<Width, ReplacementError>
+    ensures { MatchResult result (λ width. version bytes.now ≡ Ok (width_of width)) (λ e. version bytes.now ≡ Err e) }
+{
+    if has_byte(bytes, 3, 1) {
+        Ok(Width::One)
+    } else if has_byte(bytes, 3, 2) {
+        Ok(Width::Two)
+    } else {
+        Err(ReplacementError::Bad(3))
+    }
+}
+
+/// The first four bytes are the mark three times, and the version: how many bytes the length of a text has.
 #[tactic(auto, unfolding(crate::specs::Head::header))]
-pub(crate) fn check_header(bytes: &[u8]) -> Result<(), ReplacementError>
-    ensures { MatchResult result (λ _. header bytes.now ≡ Ok 1) (λ e. header bytes.now ≡ Err e) }
+pub(crate) fn check_header(bytes: &[u8]) -> Result<Width, ReplacementError>
+    ensures { MatchResult result (λ width. header bytes.now ≡ Ok (width_of width)) (λ e. header bytes.now ≡ Err e) }
 {
     check_byte(bytes, 0, MARK)?;
     check_byte(bytes, 1, MARK)?;
     check_byte(bytes, 2, MARK)?;
-    check_byte(bytes, 3, VERSION)
+    version(bytes)
 }
 
 /// The little endian number in four bytes.

@@ -1,8 +1,28 @@
 //! The table of crates that the standard library replaces. Its bytes are read once from end to end,
-//! nothing of them is copied, and each text that is handed out is the slice of them at its place.
+//! and each text that is handed out equals the bytes at its place.
+//!
+//! | Bytes | Meaning |
+//! |---|---|
+//! | `cd cd cd`, a version of 1 or 2, the number of entries | the head; numbers have four bytes, the lowest first |
+//! | a number for each entry | the offset at which it begins; it reaches up to the next one |
+//! | a text, three counts, items | an entry: a crate's name, and how many groups, unstable and unavailable items follow |
+//! | a minor version, a count that is not 0, replacements | a group: stable since this version of Rust |
+//! | two APIs and a note | a replacement: what the crate offers, what std offers, and what to know |
+//! | a name and an address | an API |
+//! | a length, UTF-8 | a text; the length has one byte in version 1 and two, the lowest first, in version 2 |
+//!
+//! Whether a table speaks of a crate (a test over this call is proved):
+//!
+//! ```rust
+//! pub fn speaks_of(alloc: Global, bytes: &[u8], name: &str) -> Result<bool, ReplacementError> {
+//!     let table = ReplacementData::from_bytes(alloc, bytes)?;
+//!     Ok(table.entry(name).is_some())
+//! }
+//! ```
 #![tactic(auto)]
 
 mod cursor;
+mod draft;
 mod entries;
 mod error;
 mod head;
@@ -12,8 +32,10 @@ mod place;
 mod region;
 mod replacement;
 mod table;
+mod upgrade;
+mod width;
 
-pub use error::ReplacementError;
+pub use error::{ReplacementError, UpgradeError};
 pub use item::{Api, ApiReplacement, ReplacementItem};
 pub use replacement::{Replacement, ReplacementIter};
 pub use table::ReplacementData;

@@ -4,16 +4,20 @@ ghost use Rattle.std.specs.Prelude.{◌≡◌, ◌+◌, ◌≤◌, length, IfOk}
 ghost use Rattle.std.specs.Str.{is_utf8};
 ghost use Rattle.deny_std.specs.Place.{contents};
 ghost use Rattle.deny_std.specs.Reading.{next_of, many};
+ghost use Rattle.deny_std.specs.Width.{width_of};
 ghost use Rattle.deny_std.specs.Region.{bounds, byte, text, api, replacement, note_of, group_head, group, counts, counted_items, items};
 
 use crate::error::ReplacementError;
 use crate::place::{ApiPlace, Counts, GroupHead, Read, ReplacementPlace, TextPlace};
+use crate::width::Width;
 use std::str;
 
-/// The bytes of a table, and the offset where the entry at hand ends: nothing past it is read.
+/// The bytes of a table, how many of them the length of a text has, and the offset where the entry at hand
+/// ends: nothing past it is read.
 #[derive(Clone, Copy)]
 pub(crate) struct Region<'d> {
     pub bytes: &'d [u8],
+    pub width: Width,
     pub stop: usize,
     ghost within: { stop ≤ length bytes.now },
 }
@@ -21,7 +25,7 @@ pub(crate) struct Region<'d> {
 impl<'d> Region<'d> {
     #[tactic(auto, unfolding(crate::specs::Region::byte))]
     pub fn byte(&self, at: usize) -> Result<Read<u8>, ReplacementError>
-        ensures { result ≡ byte (bounds self.now.bytes.now self.now.stop) at }
+        ensures { result ≡ byte (bounds (width_of self.now.width) self.now.bytes.now self.now.stop) at }
     {
         if at >= self.stop {
             return Err(ReplacementError::Bad(self.stop));
@@ -32,17 +36,18 @@ impl<'d> Region<'d> {
         })
     }
 
-    #[tactic(auto, unfolding(crate::specs::Region::text, crate::specs::Reading::number))]
+    #[tactic(auto, unfolding(crate::specs::Region::text))]
     pub fn text(&self, at: usize) -> Result<Read<TextPlace>, ReplacementError>
-        ensures value { result ≡ text (bounds self.now.bytes.now self.now.stop) at }
+        ensures value { result ≡ text (bounds (width_of self.now.width) self.now.bytes.now self.now.stop) at }
         ensures inside { IfOk result (λ t. t.value.at + t.value.size ≤ length self.now.bytes.now) }
     {
-        if at >= self.stop {
+        let length = self.width.bytes();
+        if at >= self.stop || length > self.stop - at {
             return Err(ReplacementError::Bad(at));
         }
         let place = TextPlace {
-            at: at + 1,
-            size: self.bytes[at] as usize,
+            at: at + length,
+            size: self.width.length_at(self.bytes, at),
         };
         if place.size > self.stop - place.at || !is_text(self.bytes, place) {
             return Err(ReplacementError::Bad(at));
@@ -55,7 +60,7 @@ impl<'d> Region<'d> {
 
     #[tactic(auto, unfolding(crate::specs::Region::api))]
     pub fn api(&self, at: usize) -> Result<Read<ApiPlace>, ReplacementError>
-        ensures { result ≡ api (bounds self.now.bytes.now self.now.stop) at }
+        ensures { result ≡ api (bounds (width_of self.now.width) self.now.bytes.now self.now.stop) at }
     {
         let name = self.text(at)?;
         let url = self.text(name.next)?;
@@ -70,7 +75,7 @@ impl<'d> Region<'d> {
 
     #[tactic(auto, unfolding(crate::specs::Region::replacement))]
     pub fn replacement(&self, at: usize) -> Result<Read<ReplacementPlace>, ReplacementError>
-        ensures { result ≡ replacement (bounds self.now.bytes.now self.now.stop) at }
+        ensures { result ≡ replacement (bounds (width_of self.now.width) self.now.bytes.now self.now.stop) at }
     {
         let krate = self.api(at)?;
         let std = self.api(krate.next)?;
@@ -87,7 +92,7 @@ impl<'d> Region<'d> {
 
     #[tactic(auto, unfolding(crate::specs::Region::group_head))]
     pub fn group_head(&self, at: usize) -> Result<Read<GroupHead>, ReplacementError>
-        ensures { result ≡ group_head (bounds self.now.bytes.now self.now.stop) at }
+        ensures { result ≡ group_head (bounds (width_of self.now.width) self.now.bytes.now self.now.stop) at }
     {
         let minor = self.byte(at)?;
         let count = self.byte(minor.next)?;
@@ -105,7 +110,7 @@ impl<'d> Region<'d> {
 
     #[tactic(auto, unfolding(crate::specs::Region::counts))]
     pub fn counts(&self, at: usize) -> Result<Read<Counts>, ReplacementError>
-        ensures { result ≡ counts (bounds self.now.bytes.now self.now.stop) at }
+        ensures { result ≡ counts (bounds (width_of self.now.width) self.now.bytes.now self.now.stop) at }
     {
         let groups = self.byte(at)?;
         let unstable = self.byte(groups.next)?;
@@ -122,7 +127,8 @@ impl<'d> Region<'d> {
 
     /// Passes over replacements, and answers where they end.
     pub fn skip_replacements(&self, count: u8, at: usize) -> Result<usize, ReplacementError>
-        ensures { result ≡ next_of (many (replacement (bounds self.now.bytes.now self.now.stop)) count at) }
+        ensures { result ≡ next_of
+            (many (replacement (bounds (width_of self.now.width) self.now.bytes.now self.now.stop)) count at) }
     {
         let mut next = at;
         for _place in 0..count {
@@ -133,7 +139,8 @@ impl<'d> Region<'d> {
 
     /// Passes over APIs, and answers where they end.
     pub fn skip_apis(&self, count: u8, at: usize) -> Result<usize, ReplacementError>
-        ensures { result ≡ next_of (many (api (bounds self.now.bytes.now self.now.stop)) count at) }
+        ensures { result ≡ next_of
+            (many (api (bounds (width_of self.now.width) self.now.bytes.now self.now.stop)) count at) }
     {
         let mut next = at;
         for _place in 0..count {
@@ -144,7 +151,7 @@ impl<'d> Region<'d> {
 
     #[tactic(auto, unfolding(crate::specs::Region::group))]
     fn skip_group(&self, at: usize) -> Result<usize, ReplacementError>
-        ensures { result ≡ next_of (group (bounds self.now.bytes.now self.now.stop) at) }
+        ensures { result ≡ next_of (group (bounds (width_of self.now.width) self.now.bytes.now self.now.stop) at) }
     {
         let head = self.group_head(at)?;
         self.skip_replacements(head.value.count, head.next)
@@ -152,7 +159,8 @@ impl<'d> Region<'d> {
 
     /// Passes over groups, and answers where they end.
     pub fn skip_groups(&self, count: u8, at: usize) -> Result<usize, ReplacementError>
-        ensures { result ≡ next_of (many (group (bounds self.now.bytes.now self.now.stop)) count at) }
+        ensures { result ≡ next_of
+            (many (group (bounds (width_of self.now.width) self.now.bytes.now self.now.stop)) count at) }
     {
         let mut next = at;
         for _place in 0..count {
@@ -164,7 +172,7 @@ impl<'d> Region<'d> {
     /// Passes over an entry's items, and answers where they end.
     #[tactic(auto, unfolding(crate::specs::Region::items, crate::specs::Region::counted_items))]
     pub fn skip_items(&self, at: usize) -> Result<usize, ReplacementError>
-        ensures { result ≡ next_of (items (bounds self.now.bytes.now self.now.stop) at) }
+        ensures { result ≡ next_of (items (bounds (width_of self.now.width) self.now.bytes.now self.now.stop) at) }
     {
         let counts = self.counts(at)?;
         let unstable = self.skip_groups(counts.value.groups, counts.next)?;

@@ -1,6 +1,7 @@
 //! What a table says of one crate.
 
 ghost use Rattle.std.specs.Prelude.{◌≡◌, Ok, None, IsOk, MatchOption, List, [], ◌∷◌};
+ghost use Rattle.deny_std.specs.Width.{width_of};
 ghost use Rattle.deny_std.specs.declared.place.ItemPlace.{ItemPlace};
 ghost use Rattle.deny_std.specs.Region.{bounds};
 ghost use Rattle.deny_std.specs.Entries.{Entry, entry};
@@ -22,6 +23,7 @@ pub struct Replacement<'d> {
 
 impl<'d> Model for Replacement<'d> {
     ghost use Rattle.std.specs.Prelude.{IsOk};
+    ghost use Rattle.deny_std.specs.Width.{width_of};
     ghost use Rattle.deny_std.specs.Region.{bounds, counted_items};
     ghost use Rattle.deny_std.specs.Replacement.{EntryItems, items_read};
 
@@ -29,18 +31,22 @@ impl<'d> Model for Replacement<'d> {
 
     ghost view = { λ r. record {
       bytes = r.region.bytes.now;
-      items = items_read (counted_items (bounds r.region.bytes.now r.region.stop) r.counts r.at);
+      items = items_read
+          (counted_items (bounds (width_of r.region.width) r.region.bytes.now r.region.stop) r.counts r.at);
     } };
 
-    ghost invariant = { λ r. IsOk (counted_items (bounds r.region.bytes.now r.region.stop) r.counts r.at) };
+    ghost invariant = { λ r. IsOk
+        (counted_items (bounds (width_of r.region.width) r.region.bytes.now r.region.stop) r.counts r.at) };
 }
 
 impl<'d> Replacement<'d> {
     /// The entry that begins at an offset of a table.
     pub(crate) fn open(region: &Region<'d>, start: usize) -> Replacement<'d>
-        requires { IsOk (entry (bounds region.now.bytes.now region.now.stop) None start) }
+        requires { IsOk (entry (bounds (width_of region.now.width) region.now.bytes.now region.now.stop) None start) }
         ensures bytes { result.bytes ≡ region.now.bytes.now }
-        ensures items { (e : Entry) → entry (bounds region.now.bytes.now region.now.stop) None start ≡ Ok e → result.items ≡ e.items }
+        ensures items { (e : Entry)
+            → entry (bounds (width_of region.now.width) region.now.bytes.now region.now.stop) None start ≡ Ok e
+            → result.items ≡ e.items }
     {
         let name = region.text(start).unwrap();
         let counts = region.counts(name.next).unwrap();
@@ -92,7 +98,8 @@ impl<'d> ReplacementIter<'d> {
         ensures bytes { self.new.bytes ≡ self.old.bytes }
         ensures items { MatchOption result
             ((self.old.items ≡ []) × (self.new.items ≡ []))
-            (λ item. (place : ItemPlace) × (self.old.items ≡ place ∷ self.new.items) × IsItemAt self.old.bytes place item) }
+            (λ item. (place : ItemPlace) × (self.old.items ≡ place ∷ self.new.items)
+            × IsItemAt self.old.bytes place item) }
     {
         let place = self.cursor.next()?;
         Some(item_at(self.cursor.region.bytes, place))

@@ -2,13 +2,19 @@
 
 use deny_std::{
     Api, ApiReplacement, Replacement, ReplacementData, ReplacementError, ReplacementItem,
+    UpgradeError,
 };
+use hex::FromHexError;
 use std::alloc::{AllocError, Global};
 use std::str;
 
 /// The bytes of a word, or none where it is not hex.
-fn bytes_of(alloc: Global, word: &str) -> Vec<u8> {
-    hex::decode(alloc, word).unwrap_or(Vec::new(alloc))
+fn bytes_of(alloc: Global, word: &str) -> Result<Vec<u8>, AllocError> {
+    match hex::decode(alloc, word) {
+        Ok(bytes) => Ok(bytes),
+        Err(FromHexError::OutOfMemory) => Err(AllocError),
+        Err(_) => Ok(Vec::new(alloc)),
+    }
 }
 
 fn push_text(answer: &mut String, alloc: Global, text: &str) -> Result<(), AllocError> {
@@ -76,7 +82,7 @@ fn push_look_up(
     table: &ReplacementData,
     word: &str,
 ) -> Result<(), AllocError> {
-    let name = bytes_of(alloc, word);
+    let name = bytes_of(alloc, word)?;
     answer.push_str("; <")?;
     answer.push_str(hex::encode(alloc, name.as_slice())?.as_str())?;
     answer.push_str(">:")?;
@@ -89,16 +95,31 @@ fn push_look_up(
     }
 }
 
-/// The answer to a case: `Ok` and what is said of each name, or why the bytes were refused.
+fn push_upgrade(
+    answer: &mut String,
+    alloc: Global,
+    table: &ReplacementData,
+) -> Result<(), AllocError> {
+    answer.push_str("; version 2: ")?;
+    match table.upgrade(alloc) {
+        Ok(bytes) => answer.push_str(hex::encode(alloc, bytes.as_slice())?.as_str()),
+        Err(UpgradeError::Long) => answer.push_str("Long"),
+        Err(UpgradeError::Memory) => Err(AllocError),
+    }
+}
+
+/// The answer to a case: `Ok`, what is said of each name, and the table's bytes in version 2, or why the bytes
+/// were refused.
 pub(crate) fn answer(alloc: Global, line: &str) -> Result<String, AllocError> {
     let mut words = line.split(' ');
-    let bytes = bytes_of(alloc, words.next().unwrap_or(""));
+    let bytes = bytes_of(alloc, words.next().unwrap_or(""))?;
     match ReplacementData::from_bytes(alloc, bytes.as_slice()) {
         Ok(table) => {
             let mut answer = String::from_str(alloc, "Ok")?;
             for word in words {
                 push_look_up(&mut answer, alloc, &table, word)?;
             }
+            push_upgrade(&mut answer, alloc, &table)?;
             Ok(answer)
         }
         Err(ReplacementError::Bad(offset)) => format!(in alloc; "Bad({offset})"),

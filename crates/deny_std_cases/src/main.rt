@@ -1,4 +1,5 @@
-//! Reads replacement tables from standard input, one a line, and prints what each of them holds.
+//! Reads replacement tables from standard input, one a line, and prints what each of them holds, and its bytes
+//! in version 2.
 //! `tools/replacement_cases.py` writes its input and the answers that are wanted.
 #![tactic(auto)]
 

@@ -1,4 +1,4 @@
-use Rattle.deny_spdx.proofs.FrontLemmas.{boundary}
+use Rattle.deny_spdx.proofs.PrefixLemmas.{boundary}
 use Rattle.deny_spdx.proofs.token.split.Goals as goal
 
 pub split_at-requires : goal.split_at-requires

@@ -1,18 +1,20 @@
 use Rattle.std.proofs.Common.{rules, sym}
-use Rattle.deny_std.proofs.TableLemmas.{table-header, table-count, table-offsets, table-bad, table-read, entries-read, offsets-all}
+use Rattle.deny_std.proofs.TableLemmas.{table-header, table-count, table-offsets, table-bad, entries-read, offsets-all}
 use Rattle.deny_std.proofs.table.check.Goals as goal
 
-pub returns-in_err-check_header : goal.returns-in_err-check_header
-returns-in_err-check_header c =
-    let broken = table-header c.args.bytes.now _ c.in_err-check_header.ensures in search (rules, broken)
+pub returns-in_err-width : goal.returns-in_err-width
+returns-in_err-width c =
+    let broken = table-header c.args.bytes.now _ c.in_err-width.ensures in search (rules, broken)
 
 pub returns-in_err-count : goal.returns-in_err-count
 returns-in_err-count c =
-    let broken = table-count c.args.bytes.now _ c.in_ok-check_header.ensures (sym c.in_err-count.ensures) in search (rules, broken)
+    let broken = table-count _ c.args.bytes.now _ c.in_ok-width.ensures (sym c.in_err-count.ensures) in
+    search (rules, broken)
 
 pub returns-in_err-check_offsets : goal.returns-in_err-check_offsets
 returns-in_err-check_offsets c =
-    let broken = table-offsets c.args.bytes.now c.in_ok-count.count _ c.in_ok-check_header.ensures (sym c.in_ok-count.ensures)
+    let broken = table-offsets _ c.args.bytes.now c.in_ok-count.count _ c.in_ok-width.ensures
+    (sym c.in_ok-count.ensures)
     (sym c.in_err-check_offsets.ensures) in
     search (rules, broken)
 
@@ -21,14 +23,11 @@ check_entries-requires c = offsets-all c.args.bytes.now c.in_ok-count.count (sym
 
 pub returns-in_err-check_entries : goal.returns-in_err-check_entries
 returns-in_err-check_entries c =
-    let broken = table-bad c.args.bytes.now c.in_ok-count.count _ c.in_ok-check_header.ensures (sym c.in_ok-count.ensures)
+    let broken = table-bad _ c.args.bytes.now c.in_ok-count.count _ c.in_ok-width.ensures (sym c.in_ok-count.ensures)
     (sym c.in_ok-check_offsets.ensures) (sym c.in_err-check_entries.ensures) in
     search (rules, broken)
 
 pub returns : goal.returns
 returns c =
-    let holds = entries-read c.args.bytes.now c.in_ok-count.count (sym c.in_ok-check_offsets.ensures) (sym c.in_ok-check_entries.ensures) in (
-      holds,
-      table-read c.args.bytes.now c.in_ok-count.count c.in_ok-check_header.ensures (sym c.in_ok-count.ensures)
-          (sym c.in_ok-check_offsets.ensures) holds,
-    )
+    entries-read _ c.args.bytes.now c.in_ok-count.count c.in_ok-width.ensures (sym c.in_ok-count.ensures)
+    (sym c.in_ok-check_offsets.ensures) (sym c.in_ok-check_entries.ensures)

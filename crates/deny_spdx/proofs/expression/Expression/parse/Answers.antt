@@ -4,7 +4,8 @@ use Rattle.deny_spdx.proofs.KeepsLemmas.{expression_clear}
 use Rattle.deny_spdx.proofs.expression.Expression.parse.Goals as goal
 
 pub returns-clause-spelled : goal.returns-clause-spelled
-returns-clause-spelled c = only_answer IsExpression expression_clear c.args.text.now c.read_expression.result c.read_expression.ensures
+returns-clause-spelled c = only_answer IsExpression expression_clear c.args.text.now c.read_expression.result
+    c.read_expression.ensures
 
 pub returns-clause-bad : goal.returns-clause-bad
 returns-clause-bad c = only_place IsExpression c.args.text.now c.read_expression.result c.read_expression.ensures

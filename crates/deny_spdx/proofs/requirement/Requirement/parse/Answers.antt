@@ -4,7 +4,8 @@ use Rattle.deny_spdx.proofs.KeepsLemmas.{requirement_clear}
 use Rattle.deny_spdx.proofs.requirement.Requirement.parse.Goals as goal
 
 pub returns-clause-spelled : goal.returns-clause-spelled
-returns-clause-spelled c = only_answer IsRequirement requirement_clear c.args.text.now c.read_requirement.result c.read_requirement.ensures
+returns-clause-spelled c = only_answer IsRequirement requirement_clear c.args.text.now c.read_requirement.result
+    c.read_requirement.ensures
 
 pub returns-clause-bad : goal.returns-clause-bad
 returns-clause-bad c = only_place IsRequirement c.args.text.now c.read_requirement.result c.read_requirement.ensures

@@ -3,7 +3,8 @@ use Rattle.deny_std.proofs.CursorSteps.{group_ready, group_answer}
 use Rattle.deny_std.proofs.cursor.Cursor.begin_group.Goals as goal
 
 pub unwrap-head-requires : goal.unwrap-head-requires
-unwrap-head-requires c = group_ready c.args.self.now _ c.requires.stable c.requires.some c.requires.reads c.group_head.ensures
+unwrap-head-requires c = group_ready c.args.self.now _ c.requires.stable c.requires.some c.requires.reads
+    c.group_head.ensures
 
 pub returns-clause-left : goal.returns-clause-left
 returns-clause-left c =
