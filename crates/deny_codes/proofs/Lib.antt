@@ -1,0 +1,13 @@
+pub mod Agreement
+pub mod BanRows
+pub mod Cases
+pub mod DuplicateRows
+pub mod Joined
+pub mod Kept
+pub mod Made
+pub mod Modelled
+pub mod Parts
+pub mod RuleLaws
+pub mod SkipRows
+pub mod ToldRows
+pub mod Unseen

@@ -1,0 +1,198 @@
+-- Keys bear the code of their rule, and stand in its section.
+use Rattle.std.proofs.Common.{◌≡◌, ℕ, List, map, not, refl, subst, sym}
+use Rattle.std.specs.Prelude.{Contains, filter}
+use Rattle.std.specs.List.{flat_map}
+use Rattle.deny_lists.proofs.Members.{Contains-from_flat_map, from_contains_map}
+use Rattle.deny_base.specs.declared.code.Code.{Code}
+use Rattle.deny_base.specs.declared.code.Code.TheVariants as code
+use Rattle.deny_base.specs.declared.code.DiagnosticCode.TheVariants.{Bans}
+use Rattle.deny_base.specs.declared.key.Key.{Key}
+use Rattle.deny_base.specs.declared.key.Section.{Section}
+use Rattle.deny_base.specs.declared.key.Section.TheVariants as section
+use Rattle.deny_base.specs.declared.span.Span.{Span}
+use Rattle.deny_model.specs.Bans.{allowed_keys_of, is_not_allowed, not_allowed_keys, allowed_by_wrapper_keys_at}
+use Rattle.deny_model.specs.Bans.{allowed_by_wrapper_keys_of, banned_keys_of, is_banned, is_wrapped, is_wrapper}
+use Rattle.deny_model.specs.Bans.{unmatched_wrapper_keys_at, unmatched_wrapper_keys_of}
+use Rattle.deny_model.specs.Facts as chains
+use Rattle.deny_model.specs.Duplicates.{IsDuplicate}
+use Rattle.deny_model.specs.Graph.{Crate, Graph, dependents}
+use Rattle.deny_model.specs.Keys.{crate_key, dependent_key, duplicate_key, key_of, no_span, unused_key}
+use Rattle.deny_model.specs.Match.{matches}
+use Rattle.deny_model.specs.Policy as policy
+use Rattle.deny_model.specs.Policy.{Ban, Entry, Policy, Root}
+use Rattle.deny_model.specs.Skips.{has_root, is_skipped_by_root, skipped_by_root_keys_of, unmatched_skip_root_keys}
+use Rattle.deny_model.specs.Skips.{is_hit_skip, is_needless, is_skipped, skipped_keys_of, unmatched_skip_keys}
+use Rattle.deny_model.specs.Skips.{unnecessary_skip_keys}
+use Rattle.deny_model.specs.Wrappers.{is_hit_wrapper, unused_wrapper_keys_of}
+use Rattle.deny_codes.specs.AllowList.{allowed_keys}
+use Rattle.deny_codes.specs.Bans.{allowed_by_wrapper_keys, banned_keys, unmatched_wrapper_keys}
+use Rattle.deny_codes.specs.SkippedTrees.{skipped_by_root_keys}
+use Rattle.deny_codes.specs.Skips.{skipped_keys}
+use Rattle.deny_codes.specs.Wrappers.{unused_wrapper_keys}
+
+pub record Made (s : Section) (d : Code) (key : Key) : Type 0 where
+  pub code_is : key.code ≡ Bans d
+  pub section_is : key.section ≡ s
+
+made_key : (s : Section) (d : Code) (place : ℕ) (entry : Span) (other : ℕ) → Made s d (key_of s d place entry other)
+unfolding key_of
+made_key s d place entry other = record { code_is = refl; section_is = refl }
+
+made_map : {X : Type 0} (s : Section) (d : Code) (f : X → Key) (xs : List X) (key : Key) → ((x : X) → Made s d (f x))
+    → Contains (map f xs) key → Made s d key
+made_map s d f xs key each is =
+    let from = from_contains_map f xs key is in
+    subst (Made s d) from.2 (each from.0)
+
+made_flat : {X : Type 0} (s : Section) (d : Code) (f : X → List Key) (xs : List X) (key : Key)
+    → ((x : X) → Contains (f x) key → Made s d key)
+    → Contains (flat_map f xs) key → Made s d key
+made_flat s d f xs key each is =
+    let from = Contains-from_flat_map f xs key is in
+    each from.from from.of
+
+-- ---- bans
+
+banned_of : (p : Policy) (g : Graph) (key : Key) (ban : Ban) → Contains (banned_keys_of p g ban) key
+    → Made section.Crates code.Banned key
+unfolding banned_keys_of
+banned_of p g key ban is = made_map section.Crates code.Banned (λ c. crate_key code.Banned c.place ban.spec.range)
+    (filter (is_banned p g ban) g.crates) key
+    (λ c. made_key section.Crates code.Banned c.place ban.spec.range 0) is
+
+pub banned_made : (p : Policy) (g : Graph) (key : Key) → Contains (banned_keys p g) key
+    → Made section.Crates code.Banned key
+banned_made p g key is = made_flat section.Crates code.Banned (banned_keys_of p g) p.deny key (banned_of p g key) is
+
+allowed_at : (g : Graph) (key : Key) (ban : Ban) (c : Crate) → Contains (allowed_by_wrapper_keys_at g ban c) key
+    → Made section.Crates code.AllowedByWrapper key
+unfolding allowed_by_wrapper_keys_at
+allowed_at g key ban c is = made_map section.Crates code.AllowedByWrapper
+    (λ (parent : Crate). dependent_key code.AllowedByWrapper c.place ban.spec.range parent.place)
+    (filter (is_wrapper ban.wrappers) (dependents g c.place)) key
+    (λ parent. made_key section.Crates code.AllowedByWrapper c.place ban.spec.range parent.place) is
+
+allowed_of_ban : (p : Policy) (g : Graph) (key : Key) (ban : Ban) → Contains (allowed_by_wrapper_keys_of p g ban) key
+    → Made section.Crates code.AllowedByWrapper key
+unfolding allowed_by_wrapper_keys_of
+allowed_of_ban p g key ban is = made_flat section.Crates code.AllowedByWrapper (allowed_by_wrapper_keys_at g ban)
+    (filter (is_wrapped p g ban) g.crates) key (allowed_at g key ban) is
+
+pub allowed_by_wrapper_made : (p : Policy) (g : Graph) (key : Key) → Contains (allowed_by_wrapper_keys p g) key
+    → Made section.Crates code.AllowedByWrapper key
+allowed_by_wrapper_made p g key is = made_flat section.Crates code.AllowedByWrapper (allowed_by_wrapper_keys_of p g)
+    p.deny key (allowed_of_ban p g key) is
+
+unmatched_at : (g : Graph) (key : Key) (ban : Ban) (c : Crate) → Contains (unmatched_wrapper_keys_at g ban c) key
+    → Made section.Crates code.UnmatchedWrapper key
+unfolding unmatched_wrapper_keys_at
+unmatched_at g key ban c is = made_map section.Crates code.UnmatchedWrapper
+    (λ (parent : Crate). dependent_key code.UnmatchedWrapper c.place ban.spec.range parent.place)
+    (filter (λ parent. not (is_wrapper ban.wrappers parent)) (dependents g c.place)) key
+    (λ parent. made_key section.Crates code.UnmatchedWrapper c.place ban.spec.range parent.place) is
+
+unmatched_of_ban : (p : Policy) (g : Graph) (key : Key) (ban : Ban) → Contains (unmatched_wrapper_keys_of p g ban) key
+    → Made section.Crates code.UnmatchedWrapper key
+unfolding unmatched_wrapper_keys_of
+unmatched_of_ban p g key ban is = made_flat section.Crates code.UnmatchedWrapper (unmatched_wrapper_keys_at g ban)
+    (filter (is_wrapped p g ban) g.crates) key (unmatched_at g key ban) is
+
+pub unmatched_wrapper_made : (p : Policy) (g : Graph) (key : Key) → Contains (unmatched_wrapper_keys p g) key
+    → Made section.Crates code.UnmatchedWrapper key
+unmatched_wrapper_made p g key is = made_flat section.Crates code.UnmatchedWrapper (unmatched_wrapper_keys_of p g)
+    p.deny key (unmatched_of_ban p g key) is
+
+unused_of_ban : (p : Policy) (g : Graph) (key : Key) (ban : Ban) → Contains (unused_wrapper_keys_of p g ban) key
+    → Made section.Unused code.UnusedWrapper key
+unfolding unused_wrapper_keys_of
+unused_of_ban p g key ban is = made_map section.Unused code.UnusedWrapper
+    (λ (w : policy.Words). unused_key code.UnusedWrapper w.span)
+    (filter (λ w. not (is_hit_wrapper p g ban w)) ban.wrappers) key
+    (λ w. made_key section.Unused code.UnusedWrapper 0 w.span 0) is
+
+pub unused_wrapper_made : (p : Policy) (g : Graph) (key : Key) → Contains (unused_wrapper_keys p g) key
+    → Made section.Unused code.UnusedWrapper key
+unused_wrapper_made p g key is = made_flat section.Unused code.UnusedWrapper (unused_wrapper_keys_of p g) p.deny key
+    (unused_of_ban p g key) is
+
+-- ---- the allow list
+
+allowed_of : (g : Graph) (key : Key) (e : Entry) → Contains (allowed_keys_of g e) key
+    → Made section.Crates code.Allowed key
+unfolding allowed_keys_of
+allowed_of g key e is = made_map section.Crates code.Allowed
+    (λ (c : Crate). crate_key code.Allowed c.place e.spec.range) (filter (matches e.spec) g.crates) key
+    (λ c. made_key section.Crates code.Allowed c.place e.spec.range 0) is
+
+pub allowed_made : (p : Policy) (g : Graph) (key : Key) → Contains (allowed_keys p g) key
+    → Made section.Crates code.Allowed key
+allowed_made p g key is = made_flat section.Crates code.Allowed (allowed_keys_of g) p.allow key (allowed_of g key) is
+
+pub not_allowed_made : (p : Policy) (g : Graph) (key : Key) → Contains (not_allowed_keys p g) key
+    → Made section.Crates code.NotAllowed key
+unfolding not_allowed_keys
+not_allowed_made p g key is = made_map section.Crates code.NotAllowed
+    (λ (c : Crate). crate_key code.NotAllowed c.place no_span) (filter (is_not_allowed p g) g.crates) key
+    (λ c. made_key section.Crates code.NotAllowed c.place no_span 0) is
+
+-- ---- skips and skipped trees
+
+skipped_of : (g : Graph) (facts : chains.Facts) (key : Key) (s : Entry) → Contains (skipped_keys_of g facts s) key
+    → Made section.Crates code.Skipped key
+unfolding skipped_keys_of
+skipped_of g facts key s is = made_map section.Crates code.Skipped
+    (λ (c : Crate). crate_key code.Skipped c.place s.spec.range) (filter (is_skipped facts s) g.crates) key
+    (λ c. made_key section.Crates code.Skipped c.place s.spec.range 0) is
+
+pub skipped_made : (p : Policy) (g : Graph) (facts : chains.Facts) (key : Key) → Contains (skipped_keys p g facts) key
+    → Made section.Crates code.Skipped key
+skipped_made p g facts key is = made_flat section.Crates code.Skipped (skipped_keys_of g facts) p.skip key
+    (skipped_of g facts key) is
+
+pub unmatched_skip_made : (p : Policy) (g : Graph) (facts : chains.Facts) (key : Key)
+    → Contains (unmatched_skip_keys p g facts) key → Made section.Unused code.UnmatchedSkip key
+unfolding unmatched_skip_keys
+unmatched_skip_made p g facts key is = made_map section.Unused code.UnmatchedSkip
+    (λ (s : Entry). unused_key code.UnmatchedSkip s.spec.range)
+    (filter (λ s. not (is_hit_skip g facts s)) p.skip) key (λ s. made_key section.Unused code.UnmatchedSkip 0
+    s.spec.range 0) is
+
+pub unnecessary_skip_made : (p : Policy) (g : Graph) (facts : chains.Facts) (key : Key)
+    → Contains (unnecessary_skip_keys p g facts) key → Made section.Unused code.UnnecessarySkip key
+unfolding unnecessary_skip_keys
+unnecessary_skip_made p g facts key is = made_map section.Unused code.UnnecessarySkip
+    (λ (s : Entry). unused_key code.UnnecessarySkip s.spec.range)
+    (filter (is_needless p g facts) p.skip) key (λ s. made_key section.Unused code.UnnecessarySkip 0 s.spec.range 0) is
+
+rooted_of : (p : Policy) (g : Graph) (facts : chains.Facts) (key : Key) (t : Root)
+    → Contains (skipped_by_root_keys_of p g facts t) key → Made section.Crates code.SkippedByRoot key
+unfolding skipped_by_root_keys_of
+rooted_of p g facts key t is = made_map section.Crates code.SkippedByRoot
+    (λ (c : Crate). crate_key code.SkippedByRoot c.place t.spec.range) (filter (is_skipped_by_root p facts t) g.crates)
+    key
+    (λ c. made_key section.Crates code.SkippedByRoot c.place t.spec.range 0) is
+
+pub skipped_by_root_made : (p : Policy) (g : Graph) (facts : chains.Facts) (key : Key)
+    → Contains (skipped_by_root_keys p g facts) key → Made section.Crates code.SkippedByRoot key
+skipped_by_root_made p g facts key is = made_flat section.Crates code.SkippedByRoot (skipped_by_root_keys_of p g facts)
+    p.skip_tree key (rooted_of p g facts key) is
+
+pub unmatched_skip_root_made : (p : Policy) (g : Graph) (key : Key) → Contains (unmatched_skip_root_keys p g) key
+    → Made section.Unused code.UnmatchedSkipRoot key
+unfolding unmatched_skip_root_keys
+unmatched_skip_root_made p g key is = made_map section.Unused code.UnmatchedSkipRoot
+    (λ (t : Root). unused_key code.UnmatchedSkipRoot t.spec.range)
+    (filter (λ t. not (has_root g t)) p.skip_tree) key (λ t. made_key section.Unused code.UnmatchedSkipRoot 0
+    t.spec.range 0) is
+
+-- ---- duplicates
+
+duplicate_key_made : (places : List ℕ) → Made section.Groups code.Duplicate (duplicate_key places)
+unfolding duplicate_key
+duplicate_key_made places = record { code_is = refl; section_is = refl }
+
+pub duplicate_made : (p : Policy) (g : Graph) (facts : chains.Facts) (key : Key) → IsDuplicate p g facts key
+    → Made section.Groups code.Duplicate key
+duplicate_made p g facts key found =
+    subst (Made section.Groups code.Duplicate) (sym found.2.is)
+    (duplicate_key_made (map (λ (c : Crate). c.place) found.2.crates))

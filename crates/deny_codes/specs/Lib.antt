@@ -1,0 +1,13 @@
+pub mod AllowList
+pub mod Bans
+pub mod Circumstances
+pub mod Codes
+pub mod Duplicates
+pub mod Facts
+pub mod FirstMatch
+pub mod SkippedTrees
+pub mod Skips
+pub mod Standing
+pub mod Telling
+pub mod Told
+pub mod Wrappers

@@ -1,0 +1,101 @@
+-- What stands, code by code, and so what a report holds.
+use Rattle.std.specs.Prelude.{Bool, IsTrue, List, Contains}
+use Rattle.deny_lists.specs.Ascending.{Lists}
+use Rattle.deny_base.specs.KeyOrder.{key_cmp}
+use Rattle.deny_base.specs.declared.code.Code.{Code}
+use Rattle.deny_base.specs.declared.code.Code.TheVariants as code
+use Rattle.deny_base.specs.declared.code.DiagnosticCode.{DiagnosticCode}
+use Rattle.deny_base.specs.declared.code.DiagnosticCode.TheVariants.{Deprecated, Bans, License}
+use Rattle.deny_base.specs.declared.key.Key.{Key}
+use Rattle.deny_base.specs.declared.key.Section.{Section}
+use Rattle.deny_base.specs.declared.license_code.LicenseCode.{LicenseCode}
+use Rattle.deny_base.specs.declared.license_code.LicenseCode.TheVariants as license
+use Rattle.deny_model.specs.Bans.{not_allowed_keys}
+use Rattle.deny_model.specs.Duplicates.{IsDuplicate}
+use Rattle.deny_model.specs.Graph.{Graph}
+use Rattle.deny_model.specs.Policy.{Policy}
+use Rattle.deny_model.specs.Skips.{unmatched_skip_root_keys, unmatched_skip_keys, unnecessary_skip_keys}
+use Rattle.deny_codes.specs.AllowList.{allowed_keys}
+use Rattle.deny_codes.specs.Bans.{banned_keys, allowed_by_wrapper_keys, unmatched_wrapper_keys}
+use Rattle.deny_codes.specs.Circumstances.{Circumstances}
+use Rattle.deny_codes.specs.Facts.{Facts, AreFacts}
+use Rattle.deny_codes.specs.SkippedTrees.{skipped_by_root_keys}
+use Rattle.deny_codes.specs.Skips.{skipped_keys}
+use Rattle.deny_codes.specs.Wrappers.{unused_wrapper_keys}
+
+-- a code whose rule is not there yet has no key that stands
+abbrev pub StandsAs : Code → Circumstances → Facts → Key → Type 0
+StandsAs code.Banned c facts key = Contains (banned_keys c.policy c.graph) key
+StandsAs code.Allowed c facts key = Contains (allowed_keys c.policy c.graph) key
+StandsAs code.NotAllowed c facts key = Contains (not_allowed_keys c.policy c.graph) key
+StandsAs code.Duplicate c facts key = IsDuplicate c.policy c.graph facts.chains key
+StandsAs code.Skipped c facts key = Contains (skipped_keys c.policy c.graph facts.chains) key
+StandsAs code.Wildcard c facts key = ⊥
+StandsAs code.UnmatchedSkip c facts key = Contains (unmatched_skip_keys c.policy c.graph facts.chains) key
+StandsAs code.UnnecessarySkip c facts key = Contains (unnecessary_skip_keys c.policy c.graph facts.chains) key
+StandsAs code.AllowedByWrapper c facts key = Contains (allowed_by_wrapper_keys c.policy c.graph) key
+StandsAs code.UnmatchedWrapper c facts key = Contains (unmatched_wrapper_keys c.policy c.graph) key
+StandsAs code.SkippedByRoot c facts key = Contains (skipped_by_root_keys c.policy c.graph facts.chains) key
+StandsAs code.UnmatchedSkipRoot c facts key = Contains (unmatched_skip_root_keys c.policy c.graph) key
+StandsAs code.BuildScriptNotAllowed c facts key = ⊥
+StandsAs code.ExactFeaturesMismatch c facts key = ⊥
+StandsAs code.FeatureNotExplicitlyAllowed c facts key = ⊥
+StandsAs code.FeatureBanned c facts key = ⊥
+StandsAs code.UnknownFeature c facts key = ⊥
+StandsAs code.DefaultFeatureEnabled c facts key = ⊥
+StandsAs code.PathBypassed c facts key = ⊥
+StandsAs code.PathBypassedByGlob c facts key = ⊥
+StandsAs code.ChecksumMatch c facts key = ⊥
+StandsAs code.ChecksumMismatch c facts key = ⊥
+StandsAs code.DeniedByExtension c facts key = ⊥
+StandsAs code.DetectedExecutable c facts key = ⊥
+StandsAs code.DetectedExecutableScript c facts key = ⊥
+StandsAs code.UnableToCheckPath c facts key = ⊥
+StandsAs code.FeaturesEnabled c facts key = ⊥
+StandsAs code.UnmatchedBypass c facts key = ⊥
+StandsAs code.UnmatchedPathBypass c facts key = ⊥
+StandsAs code.UnmatchedGlob c facts key = ⊥
+StandsAs code.UnusedWrapper c facts key = Contains (unused_wrapper_keys c.policy c.graph) key
+StandsAs code.WorkspaceDuplicate c facts key = ⊥
+StandsAs code.UnresolvedWorkspaceDependency c facts key = ⊥
+StandsAs code.UnusedWorkspaceDependency c facts key = ⊥
+StandsAs code.ReplacedInStd c facts key = ⊥
+StandsAs code.UnmatchedReplacementIgnore c facts key = ⊥
+
+-- the licence check asks no file and no chain
+abbrev pub StandsLicensed : LicenseCode → Policy → Graph → Key → Type 0
+StandsLicensed license.Accepted p g key = ⊥
+StandsLicensed license.Rejected p g key = ⊥
+StandsLicensed license.Unlicensed p g key = ⊥
+StandsLicensed license.ParseError p g key = ⊥
+StandsLicensed license.SkippedPrivateWorkspaceCrate p g key = ⊥
+StandsLicensed license.LicenseNotEncountered p g key = ⊥
+StandsLicensed license.LicenseExceptionNotEncountered p g key = ⊥
+
+abbrev pub StandsBy : DiagnosticCode → Circumstances → Facts → Key → Type 0
+StandsBy Deprecated c facts key = ⊥
+StandsBy (Bans code) c facts key = StandsAs code c facts key
+StandsBy (License code) c facts key = StandsLicensed code c.policy c.graph key
+
+abbrev pub Stands : Circumstances → Facts → Key → Type 0
+Stands c facts key = StandsBy key.code c facts key
+
+-- what stands in sections of one check
+abbrev pub StandsIn : (Section → Bool) → Circumstances → Facts → Key → Type 0
+StandsIn mine c facts key = IsTrue (mine key.section) × Stands c facts key
+
+-- the keys of one check: what stands in its sections, ascending, each once
+abbrev pub ListsOwn : (Section → Bool) → Circumstances → Facts → List Key → Type 0
+ListsOwn mine c facts keys = Lists key_cmp (StandsIn mine c facts) keys
+
+-- the keys of a report: what stands by true facts, ascending, each once
+pub record AreKeys (c : Circumstances) (keys : List Key) : Type 0 where
+  pub facts : Facts
+  pub true_facts : AreFacts c facts
+  pub listed : Lists key_cmp (Stands c facts) keys
+
+-- those of one check
+pub record AreOwnKeys (mine : Section → Bool) (c : Circumstances) (keys : List Key) : Type 0 where
+  pub facts : Facts
+  pub true_facts : AreFacts c facts
+  pub listed : ListsOwn mine c facts keys

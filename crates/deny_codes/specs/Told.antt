@@ -1,0 +1,110 @@
+-- What a report tells of a key, code by code: one finding for each key, whoever found it.
+use Rattle.std.specs.Prelude.{[], ◌∷◌, Some}
+use Rattle.deny_base.specs.declared.check.Check.{Check}
+use Rattle.deny_base.specs.declared.check.Check.TheVariants as check
+use Rattle.deny_base.specs.declared.code.Code.{Code}
+use Rattle.deny_base.specs.declared.code.Code.TheVariants as code
+use Rattle.deny_base.specs.declared.code.DiagnosticCode.{DiagnosticCode}
+use Rattle.deny_base.specs.declared.code.DiagnosticCode.TheVariants.{Deprecated, Bans, License}
+use Rattle.deny_base.specs.declared.finding.Diag.{Diag}
+use Rattle.deny_base.specs.declared.finding.Pack.{Pack}
+use Rattle.deny_base.specs.declared.key.Key.{Key}
+use Rattle.deny_base.specs.declared.license_code.LicenseCode.{LicenseCode}
+use Rattle.deny_base.specs.declared.license_code.LicenseCode.TheVariants as license
+use Rattle.deny_model.specs.Graph.{Graph}
+use Rattle.deny_model.specs.Policy.{Policy}
+use Rattle.deny_codes.specs.AllowList.{allowed_told, not_allowed_told}
+use Rattle.deny_codes.specs.Bans.{banned_told, allowed_by_wrapper_told, unmatched_wrapper_told}
+use Rattle.deny_codes.specs.Circumstances.{Circumstances}
+use Rattle.deny_codes.specs.Duplicates.{duplicate_told}
+use Rattle.deny_codes.specs.SkippedTrees.{skipped_by_root_told, unmatched_skip_root_told}
+use Rattle.deny_codes.specs.Skips.{skipped_told, unmatched_skip_told, unnecessary_skip_told}
+use Rattle.deny_codes.specs.Telling.{not_built}
+use Rattle.deny_codes.specs.Wrappers.{unused_wrapper_told}
+use Rattle.deny_codes.specs.declared.words.Words.{Words}
+
+unfoldable pub words_as : Code → Circumstances → Key → Words
+words_as code.Banned c key = banned_told c.policy c.graph c.files.policy key
+words_as code.Allowed c key = allowed_told c.policy c.graph c.files.policy key
+words_as code.NotAllowed c key = not_allowed_told c.graph key
+words_as code.Duplicate c key = duplicate_told c.policy c.graph key
+words_as code.Skipped c key = skipped_told c.policy c.graph c.files.policy key
+words_as code.Wildcard c key = not_built
+words_as code.UnmatchedSkip c key = unmatched_skip_told c.policy c.files.policy key
+words_as code.UnnecessarySkip c key = unnecessary_skip_told c.policy c.files.policy key
+words_as code.AllowedByWrapper c key = allowed_by_wrapper_told c.policy c.graph c.files.policy key
+words_as code.UnmatchedWrapper c key = unmatched_wrapper_told c.policy c.graph c.files.policy key
+words_as code.SkippedByRoot c key = skipped_by_root_told c.policy c.graph c.files.policy key
+words_as code.UnmatchedSkipRoot c key = unmatched_skip_root_told c.files.policy key
+words_as code.BuildScriptNotAllowed c key = not_built
+words_as code.ExactFeaturesMismatch c key = not_built
+words_as code.FeatureNotExplicitlyAllowed c key = not_built
+words_as code.FeatureBanned c key = not_built
+words_as code.UnknownFeature c key = not_built
+words_as code.DefaultFeatureEnabled c key = not_built
+words_as code.PathBypassed c key = not_built
+words_as code.PathBypassedByGlob c key = not_built
+words_as code.ChecksumMatch c key = not_built
+words_as code.ChecksumMismatch c key = not_built
+words_as code.DeniedByExtension c key = not_built
+words_as code.DetectedExecutable c key = not_built
+words_as code.DetectedExecutableScript c key = not_built
+words_as code.UnableToCheckPath c key = not_built
+words_as code.FeaturesEnabled c key = not_built
+words_as code.UnmatchedBypass c key = not_built
+words_as code.UnmatchedPathBypass c key = not_built
+words_as code.UnmatchedGlob c key = not_built
+words_as code.UnusedWrapper c key = unused_wrapper_told c.files.policy key
+words_as code.WorkspaceDuplicate c key = not_built
+words_as code.UnresolvedWorkspaceDependency c key = not_built
+words_as code.UnusedWorkspaceDependency c key = not_built
+words_as code.ReplacedInStd c key = not_built
+words_as code.UnmatchedReplacementIgnore c key = not_built
+
+unfoldable pub words_licensed : LicenseCode → Policy → Graph → Key → Words
+words_licensed license.Accepted p g key = not_built
+words_licensed license.Rejected p g key = not_built
+words_licensed license.Unlicensed p g key = not_built
+words_licensed license.ParseError p g key = not_built
+words_licensed license.SkippedPrivateWorkspaceCrate p g key = not_built
+words_licensed license.LicenseNotEncountered p g key = not_built
+words_licensed license.LicenseExceptionNotEncountered p g key = not_built
+
+abbrev pub words_by : DiagnosticCode → Circumstances → Key → Words
+words_by Deprecated c key = not_built
+words_by (Bans code) c key = words_as code c key
+words_by (License code) c key = words_licensed code c.policy c.graph key
+
+-- the words of a key as a finding
+unfoldable pub diag_of : Key → Words → Diag
+diag_of key words = record {
+  key = key;
+  diag = record {
+    severity = words.severity;
+    code = Some key.code;
+    message = words.message;
+    labels = words.labels;
+    notes = words.notes;
+  };
+  graph_nodes = words.nodes;
+  with_features = words.with_features;
+}
+
+abbrev pub check_told : DiagnosticCode → Check
+check_told Deprecated = check.Bans
+check_told (Bans code) = check.Bans
+check_told (License code) = check.Licenses
+
+-- what is handed out for it: its finding alone
+unfoldable pub pack_of : Key → Words → Pack
+pack_of key words = record { check = check_told key.code; kid = words.krate; diags = diag_of key words ∷ [] }
+
+-- what is told of a key
+abbrev pub words_told : Circumstances → Key → Words
+words_told c key = words_by key.code c key
+
+abbrev pub diag_told : Circumstances → Key → Diag
+diag_told c key = diag_of key (words_told c key)
+
+abbrev pub pack_told : Circumstances → Key → Pack
+pack_told c key = pack_of key (words_told c key)

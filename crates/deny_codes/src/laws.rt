@@ -1,0 +1,93 @@
+ghost use Rattle.std.specs.Prelude.{◌≡◌, ◌↔◌, ◌++◌, Bool, IsTrue, List};
+ghost use Rattle.deny_lists.specs.Ascending.{Lists};
+ghost use Rattle.deny_base.specs.KeyOrder.{key_cmp};
+ghost use Rattle.deny_base.specs.declared.key.Key.{Key};
+ghost use Rattle.deny_base.specs.declared.key.Section.{Section};
+ghost use Rattle.deny_model.specs.Bans.{wrapper_of};
+ghost use Rattle.deny_model.specs.Graph.{Crate};
+ghost use Rattle.deny_model.specs.Policy as policy;
+ghost use Rattle.deny_model.specs.Rules as model;
+ghost use Rattle.deny_model.specs.Told as told;
+ghost use Rattle.deny_model.specs.Wrappers.{wraps};
+ghost use Rattle.deny_codes.specs.Bans.{bears_name};
+ghost use Rattle.deny_codes.specs.Circumstances.{Circumstances, View, viewed};
+ghost use Rattle.deny_codes.specs.Codes.{asks_no_file, is_of_bans, is_of_licenses, unseeing};
+ghost use Rattle.deny_codes.specs.Facts.{Facts};
+ghost use Rattle.deny_codes.specs.FirstMatch.{first_of, is_first};
+ghost use Rattle.deny_codes.specs.Standing.{AreKeys, AreOwnKeys, ListsOwn, Stands, StandsIn};
+ghost use Rattle.deny_codes.specs.Told.{diag_told, pack_told, words_told};
+
+/// Circumstances have one report: no two lists of keys are both theirs.
+pub fn one_report()
+    ensures { (c : Circumstances) → (xs ys : List Key) → AreKeys c xs → AreKeys c ys → xs ≡ ys }
+{
+    deny_base::key_order();
+}
+
+/// So have the sections of one check.
+pub fn one_check()
+    ensures { (mine : Section → Bool) → (c : Circumstances) → (xs ys : List Key)
+        → AreOwnKeys mine c xs → AreOwnKeys mine c ys → xs ≡ ys }
+{
+    deny_base::key_order();
+}
+
+/// By another view stands the same, as far as codes ask nothing of files.
+pub fn one_unseen()
+    ensures { (c : Circumstances) → (view : View) → (xs ys : List Key)
+        → AreKeys c xs → AreKeys (viewed c view) ys → unseeing xs ≡ unseeing ys }
+{
+    deny_base::key_order();
+}
+
+/// And such a code is told the same.
+pub fn words_unseen()
+    ensures { (c : Circumstances) → (view : View) → (key : Key)
+        → IsTrue (asks_no_file key.code) → words_told (viewed c view) key ≡ words_told c key }
+{}
+
+/// What stands in the sections of the bans check, and then what stands in those of the licence check,
+/// is what stands.
+pub fn joined_keys()
+    ensures { (c : Circumstances) → (facts : Facts) → (xs ys : List Key)
+        → ListsOwn is_of_bans c facts xs → ListsOwn is_of_licenses c facts ys
+        → Lists key_cmp (Stands c facts) (xs ++ ys) }
+{}
+
+/// What stands in the sections of the bans check is what stands by the crate rules.
+pub fn crate_rules()
+    ensures { (c : Circumstances) → (facts : Facts) → (key : Key)
+        → model.Stands c.policy c.graph facts.chains key ↔ StandsIn is_of_bans c facts key }
+{}
+
+/// As long as no rule of the licence check is there, what stands in the sections of the bans check is
+/// all that stands.
+pub fn bans_alone()
+    ensures { (c : Circumstances) → (facts : Facts) → (keys : List Key)
+        → ListsOwn is_of_bans c facts keys → Lists key_cmp (Stands c facts) keys }
+{}
+
+/// So a report's keys are those that the model gives its policy and graph.
+pub fn as_modelled()
+    ensures { (c : Circumstances) → (keys : List Key) → model.AreKeys c.policy c.graph keys ↔ AreKeys c keys }
+{}
+
+/// And each key is told as the model tells it: its finding, whichever key it is ..
+pub fn told_as_modelled()
+    ensures { (c : Circumstances) → (key : Key)
+        → diag_told c key ≡ told.diag_told c.policy c.graph c.files.policy key }
+{}
+
+/// .. and what is handed out for it, where it stands: the table says by code which crate it is about,
+/// and the model by section.
+pub fn packed_as_modelled()
+    ensures { (c : Circumstances) → (facts : Facts) → (key : Key) → Stands c facts key
+        → pack_told c key ≡ told.pack_told c.policy c.graph c.files.policy key }
+{}
+
+/// The wrapper of a crate's name is the first that bears it, and a wrapper wraps where it is that one.
+pub fn first_wrapper()
+    ensures { (wrappers : List policy.Words) → (w : policy.Words) → (parent : Crate)
+        → (wrapper_of wrappers parent ≡ first_of bears_name wrappers parent)
+        × (wraps wrappers w parent ≡ is_first (λ (first : policy.Words). first.span) bears_name wrappers w parent) }
+{}

@@ -1,0 +1,24 @@
+-- Why no entry may lose its last wrapper: a crate without dependents is lifted by any wrapper, though none is hit, and
+-- is banned anew without one.
+use Rattle.std.proofs.Common.{◌≡◌, [], ◌∷◌, codes, refl}
+use Rattle.deny_base.specs.Entry.{entry_kind_number}
+use Rattle.deny_base.specs.declared.code.Code.TheVariants as code
+use Rattle.deny_base.specs.declared.entry.EntryKind.TheVariants.{Wrapper}
+use Rattle.deny_model.specs.Keys.{crate_key, unused_key}
+use Rattle.deny_model.specs.Policy.{Policy}
+use Rattle.deny_model.specs.Rules.{ban_keys}
+use Rattle.deny_codes.proofs.Cases.{bans_on_cases, ban_at, one_x, plain, range, words_at}
+use Rattle.deny_laws.specs.Removal.{is_taken}
+use Rattle.deny_laws.specs.Wrapping.{cut_policy}
+
+lone_wrapper : Policy
+lone_wrapper = record plain { deny = ban_at (codes "app") (words_at (codes "z") 45 ∷ []) 27 ∷ [] }
+
+lifted : ban_keys lone_wrapper one_x ≡ unused_key code.UnusedWrapper (range 45) ∷ []
+unfolding bans_on_cases lone_wrapper
+lifted = refl
+
+banned_anew : ban_keys (cut_policy lone_wrapper (record { kind = Wrapper; range = range 45 } ∷ [])) one_x
+    ≡ crate_key code.Banned 0 (range 27) ∷ []
+unfolding bans_on_cases lone_wrapper is_taken entry_kind_number
+banned_anew = refl

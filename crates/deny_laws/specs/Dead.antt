@@ -1,0 +1,55 @@
+-- Dead entries: those that a finding names as unused and that nothing hits.
+use Rattle.std.specs.Prelude.{◌≡◌, ◌≢◌, ◌⊎◌, List, Option, Contains, filter_map, option_map}
+use Rattle.deny_lists.specs.Ascending.{Lists}
+use Rattle.deny_base.specs.Entry.{entry_cmp}
+use Rattle.deny_base.specs.KeyOrder.{key_cmp}
+use Rattle.deny_base.specs.declared.entry.EntryId.{EntryId}
+use Rattle.deny_base.specs.declared.entry.EntryKind.TheVariants.{Skip, SkipRoot, Wrapper}
+use Rattle.deny_base.specs.declared.entry.Hit.{Hit}
+use Rattle.deny_base.specs.declared.key.Key.{Key}
+use Rattle.deny_model.specs.Hits.{all_hits}
+use Rattle.deny_model.specs.Bans.{has_wrappers}
+use Rattle.deny_model.specs.Policy.{Ban, Policy}
+use Rattle.deny_codes.specs.Circumstances.{Circumstances}
+use Rattle.deny_codes.specs.Codes.{unused_kind}
+use Rattle.deny_codes.specs.Facts.{Facts, AreFacts}
+use Rattle.deny_codes.specs.Standing.{Stands}
+use Rattle.deny_laws.specs.Removal.{AreGone}
+use Rattle.deny_laws.specs.Wrapping.{AreCut, cut}
+
+-- the entry that a key says came to nothing
+unfoldable pub unused_entry : Key → Option EntryId
+unused_entry key = option_map (λ kind. record { kind = kind; range = key.entry }) (unused_kind key.code)
+
+pub record IsDead (keys : List Key) (hits : List Hit) (e : EntryId) : Type 0 where
+  pub reported : Contains (filter_map unused_entry keys) e
+  pub unhit : (h : Hit) → Contains hits h → h.entry ≢ e
+
+-- the dead entries of a report: by range and kind, each once
+abbrev pub AreDead : List Key → List Hit → List EntryId → Type 0
+AreDead keys hits dead = Lists entry_cmp (IsDead keys hits) dead
+
+-- each of these is dead, and a skip or a skipped tree
+pub record AreDeadSkips (dead taken : List EntryId) : Type 0 where
+  pub dead_each : (e : EntryId) → Contains taken e → Contains dead e
+  pub kind : (e : EntryId) → Contains taken e → (e.kind ≡ Skip) ⊎ (e.kind ≡ SkipRoot)
+
+-- each of these is a dead wrapper, and no entry loses its last one
+pub record AreDeadWrappers (p : Policy) (dead taken : List EntryId) : Type 0 where
+  pub dead_each : (e : EntryId) → Contains taken e → Contains dead e
+  pub kind : (e : EntryId) → Contains taken e → e.kind ≡ Wrapper
+  pub not_emptied : (ban : Ban) → Contains p.deny ban → has_wrappers (cut taken ban) ≡ has_wrappers ban
+
+-- ---- the laws
+
+abbrev pub DeadSkipsCanGo : Type 0
+DeadSkipsCanGo = (c : Circumstances) → (facts : Facts) → (keys : List Key) → (dead taken : List EntryId)
+    → AreFacts c facts → Lists key_cmp (Stands c facts) keys
+    → AreDead keys (all_hits c.policy c.graph facts.chains) dead
+    → AreDeadSkips dead taken → AreGone c facts taken keys
+
+abbrev pub DeadWrappersCanGo : Type 0
+DeadWrappersCanGo = (c : Circumstances) → (facts : Facts) → (keys : List Key) → (dead taken : List EntryId)
+    → AreFacts c facts → Lists key_cmp (Stands c facts) keys
+    → AreDead keys (all_hits c.policy c.graph facts.chains) dead
+    → AreDeadWrappers c.policy dead taken → AreCut c facts taken keys
