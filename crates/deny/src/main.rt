@@ -2,8 +2,8 @@
 //! status that the run ends with.
 #![tactic(auto)]
 
-use deny_base::{RealDisk, RealOut};
 use deny_cli::run;
+use deny_outside::{RealDisk, RealOut};
 use std::process::ExitCode;
 use std::{env, io};
 

@@ -1,7 +1,8 @@
 use crate::case_error::CaseError;
 use crate::text::text_bytes;
-use deny_base::{List, MemoryDisk, MemoryOut, Text};
 use deny_cli::run;
+use deny_lists::{List, Text};
+use deny_outside::{MemoryDisk, MemoryOut};
 use serde_json::{Map, Value, json};
 use std::alloc::Global;
 
@@ -24,6 +25,9 @@ fn put_file(
     disk: &mut MemoryDisk,
 ) -> Result<(), CaseError> {
     let bytes = text_bytes(alloc, text)?;
+    if !disk.takes(path)? {
+        return Err(CaseError::Member("files"));
+    }
     disk.put_file(path, bytes.as_slice())?;
     Ok(())
 }

@@ -1,4 +1,4 @@
-use deny_base::NoMemory;
+use deny_lists::NoMemory;
 use std::alloc::{AllocError, AllocFailed};
 use std::io;
 

@@ -11,7 +11,7 @@ use Rattle.deny_base.specs.declared.files.File.{File}
 use Rattle.deny_base.specs.declared.finding.Diagnostic.{Diagnostic}
 use Rattle.deny_base.specs.declared.label.Label.{Label}
 use Rattle.deny_cfg.specs.PolicyText.{policy_file}
-use Rattle.deny_krates.specs.declared.fault.MetadataFault.{MetadataFault}
+use Rattle.deny_krates.specs.fault.MetadataFault.{MetadataFault}
 use Rattle.deny_toml.specs.declared.error.ConfigFault.{ConfigFault}
 use Rattle.deny_gate.specs.declared.report.GateError.TheVariants as gate
 use Rattle.deny_cli.specs.Diagnostics.{code_member, diagnostic_value, fields_after_code, fields_after_labels, fields_of, label_value, labels_member, notes_member, notes_of, severity_word, tells}
@@ -19,32 +19,41 @@ use Rattle.deny_cli.specs.Stops.{fault_value, stop_fields, stop_word}
 use Rattle.deny_cli.specs.declared.outcome.Outcome.{Outcome}
 use Rattle.deny_cli.specs.declared.outcome.Outcome.TheVariants.{Done, Usage, Read, Long, Gate, Write, Memory}
 
-in_items : {X : Type 0} (f : X → Data) → ((x : X) → has_float (f x) ≡ false) → (xs : List X) → items_have_float (items_of (map f xs)) ≡ false
+in_items : {X : Type 0} (f : X → Data) → ((x : X) → has_float (f x) ≡ false) → (xs : List X)
+    → items_have_float (items_of (map f xs)) ≡ false
 in_items f each [] = refl
-in_items f each (x ∷ xs) = or_from (has_float (f x)) (items_have_float (items_of (map f xs))) (each x) (in_items f each xs)
+in_items f each (x ∷ xs) = or_from (has_float (f x)) (items_have_float (items_of (map f xs))) (each x)
+    (in_items f each xs)
 
-in_front : (key : List ℕ) (value : Data) (others : Members) → has_float value ≡ false → members_have_float others ≡ false → members_have_float (member key value others) ≡ false
+in_front : (key : List ℕ) (value : Data) (others : Members) → has_float value ≡ false
+    → members_have_float others ≡ false → members_have_float (member key value others) ≡ false
 in_front key value others here later = or_from (has_float value) (members_have_float others) here later
 
-in_tells : (kind : List ℕ) (fields : Members) → members_have_float fields ≡ false → has_float (tells kind fields) ≡ false
+in_tells : (kind : List ℕ) (fields : Members) → members_have_float fields ≡ false
+    → has_float (tells kind fields) ≡ false
 in_tells kind fields is = or_from (members_have_float fields) _ is refl
 
 in_label : (files : List File) (label : Label) → has_float (label_value files label) ≡ false
 unfolding label_value
 in_label files label = refl
 
-in_code : (code : Option DiagnosticCode) (others : Members) → members_have_float others ≡ false → members_have_float (code_member code others) ≡ false
+in_code : (code : Option DiagnosticCode) (others : Members) → members_have_float others ≡ false
+    → members_have_float (code_member code others) ≡ false
 in_code None others is = is
 in_code (Some code) others is = is
 
-in_labels : (files : List File) (labels : List Label) (others : Members) → members_have_float others ≡ false → members_have_float (labels_member files labels others) ≡ false
+in_labels : (files : List File) (labels : List Label) (others : Members) → members_have_float others ≡ false
+    → members_have_float (labels_member files labels others) ≡ false
 in_labels files [] others is = is
 in_labels files (label ∷ labels) others is =
-    in_front (codes "labels") (array (items_of (map (label_value files) (label ∷ labels)))) others (in_items (label_value files) (in_label files) (label ∷ labels)) is
+    in_front (codes "labels") (array (items_of (map (label_value files) (label ∷ labels)))) others
+    (in_items (label_value files) (in_label files) (label ∷ labels)) is
 
-in_notes : (notes : List (List ℕ)) (others : Members) → members_have_float others ≡ false → members_have_float (notes_member notes others) ≡ false
+in_notes : (notes : List (List ℕ)) (others : Members) → members_have_float others ≡ false
+    → members_have_float (notes_member notes others) ≡ false
 in_notes [] others is = is
-in_notes (note ∷ notes) others is = in_front (codes "notes") (array (items_of (map string (note ∷ notes)))) others (in_items string (λ s. refl) (note ∷ notes)) is
+in_notes (note ∷ notes) others is = in_front (codes "notes") (array (items_of (map string (note ∷ notes)))) others
+    (in_items string (λ s. refl) (note ∷ notes)) is
 
 pub in_diagnostic : (files : List File) (d : Diagnostic) → has_float (diagnostic_value files d) ≡ false
 unfolding diagnostic_value
@@ -64,9 +73,11 @@ in_stop_fields policy (Done report) = refl
 in_stop_fields policy (Usage at) = refl
 in_stop_fields policy (Read which) = refl
 in_stop_fields policy (Long which) = refl
-in_stop_fields policy (Gate (gate.Config faults)) = in_front (codes "faults") (array (items_of (map fault_value faults))) (stop_word (codes "config")) (in_items fault_value in_fault faults) refl
+in_stop_fields policy (Gate (gate.Config faults)) = in_front (codes "faults")
+    (array (items_of (map fault_value faults))) (stop_word (codes "config")) (in_items fault_value in_fault faults) refl
 in_stop_fields policy (Gate (gate.Invalid told)) =
-    in_front (codes "diagnostics") (array (items_of (map (diagnostic_value (policy_file policy ∷ [])) told))) (stop_word (codes "invalid"))
+    in_front (codes "diagnostics") (array (items_of (map (diagnostic_value (policy_file policy ∷ [])) told)))
+    (stop_word (codes "invalid"))
     (in_items (diagnostic_value (policy_file policy ∷ [])) (in_diagnostic (policy_file policy ∷ [])) told) refl
 in_stop_fields policy (Gate (gate.NotBuilt which)) = refl
 in_stop_fields policy (Gate (gate.Metadata fault)) = refl
@@ -74,5 +85,6 @@ in_stop_fields policy (Gate gate.Memory) = refl
 in_stop_fields policy (Write report) = refl
 in_stop_fields policy Memory = refl
 
-pub in_stop : (policy : List ℕ) (outcome : Outcome) → has_float (tells (codes "stop") (stop_fields policy outcome)) ≡ false
+pub in_stop : (policy : List ℕ) (outcome : Outcome)
+    → has_float (tells (codes "stop") (stop_fields policy outcome)) ≡ false
 in_stop policy outcome = in_tells (codes "stop") (stop_fields policy outcome) (in_stop_fields policy outcome)

@@ -15,21 +15,28 @@ no_front (byte ∷ bytes) none = elim (cases_Bool (byte == 34)) as (λ _. withou
 one_front : (bytes : List ℕ) → without_front (34 ∷ bytes) ≡ without_front bytes
 one_front bytes = cond-true (34 == 34) (without_front bytes) (34 ∷ bytes) (eq-eqb 34 34 refl)
 
-pub front_done : (text whole : List ℕ) → ((rest : List ℕ) → text ≢ 34 ∷ rest) → without_front text ≡ without_front whole → text ≡ without_front whole
+pub front_done : (text whole : List ℕ) → ((rest : List ℕ) → text ≢ 34 ∷ rest) → without_front text ≡ without_front whole
+    → text ≡ without_front whole
 front_done text whole none so = sym (no_front text none) ∙ so
 
-pub front_shorter : (text shorter whole : List ℕ) → text ≡ 34 ∷ shorter → without_front text ≡ without_front whole → without_front shorter ≡ without_front whole
+pub front_shorter : (text shorter whole : List ℕ) → text ≡ 34 ∷ shorter → without_front text ≡ without_front whole
+    → without_front shorter ≡ without_front whole
 front_shorter text shorter whole is so = sym (ap without_front is ∙ one_front shorter) ∙ so
 
 flipped : (text rest : List ℕ) → reverse text ≡ 34 ∷ rest → text ≡ reverse rest ++ 34 ∷ []
 flipped text rest is = sym (reverse-reverse text) ∙ (ap reverse is ∙ reverse-append (34 ∷ []) rest)
 
 no_end : (text : List ℕ) → ((front : List ℕ) → text ≢ front ++ 34 ∷ []) → without_end text ≡ text
-no_end text none = ap reverse (no_front (reverse text) (λ rest is. none (reverse rest) (flipped text rest is))) ∙ reverse-reverse text
+no_end text none = ap reverse (no_front (reverse text) (λ rest is. none (reverse rest) (flipped text rest is)))
+    ∙ reverse-reverse text
 
-pub end_done : (text whole : List ℕ) → ((front : List ℕ) → text ≢ front ++ 34 ∷ []) → without_end text ≡ without_end whole → text ≡ without_end whole
+pub end_done : (text whole : List ℕ) → ((front : List ℕ) → text ≢ front ++ 34 ∷ [])
+    → without_end text ≡ without_end whole → text ≡ without_end whole
 end_done text whole none so = sym (no_end text none) ∙ so
 
-pub end_shorter : (text shorter whole : List ℕ) → text ≡ shorter ++ 34 ∷ [] → without_end text ≡ without_end whole → without_end shorter ≡ without_end whole
+pub end_shorter : (text shorter whole : List ℕ) → text ≡ shorter ++ 34 ∷ [] → without_end text ≡ without_end whole
+    → without_end shorter ≡ without_end whole
 end_shorter text shorter whole is so =
-    sym (ap (λ (t : List ℕ). reverse (without_front (reverse t))) is ∙ (ap (λ (t : List ℕ). reverse (without_front t)) (reverse-append shorter (34 ∷ [])) ∙ ap reverse (one_front (reverse shorter)))) ∙ so
+    sym (ap (λ (t : List ℕ). reverse (without_front (reverse t))) is
+    ∙ (ap (λ (t : List ℕ). reverse (without_front t)) (reverse-append shorter (34 ∷ []))
+    ∙ ap reverse (one_front (reverse shorter)))) ∙ so

@@ -11,7 +11,7 @@ use Rattle.deny_base.specs.declared.check.Which.TheVariants as which
 use Rattle.deny_base.specs.declared.code.Code.TheVariants.{Banned}
 use Rattle.deny_base.specs.declared.code.DiagnosticCode.TheVariants.{Bans}
 use Rattle.deny_base.specs.declared.level.Severity.TheVariants as severity
-use Rattle.deny_krates.specs.declared.fault.MetadataFault.TheVariants as fault
+use Rattle.deny_krates.specs.fault.MetadataFault.TheVariants as fault
 use Rattle.deny_gate.specs.declared.report.Finding.{Finding}
 use Rattle.deny_gate.specs.declared.report.GateError.TheVariants as gate
 use Rattle.deny_gate.specs.declared.report.Verdict.TheVariants.{Pass, Fail}
@@ -50,7 +50,13 @@ a_finding = record {
   kid = None;
   diag = record {
     key = crate_key Banned 1 no_span;
-    diag = record { severity = severity.Error; code = Some (Bans Banned); message = codes "crate 'x = 1.0.0' is explicitly banned"; labels = a_label ∷ []; notes = [] };
+    diag = record {
+      severity = severity.Error;
+      code = Some (Bans Banned);
+      message = codes "crate 'x = 1.0.0' is explicitly banned";
+      labels = a_label ∷ [];
+      notes = [];
+    };
     graph_nodes = [];
     with_features = false;
   };
@@ -73,7 +79,8 @@ label_told at text = object
 
 is_labelled : label_value the_files a_label ≡ label_told (Some (record { line = 1; column = 9 })) (codes "x")
 unfolding label_value
-is_labelled = ap (λ (at : Option Location). label_told at (marked the_files a_label)) lies_in ∙ ap (label_told (Some (record { line = 1; column = 9 }))) marks
+is_labelled = ap (λ (at : Option Location). label_told at (marked the_files a_label)) lies_in
+    ∙ ap (label_told (Some (record { line = 1; column = 9 }))) marks
 
 abbrev finding_told : Data → Data
 finding_told label = tells (codes "diagnostic")
@@ -96,11 +103,14 @@ pub ends_early : stop_line [] (Usage 1) ≡ codes "{\"fields\":{\"at\":1,\"stop\
 unfolding serde_json_on_literals digits stop_line
 ends_early = refl
 
-pub is_long : stop_line [] (Long which.Metadata) ≡ codes "{\"fields\":{\"file\":\"metadata\",\"stop\":\"long\"},\"type\":\"stop\"}\n"
+pub is_long : stop_line [] (Long which.Metadata)
+    ≡ codes "{\"fields\":{\"file\":\"metadata\",\"stop\":\"long\"},\"type\":\"stop\"}\n"
 unfolding serde_json_on_literals digits stop_line
 is_long = refl
 
-pub is_unknown : stop_line [] (Gate (gate.Config (record { span = record { start = 7; end = 14 }; kind = kind.Unknown; key = codes "bans.clarify" } ∷ [])))
+pub is_unknown : stop_line []
+    (Gate (gate.Config (record
+    { span = record { start = 7; end = 14 }; kind = kind.Unknown; key = codes "bans.clarify"; is_nameless = false } ∷ [])))
     ≡ codes "{\"fields\":{\"faults\":[{\"end\":14,\"key\":\"bans.clarify\",\"kind\":\"unknown\",\"start\":7}],\"stop\":\"config\"},\"type\":\"stop\"}\n"
 unfolding serde_json_on_literals digits stop_line fault_value
 is_unknown = refl
@@ -110,6 +120,7 @@ pub is_a_fault : stop_line [] (Gate (gate.Metadata (fault.Shape (codes "packages
 unfolding serde_json_on_literals digits stop_line
 is_a_fault = refl
 
-pub is_not_built : stop_line [] (Gate (gate.NotBuilt which.Policy)) ≡ codes "{\"fields\":{\"file\":\"policy\",\"stop\":\"not-built\"},\"type\":\"stop\"}\n"
+pub is_not_built : stop_line [] (Gate (gate.NotBuilt which.Policy)) ≡ codes
+    "{\"fields\":{\"file\":\"policy\",\"stop\":\"not-built\"},\"type\":\"stop\"}\n"
 unfolding serde_json_on_literals digits stop_line
 is_not_built = refl

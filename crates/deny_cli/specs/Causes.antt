@@ -1,13 +1,13 @@
 -- When each outcome of a run comes. `old` is the disk as the run begins, `new` as it ends.
 use Rattle.std.specs.Prelude.{◌≡◌, ◌≢◌, ℕ, ◌<◌, ◌≤◌, ◌^◌, List, [], length, Some, IfSome, slice_get, unwrap_or, ⊤}
-use Rattle.deny_base.specs.Count.{Rose, RoseBy}
-use Rattle.deny_base.specs.Disk.{Disk, Files, FailedAt, bytes_at}
-use Rattle.deny_base.specs.Read.{IsWhole}
+use Rattle.deny_outside.specs.Count.{Rose, RoseBy}
+use Rattle.deny_outside.specs.Disk.{Disk, Files, FailedAt, bytes_at}
+use Rattle.deny_outside.specs.Read.{IsWhole}
 use Rattle.deny_base.specs.declared.check.Which.{Which}
 use Rattle.deny_base.specs.declared.check.Which.TheVariants.{Policy, Metadata, Replacements}
-use Rattle.deny_base.specs.declared.disk.Call.TheVariants as call
-use Rattle.deny_base.specs.declared.read.ReadEnd.{ReadEnd}
-use Rattle.deny_base.specs.declared.read.ReadEnd.TheVariants as end
+use Rattle.deny_outside.specs.declared.disk.Call.TheVariants as call
+use Rattle.deny_outside.specs.declared.read.ReadEnd.{ReadEnd}
+use Rattle.deny_outside.specs.declared.read.ReadEnd.TheVariants as end
 use Rattle.deny_cfg.specs.PolicyText.{TellsClashes}
 use Rattle.deny_gate.specs.Gating.{IsReportOf, IsCause, HasPolicy, HasGraph}
 use Rattle.deny_gate.specs.Headline.{IsHeadlineOf}
@@ -63,7 +63,8 @@ pub record IsStopAt (old : Disk) (policy_path metadata_path policy : List ℕ) (
 abbrev pub IsLongAt : Disk → Disk → List ℕ → List ℕ → Which → Type 0
 IsLongAt old new policy metadata Replacements = ⊥
 IsLongAt old new policy metadata which =
-    RoseBy (2 ^ 28) old.given new.given × IfSome old.files (λ files. IsFirstLong (bytes_at files policy) (bytes_at files metadata) which)
+    RoseBy (2 ^ 28) old.given new.given
+    × IfSome old.files (λ files. IsFirstLong (bytes_at files policy) (bytes_at files metadata) which)
 
 -- ---- the texts that words name
 
@@ -112,18 +113,21 @@ pub record IsValidRun (old : Disk) (words : List (List ℕ)) : Type 0 where
 -- two texts stop a run so: one is long, or both are short and the gate refuses them
 abbrev pub AreRefused : List ℕ → List ℕ → Outcome → Type 0
 AreRefused policy metadata (Long which) = IsFirstLong policy metadata which
-AreRefused policy metadata (Gate error) = (error ≢ gate.Memory) × IsShort policy × IsShort metadata × IsCause policy metadata error
+AreRefused policy metadata (Gate error) = (error ≢ gate.Memory) × IsShort policy × IsShort metadata
+    × IsCause policy metadata error
 AreRefused policy metadata _ = ⊥
 
 -- the texts that the words name stop a run so
 pub record IsRefusedRun (old : Disk) (words : List (List ℕ)) (stop : Outcome) : Type 0 where
   pub named : AreTold old words
-  pub refused : AreRefused (bytes_at named.files (path_of words Policy)) (bytes_at named.files (path_of words Metadata)) stop
+  pub refused : AreRefused (bytes_at named.files (path_of words Policy)) (bytes_at named.files (path_of words Metadata))
+      stop
 
 -- no reading of either text failed
 pub record IsReadable (old new : Disk) (words : List (List ℕ)) : Type 0 where
   pub policy : ¬ Rose (old.faults_at call.Read (path_of words Policy)) (new.faults_at call.Read (path_of words Policy))
-  pub metadata : ¬ Rose (old.faults_at call.Read (path_of words Metadata)) (new.faults_at call.Read (path_of words Metadata))
+  pub metadata : ¬ Rose (old.faults_at call.Read (path_of words Metadata))
+      (new.faults_at call.Read (path_of words Metadata))
 
 -- when each outcome comes. Want of memory alone is free, once the words are accepted. That `Write`
 -- comes only where the output failed stands with what a run leaves there.
@@ -149,7 +153,8 @@ pub record IsHeadlineOn (old : Disk) (words : List (List ℕ)) (report : Report)
 -- where entries of the policy clash, this is its text, as it was read, and the labels lie in it
 abbrev pub IsTextOfClashes : Disk → List (List ℕ) → Outcome → List ℕ → Type 0
 IsTextOfClashes old words (Gate (gate.Invalid told)) policy =
-    IsWhole old (path_of words Policy) policy × IsShort policy × TellsClashes policy policy_id told × AreLabelledClashes policy told
+    IsWhole old (path_of words Policy) policy × IsShort policy × TellsClashes policy policy_id told
+    × AreLabelledClashes policy told
 IsTextOfClashes old words outcome policy = ⊤
 
 -- the same of a run that stopped before its output was made, which is neither done nor written

@@ -31,7 +31,8 @@ column_of (Some at) = at.column + 1
 -- the text of a range, where that lies on character boundaries
 unfoldable pub range_in : List ℕ → Span → List ℕ
 range_in text span =
-    if nat_le span.start span.end && (is_boundary text span.start && is_boundary text span.end) then take (span.end - span.start) (drop span.start text) else []
+    if nat_le span.start span.end && (is_boundary text span.start && is_boundary text span.end) then take
+    (span.end - span.start) (drop span.start text) else []
 
 -- a text without the quotes at its front, at its end, and at both
 abbrev pub without_front : List ℕ → List ℕ
@@ -75,7 +76,8 @@ code_member (Some code) others = member (codes "code") (string (diagnostic_code_
 
 abbrev pub labels_member : List File → List Label → Members → Members
 labels_member files [] others = others
-labels_member files (label ∷ labels) others = member (codes "labels") (array (items_of (map (label_value files) (label ∷ labels)))) others
+labels_member files (label ∷ labels) others = member (codes "labels")
+    (array (items_of (map (label_value files) (label ∷ labels)))) others
 
 abbrev pub notes_member : List (List ℕ) → Members → Members
 notes_member [] others = others

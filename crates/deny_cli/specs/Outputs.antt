@@ -1,8 +1,8 @@
 -- What a run leaves in its outputs, which tell by `written` what they took, where they tell it,
 -- and by `faults` how often they failed.
 use Rattle.std.specs.Prelude.{◌≡◌, ◌⊎◌, ℕ, List, Option}
-use Rattle.deny_base.specs.Count.{Rose}
-use Rattle.deny_base.specs.Out.{Appends, AppendsFront}
+use Rattle.deny_outside.specs.Count.{Rose}
+use Rattle.deny_outside.specs.Out.{Appends, AppendsFront}
 use Rattle.deny_gate.specs.declared.report.Report.{Report}
 use Rattle.deny_cli.specs.Lines.{lines}
 use Rattle.deny_cli.specs.Stops.{stop_line, memory_line}
@@ -36,7 +36,9 @@ LeavesErr written faults old new outcome policy =
 
 -- writing the report's lines comes to this
 abbrev pub WritesReport : {W : Type 0} → (W → Option (List ℕ)) → (W → ℕ) → W → W → Report → Outcome → Type 0
-WritesReport written faults old new report (Done told) = (told ≡ report) × Appends (written old) (written new) (lines report)
-WritesReport written faults old new report (Write told) = (told ≡ report) × FailsWriting written faults old new (lines report)
+WritesReport written faults old new report (Done told) = (told ≡ report)
+    × Appends (written old) (written new) (lines report)
+WritesReport written faults old new report (Write told) = (told ≡ report)
+    × FailsWriting written faults old new (lines report)
 WritesReport written faults old new report Memory = new ≡ old
 WritesReport written faults old new report _ = ⊥

@@ -7,8 +7,8 @@ use Rattle.deny_base.specs.declared.check.Which.TheVariants.{Policy, Metadata, R
 use Rattle.deny_base.specs.declared.files.File.{File}
 use Rattle.deny_base.specs.declared.finding.Diagnostic.{Diagnostic}
 use Rattle.deny_cfg.specs.PolicyText.{policy_file}
-use Rattle.deny_krates.specs.declared.fault.MetadataFault.{MetadataFault}
-use Rattle.deny_krates.specs.declared.fault.MetadataFault.TheVariants.{Json, Float, NoResolve, Shape, DuplicateId, DanglingId, Version, Requirement, Source, ManifestPath, Memory as OutOfMemory}
+use Rattle.deny_krates.specs.fault.MetadataFault.{MetadataFault}
+use Rattle.deny_krates.specs.fault.MetadataFault.TheVariants.{Json, Float, NoResolve, Shape, DuplicateId, DanglingId, Version, Requirement, Source, ManifestPath, Memory as OutOfMemory}
 use Rattle.deny_toml.specs.declared.error.ConfigFault.{ConfigFault}
 use Rattle.deny_toml.specs.declared.error.FaultKind.{FaultKind}
 use Rattle.deny_toml.specs.declared.error.FaultKind.TheVariants as kind
@@ -52,7 +52,8 @@ abbrev pub config_fields : List ConfigFault → Members
 config_fields faults = member (codes "faults") (array (items_of (map fault_value faults))) (stop_word (codes "config"))
 
 abbrev pub invalid_fields : List File → List Diagnostic → Members
-invalid_fields files told = member (codes "diagnostics") (array (items_of (map (diagnostic_value files) told))) (stop_word (codes "invalid"))
+invalid_fields files told = member (codes "diagnostics") (array (items_of (map (diagnostic_value files) told)))
+    (stop_word (codes "invalid"))
 
 -- ---- faults of the metadata
 
@@ -85,7 +86,8 @@ fault_detail OutOfMemory = []
 
 abbrev pub fault_fields : MetadataFault → Members
 fault_fields fault =
-    member (codes "detail") (string (fault_detail fault)) (member (codes "fault") (string (fault_word fault)) (stop_word (codes "metadata")))
+    member (codes "detail") (string (fault_detail fault))
+    (member (codes "fault") (string (fault_word fault)) (stop_word (codes "metadata")))
 
 -- ---- all stops
 

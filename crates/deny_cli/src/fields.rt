@@ -5,7 +5,8 @@ ghost use Rattle.serde_json.specs.View.{members_view, view};
 ghost use Rattle.deny_cli.specs.Diagnostics.{diagnostic_value, fields_after_code, fields_after_labels, fields_of, notes_of, severity_word};
 
 use crate::diagnostics::label_values;
-use deny_base::{Diagnostic, Files, Severity, Text};
+use deny_base::{Diagnostic, Files, Severity};
+use deny_lists::Text;
 use serde_json::{Map, Value, json, put};
 use std::alloc::{AllocError, Global};
 

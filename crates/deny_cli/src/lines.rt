@@ -6,8 +6,9 @@ ghost use Rattle.deny_cli.specs.Lines.{finding_line, line, lines, verdict_line, 
 
 use crate::fields::diagnostic_value;
 use crate::outcome::bits;
-use deny_base::{Files, NoMemory, Text};
+use deny_base::Files;
 use deny_gate::{Finding, Report, Verdict};
+use deny_lists::{NoMemory, Text};
 use serde_json::{Value, json};
 use std::alloc::{AllocError, Global};
 

@@ -1,7 +1,7 @@
 ghost use Rattle.std.specs.Prelude.{◌≡◌, ◌<◌, ◌^◌, ℕ, List, length, IfOk, IfErr, if◌then◌else◌};
 ghost use Rattle.std.specs.List.{list_any};
-ghost use Rattle.deny_base.specs.Count.{Rose};
-ghost use Rattle.deny_base.specs.Disk.{IsLater};
+ghost use Rattle.deny_outside.specs.Count.{Rose};
+ghost use Rattle.deny_outside.specs.Disk.{IsLater};
 ghost use Rattle.deny_gate.specs.Gating.{IsReportOf};
 ghost use Rattle.deny_gate.specs.Labels.{AreLabelled};
 ghost use Rattle.deny_gate.specs.Report.{has_error};
@@ -16,8 +16,10 @@ use crate::lines::lines;
 use crate::outcome::{Ended, Outcome};
 use crate::stops::{memory_line, stop_line};
 use crate::words::{Paths, read_words};
-use deny_base::{NoMemory, Out, OutFault, PackageFiles, ReadEnd, Which, read_whole};
+use deny_base::Which;
 use deny_gate::{Inputs, Report, gate};
+use deny_lists::NoMemory;
+use deny_outside::{Out, OutFault, PackageFiles, ReadEnd, read_whole};
 use std::alloc::Global;
 
 /// What a run comes to, and the policy's text, in which the labels of clashes lie; it is empty where

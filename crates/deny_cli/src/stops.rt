@@ -8,9 +8,10 @@ ghost use Rattle.deny_cli.specs.Stops.{IsTextOf, config_fields, fault_value, fau
 use crate::fields::diagnostic_value;
 use crate::lines::line;
 use crate::outcome::Outcome;
-use deny_base::{Diagnostic, Files, List, NoMemory, Text, Which};
+use deny_base::{Diagnostic, Files, Which};
 use deny_gate::GateError;
 use deny_krates::MetadataFault;
+use deny_lists::{List, NoMemory, Text};
 use deny_toml::{ConfigFault, FaultKind};
 use serde_json::{Value, json};
 use std::alloc::{AllocError, Global};

@@ -12,14 +12,17 @@ use Rattle.deny_gate.specs.declared.report.GateError.TheVariants.{Config, Invali
 use Rattle.deny_gate.specs.declared.report.Report.{Report}
 use Rattle.deny_gate.proofs.HeadlineLaws.{headline_of}
 
-by_metadata : (policy metadata : List ℕ) (error : GateError) → HasPolicy policy → IsMetadataCause metadata error → IsCause policy metadata error
+by_metadata : (policy metadata : List ℕ) (error : GateError) → HasPolicy policy → IsMetadataCause metadata error
+    → IsCause policy metadata error
 by_metadata policy metadata (Metadata f) there cause = (there, cause)
 by_metadata policy metadata Memory there cause = tt
 by_metadata policy metadata (Config faults) there cause = absurd cause
 by_metadata policy metadata (Invalid told) there cause = absurd cause
 by_metadata policy metadata (NotBuilt text) there cause = absurd cause
 
-report_by : (policy metadata : List ℕ) (said : Policy) (report : Report) → IsBuilt policy said → IsReportOn (policy_view said.bans) metadata report → report.files ≡ policy_file policy ∷ [] → IsReportOf policy metadata report
+report_by : (policy metadata : List ℕ) (said : Policy) (report : Report) → IsBuilt policy said
+    → IsReportOn (policy_view said.bans) metadata report → report.files ≡ policy_file policy ∷ []
+    → IsReportOf policy metadata report
 report_by policy metadata said report built on files = record {
   said = said;
   is_said = built;
@@ -31,24 +34,31 @@ report_by policy metadata said report built on files = record {
 
 -- the texts that the inputs hold are those that were read
 module _ (policy metadata text bytes : List ℕ) (same : text ≡ policy) (also : bytes ≡ metadata) (said : Policy) where
-  pub cause_then : (result : Result Report GateError) → IsBuilt text said → IfErr result (IsMetadataCause bytes) → IfErr result (IsCause policy metadata)
+  pub cause_then : (result : Result Report GateError) → IsBuilt text said → IfErr result (IsMetadataCause bytes)
+      → IfErr result (IsCause policy metadata)
   cause_then (Ok report) built cause = tt
   cause_then (Err error) built cause =
-      by_metadata policy metadata error (record { said = said; is_said = subst (λ (t : List ℕ). IsBuilt t said) same built })
+      by_metadata policy metadata error
+      (record { said = said; is_said = subst (λ (t : List ℕ). IsBuilt t said) same built })
       (subst (λ (t : List ℕ). IsMetadataCause t error) also cause)
 
-  reported : (files : List File) (report : Report) → IsBuilt text said → files ≡ policy_file text ∷ [] → IsReportOn (policy_view said.bans) bytes report → report.files ≡ files → IsReportOf policy metadata report
+  reported : (files : List File) (report : Report) → IsBuilt text said → files ≡ policy_file text ∷ []
+      → IsReportOn (policy_view said.bans) bytes report → report.files ≡ files → IsReportOf policy metadata report
   reported files report built first on in_files =
       subst (λ (t : List ℕ). IsReportOf t metadata report) same
-      (subst (λ (t : List ℕ). IsReportOf text t report) also (report_by text bytes said report built on (in_files ∙ first)))
+      (subst (λ (t : List ℕ). IsReportOf text t report) also
+      (report_by text bytes said report built on (in_files ∙ first)))
 
   module _ (files : List File) where
     pub report_then : (result : Result Report GateError) → IsBuilt text said → files ≡ policy_file text ∷ []
-        → IfOk result (IsReportOn (policy_view said.bans) bytes) → IfOk result (λ report. report.files ≡ files) → IfOk result (IsReportOf policy metadata)
+        → IfOk result (IsReportOn (policy_view said.bans) bytes) → IfOk result (λ report. report.files ≡ files)
+        → IfOk result (IsReportOf policy metadata)
     report_then (Ok report) built first on in_files = reported files report built first on in_files
     report_then (Err error) built first on in_files = tt
 
     pub headline_then : (result : Result Report GateError) → IsBuilt text said → files ≡ policy_file text ∷ []
-        → IfOk result (IsReportOn (policy_view said.bans) bytes) → IfOk result (λ report. report.files ≡ files) → IfOk result (IsHeadlineOf policy metadata)
-    headline_then (Ok report) built first on in_files = headline_of policy metadata report (reported files report built first on in_files)
+        → IfOk result (IsReportOn (policy_view said.bans) bytes) → IfOk result (λ report. report.files ≡ files)
+        → IfOk result (IsHeadlineOf policy metadata)
+    headline_then (Ok report) built first on in_files = headline_of policy metadata report
+        (reported files report built first on in_files)
     headline_then (Err error) built first on in_files = tt

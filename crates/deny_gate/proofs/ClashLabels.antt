@@ -13,7 +13,7 @@ use Rattle.deny_cfg.specs.declared.clash.Clash.{Clash}
 use Rattle.deny_cfg.specs.declared.clash.ClashKind.{ClashKind}
 use Rattle.deny_cfg.specs.declared.clash.ClashKind.TheVariants as clash
 use Rattle.deny_cfg.proofs.LabelLaws.{Lie}
-use Rattle.deny_cfg.proofs.LabelValid.{lie_back, lie_front}
+use Rattle.deny_cfg.proofs.LabelValid.{lie_rest, lie_prefix}
 use Rattle.deny_toml.specs.Ranges.{IsRange}
 use Rattle.deny_gate.specs.Gating.{IsMetadataCause, IsPolicyCause}
 use Rattle.deny_gate.specs.Labels.{AreLabelledClashes, ArePlaced, IsLabelledCause, IsPlaced}
@@ -37,21 +37,29 @@ unfolding clash_told
 told_in_file file c = in_file c.kind file c
 
 module _ (text : List ℕ) where
-  labels_placed : (labels : List Label) → AreIn policy_id labels → Lie text (map (λ (label : Label). label.span) labels) → ArePlaced (policy_file text ∷ []) labels
+  labels_placed : (labels : List Label) → AreIn policy_id labels → Lie text (map (λ (label : Label). label.span) labels)
+      → ArePlaced (policy_file text ∷ []) labels
   labels_placed [] in_policy lie = All-nil (IsPlaced (policy_file text ∷ []))
   labels_placed (l ∷ ls) in_policy lie =
-      All-cons (IsPlaced (policy_file text ∷ [])) l ls (record { file = policy_file text; there = ap (slice_get (policy_file text ∷ [])) in_policy.0; range = lie.0 })
+      All-cons (IsPlaced (policy_file text ∷ [])) l ls
+      (record {
+        file = policy_file text;
+        there = ap (slice_get (policy_file text ∷ [])) in_policy.0;
+        range = lie.0;
+      })
       (labels_placed ls in_policy.1 lie.1)
 
-  told_placed : (cs : List Clash) → Lie text (told_ranges (map (clash_told policy_id) cs)) → AreLabelledClashes text (map (clash_told policy_id) cs)
+  told_placed : (cs : List Clash) → Lie text (told_ranges (map (clash_told policy_id) cs))
+      → AreLabelledClashes text (map (clash_told policy_id) cs)
   told_placed [] lie = All-nil (λ (d : Diagnostic). ArePlaced (policy_file text ∷ []) d.labels)
   told_placed (c ∷ cs) lie =
       let labels = (clash_told policy_id c).labels in
       let first = map (λ (label : Label). label.span) labels in
       let others = told_ranges (map (clash_told policy_id) cs) in
-      All-cons (λ (d : Diagnostic). ArePlaced (policy_file text ∷ []) d.labels) (clash_told policy_id c) (map (clash_told policy_id) cs)
-      (labels_placed labels (told_in_file policy_id c) (lie_front text first others lie))
-      (told_placed cs (lie_back text first others lie))
+      All-cons (λ (d : Diagnostic). ArePlaced (policy_file text ∷ []) d.labels) (clash_told policy_id c)
+      (map (clash_told policy_id) cs)
+      (labels_placed labels (told_in_file policy_id c) (lie_prefix text first others lie))
+      (told_placed cs (lie_rest text first others lie))
 
   clashes_labelled : (told : List Diagnostic) → TellsClashes text policy_id told → AreLabelledClashes text told
   clashes_labelled told tells =
@@ -67,20 +75,24 @@ module _ (text : List ℕ) where
   cause_labelled Memory cause = tt
 
 -- what is handed on of the text that the inputs hold
-pub policy_cause_labelled : (policy text : List ℕ) (result : Result Report GateError) (error : GateError) → text ≡ policy → IsErrAnd result (λ e. e ≡ error) → IsPolicyCause text error
+pub policy_cause_labelled : (policy text : List ℕ) (result : Result Report GateError) (error : GateError)
+    → text ≡ policy → IsErrAnd result (λ e. e ≡ error) → IsPolicyCause text error
     → IfErr result (IsLabelledCause policy)
 policy_cause_labelled policy text (Ok report) error same is cause = absurd is
 policy_cause_labelled policy text (Err handed) error same is cause =
-    subst (λ (e : GateError). IsLabelledCause policy e) (sym is) (subst (λ (t : List ℕ). IsLabelledCause t error) same (cause_labelled text error cause))
+    subst (λ (e : GateError). IsLabelledCause policy e) (sym is)
+    (subst (λ (t : List ℕ). IsLabelledCause t error) same (cause_labelled text error cause))
 
 -- the metadata has no clashes
-no_clash : (policy metadata : List ℕ) (error : GateError) → IsMetadataCause metadata error → IsLabelledCause policy error
+no_clash : (policy metadata : List ℕ) (error : GateError) → IsMetadataCause metadata error
+    → IsLabelledCause policy error
 no_clash policy metadata (Invalid told) cause = absurd cause
 no_clash policy metadata (Config faults) cause = tt
 no_clash policy metadata (NotBuilt which) cause = tt
 no_clash policy metadata (Metadata f) cause = tt
 no_clash policy metadata Memory cause = tt
 
-pub metadata_cause_labelled : (policy metadata : List ℕ) (result : Result Report GateError) → IfErr result (IsMetadataCause metadata) → IfErr result (IsLabelledCause policy)
+pub metadata_cause_labelled : (policy metadata : List ℕ) (result : Result Report GateError)
+    → IfErr result (IsMetadataCause metadata) → IfErr result (IsLabelledCause policy)
 metadata_cause_labelled policy metadata (Ok report) cause = tt
 metadata_cause_labelled policy metadata (Err error) cause = no_clash policy metadata error cause

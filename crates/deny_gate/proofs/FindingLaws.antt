@@ -14,15 +14,18 @@ one_each : (p : Policy) (g : Graph) (key : Key) → findings_of (pack_told p g p
 unfolding findings_of pack_told finding_told
 one_each p g key = refl
 
-all_told : (p : Policy) (g : Graph) (keys : List Key) → flat_map findings_of (map (pack_told p g policy_id) keys) ≡ map (finding_told p g) keys
+all_told : (p : Policy) (g : Graph) (keys : List Key)
+    → flat_map findings_of (map (pack_told p g policy_id) keys) ≡ map (finding_told p g) keys
 all_told p g [] = refl
 all_told p g (key ∷ keys) =
     ap (λ (fs : List Finding). fs ++ flat_map findings_of (map (pack_told p g policy_id) keys)) (one_each p g key)
     ∙ ap (λ (fs : List Finding). finding_told p g key ∷ fs) (all_told p g keys)
 
 -- findings of packs that were put behind none
-pub findings_told : (p : Policy) (g : Graph) (file : ℕ) (keys : List Key) (none packs : List Pack) (findings : List Finding)
-    → file ≡ policy_id → none ≡ [] → packs ≡ none ++ map (pack_told p g file) keys → findings ≡ flat_map findings_of packs → findings ≡ map (finding_told p g) keys
+pub findings_told : (p : Policy) (g : Graph) (file : ℕ) (keys : List Key) (none packs : List Pack)
+    (findings : List Finding)
+    → file ≡ policy_id → none ≡ [] → packs ≡ none ++ map (pack_told p g file) keys
+    → findings ≡ flat_map findings_of packs → findings ≡ map (finding_told p g) keys
 findings_told p g file keys none packs findings first empty told are =
     are
     ∙ (ap (flat_map findings_of) (told ∙ ap (λ (ps : List Pack). ps ++ map (pack_told p g file) keys) empty)

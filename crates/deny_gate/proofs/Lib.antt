@@ -5,7 +5,6 @@ pub mod Covered
 pub mod FindingLaws
 pub mod HeadlineLaws
 pub mod LabelLaws
-pub mod Members
 pub mod OneGraph
 pub mod OneReport
 pub mod Placed

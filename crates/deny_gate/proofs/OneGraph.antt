@@ -3,23 +3,26 @@ use Rattle.std.proofs.Common.{◌≡◌, ◌∙◌, ◌+◌, ℕ, List, [], ◌�
 use Rattle.std.specs.Cmp.{nat_cmp_total, on_total}
 use Rattle.std.specs.Cmp.Lexicographic.{nat_list_cmp_total}
 use Rattle.std.specs.Ordering.{nat_cmp}
-use Rattle.deny_base.specs.Ascending.{Lists}
+use Rattle.deny_lists.specs.Ascending.{Lists}
 use Rattle.deny_base.specs.Edge.{edge_cmp}
-use Rattle.deny_base.proofs.AscendingLemmas.{one_list}
+use Rattle.deny_lists.proofs.Sorted.{one_list}
 use Rattle.deny_base.proofs.EdgeEqual.{edge_cmp-total}
 use Rattle.deny_krates.specs.Listed.{AreCratesAt, IsCrateAt, crate_at}
 use Rattle.deny_krates.specs.Packages.{rank_of}
 use Rattle.deny_krates.specs.Read.{IsEdge, IsGraph, IsGraphOf, IsMember}
-use Rattle.deny_krates.specs.declared.document.Document.{Document}
-use Rattle.deny_krates.specs.declared.document.Package.{Package}
+use Rattle.deny_krates.specs.document.Document.{Document}
+use Rattle.deny_krates.specs.document.Package.{Package}
 use Rattle.deny_krates.proofs.OrderLemmas.{rank_cmp-total}
 use Rattle.deny_model.specs.Graph.{Crate, Graph}
 
-one_crate : (doc : Document) (place : ℕ) (p : Package) (c d : Crate) → IsCrateAt doc place p c → IsCrateAt doc place p d → c ≡ d
+one_crate : (doc : Document) (place : ℕ) (p : Package) (c d : Crate) → IsCrateAt doc place p c → IsCrateAt doc place p d
+    → c ≡ d
 one_crate doc place p c d this that =
-    this.is ∙ (ap (crate_at place p) (one_list nat_list_cmp_total c.enabled d.enabled this.enabled that.enabled) ∙ sym that.is)
+    this.is ∙ (ap (crate_at place p) (one_list nat_list_cmp_total c.enabled d.enabled this.enabled that.enabled)
+    ∙ sym that.is)
 
-same_crates : (doc : Document) (place : ℕ) (ps : List Package) (cs ds : List Crate) → AreCratesAt doc place ps cs → AreCratesAt doc place ps ds → cs ≡ ds
+same_crates : (doc : Document) (place : ℕ) (ps : List Package) (cs ds : List Crate) → AreCratesAt doc place ps cs
+    → AreCratesAt doc place ps ds → cs ≡ ds
 same_crates doc place [] [] [] these those = refl
 same_crates doc place [] [] (d ∷ ds) these those = absurd those
 same_crates doc place [] (c ∷ cs) ds these those = absurd these
@@ -32,14 +35,18 @@ same_crates doc place (p ∷ ps) (c ∷ cs) (d ∷ ds) these those =
 
 of_document : (doc : Document) (g h : Graph) → IsGraph doc g → IsGraph doc h → g ≡ h
 of_document doc g h this that =
-    let packages : this.packages ≡ that.packages = one_list (on_total rank_of rank_cmp-total) this.packages that.packages this.kept that.kept in
+    let packages : this.packages ≡ that.packages = one_list (on_total rank_of rank_cmp-total) this.packages
+    that.packages this.kept that.kept in
     let root : g.root ≡ h.root = this.root ∙ sym that.root in
     let crates : g.crates ≡ h.crates =
-    same_crates doc 0 that.packages g.crates h.crates (subst (λ (ps : List Package). AreCratesAt doc 0 ps g.crates) packages this.crates) that.crates in
+    same_crates doc 0 that.packages g.crates h.crates
+    (subst (λ (ps : List Package). AreCratesAt doc 0 ps g.crates) packages this.crates) that.crates in
     let members : g.members ≡ h.members =
-    one_list nat_cmp_total g.members h.members (subst (λ (ps : List Package). Lists nat_cmp (IsMember doc ps) g.members) packages this.members) that.members in
+    one_list nat_cmp_total g.members h.members
+    (subst (λ (ps : List Package). Lists nat_cmp (IsMember doc ps) g.members) packages this.members) that.members in
     let edges : g.edges ≡ h.edges =
-    one_list edge_cmp-total g.edges h.edges (subst (λ (ps : List Package). Lists edge_cmp (IsEdge doc ps) g.edges) packages this.edges) that.edges in
+    one_list edge_cmp-total g.edges h.edges
+    (subst (λ (ps : List Package). Lists edge_cmp (IsEdge doc ps) g.edges) packages this.edges) that.edges in
     λ i. record { root = root i; crates = crates i; members = members i; edges = edges i }
 
 pub one_graph : (bytes : List ℕ) (g h : Graph) → IsGraphOf bytes g → IsGraphOf bytes h → g ≡ h

@@ -4,10 +4,10 @@ use Rattle.std.specs.Prelude.{filter}
 use Rattle.std.specs.Cmp.{nat_cmp_total}
 use Rattle.std.specs.List.{AllZip}
 use Rattle.std.specs.Ordering.{nat_cmp}
-use Rattle.deny_base.specs.Ascending.{Lists}
+use Rattle.deny_lists.specs.Ascending.{Lists}
 use Rattle.deny_base.specs.declared.edge.Edge.{Edge}
 use Rattle.deny_base.specs.declared.key.Key.{Key}
-use Rattle.deny_base.proofs.AscendingLemmas.{one_list}
+use Rattle.deny_lists.proofs.Sorted.{one_list}
 use Rattle.deny_base.proofs.EdgeEqual.{edge_cmp-total}
 use Rattle.deny_cfg.specs.PolicyText.{IsPolicyOf}
 use Rattle.deny_cfg.specs.PolicyView.{policy_view}
@@ -15,16 +15,17 @@ use Rattle.deny_cfg.specs.declared.policy.Policy as cfg
 use Rattle.deny_model.specs.Graph.{Graph}
 use Rattle.deny_model.specs.Policy.{Policy}
 use Rattle.deny_model.specs.Rules.{AreKeys}
-use Rattle.deny_rules.specs.DupEdges.{AreEdgesOf, IsSetOf, IsSimplest, ShowsEach, Simplest, is_of_duplicate}
-use Rattle.deny_rules.specs.declared.dup_edges.DupEdges.{DupEdges}
-use Rattle.deny_rules.specs.declared.dup_edges.DupSet.{DupSet}
+use Rattle.deny_dup_edges.specs.DupEdges.{AreEdgesOf, IsSetOf, IsSimplest, ShowsEach, Simplest, is_of_duplicate}
+use Rattle.deny_dup_edges.specs.declared.dup_edges.DupEdges.{DupEdges}
+use Rattle.deny_dup_edges.specs.declared.dup_edges.DupSet.{DupSet}
 use Rattle.deny_gate.specs.Gating.{IsReportOf}
 use Rattle.deny_gate.specs.Report.{IsReport, finding_told, policy_id, verdict_of}
 use Rattle.deny_gate.specs.declared.report.Report.{Report}
 use Rattle.deny_gate.proofs.OneGraph.{one_graph}
 
 -- what determines each of its items determines the list
-one_zip : {A B : Type 0} (R : A → B → Type 0) → ((x : A) (y z : B) → R x y → R x z → y ≡ z) → (xs : List A) (ys zs : List B) → AllZip R xs ys → AllZip R xs zs → ys ≡ zs
+one_zip : {A B : Type 0} (R : A → B → Type 0) → ((x : A) (y z : B) → R x y → R x z → y ≡ z)
+    → (xs : List A) (ys zs : List B) → AllZip R xs ys → AllZip R xs zs → ys ≡ zs
 one_zip R one [] [] [] these those = refl
 one_zip R one [] [] (z ∷ zs) these those = absurd those
 one_zip R one [] (y ∷ ys) zs these those = absurd these
@@ -37,7 +38,8 @@ one_zip R one (x ∷ xs) (y ∷ ys) (z ∷ zs) these those =
 
 -- ---- what is shown of duplicates
 
-one_set : (g : Graph) (edges : List Edge) (place : ℕ) (s t : DupSet) → IsSetOf g edges place s → IsSetOf g edges place t → s ≡ t
+one_set : (g : Graph) (edges : List Edge) (place : ℕ) (s t : DupSet) → IsSetOf g edges place s → IsSetOf g edges place t
+    → s ≡ t
 one_set g edges place s t this that =
     let places : s.place ≡ t.place = this.of_crate ∙ sym that.of_crate in
     let numbers : s.edges ≡ t.edges = one_list nat_cmp_total s.edges t.edges this.numbers that.numbers in
@@ -45,7 +47,11 @@ one_set g edges place s t this that =
 
 -- of two simplest sets none comes first
 not_later : (sets : List DupSet) (m n : ℕ) → IsSimplest sets m → IsSimplest sets n → m < n → ⊥
-not_later sets m n this that before = omega (arith, that.first m this.set this.numbered before, this.fewest n that.set that.numbered)
+not_later sets m n this that before = omega (
+  arith,
+  that.first m this.set this.numbered before,
+  this.fewest n that.set that.numbered,
+)
 
 one_simplest : (sets : List DupSet) (m n : ℕ) → IsSimplest sets m → IsSimplest sets n → m ≡ n
 one_simplest sets m n this that =
@@ -53,7 +59,8 @@ one_simplest sets m n this that =
     let down : ¬ (n < m) = not_later sets n m that this in
     omega (arith, up, down)
 
-same_simplest : (wanted : Bool) (sets : List DupSet) (x y : Option ℕ) → Simplest wanted sets x → Simplest wanted sets y → x ≡ y
+same_simplest : (wanted : Bool) (sets : List DupSet) (x y : Option ℕ) → Simplest wanted sets x → Simplest wanted sets y
+    → x ≡ y
 same_simplest false sets x y this that = this ∙ sym that
 same_simplest true [] x y this that = this ∙ sym that
 same_simplest true (set ∷ sets) None y this that = absurd this
@@ -65,8 +72,10 @@ one_shown p g key s t this that =
     let name : s.name ≡ t.name = this.name ∙ sym that.name in
     let edges : s.edges ≡ t.edges = one_list edge_cmp-total s.edges t.edges this.edges that.edges in
     let sets : s.sets ≡ t.sets =
-    one_zip (IsSetOf g t.edges) (one_set g t.edges) key.places s.sets t.sets (subst (λ (es : List Edge). AllZip (IsSetOf g es) key.places s.sets) edges this.sets) that.sets in
-    let simplest : s.simplest ≡ t.simplest = same_simplest p.simplest t.sets s.simplest t.simplest (subst (λ (ss : List DupSet). Simplest p.simplest ss s.simplest) sets this.simplest) that.simplest in
+    one_zip (IsSetOf g t.edges) (one_set g t.edges) key.places s.sets t.sets
+    (subst (λ (es : List Edge). AllZip (IsSetOf g es) key.places s.sets) edges this.sets) that.sets in
+    let simplest : s.simplest ≡ t.simplest = same_simplest p.simplest t.sets s.simplest t.simplest
+    (subst (λ (ss : List DupSet). Simplest p.simplest ss s.simplest) sets this.simplest) that.simplest in
     let lowest : s.lowest ≡ t.lowest = this.lowest ∙ sym that.lowest in
     λ i. record { name = name i; edges = edges i; sets = sets i; simplest = simplest i; lowest = lowest i }
 
@@ -83,11 +92,15 @@ module _ (one_keys : (p : Policy) → (g : Graph) → (xs ys : List Key) → Are
       let verdict : a.verdict ≡ b.verdict = this.verdict ∙ (ap verdict_of findings ∙ sym that.verdict) in
       λ i. record { files = files i; findings = findings i; dup_edges = dup_edges i; verdict = verdict i }
 
-  pub one_report : ((text : List ℕ) → (file : ℕ) → (a b : cfg.Policy) → IsPolicyOf text file a → IsPolicyOf text file b → (policy_view a.bans ≡ policy_view b.bans) × (a.not_built ≡ b.not_built))
+  pub one_report : ((text : List ℕ) → (file : ℕ) → (a b : cfg.Policy) → IsPolicyOf text file a → IsPolicyOf text file b
+      → (policy_view a.bans ≡ policy_view b.bans) × (a.not_built ≡ b.not_built))
       → (policy metadata : List ℕ) (a b : Report) → IsReportOf policy metadata a → IsReportOf policy metadata b → a ≡ b
   one_report one_policy policy metadata a b this that =
-      let views : policy_view this.said.bans ≡ policy_view that.said.bans = (one_policy policy policy_id this.said that.said this.is_said.is_policy that.is_said.is_policy).0 in
+      let views : policy_view this.said.bans
+      ≡ policy_view that.said.bans = (one_policy policy policy_id this.said that.said this.is_said.is_policy
+      that.is_said.is_policy).0 in
       let graphs : this.graph ≡ that.graph = one_graph metadata this.graph that.graph this.is_graph that.is_graph in
       of_graph (policy_view that.said.bans) that.graph a b
-      (subst (λ (p : Policy). IsReport p that.graph a) views (subst (λ (g : Graph). IsReport (policy_view this.said.bans) g a) graphs this.is_report))
+      (subst (λ (p : Policy). IsReport p that.graph a) views
+      (subst (λ (g : Graph). IsReport (policy_view this.said.bans) g a) graphs this.is_report))
       that.is_report (this.files ∙ sym that.files)

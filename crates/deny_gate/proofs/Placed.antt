@@ -3,12 +3,11 @@ use Rattle.std.proofs.Common.{◌≡◌, ◌+◌, ℕ, zero, suc, List, [], ◌�
 use Rattle.std.specs.Prelude.{filter_map, map, slice_get}
 use Rattle.std.specs.List.{cons_option}
 use Rattle.std.proofs.lemmas.Option.{none-some, same_Some}
-use Rattle.deny_base.proofs.AscendingLemmas.{Contains-first, Contains-rest}
+use Rattle.deny_lists.proofs.Members.{Contains-first, Contains-rest, there}
 use Rattle.deny_krates.specs.Listed.{AreCratesAt}
 use Rattle.deny_krates.specs.Read.{IsGraphOf}
-use Rattle.deny_krates.specs.declared.document.Document.{Document}
-use Rattle.deny_krates.specs.declared.document.Package.{Package}
-use Rattle.deny_krates.proofs.ListLemmas.{there}
+use Rattle.deny_krates.specs.document.Document.{Document}
+use Rattle.deny_krates.specs.document.Package.{Package}
 use Rattle.deny_model.specs.Graph.{Crate, Graph}
 use Rattle.deny_model.specs.Told.{crate_at}
 
@@ -16,7 +15,8 @@ use Rattle.deny_model.specs.Told.{crate_at}
 abbrev pub ArePlaced : Graph → List Crate → Type 0
 ArePlaced g crates = (c : Crate) → Contains crates c → slice_get g.crates c.place ≡ Some c
 
-place_at : (doc : Document) (place : ℕ) (ps : List Package) (cs : List Crate) (k : ℕ) (c : Crate) → AreCratesAt doc place ps cs → slice_get cs k ≡ Some c → c.place ≡ place + k
+place_at : (doc : Document) (place : ℕ) (ps : List Package) (cs : List Crate) (k : ℕ) (c : Crate)
+    → AreCratesAt doc place ps cs → slice_get cs k ≡ Some c → c.place ≡ place + k
 place_at doc place [] [] k c are is = absurd (none-some c is)
 place_at doc place [] (d ∷ cs) k c are is = absurd are
 place_at doc place (p ∷ ps) [] k c are is = absurd are
@@ -31,13 +31,16 @@ place_at doc place (p ∷ ps) (d ∷ cs) (suc k) c are is =
 pub are_placed : (bytes : List ℕ) (g : Graph) → IsGraphOf bytes g → ArePlaced g g.crates
 are_placed bytes g of = λ c is.
     let at = there g.crates c is in
-    let place : c.place ≡ 0 + at.0 = place_at of.read.document 0 of.graph.packages g.crates at.0 c of.graph.crates at.1 in
+    let place : c.place ≡ 0 + at.0 = place_at of.read.document 0 of.graph.packages g.crates at.0 c of.graph.crates at.1
+    in
     let same : at.0 ≡ c.place = omega (arith, place) in
     subst (λ (n : ℕ). slice_get g.crates n ≡ Some c) same at.1
 
 -- the crates at the places of some crates
-pub at_places : (g : Graph) (crates : List Crate) → ArePlaced g crates → filter_map (crate_at g) (map (λ c. c.place) crates) ≡ crates
+pub at_places : (g : Graph) (crates : List Crate) → ArePlaced g crates
+    → filter_map (crate_at g) (map (λ c. c.place) crates) ≡ crates
 at_places g [] placed = refl
 at_places g (c ∷ crates) placed =
-    ap (λ (o : Option Crate). cons_option o (filter_map (crate_at g) (map (λ c. c.place) crates))) (placed c (Contains-first c crates))
+    ap (λ (o : Option Crate). cons_option o (filter_map (crate_at g) (map (λ c. c.place) crates)))
+    (placed c (Contains-first c crates))
     ∙ ap (λ (cs : List Crate). c ∷ cs) (at_places g crates (λ d is. placed d (Contains-rest c crates d is)))

@@ -9,14 +9,14 @@ use Rattle.deny_cfg.specs.LabelRanges.{AreLabels, feature_ranges, of_some, own_r
 use Rattle.deny_cfg.specs.LabelRanges as written
 use Rattle.deny_cfg.specs.PolicyText.{policy_file}
 use Rattle.deny_cfg.specs.PolicyView.{ban_view, entry_view, policy_view, reason_words, root_view, roots_from, words_or_none}
-use Rattle.deny_cfg.specs.declared.bans.cfg.tree_skip.TreeSkipExtended.{TreeSkipExtended}
+use Rattle.deny_cfg.specs.TreeSkipExtended.{TreeSkipExtended}
 use Rattle.deny_cfg.specs.declared.bans.cfg.valid.KrateBan.{KrateBan}
 use Rattle.deny_cfg.specs.declared.bans.cfg.valid.ValidConfig.{ValidConfig}
 use Rattle.deny_cfg.specs.declared.policy.Policy.{Policy}
-use Rattle.deny_cfg.specs.declared.reason.Reason.{Reason}
-use Rattle.deny_cfg.specs.declared.spec_or_extended.PackageSpecOrExtended.{PackageSpecOrExtended}
+use Rattle.deny_cfg.specs.Reason.{Reason}
+use Rattle.deny_cfg.specs.PackageSpecOrExtended.{PackageSpecOrExtended}
 use Rattle.deny_cfg.proofs.LabelLaws.{Lie, lie_append}
-use Rattle.deny_cfg.proofs.LabelValid.{lie_back, lie_front}
+use Rattle.deny_cfg.proofs.LabelValid.{lie_rest, lie_prefix}
 use Rattle.deny_model.specs.Policy.{Words}
 use Rattle.deny_toml.specs.Ranges.{IsRange}
 use Rattle.deny_gate.specs.Gating.{IsReportOn}
@@ -30,43 +30,54 @@ module _ (text : List ℕ) where
   words_lie [] lie = tt
   words_lie (w ∷ ws) lie = (lie.0, words_lie ws lie.1)
 
-  wrappers_lie : (wrappers : Option (List Words)) → Lie text (of_some word_ranges wrappers) → Lie text (map (λ (w : Words). w.span) (words_or_none wrappers))
+  wrappers_lie : (wrappers : Option (List Words)) → Lie text (of_some word_ranges wrappers)
+      → Lie text (map (λ (w : Words). w.span) (words_or_none wrappers))
   wrappers_lie None lie = tt
   wrappers_lie (Some words) lie = words_lie words lie
 
-  reason_lies : (reason : Option Reason) → Lie text (of_some reason_range reason) → Lie text (range_of (option_map reason_words reason))
+  reason_lies : (reason : Option Reason) → Lie text (of_some reason_range reason)
+      → Lie text (range_of (option_map reason_words reason))
   reason_lies None lie = tt
   reason_lies (Some reason) lie = lie
 
-  instead_lies : (use_instead : Option Words) → Lie text (of_some own_range use_instead) → Lie text (range_of use_instead)
+  instead_lies : (use_instead : Option Words) → Lie text (of_some own_range use_instead)
+      → Lie text (range_of use_instead)
   instead_lies None lie = tt
   instead_lies (Some words) lie = lie
 
   -- what an entry of `deny` names besides
   abbrev besides : Option (List Words) → Option Reason → Option Words → List Span
-  besides wrappers reason use_instead = map (λ (w : Words). w.span) (words_or_none wrappers) ++ (range_of (option_map reason_words reason) ++ range_of use_instead)
+  besides wrappers reason use_instead = map (λ (w : Words). w.span) (words_or_none wrappers)
+      ++ (range_of (option_map reason_words reason) ++ range_of use_instead)
 
-  besides_lie : (ban : KrateBan) → Lie text (written.ban_ranges ban) → Lie text (besides ban.wrappers ban.reason ban.use_instead)
+  besides_lie : (ban : KrateBan) → Lie text (written.ban_ranges ban)
+      → Lie text (besides ban.wrappers ban.reason ban.use_instead)
   besides_lie ban lie =
       let wrappers = of_some word_ranges ban.wrappers in
       let reason = of_some reason_range ban.reason in
       let instead = of_some own_range ban.use_instead in
-      let rest = lie_back text wrappers (reason ++ (instead ++ [])) lie in
-      lie_append text (map (λ (w : Words). w.span) (words_or_none ban.wrappers)) (range_of (option_map reason_words ban.reason) ++ range_of ban.use_instead)
-      (wrappers_lie ban.wrappers (lie_front text wrappers (reason ++ (instead ++ [])) lie))
-      (lie_append text (range_of (option_map reason_words ban.reason)) (range_of ban.use_instead) (reason_lies ban.reason (lie_front text reason (instead ++ []) rest))
-      (instead_lies ban.use_instead (lie_front text instead [] (lie_back text reason (instead ++ []) rest))))
+      let rest = lie_rest text wrappers (reason ++ (instead ++ [])) lie in
+      lie_append text (map (λ (w : Words). w.span) (words_or_none ban.wrappers))
+      (range_of (option_map reason_words ban.reason) ++ range_of ban.use_instead)
+      (wrappers_lie ban.wrappers (lie_prefix text wrappers (reason ++ (instead ++ [])) lie))
+      (lie_append text (range_of (option_map reason_words ban.reason)) (range_of ban.use_instead)
+      (reason_lies ban.reason (lie_prefix text reason (instead ++ []) rest))
+      (instead_lies ban.use_instead (lie_prefix text instead [] (lie_rest text reason (instead ++ []) rest))))
 
   ban_inner_lies : (inner : Option KrateBan) → Lie text (of_some written.ban_ranges inner)
-      → Lie text (besides (option_and_then (λ (ban : KrateBan). ban.wrappers) inner) (option_and_then (λ (ban : KrateBan). ban.reason) inner) (option_and_then (λ (ban : KrateBan). ban.use_instead) inner))
+      → Lie text (besides (option_and_then (λ (ban : KrateBan). ban.wrappers) inner)
+      (option_and_then (λ (ban : KrateBan). ban.reason) inner)
+      (option_and_then (λ (ban : KrateBan). ban.use_instead) inner))
   ban_inner_lies None lie = tt
   ban_inner_lies (Some ban) lie = besides_lie ban lie
 
-  ban_lies : (e : PackageSpecOrExtended KrateBan) → Lie text (with_spec written.ban_ranges e) → Lie text (ban_ranges (ban_view e))
+  ban_lies : (e : PackageSpecOrExtended KrateBan) → Lie text (with_spec written.ban_ranges e)
+      → Lie text (ban_ranges (ban_view e))
   unfolding ban_ranges
   ban_lies e lie = (lie.0, ban_inner_lies e.inner lie.1)
 
-  entry_lies : (e : PackageSpecOrExtended Reason) → Lie text (with_spec reason_range e) → Lie text (entry_ranges (entry_view e))
+  entry_lies : (e : PackageSpecOrExtended Reason) → Lie text (with_spec reason_range e)
+      → Lie text (entry_ranges (entry_view e))
   unfolding entry_ranges
   entry_lies e lie = (lie.0, reason_lies e.inner lie.1)
 
@@ -75,24 +86,29 @@ module _ (text : List ℕ) where
   root_inner_lies None lie = tt
   root_inner_lies (Some skip) lie = reason_lies skip.reason lie
 
-  root_lies : (number : ℕ) (e : PackageSpecOrExtended TreeSkipExtended) → Lie text (with_spec written.root_ranges e) → Lie text (root_ranges (root_view number e))
+  root_lies : (number : ℕ) (e : PackageSpecOrExtended TreeSkipExtended) → Lie text (with_spec written.root_ranges e)
+      → Lie text (root_ranges (root_view number e))
   unfolding root_ranges
   root_lies number e lie = (lie.0, root_inner_lies e.inner lie.1)
 
-  roots_lie : (number : ℕ) (es : List (PackageSpecOrExtended TreeSkipExtended)) → Lie text (flat_map (with_spec written.root_ranges) es) → Lie text (flat_map root_ranges (roots_from number es))
+  roots_lie : (number : ℕ) (es : List (PackageSpecOrExtended TreeSkipExtended))
+      → Lie text (flat_map (with_spec written.root_ranges) es) → Lie text (flat_map root_ranges (roots_from number es))
   roots_lie number [] lie = tt
   roots_lie number (e ∷ es) lie =
       let first = with_spec written.root_ranges e in
       let others = flat_map (with_spec written.root_ranges) es in
-      lie_append text (root_ranges (root_view number e)) (flat_map root_ranges (roots_from (number + 1) es)) (root_lies number e (lie_front text first others lie))
-      (roots_lie (number + 1) es (lie_back text first others lie))
+      lie_append text (root_ranges (root_view number e)) (flat_map root_ranges (roots_from (number + 1) es))
+      (root_lies number e (lie_prefix text first others lie))
+      (roots_lie (number + 1) es (lie_rest text first others lie))
 
-  each_lies : {X Y : Type 0} (view : X → Y) (from : X → List Span) (to : Y → List Span) → ((x : X) → Lie text (from x) → Lie text (to (view x)))
+  each_lies : {X Y : Type 0} (view : X → Y) (from : X → List Span) (to : Y → List Span)
+      → ((x : X) → Lie text (from x) → Lie text (to (view x)))
       → (xs : List X) → Lie text (flat_map from xs) → Lie text (flat_map to (map view xs))
   each_lies view from to lies [] lie = tt
   each_lies view from to lies (x ∷ xs) lie =
-      lie_append text (to (view x)) (flat_map to (map view xs)) (lies x (lie_front text (from x) (flat_map from xs) lie))
-      (each_lies view from to lies xs (lie_back text (from x) (flat_map from xs) lie))
+      lie_append text (to (view x)) (flat_map to (map view xs))
+      (lies x (lie_prefix text (from x) (flat_map from xs) lie))
+      (each_lies view from to lies xs (lie_rest text (from x) (flat_map from xs) lie))
 
   -- the bans, the allowed, the skips and the trees among all that is written
   ranges_lie : (cfg : ValidConfig) → Lie text (word_labels cfg) → Lie text (ranges_of (policy_view cfg))
@@ -102,27 +118,36 @@ module _ (text : List ℕ) where
       let allowed = flat_map (with_spec reason_range) cfg.allowed in
       let skipped = flat_map (with_spec reason_range) cfg.skipped in
       let trees = flat_map (with_spec written.root_ranges) cfg.tree_skipped in
-      let from_allowed = lie_back text (denied ++ flat_map spec_range cfg.denied_multiple_versions) _ lie in
-      let from_external = lie_back text allowed _ from_allowed in
-      let from_workspace = lie_back text (of_some own_range cfg.external_default_features) _ from_external in
-      let from_features = lie_back text (of_some own_range cfg.workspace_default_features) _ from_workspace in
-      let from_skipped = lie_back text (flat_map feature_ranges cfg.features) _ from_features in
-      let from_trees = lie_back text skipped _ from_skipped in
-      let bans = lie_front text denied (flat_map spec_range cfg.denied_multiple_versions) (lie_front text (denied ++ flat_map spec_range cfg.denied_multiple_versions) _ lie) in
-      lie_append text (flat_map ban_ranges (map ban_view cfg.denied)) _ (each_lies ban_view (with_spec written.ban_ranges) ban_ranges ban_lies cfg.denied bans)
+      let from_allowed = lie_rest text (denied ++ flat_map spec_range cfg.denied_multiple_versions) _ lie in
+      let from_external = lie_rest text allowed _ from_allowed in
+      let from_workspace = lie_rest text (of_some own_range cfg.external_default_features) _ from_external in
+      let from_features = lie_rest text (of_some own_range cfg.workspace_default_features) _ from_workspace in
+      let from_skipped = lie_rest text (flat_map feature_ranges cfg.features) _ from_features in
+      let from_trees = lie_rest text skipped _ from_skipped in
+      let bans = lie_prefix text denied (flat_map spec_range cfg.denied_multiple_versions)
+      (lie_prefix text (denied ++ flat_map spec_range cfg.denied_multiple_versions) _ lie) in
+      lie_append text (flat_map ban_ranges (map ban_view cfg.denied)) _
+      (each_lies ban_view (with_spec written.ban_ranges) ban_ranges ban_lies cfg.denied bans)
       (lie_append text (flat_map entry_ranges (map entry_view cfg.allowed)) _
-      (each_lies entry_view (with_spec reason_range) entry_ranges entry_lies cfg.allowed (lie_front text allowed _ from_allowed))
+      (each_lies entry_view (with_spec reason_range) entry_ranges entry_lies cfg.allowed
+      (lie_prefix text allowed _ from_allowed))
       (lie_append text (flat_map entry_ranges (map entry_view cfg.skipped)) _
-      (each_lies entry_view (with_spec reason_range) entry_ranges entry_lies cfg.skipped (lie_front text skipped _ from_skipped))
-      (roots_lie 0 cfg.tree_skipped (lie_front text trees _ from_trees))))
+      (each_lies entry_view (with_spec reason_range) entry_ranges entry_lies cfg.skipped
+      (lie_prefix text skipped _ from_skipped))
+      (roots_lie 0 cfg.tree_skipped (lie_prefix text trees _ from_trees))))
 
-  policy_ranges : (cfg : ValidConfig) → All (IsRange text) (word_labels cfg) → All (IsRange text) (ranges_of (policy_view cfg))
+  policy_ranges : (cfg : ValidConfig) → All (IsRange text) (word_labels cfg)
+      → All (IsRange text) (ranges_of (policy_view cfg))
   policy_ranges cfg all =
-      All-from_recursion (IsRange text) (ranges_of (policy_view cfg)) (ranges_lie cfg (recursion_from_All (IsRange text) (word_labels cfg) all))
+      All-from_recursion (IsRange text) (ranges_of (policy_view cfg))
+      (ranges_lie cfg (recursion_from_All (IsRange text) (word_labels cfg) all))
 
   -- the report of the policy that was read, with its text as the one file
-  pub labels_then : (metadata : List ℕ) (said : Policy) (files : List File) (result : Result Report GateError) → AreLabels text (word_labels said.bans) → files ≡ policy_file text ∷ []
-      → IfOk result (IsReportOn (policy_view said.bans) metadata) → IfOk result (λ report. report.files ≡ files) → IfOk result (λ report. AreLabelled report.files report.findings)
+  pub labels_then : (metadata : List ℕ) (said : Policy) (files : List File) (result : Result Report GateError)
+      → AreLabels text (word_labels said.bans) → files ≡ policy_file text ∷ []
+      → IfOk result (IsReportOn (policy_view said.bans) metadata) → IfOk result (λ report. report.files ≡ files)
+      → IfOk result (λ report. AreLabelled report.files report.findings)
   labels_then metadata said files (Ok report) labels first on in_files =
-      report_labelled (policy_view said.bans) on.graph text report (policy_ranges said.bans labels.placed) on.is_report (in_files ∙ first)
+      report_labelled (policy_view said.bans) on.graph text report (policy_ranges said.bans labels.placed) on.is_report
+      (in_files ∙ first)
   labels_then metadata said files (Err error) labels first on in_files = tt

@@ -8,13 +8,13 @@ use Rattle.deny_cfg.specs.PolicyView.{policy_view}
 use Rattle.deny_cfg.specs.declared.policy.Policy.{Policy}
 use Rattle.deny_krates.specs.Checked.{Resolved, checked}
 use Rattle.deny_krates.specs.Read.{IsGraphOf}
-use Rattle.deny_krates.specs.declared.fault.MetadataFault.{MetadataFault}
-use Rattle.deny_krates.specs.declared.fault.MetadataFault.TheVariants as fault
+use Rattle.deny_krates.specs.fault.MetadataFault.{MetadataFault}
+use Rattle.deny_krates.specs.fault.MetadataFault.TheVariants as fault
 use Rattle.deny_model.specs.Graph.{Graph}
 use Rattle.deny_model.specs.Policy as model
 use Rattle.deny_model.specs.Rules.{AreKeys}
-use Rattle.deny_rules.specs.DupEdges.{ShowsEach, is_of_duplicate}
-use Rattle.deny_rules.specs.declared.dup_edges.DupEdges.{DupEdges}
+use Rattle.deny_dup_edges.specs.DupEdges.{ShowsEach, is_of_duplicate}
+use Rattle.deny_dup_edges.specs.declared.dup_edges.DupEdges.{DupEdges}
 use Rattle.deny_toml.specs.Faults.{fault_at}
 use Rattle.deny_toml.specs.declared.error.FaultKind.TheVariants.{Grammar}
 use Rattle.deny_gate.specs.Report.{IsReport, finding_told, policy_id}

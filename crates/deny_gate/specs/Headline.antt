@@ -2,7 +2,7 @@
 -- error, and a report fails exactly where an error stands.
 use Rattle.std.specs.Prelude.{◌≡◌, ◌≢◌, ◌⊎◌, ◌≤◌, ◌&&◌, ℕ, Bool, true, false, IsTrue, List, [], length, map, filter, Contains, Option, Some, if◌then◌else◌}
 use Rattle.std.specs.List.{list_any}
-use Rattle.deny_base.specs.Ascending.{Lists}
+use Rattle.deny_lists.specs.Ascending.{Lists}
 use Rattle.deny_base.specs.KeyOrder.{key_cmp}
 use Rattle.deny_base.specs.declared.code.Code.TheVariants.{Banned, NotAllowed, Duplicate}
 use Rattle.deny_base.specs.declared.code.DiagnosticCode.{DiagnosticCode}

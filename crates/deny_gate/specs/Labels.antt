@@ -49,4 +49,5 @@ unfoldable pub root_ranges : Root → List Span
 root_ranges t = t.spec.range ∷ range_of t.reason
 
 unfoldable pub ranges_of : Policy → List Span
-ranges_of p = flat_map ban_ranges p.deny ++ (flat_map entry_ranges p.allow ++ (flat_map entry_ranges p.skip ++ flat_map root_ranges p.skip_tree))
+ranges_of p = flat_map ban_ranges p.deny
+    ++ (flat_map entry_ranges p.allow ++ (flat_map entry_ranges p.skip ++ flat_map root_ranges p.skip_tree))

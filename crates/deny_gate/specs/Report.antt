@@ -13,7 +13,7 @@ use Rattle.deny_model.specs.Graph.{Graph}
 use Rattle.deny_model.specs.Policy.{Policy}
 use Rattle.deny_model.specs.Rules.{AreKeys}
 use Rattle.deny_model.specs.Told.{check_told, kid_told, diag_told}
-use Rattle.deny_rules.specs.DupEdges.{ShowsEach, is_of_duplicate}
+use Rattle.deny_dup_edges.specs.DupEdges.{ShowsEach, is_of_duplicate}
 use Rattle.deny_gate.specs.declared.report.Finding.{Finding}
 use Rattle.deny_gate.specs.declared.report.Report.{Report}
 use Rattle.deny_gate.specs.declared.report.Verdict.{Verdict}

@@ -4,7 +4,8 @@ ghost use Rattle.std.specs.List.{list_any, flat_map};
 ghost use Rattle.deny_gate.specs.Report.{finding_of, findings_of, has_error, fails_as, is_error, same_check, verdict_by, verdict_of};
 
 use crate::report::{Finding, Verdict};
-use deny_base::{Check, Diag, Kid, List, NoMemory, Pack, Severity};
+use deny_base::{Check, Diag, Kid, Pack, Severity};
+use deny_lists::{List, NoMemory};
 use std::alloc::Global;
 
 fn same_kid(kid: &Option<Kid>) -> Result<Option<Kid>, NoMemory>

@@ -10,10 +10,12 @@ ghost use Rattle.deny_gate.specs.Report.{IsReport};
 
 use crate::findings::{findings_in, verdict_of};
 use crate::report::{Finding, GateError, Inputs, Report};
-use deny_base::{Files, List, NoMemory, PackageFiles, Which};
+use deny_base::{Files, Which};
 use deny_cfg::bans::cfg::ValidConfig;
 use deny_cfg::{Policy, PolicyError, read_policy};
 use deny_krates::{Krates, MetadataFault};
+use deny_lists::{List, NoMemory};
+use deny_outside::PackageFiles;
 use deny_rules::{CheckCtx, DupEdges, bans};
 use std::alloc::Global;
 
@@ -134,103 +136,4 @@ pub fn gate<D: PackageFiles>(
     let mut files = Files::new(alloc);
     let policy = built_policy(alloc, inputs.policy.as_slice(), &mut files)?;
     report_of(alloc, files, &policy.bans, inputs.metadata.as_slice(), disk)
-}
-
-#[cfg(test)]
-mod tests {
-    use super::*;
-    use crate::report::Verdict;
-    use deny_base::{DepKind, Edge, MemoryDisk};
-    use deny_rules::DupSet;
-
-    const NO_CRATES: &[u8] =
-        b"{\"packages\":[],\"workspace_members\":[],\"workspace_root\":\"/\",\"resolve\":{\"nodes\":[]}}";
-
-    // `app` needs `x` 1.0.0 and `x` 2.0.0.
-    const TWO_VERSIONS: &[u8] = b"{\"packages\":[\
-        {\"name\":\"app\",\"version\":\"0.1.0\",\"id\":\"app\",\"manifest_path\":\"/w/Cargo.toml\"},\
-        {\"name\":\"x\",\"version\":\"1.0.0\",\"id\":\"x1\",\"manifest_path\":\"/x1/Cargo.toml\"},\
-        {\"name\":\"x\",\"version\":\"2.0.0\",\"id\":\"x2\",\"manifest_path\":\"/x2/Cargo.toml\"}],\
-        \"workspace_members\":[\"app\"],\"workspace_root\":\"/w\",\"resolve\":{\"nodes\":[\
-        {\"id\":\"app\",\"deps\":[{\"pkg\":\"x1\"},{\"pkg\":\"x2\"}]},{\"id\":\"x1\"},{\"id\":\"x2\"}]}}";
-
-    fn answer(
-        rt: &HostRuntime,
-        policy: &[u8],
-        metadata: &[u8],
-    ) -> Result<Result<Report, GateError>, NoMemory>
-        requires policy { length policy.now < 2 ^ 28 }
-        requires metadata { length metadata.now < 2 ^ 28 }
-    {
-        let inputs = Inputs {
-            policy: Vec::from_slice(rt.alloc(), policy)?,
-            metadata: Vec::from_slice(rt.alloc(), metadata)?,
-        };
-        let mut disk = MemoryDisk::new(rt.alloc(), 1);
-        Ok(gate(rt.alloc(), &inputs, &mut disk))
-    }
-
-    fn passes(rt: &HostRuntime) -> Result<bool, NoMemory> {
-        let report = answer(rt, b"[bans]\ndeny = [\"x\", \"y@1\"]\n", NO_CRATES)?;
-        Ok(
-            matches!(&report, Ok(report) if report.findings.len() == 0 && report.verdict == Verdict::Pass),
-        )
-    }
-
-    fn names_faults(rt: &HostRuntime) -> Result<bool, NoMemory> {
-        let refused = answer(rt, b"[bans]\nclarify = 1\n", NO_CRATES)?;
-        Ok(matches!(&refused, Err(GateError::Config(faults)) if faults.len() == 1))
-    }
-
-    fn names_clashes(rt: &HostRuntime) -> Result<bool, NoMemory> {
-        let refused = answer(rt, b"[bans]\ndeny = [\"x\"]\nskip = [\"x\"]\n", NO_CRATES)?;
-        Ok(matches!(&refused, Err(GateError::Invalid(told)) if told.len() == 1))
-    }
-
-    fn wants_rules(rt: &HostRuntime) -> Result<bool, NoMemory> {
-        let refused = answer(rt, b"[bans]\nfeatures = []\n", b"")?;
-        Ok(matches!(&refused, Err(GateError::NotBuilt(Which::Policy))))
-    }
-
-    fn is_edge(edge: &Edge, parent: u32, child: u32) -> bool {
-        edge.parent == parent && edge.child == child && edge.kind == DepKind::Normal
-    }
-
-    fn is_set(set: &DupSet, place: u32, number: u32) -> bool {
-        set.place == place && matches!(set.edges.as_slice(), [one] if *one == number)
-    }
-
-    /// Two edges, each of which leads to one version, and the first set as the simplest.
-    fn are_apart(shown: &DupEdges) -> bool {
-        shown.name.as_str() == "x"
-            && matches!(shown.edges.as_slice(), [a, b] if is_edge(a, 0, 1) && is_edge(b, 0, 2))
-            && matches!(shown.sets.as_slice(), [a, b] if is_set(a, 1, 0) && is_set(b, 2, 1))
-            && shown.simplest == Some(0)
-            && shown.lowest.is_none()
-    }
-
-    fn shows_versions(rt: &HostRuntime) -> Result<bool, NoMemory> {
-        let policy = b"[bans]\nmultiple-versions = \"deny\"\nhighlight = \"simplest-path\"\n";
-        let report = answer(rt, policy, TWO_VERSIONS)?;
-        Ok(
-            matches!(&report, Ok(report) if matches!(report.dup_edges.as_slice(), [shown] if are_apart(shown))),
-        )
-    }
-
-    fn wants_a_graph(rt: &HostRuntime) -> Result<bool, NoMemory> {
-        let refused = answer(rt, b"", b"{}")?;
-        Ok(matches!(&refused, Err(GateError::Metadata(MetadataFault::NoResolve))))
-    }
-
-    /// With ample memory the gate answers a report, or why there is none.
-    #[test]
-    fn answers_with_ample_memory(rt: HostRuntime) -> Result<(), NoMemory> {
-        assert!(rt; passes(&rt)?);
-        assert!(rt; shows_versions(&rt)?);
-        assert!(rt; names_faults(&rt)?);
-        assert!(rt; names_clashes(&rt)?);
-        assert!(rt; wants_rules(&rt)?);
-        assert!(rt; wants_a_graph(&rt)?);
-        Ok(())
-    }
 }

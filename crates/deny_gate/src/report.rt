@@ -1,7 +1,8 @@
 ghost use Rattle.std.proofs.Common.{rules};
 
-use deny_base::{Check, Diag, Diagnostic, Files, Kid, List, NoMemory, Plain, Which};
+use deny_base::{Check, Diag, Diagnostic, Files, Kid, Which};
 use deny_krates::MetadataFault;
+use deny_lists::{List, NoMemory, Plain};
 use deny_rules::DupEdges;
 use deny_toml::ConfigFault;
 

@@ -5,4 +5,5 @@ use Rattle.deny_cli.specs.Diagnostics.{label_value}
 use Rattle.deny_cli.proofs.diagnostics.label_values.Given as goal
 
 abbrev pub invariant-loop-label : goal.invariant-loop-label
-invariant-loop-label l = map view l.values.items ++ map (label_value l.files) (drop l.label-index l.labels) ≡ map (label_value l.files) l.labels
+invariant-loop-label l = map view l.values.items ++ map (label_value l.files) (drop l.label-index l.labels)
+    ≡ map (label_value l.files) l.labels

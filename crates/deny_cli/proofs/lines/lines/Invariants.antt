@@ -5,4 +5,5 @@ use Rattle.deny_cli.proofs.lines.lines.Given as goal
 
 abbrev pub invariant-loop-finding : goal.invariant-loop-finding
 invariant-loop-finding l =
-    l.text ++ flat_map (finding_line l.report.files) (drop l.finding-index l.report.findings) ≡ flat_map (finding_line l.report.files) l.report.findings
+    l.text ++ flat_map (finding_line l.report.files) (drop l.finding-index l.report.findings)
+    ≡ flat_map (finding_line l.report.files) l.report.findings

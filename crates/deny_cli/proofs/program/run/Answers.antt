@@ -6,14 +6,16 @@ use Rattle.deny_cli.proofs.program.run.Goals as goal
 
 pub tell-requires : goal.tell-requires
 tell-requires g c =
-    is_text (g.D.PackageFiles.seen c.args.disk.now) (texts c.args.words.now) _ _ c.ending_of-ending.result.outcome c.as_slice.ensures.value c.ending_of-ending.ensures.policy
+    is_text (g.D.PackageFiles.seen c.args.disk.now) (texts c.args.words.now) _ _ c.ending_of-ending.result.outcome
+    c.as_slice.ensures.value c.ending_of-ending.ensures.policy
 
 pub returns-clause-completes : goal.returns-clause-completes
 returns-clause-completes g c valid readable quiet =
     let laws : AnswerLaws = record { cause = c.one_answer.ensures.cause; valid = c.one_answer.ensures.valid } in
     let made = c.ending_of-ending.ensures in
     completes laws _ _ _ c.ending_of-ending.result.outcome valid readable
-    (not_written g.W.Out.written g.W.Out.faults c.args.out.now c.ending_of-ending.new.out c.ending_of-ending.result.outcome made.out quiet) made.cause
+    (not_written g.W.Out.written g.W.Out.faults c.args.out.now c.ending_of-ending.new.out
+    c.ending_of-ending.result.outcome made.out quiet) made.cause
 
 pub returns-clause-refuses : goal.returns-clause-refuses
 returns-clause-refuses g c stop refused readable =
@@ -21,17 +23,20 @@ returns-clause-refuses g c stop refused readable =
     is_refused laws _ _ _ stop _ refused readable c.ending_of-ending.ensures.cause
 
 pub returns-clause-headline : goal.returns-clause-headline
-returns-clause-headline g c = headline_on c.headline.ensures _ _ _ c.ending_of-ending.result.outcome c.ending_of-ending.ensures.cause
+returns-clause-headline g c = headline_on c.headline.ensures _ _ _ c.ending_of-ending.result.outcome
+    c.ending_of-ending.ensures.cause
 
 pub returns-clause-fails : goal.returns-clause-fails
 returns-clause-fails g c =
-    status_by (g.D.PackageFiles.seen c.args.disk.now) (texts c.args.words.now) c.ending_of-ending.result.outcome _ c.status.ensures
+    status_by (g.D.PackageFiles.seen c.args.disk.now) (texts c.args.words.now) c.ending_of-ending.result.outcome _
+    c.status.ensures
     (headline_on c.headline.ensures _ _ _ c.ending_of-ending.result.outcome c.ending_of-ending.ensures.cause)
 
 pub returns-clause-err : goal.returns-clause-err
 returns-clause-err g c = (
   c.ending_of-ending.result.policy.items,
   c.ending_of-ending.ensures.policy,
-  subst (λ (text : List ℕ). LeavesErr g.E.Out.written g.E.Out.faults c.args.err.now c.tell.new.err c.ending_of-ending.result.outcome text)
+  subst (λ (text : List ℕ). LeavesErr g.E.Out.written g.E.Out.faults c.args.err.now c.tell.new.err
+      c.ending_of-ending.result.outcome text)
       c.as_slice.ensures.value c.tell.ensures,
 )

@@ -6,4 +6,5 @@ use Rattle.deny_cli.proofs.stops.diagnostic_values.Given as goal
 
 abbrev pub invariant-loop-diagnostic : goal.invariant-loop-diagnostic
 invariant-loop-diagnostic l =
-    map view l.values.items ++ map (diagnostic_value l.files) (drop l.diagnostic-index l.told) ≡ map (diagnostic_value l.files) l.told
+    map view l.values.items ++ map (diagnostic_value l.files) (drop l.diagnostic-index l.told)
+    ≡ map (diagnostic_value l.files) l.told

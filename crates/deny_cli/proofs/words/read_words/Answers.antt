@@ -16,26 +16,55 @@ returns-then-not-is_check c =
 
 pub returns-in_default-split_first : goal.returns-in_default-split_first
 returns-in_default-split_first c =
-    rw (c.in-Some.ensures.cases.0, nil_from_length _ c.in_default-split_first.ensures.cases, sym c.as_str.ensures.value ∙ c.is_check.ensures.0 c.if-not-is_check.false)
+    rw (
+      c.in-Some.ensures.cases.0,
+      nil_from_length _ c.in_default-split_first.ensures.cases,
+      sym c.as_str.ensures.value
+          ∙ c.is_check.ensures.0 c.if-not-is_check.false,
+    )
     usage_1_none
 
 pub returns-then-not-names_file : goal.returns-then-not-names_file
 returns-then-not-names_file c =
-    rw (c.in-Some.ensures.cases.0, c.in-Some-split_first.ensures.cases.0, sym c.as_str.ensures.value ∙ c.is_check.ensures.0 c.if-not-is_check.false)
+    rw (
+      c.in-Some.ensures.cases.0,
+      c.in-Some-split_first.ensures.cases.0,
+      sym c.as_str.ensures.value
+          ∙ c.is_check.ensures.0 c.if-not-is_check.false,
+    )
     (usage_1 _ _ (sym (ap names_file c.as_str-2.ensures.value) ∙ sym c.names_file.ensures ∙ c.if-not-names_file.true))
 
 pub returns-in_default-split_first-2 : goal.returns-in_default-split_first-2
 returns-in_default-split_first-2 c =
-    rw (c.in-Some.ensures.cases.0, c.in-Some-split_first.ensures.cases.0, nil_from_length _ c.in_default-split_first-2.ensures.cases, sym c.as_str.ensures.value ∙ c.is_check.ensures.0 c.if-not-is_check.false)
-    (usage_2_none _ (sym (ap names_file c.as_str-2.ensures.value) ∙ sym c.names_file.ensures ∙ c.if-not-names_file.false))
+    rw (
+      c.in-Some.ensures.cases.0,
+      c.in-Some-split_first.ensures.cases.0,
+      nil_from_length _ c.in_default-split_first-2.ensures.cases,
+      sym c.as_str.ensures.value
+          ∙ c.is_check.ensures.0 c.if-not-is_check.false,
+    )
+    (usage_2_none _ (sym (ap names_file c.as_str-2.ensures.value) ∙ sym c.names_file.ensures
+    ∙ c.if-not-names_file.false))
 
 pub returns-then-not-names_file-2 : goal.returns-then-not-names_file-2
 returns-then-not-names_file-2 c =
-    rw (c.in-Some.ensures.cases.0, c.in-Some-split_first.ensures.cases.0, c.in-Some-split_first-2.ensures.cases.0, sym c.as_str.ensures.value ∙ c.is_check.ensures.0 c.if-not-is_check.false)
-    (usage_2 _ _ _ (sym (ap names_file c.as_str-2.ensures.value) ∙ sym c.names_file.ensures ∙ c.if-not-names_file.false) (sym (ap names_file c.as_str-3.ensures.value) ∙ sym c.names_file-2.ensures ∙ c.if-not-names_file-2.true))
+    rw (
+      c.in-Some.ensures.cases.0,
+      c.in-Some-split_first.ensures.cases.0,
+      c.in-Some-split_first-2.ensures.cases.0,
+      sym c.as_str.ensures.value ∙ c.is_check.ensures.0 c.if-not-is_check.false,
+    )
+    (usage_2 _ _ _ (sym (ap names_file c.as_str-2.ensures.value) ∙ sym c.names_file.ensures ∙ c.if-not-names_file.false)
+    (sym (ap names_file c.as_str-3.ensures.value) ∙ sym c.names_file-2.ensures ∙ c.if-not-names_file-2.true))
 
 pub returns-then-not-is_empty : goal.returns-then-not-is_empty
 returns-then-not-is_empty c =
-    rw (c.in-Some.ensures.cases.0, c.in-Some-split_first.ensures.cases.0, c.in-Some-split_first-2.ensures.cases.0, sym c.as_str.ensures.value ∙ c.is_check.ensures.0 c.if-not-is_check.false)
+    rw (
+      c.in-Some.ensures.cases.0,
+      c.in-Some-split_first.ensures.cases.0,
+      c.in-Some-split_first-2.ensures.cases.0,
+      sym c.as_str.ensures.value ∙ c.is_check.ensures.0 c.if-not-is_check.false,
+    )
     (usage_3 _ _ _ (ap (λ n. n == 0) (length-map _ _) ∙ sym c.is_empty.ensures ∙ c.if-not-is_empty.true)
-    (sym (ap names_file c.as_str-2.ensures.value) ∙ sym c.names_file.ensures ∙ c.if-not-names_file.false) (sym (ap names_file c.as_str-3.ensures.value) ∙ sym c.names_file-2.ensures ∙ c.if-not-names_file-2.false))
+    (sym (ap names_file c.as_str-2.ensures.value) ∙ sym c.names_file.ensures ∙ c.if-not-names_file.false)
+    (sym (ap names_file c.as_str-3.ensures.value) ∙ sym c.names_file-2.ensures ∙ c.if-not-names_file-2.false))

@@ -5,7 +5,8 @@ use Rattle.deny_gate.proofs.gating.gate.Goals as goal
 
 pub returns-clause-cause : goal.returns-clause-cause
 returns-clause-cause g c =
-    cause_then _ _ _ _ c.as_slice.ensures.value c.as_slice-2.ensures.value c.in_ok-policy.policy c.report_of.result c.in_ok-policy.ensures.ok c.report_of.ensures.cause
+    cause_then _ _ _ _ c.as_slice.ensures.value c.as_slice-2.ensures.value c.in_ok-policy.policy c.report_of.result
+    c.in_ok-policy.ensures.ok c.report_of.ensures.cause
 
 pub returns-clause-report : goal.returns-clause-report
 returns-clause-report g c =
@@ -19,11 +20,13 @@ returns-clause-headline g c =
 
 pub returns-clause-labels : goal.returns-clause-labels
 returns-clause-labels g c =
-    labels_then _ _ c.in_ok-policy.policy _ c.report_of.result c.in_ok-policy.ensures.labels c.in_ok-policy.ensures.files c.report_of.ensures.report c.report_of.ensures.files
+    labels_then _ _ c.in_ok-policy.policy _ c.report_of.result c.in_ok-policy.ensures.labels
+    c.in_ok-policy.ensures.files c.report_of.ensures.report c.report_of.ensures.files
 
 pub returns-in_err-policy-clause-clash_labels : goal.returns-in_err-policy-clause-clash_labels
 returns-in_err-policy-clause-clash_labels g c =
-    policy_cause_labelled _ _ c.from_residual.result c.in_err-policy.field-0.0 c.as_slice.ensures.value c.from_residual.ensures.1 c.in_err-policy.ensures.err
+    policy_cause_labelled _ _ c.from_residual.result c.in_err-policy.field-0.0 c.as_slice.ensures.value
+    c.from_residual.ensures.1 c.in_err-policy.ensures.err
 
 pub returns-clause-clash_labels : goal.returns-clause-clash_labels
 returns-clause-clash_labels g c = metadata_cause_labelled _ _ c.report_of.result c.report_of.ensures.cause

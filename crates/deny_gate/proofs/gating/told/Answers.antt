@@ -7,6 +7,7 @@ returns-clause-told g c =
     record {
       keys = checked.keys;
       listed = checked.listed;
-      told = findings_told _ _ _ checked.keys _ _ _ c.requires c.new-packs.ensures checked.told c.in_ok-findings.ensures;
+      told = findings_told _ _ _ checked.keys _ _ _ c.requires c.new-packs.ensures checked.told
+          c.in_ok-findings.ensures;
       each = checked.dup_edges;
     }

@@ -1,0 +1,369 @@
+ghost use Rattle.std.specs.Prelude.{◌<◌, IsTrue, length};
+
+use deny_base::Kid;
+use deny_krates::{
+    DepKind, Dependency, DirectDependent, GitSpec, Krate, Krates, MetadataFault, Source, Target,
+};
+use deny_lists::{List, NoMemory, Text};
+use semver::Version;
+use std::alloc::Global;
+
+// `app` needs `x` 1.9.0 as a normal and as a build dependency, and `y` for its tests; `y` needs
+// both versions of `x`; nothing needs `z`.
+const GRAPH: &str = r#"{"packages":[
+{"name":"x","version":"1.10.0","id":"r#x@1.10.0","manifest_path":"/r/x-1.10.0/Cargo.toml","source":"registry+https://github.com/rust-lang/crates.io-index","license":"MIT"},
+{"name":"x","version":"1.9.0","id":"g#x@1.9.0","manifest_path":"/g/x/Cargo.toml","source":"git+https://example.com/x?tag=v1#0123","features":{"std":["alloc"],"alloc":[]}},
+{"name":"y","version":"0.1.0-rc.1","id":"y","manifest_path":"/y","source":"sparse+https://example.com/index/","publish":["here","there"]},
+{"name":"app","version":"0.1.0","id":"app","manifest_path":"/w/app/Cargo.toml","rust_version":"1.70","publish":[],
+"targets":[{"kind":["custom-build"],"src_path":"/w/app/build.rs"}],
+"dependencies":[{"name":"x","req":"^1.9","kind":null,"rename":"ex","features":["std"],"uses_default_features":false},{"name":"y","req":"*","kind":"dev"}]},
+{"name":"z","version":"2.0.0","id":"z","manifest_path":"/z/Cargo.toml"}],
+"workspace_members":["app"],"workspace_root":"/w",
+"resolve":{"nodes":[
+{"id":"z","deps":[{"pkg":"app"}]},
+{"id":"app","features":["two","one","two"],"deps":[{"pkg":"g#x@1.9.0","dep_kinds":[{"kind":"build"},{"kind":null,"target":"cfg(unix)"}]},{"pkg":"y","dep_kinds":[{"kind":"dev"}]}]},
+{"id":"y","deps":[{"pkg":"r#x@1.10.0","dep_kinds":[]},{"pkg":"g#x@1.9.0"}]},
+{"id":"g#x@1.9.0","features":["std"],"deps":[]},
+{"id":"r#x@1.10.0","deps":[]}]}}"#;
+
+fn built(alloc: Global, text: &str) -> Result<Krates, MetadataFault> {
+    if text.len() >= 1 << 28 {
+        return Err(MetadataFault::Memory);
+    }
+    Krates::build(alloc, text.as_bytes())
+}
+
+fn kid(alloc: Global, id: &str) -> Result<Kid, NoMemory> {
+    Ok(Kid(Text::from_str(alloc, id)?))
+}
+
+fn is_crate(krate: Option<&Krate>, id: &str) -> bool {
+    match krate {
+        Some(krate) => krate.id.0.as_str() == id,
+        None => false,
+    }
+}
+
+fn are_crates(krates: &[Krate], ids: &[&str]) -> bool {
+    let mut all = krates.len() == ids.len();
+    for (place, id) in ids.iter().enumerate() {
+        all = all && is_crate(krates.get(place), id);
+    }
+    all
+}
+
+// By name, version text, source and id; `z` is none of them.
+fn are_in_order(krates: &Krates) -> bool {
+    are_crates(krates.krates(), &["app", "r#x@1.10.0", "g#x@1.9.0", "y"])
+        && are_crates(krates.krates_by_name("x"), &["r#x@1.10.0", "g#x@1.9.0"])
+        && are_crates(krates.krates_by_name("z"), &[])
+        && krates.workspace_members() == [0].as_slice()
+        && krates.workspace_root() == "/w"
+}
+
+fn are_neighbours(found: &[DirectDependent], expected: &[(u32, DepKind)]) -> bool {
+    let mut all = found.len() == expected.len();
+    for (place, (neighbour, kind)) in expected.iter().enumerate() {
+        all = all
+            && found.get(place)
+                == Some(&DirectDependent {
+                    place: *neighbour,
+                    kind: *kind,
+                });
+    }
+    all
+}
+
+fn is_place(krates: &Krates, place: u32) -> bool
+    ensures { IsTrue result → place < length krates.now.crates }
+{
+    (place as usize) < krates.krates().len()
+}
+
+fn needed_by(krates: &Krates, place: u32, expected: &[(u32, DepKind)]) -> bool {
+    is_place(krates, place) && are_neighbours(krates.direct_dependents(place), expected)
+}
+
+fn needs(krates: &Krates, place: u32, expected: &[(u32, DepKind)]) -> bool {
+    is_place(krates, place) && are_neighbours(krates.direct_dependencies(place), expected)
+}
+
+fn has_edge(krates: &Krates, parent: u32, child: u32, kind: DepKind) -> bool {
+    is_place(krates, parent) && is_place(krates, child) && krates.has_edge(parent, child, kind)
+}
+
+// The id of `x` 1.9.0 is below that of `y`, and a build dependency counts after a normal one.
+fn have_neighbours(krates: &Krates) -> bool {
+    needed_by(krates, 0, &[])
+        && needed_by(krates, 2, &[(0, DepKind::Normal), (3, DepKind::Normal)])
+        && needed_by(krates, 3, &[(0, DepKind::Dev)])
+        && needs(krates, 0, &[(2, DepKind::Normal), (3, DepKind::Dev)])
+        && needs(krates, 3, &[(2, DepKind::Normal), (1, DepKind::Normal)])
+        && has_edge(krates, 0, 2, DepKind::Normal)
+        && has_edge(krates, 0, 2, DepKind::Build)
+        && !has_edge(krates, 0, 2, DepKind::Dev)
+        && !has_edge(krates, 2, 0, DepKind::Normal)
+}
+
+fn are_texts(found: Option<&[Text]>, expected: &[&str]) -> bool {
+    match found {
+        None => false,
+        Some(texts) => {
+            let mut all = texts.len() == expected.len();
+            for (place, text) in expected.iter().enumerate() {
+                all = all && texts.get(place).map(Text::as_str) == Some(*text);
+            }
+            all
+        }
+    }
+}
+
+// Enabled features ascend, each once.
+fn are_known_by_id(alloc: Global, krates: &Krates) -> Result<bool, NoMemory> {
+    let app = kid(alloc, "app")?;
+    let x = kid(alloc, "g#x@1.9.0")?;
+    let z = kid(alloc, "z")?;
+    Ok(
+        krates.nid_for_kid(&x) == Some(2)
+            && krates.nid_for_kid(&z).is_none()
+            && is_crate(krates.node_for_kid(&app), "app")
+            && krates.node_for_kid(&z).is_none()
+            && are_texts(krates.get_enabled_features(&app), &["one", "two"])
+            && krates.get_enabled_features(&z).is_none(),
+    )
+}
+
+// Without dev edges `app` reaches neither `y` nor what `y` alone needs.
+fn are_filtered(alloc: Global, krates: &Krates) -> Result<bool, NoMemory> {
+    let shipped = krates.krates_filtered(alloc, DepKind::Dev)?;
+    let built = krates.krates_filtered(alloc, DepKind::Build)?;
+    Ok(
+        shipped.as_slice() == [true, false, true, false].as_slice()
+            && built.as_slice() == [true, true, true, true].as_slice(),
+    )
+}
+
+fn at(krates: &Krates, place: usize) -> Option<&Krate> {
+    krates.krates().get(place)
+}
+
+fn is_held(krate: &Krate) -> bool {
+    krate.license.is_none()
+        && krate.source_text.is_none()
+        && krate.rust_version == Some(Version::new(1, 70, 0))
+        && krate.manifest_path.as_str() == "/w/app/Cargo.toml"
+        && is_build_script(krate.targets.as_slice())
+        && are_declared(krate.deps.as_slice())
+}
+
+fn is_build_script(targets: &[Target]) -> bool {
+    match targets.first() {
+        Some(target) => {
+            are_texts(Some(target.kind.as_slice()), &["custom-build"])
+                && target.src_path.as_str() == "/w/app/build.rs"
+        }
+        None => false,
+    }
+}
+
+fn are_declared(deps: &[Dependency]) -> bool {
+    deps.len() == 2
+        && match deps.first() {
+            Some(x) => {
+                x.rename.as_ref().map(Text::as_str) == Some("ex")
+                    && x.kind == DepKind::Normal
+                    && x.req.matches(&Version::new(1, 10, 0))
+                    && !x.req.matches(&Version::new(2, 0, 0))
+                    && are_texts(Some(x.features.as_slice()), &["std"])
+                    && !x.uses_default_features
+            }
+            None => false,
+        }
+        && match deps.get(1) {
+            Some(y) => y.kind == DepKind::Dev && y.uses_default_features && y.rename.is_none(),
+            None => false,
+        }
+}
+
+fn is_of_crates_io(krate: &Krate) -> bool {
+    krate.is_crates_io() && krate.is_registry() && !krate.is_git_source()
+}
+
+fn is_of_git(krate: &Krate) -> bool {
+    krate.is_git_source()
+        && !krate.is_registry()
+        && are_texts(krate.features.get("std").map(List::as_slice), &["alloc"])
+}
+
+fn is_of_another_registry(krate: &Krate) -> bool {
+    krate.is_registry() && !krate.is_crates_io() && krate.folder() == "/"
+}
+
+fn have_fields(krates: &Krates) -> bool {
+    at(krates, 0).map(is_held) == Some(true)
+        && at(krates, 0).map(Krate::folder) == Some("/w/app")
+        && at(krates, 1).map(is_of_crates_io) == Some(true)
+        && at(krates, 2).map(is_of_git) == Some(true)
+        && at(krates, 3).map(is_of_another_registry) == Some(true)
+}
+
+fn is_private(krates: &Krates, place: usize, registries: &[Text]) -> bool {
+    match at(krates, place) {
+        Some(krate) => krate.is_private(registries),
+        None => false,
+    }
+}
+
+// A crate that may be published nowhere is private, and one that does not say is not.
+fn are_private(alloc: Global, krates: &Krates) -> Result<bool, NoMemory> {
+    let here = Text::from_str(alloc, "here")?;
+    let there = Text::from_str(alloc, "there")?;
+    let one = [here.clone()?];
+    let both = [there, here];
+    Ok(
+        is_private(krates, 0, &[])
+            && !is_private(krates, 1, &both)
+            && !is_private(krates, 3, &one)
+            && is_private(krates, 3, &both),
+    )
+}
+
+fn prints(alloc: Global, krates: &Krates) -> Result<bool, NoMemory> {
+    match at(krates, 3) {
+        Some(krate) => Ok(format!(in alloc; "{krate}")?.as_str() == "y = 0.1.0-rc.1"),
+        None => Ok(false),
+    }
+}
+
+fn answers(alloc: Global, krates: &Krates) -> Result<bool, NoMemory> {
+    Ok(
+        are_known_by_id(alloc, krates)?
+            && are_filtered(alloc, krates)?
+            && are_private(alloc, krates)?
+            && prints(alloc, krates)?,
+    )
+}
+
+fn all_answer(alloc: Global) -> Result<bool, MetadataFault> {
+    let krates = built(alloc, GRAPH)?;
+    Ok(
+        are_in_order(&krates)
+            && have_neighbours(&krates)
+            && have_fields(&krates)
+            && answers(alloc, &krates)?,
+    )
+}
+
+#[test]
+fn each_call_answers_of_the_graph(rt: HostRuntime) {
+    assert!(rt; all_answer(rt.alloc()) == Ok(true));
+}
+
+// A workspace of one package, which comes from `source`.
+fn from_source(alloc: Global, source: &str) -> Result<Krates, MetadataFault> {
+    let mut text = Text::from_str(
+        alloc,
+        r#"{"packages":[{"name":"a","version":"1.0.0","id":"a","manifest_path":"/a","source":""#,
+    )?;
+    text.push_str(source)?;
+    text.push_str(
+        r#""}],"workspace_members":["a"],"workspace_root":"/","resolve":{"nodes":[{"id":"a"}]}}"#,
+    )?;
+    built(alloc, text.as_str())
+}
+
+// The reference that a git source names, and its address.
+fn is_git(alloc: Global, source: &str, address: &str, named: GitSpec, value: Option<&str>) -> bool {
+    match from_source(alloc, source) {
+        Ok(krates) => match at(&krates, 0) {
+            Some(krate) => names(krate.source.as_ref(), address, named, value),
+            None => false,
+        },
+        Err(_) => false,
+    }
+}
+
+fn names(source: Option<&Source>, address: &str, named: GitSpec, value: Option<&str>) -> bool {
+    match source {
+        Some(
+            Source::Git {
+                url,
+                spec,
+                spec_value,
+            },
+        ) => {
+            url.as_str() == address
+                && *spec == named
+                && spec_value.as_ref().map(Text::as_str) == value
+        }
+        _ => false,
+    }
+}
+
+#[test]
+fn a_git_source_names_its_reference(rt: HostRuntime) {
+    let alloc = rt.alloc();
+    assert!(rt;
+        is_git(
+            alloc,
+            "git+https://a.b/c?x=1&tag=v%201+2&rev=3#4",
+            "https://a.b/c?x=1&tag=v%201+2&rev=3",
+            GitSpec::Tag,
+            Some("v 1 2")
+        )
+    );
+    assert!(rt;
+        is_git(
+            alloc,
+            "git+ssh://git@a.b/c?b%72anch=%ff",
+            "ssh://git@a.b/c?b%72anch=%ff",
+            GitSpec::Branch,
+            Some("%ff")
+        )
+    );
+    assert!(rt;
+        is_git(
+            alloc,
+            "git+https://a.b/c?&rev=",
+            "https://a.b/c?&rev=",
+            GitSpec::Rev,
+            Some("")
+        )
+    );
+    assert!(rt;
+        is_git(
+            alloc,
+            "git+https://a.b/c?x=1",
+            "https://a.b/c?x=1",
+            GitSpec::Any,
+            None
+        )
+    );
+}
+
+fn tells(alloc: Global, text: &str, told: &str) -> Result<bool, MetadataFault> {
+    match built(alloc, text) {
+        Ok(_) => Ok(false),
+        Err(fault) => Ok(format!(in alloc; "{fault}")?.as_str() == told),
+    }
+}
+
+#[test]
+fn a_fault_tells_its_cause(rt: HostRuntime) {
+    let alloc = rt.alloc();
+    assert!(rt; tells(alloc, "{", "the metadata is no JSON") == Ok(true));
+    assert!(rt;
+        tells(
+            alloc,
+            r#"{"resolve":1,"packages":1}"#,
+            "the member `packages` of the metadata is missing or of another kind"
+        ) == Ok(true)
+    );
+    assert!(rt;
+        tells(
+            alloc,
+            r#"{"resolve":{"nodes":[]},"packages":[],"workspace_members":["b"],"workspace_root":"/"}"#,
+            "the id `b` has no package or no node in the metadata"
+        ) == Ok(true)
+    );
+}

@@ -1,0 +1,20 @@
+//! The callers that the leaf crates show, and tests over public calls alone, of what no clause says and no
+//! table of cases can say: that a call succeeds where memory is there, what it shows, and how copies compare.
+//! Library crates have no tests, since a crate with one is proved whole a second time.
+#![tactic(auto)]
+
+#[cfg(test)]
+mod base;
+pub mod examples;
+#[cfg(test)]
+mod krates;
+#[cfg(test)]
+mod lists;
+#[cfg(test)]
+mod outside;
+#[cfg(test)]
+mod policy;
+#[cfg(test)]
+mod rules;
+#[cfg(test)]
+mod toml;

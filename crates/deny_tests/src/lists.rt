@@ -1,0 +1,41 @@
+//! Records put in order by a key of theirs.
+ghost use Rattle.std.specs.Prelude.{◌≡◌};
+
+use deny_lists::{Keyed, List, NoMemory, put_records_in_order};
+use std::alloc::Global;
+
+#[derive(Debug, Clone, Copy, PartialEq, Eq)]
+struct Told {
+    number: u32,
+    text: u32,
+}
+
+impl Keyed for Told {
+    type Key = u32;
+
+    ghost key = { λ told. told.number };
+
+    fn key(&self) -> &u32 {
+        &self.number
+    }
+}
+
+fn make_told(number: u32, text: u32) -> Told {
+    Told { number, text }
+}
+
+/// Of two with one key the first of the list stays.
+fn in_order(alloc: Global) -> Result<bool, NoMemory> {
+    let mut list = List::new(alloc);
+    for (number, text) in [(7, 1), (3, 2), (7, 3), (5, 4), (3, 5)] {
+        list.push(make_told(number, text))?;
+    }
+    put_records_in_order(&mut list)?;
+    Ok(list.as_slice() == [make_told(3, 2), make_told(5, 4), make_told(7, 1)].as_slice())
+}
+
+#[test]
+fn the_first_record_of_a_key_stays(rt: HostRuntime) -> Result<(), NoMemory> {
+    assert!(rt; in_order(rt.alloc())?);
+    Ok(())
+}
