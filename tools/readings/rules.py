@@ -1,6 +1,6 @@
 """The crate rules: what stands of a policy on a graph, in the order of the report."""
 
-from deny_policy import Label
+from readings.policy import Label
 
 SECTIONS = ["deprecated", "crates", "groups", "workspace", "unused"]
 CODES = [

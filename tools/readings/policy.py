@@ -1,13 +1,13 @@
 """A policy: from a text to its entries, to the list of its faults, or to the list of what contradicts itself in it.
 
-A value's range is that of toml_cases, in bytes. A table is described by its keys and how the value of each is read.
+A value's range is that of the reading of TOML, in bytes. A table is described by its keys and how the value of each is read.
 """
 
 import re
 from collections import namedtuple
 
-import toml_cases
-from deny_versions import matches, read_requirement
+from readings import toml
+from readings.versions import matches, read_requirement
 
 FAULT_KINDS = ["not-utf8", "grammar", "clash", "unknown", "missing", "wrong-kind", "unreadable"]
 
@@ -315,12 +315,12 @@ def read_tree(text):
         text.decode("utf-8")
     except UnicodeDecodeError:
         raise Faults([("not-utf8", "", (0, 0))])
-    reader = toml_cases.Reader(text)
+    reader = toml.Reader(text)
     try:
-        return toml_cases.root_of(reader.document(), len(text))
-    except toml_cases.Grammar:
+        return toml.root_of(reader.document(), len(text))
+    except toml.Grammar:
         raise Faults([("grammar", "", (reader.place, reader.place))])
-    except toml_cases.Clash as clash:
+    except toml.Clash as clash:
         raise Faults([("clash", "", clash.span)])
 
 

@@ -2,8 +2,7 @@
 """Writes the cases of crates/deny_cases, and what each must print.
 
 The expected output comes from a reading of the rules that is written here anew: it shares nothing with the program
-that the cases try. deny_versions, deny_metadata, deny_policy and deny_rules are that reading, deny_report its lines;
-the cases stand in metadata_cases, policy_cases and rule_cases.
+that the cases try, and stands in tools/readings. The cases stand in metadata_cases, policy_cases and rule_cases.
 
     check_cases.py cases FOLDER             writes the files stdin and stdout of crates/deny_cases
     check_cases.py check POLICY METADATA    does what the program does with two files
@@ -12,10 +11,13 @@ the cases stand in metadata_cases, policy_cases and rule_cases.
 import json
 import re
 import sys
+from pathlib import Path
 
-import toml_cases
+sys.path.insert(0, str(Path(__file__).resolve().parent.parent))
+
 from case_parts import ALONE, DENY_X, WITH_X, case
-from deny_report import LIMIT, compact, report, run, stop_line
+from readings import toml
+from readings.report import LIMIT, compact, report, run, stop_line
 from metadata_cases import metadata_cases
 from policy_cases import policy_cases
 from rule_cases import rule_cases
@@ -79,7 +81,7 @@ def is_wanted(case):
     """A case that is to be TOML is none where it is not: the place of that fault is free."""
     if not case.pop("is_toml", False):
         return True
-    return toml_cases.reading(case["files"]["deny.toml"]) != "grammar"
+    return toml.reading(case["files"]["deny.toml"]) != "grammar"
 
 
 # ---- what a case has to print

@@ -1,7 +1,7 @@
 """Cases of the crate rules: rows as users meet them, each rule by itself, and policies and graphs by chance."""
 
 from case_parts import DENY_SEVERAL, TWO_X, WITH_X, case, draws, graph, metadata
-from deny_report import compact
+from readings.report import compact
 
 TWO = "app -> x, app -> x@2.0.0"
 LINE = "app -> a, a -> b, b -> c, c -> d, a -> e, e -> d, d -> f, a -> z, z -> y, y -> e"

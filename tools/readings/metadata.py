@@ -3,7 +3,7 @@
 import json
 import re
 
-from deny_versions import precedence, read_requirement, read_version
+from readings.versions import precedence, read_requirement, read_version
 
 DEPTH = 127  # JSON nests no deeper than this
 

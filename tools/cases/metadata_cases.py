@@ -5,7 +5,7 @@ import json
 from case_parts import (
     ALONE, APP, DENY_SEVERAL, DENY_X, MISSING, REGISTRY, WITH_X, X, X2, Y, Z, case, draws, metadata, package, put,
 )
-from deny_report import compact
+from readings.report import compact
 
 FULL_X = dict(
     X,

@@ -1,7 +1,7 @@
 """Cases of policies: what each key takes, how an entry is written, what contradicts itself, what is not judged yet."""
 
 from case_parts import ALONE, DENY_X, TWO_X, WITH_X, case, graph
-from deny_report import compact
+from readings.report import compact
 
 BOTH_X = compact(graph("app -> x, app -> x@2.0.0"))
 

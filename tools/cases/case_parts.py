@@ -3,7 +3,7 @@
 import json
 import re
 
-from deny_report import compact
+from readings.report import compact
 
 REGISTRY = "registry+https://github.com/rust-lang/crates.io-index"
 

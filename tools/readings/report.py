@@ -2,9 +2,9 @@
 
 import json
 
-from deny_metadata import Fault, read_metadata
-from deny_policy import Faults, clashes, read_policy
-from deny_rules import findings
+from readings.metadata import Fault, read_metadata
+from readings.policy import Faults, clashes, read_policy
+from readings.rules import findings
 
 LIMIT = 2**28  # a text that is read has fewer bytes than this
 

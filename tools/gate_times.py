@@ -1,0 +1,86 @@
+#!/usr/bin/env python3
+"""Runs `rt ci` (or the command that is given) and prints what each crate cost, in processor seconds.
+
+    tools/gate_times.py [COMMAND..]
+
+Twice a second it reads the times of the provers that the command started: of a crate's own proof, of its tests, and
+of its must-fail edits, which are tried in folders of their own. Compilers, runs of programs and the rest of the
+command are the last line, by what the system counted in all. The command's own output goes to standard error.
+"""
+
+import os
+import re
+import resource
+import subprocess
+import sys
+import time
+from collections import defaultdict
+
+TICKS = os.sysconf("SC_CLK_TCK")
+KINDS = ("library", "tests", "edits")
+
+
+def parents_and_times():
+    """Of each process its parent, and the processor seconds of itself and of those it waited for."""
+    found = {}
+    for name in filter(str.isdigit, os.listdir("/proc")):
+        try:
+            with open(f"/proc/{name}/stat", encoding="utf-8", errors="replace") as file:
+                fields = file.read().rpartition(")")[2].split()
+        except OSError:
+            continue
+        found[int(name)] = int(fields[1]), sum(map(int, fields[11:15])) / TICKS
+    return found
+
+
+def is_below(process, top, found):
+    while process in found and process != top:
+        process = found[process][0]
+    return process == top
+
+
+def prover_of(process):
+    """The crate and the kind of proof, if the process is a prover."""
+    try:
+        with open(f"/proc/{process}/cmdline", "rb") as file:
+            words = file.read().decode("utf-8", "replace").split("\0")
+        folder = os.readlink(f"/proc/{process}/cwd")
+    except OSError:
+        return None
+    if os.path.basename(words[0]) != "rattle" or "--crate-name" not in words:
+        return None
+    crate = words[words.index("--crate-name") + 1]
+    if re.search(r"/rt-edit-", folder):
+        return crate, "edits"
+    return crate, "tests" if "--test" in words else "library"
+
+
+def main(command):
+    child = subprocess.Popen(command, stdout=sys.stderr)
+    seen = {}
+    while child.poll() is None:
+        found = parents_and_times()
+        for process, (parent, seconds) in found.items():
+            if not is_below(process, child.pid, found) or process == child.pid:
+                continue
+            prover = prover_of(process)
+            # A prover's copies are counted with the one that started them.
+            if prover is not None and (parent not in found or prover_of(parent) is None):
+                seen[process] = prover, max(seconds, seen.get(process, (prover, 0))[1])
+        time.sleep(0.5)
+    costs = defaultdict(float)
+    for prover, seconds in seen.values():
+        costs[prover] += seconds
+    usage = resource.getrusage(resource.RUSAGE_CHILDREN)
+    whole = usage.ru_utime + usage.ru_stime
+    print("| Crate | " + " | ".join(KINDS) + " |")
+    print("|---|" + "---|" * len(KINDS))
+    for crate in sorted({crate for crate, _ in costs}):
+        print(f"| `{crate}` | " + " | ".join(f"{costs[crate, kind]:.0f}" for kind in KINDS) + " |")
+    print("| all provers | " + " | ".join(f"{sum(s for (_, k), s in costs.items() if k == kind):.0f}" for kind in KINDS) + " |")
+    print(f"| the rest: compilers, programs, `rt` | {whole - sum(costs.values()):.0f} | | |")
+    return child.returncode
+
+
+if __name__ == "__main__":
+    sys.exit(main(sys.argv[1:] or ["rt", "ci"]))
