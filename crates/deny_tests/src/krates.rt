@@ -1,9 +1,7 @@
-ghost use Rattle.std.specs.Prelude.{◌<◌, IsTrue, length};
+//! Calls on a graph, the reference of a git source, and the texts of faults.
 
 use deny_base::Kid;
-use deny_krates::{
-    DepKind, Dependency, DirectDependent, GitSpec, Krate, Krates, MetadataFault, Source, Target,
-};
+use deny_krates::{DepKind, Dependency, GitSpec, Krate, Krates, MetadataFault, Source, Target};
 use deny_lists::{List, NoMemory, Text};
 use semver::Version;
 use std::alloc::Global;
@@ -59,50 +57,6 @@ fn are_in_order(krates: &Krates) -> bool {
         && are_crates(krates.krates_by_name("z"), &[])
         && krates.workspace_members() == [0].as_slice()
         && krates.workspace_root() == "/w"
-}
-
-fn are_neighbours(found: &[DirectDependent], expected: &[(u32, DepKind)]) -> bool {
-    let mut all = found.len() == expected.len();
-    for (place, (neighbour, kind)) in expected.iter().enumerate() {
-        all = all
-            && found.get(place)
-                == Some(&DirectDependent {
-                    place: *neighbour,
-                    kind: *kind,
-                });
-    }
-    all
-}
-
-fn is_place(krates: &Krates, place: u32) -> bool
-    ensures { IsTrue result → place < length krates.now.crates }
-{
-    (place as usize) < krates.krates().len()
-}
-
-fn needed_by(krates: &Krates, place: u32, expected: &[(u32, DepKind)]) -> bool {
-    is_place(krates, place) && are_neighbours(krates.direct_dependents(place), expected)
-}
-
-fn needs(krates: &Krates, place: u32, expected: &[(u32, DepKind)]) -> bool {
-    is_place(krates, place) && are_neighbours(krates.direct_dependencies(place), expected)
-}
-
-fn has_edge(krates: &Krates, parent: u32, child: u32, kind: DepKind) -> bool {
-    is_place(krates, parent) && is_place(krates, child) && krates.has_edge(parent, child, kind)
-}
-
-// The id of `x` 1.9.0 is below that of `y`, and a build dependency counts after a normal one.
-fn have_neighbours(krates: &Krates) -> bool {
-    needed_by(krates, 0, &[])
-        && needed_by(krates, 2, &[(0, DepKind::Normal), (3, DepKind::Normal)])
-        && needed_by(krates, 3, &[(0, DepKind::Dev)])
-        && needs(krates, 0, &[(2, DepKind::Normal), (3, DepKind::Dev)])
-        && needs(krates, 3, &[(2, DepKind::Normal), (1, DepKind::Normal)])
-        && has_edge(krates, 0, 2, DepKind::Normal)
-        && has_edge(krates, 0, 2, DepKind::Build)
-        && !has_edge(krates, 0, 2, DepKind::Dev)
-        && !has_edge(krates, 2, 0, DepKind::Normal)
 }
 
 fn are_texts(found: Option<&[Text]>, expected: &[&str]) -> bool {
@@ -246,12 +200,7 @@ fn answers(alloc: Global, krates: &Krates) -> Result<bool, NoMemory> {
 
 fn all_answer(alloc: Global) -> Result<bool, MetadataFault> {
     let krates = built(alloc, GRAPH)?;
-    Ok(
-        are_in_order(&krates)
-            && have_neighbours(&krates)
-            && have_fields(&krates)
-            && answers(alloc, &krates)?,
-    )
+    Ok(are_in_order(&krates) && have_fields(&krates) && answers(alloc, &krates)?)
 }
 
 #[test]
