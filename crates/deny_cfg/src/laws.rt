@@ -9,8 +9,8 @@ ghost use Rattle.deny_cfg.specs.PolicyText.{IsPolicyOf, ListsFaults, TellsClashe
 ghost use Rattle.deny_cfg.specs.PolicyView.{policy_view};
 ghost use Rattle.deny_cfg.specs.declared.policy.Policy.{Policy};
 
-/// Two policies of one text look the same to the rules, and agree on whether the text writes a key
-/// whose rule is not there yet.
+/// Two policies of one text are one in all that the rules that are built look at, and agree on whether the
+/// text writes a key whose rule is not there yet.
 pub fn one_policy()
     ensures { (text : List ℕ) → (file : ℕ) → (a b : Policy) → IsPolicyOf text file a → IsPolicyOf text file b
         → (policy_view a.bans ≡ policy_view b.bans) × (a.not_built ≡ b.not_built) }

@@ -1,5 +1,5 @@
 //! Reads sets of globs and paths, a line each, and writes what each glob is and which globs fit
-//! each path. The lines and the answers that are wanted come from `tools/glob_cases.py`.
+//! each path. The lines and the answers that are wanted come from `tools/cases/glob_cases.py`.
 #![tactic(auto)]
 
 use deny_globs::{Glob, GlobError, GlobSet};

@@ -1,6 +1,6 @@
 //! Reads licence texts, one a line, and writes what each is as an expression, with its requirements
 //! and its truth under each assignment to them, and what it is as one requirement. The texts and
-//! the answers that are wanted come from `tools/licence_cases.py`.
+//! the answers that are wanted come from `tools/cases/licence_cases.py`.
 #![tactic(auto)]
 
 ghost use Rattle.std.specs.Prelude.{◌≡◌, IfOk, vec_len};

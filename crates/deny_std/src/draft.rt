@@ -20,6 +20,7 @@ pub(crate) struct Draft {
 }
 
 impl Draft {
+    /// No bytes yet.
     pub fn new(alloc: Global) -> Draft
         ensures { IsDraft result [] }
     {
@@ -37,6 +38,7 @@ impl Draft {
         self.size >= LIMIT
     }
 
+    /// One byte more.
     pub fn put(&mut self, byte: u8)
         ensures { Writes self.old self.new (byte ∷ []) }
     {
@@ -46,6 +48,7 @@ impl Draft {
         self.whole = self.whole && self.size < LIMIT && self.bytes.push(byte).is_ok();
     }
 
+    /// Some bytes more.
     pub fn put_all(&mut self, bytes: &[u8])
         ensures { Writes self.old self.new bytes.now }
     {

@@ -1,6 +1,6 @@
 //! Reads replacement tables from standard input, one a line, and prints what each of them holds, and its bytes
 //! in version 2.
-//! `tools/replacement_cases.py` writes its input and the answers that are wanted.
+//! `tools/cases/replacement_cases.py` writes its input and the answers that are wanted.
 #![tactic(auto)]
 
 mod cases;

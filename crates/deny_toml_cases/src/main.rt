@@ -1,5 +1,5 @@
 //! Reads texts of TOML from standard input, one a line as a JSON string, and prints for each its tree
-//! in JSON, `grammar`, or `clash` with the range of the key that clashes. `tools/toml_cases.py`
+//! in JSON, `grammar`, or `clash` with the range of the key that clashes. `tools/cases/toml_cases.py`
 //! writes its input and the answers that are wanted.
 #![tactic(auto)]
 

@@ -30,7 +30,7 @@ pub struct KrateBan {
 /// Which features of a crate may be enabled.
 #[derive(Debug, Drop)]
 pub struct Features {
-    /// The features that may be enabled; where there are none, all may.
+    /// The features that may be enabled; where there are none, all may, unless `exact` is set: then none may.
     pub allow: Spanned<List<Spanned<Text>>>,
     /// The features that may not.
     pub deny: List<Spanned<Text>>,

@@ -20,8 +20,8 @@ use std::alloc::Global;
 pub struct CrateFeatures {
     /// The crates that it speaks of.
     pub spec: PackageSpec,
-    /// The features that may be enabled; where there are none, all may. Left out it is empty and
-    /// stands at 0..0.
+    /// The features that may be enabled; where there are none, all may, unless `exact` is set: then none may.
+    /// Left out it is empty and stands at 0..0.
     pub allow: Spanned<List<Spanned<Text>>>,
     /// The features that may not; default none.
     pub deny: List<Spanned<Text>>,

@@ -13,7 +13,8 @@ use std::alloc::Global;
 /// What an entry of `skip-tree` says besides its spec.
 #[derive(Debug, Drop)]
 pub struct TreeSkipExtended {
-    /// How many edges below the crate others are skipped; without it, any number.
+    /// Crates are skipped to which fewer edges than this lead from one that the entry speaks of, 0 being as 1;
+    /// without it, however many lead there.
     pub depth: Option<u32>,
     /// Why they are skipped.
     pub reason: Option<Reason>,

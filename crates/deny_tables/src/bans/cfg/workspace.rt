@@ -12,7 +12,8 @@ use std::alloc::Global;
 /// How the dependencies that a workspace shares are minded: the table `workspace-dependencies`.
 #[derive(Debug, Drop)]
 pub struct WorkspaceDepsConfig {
-    /// The level of a dependency that several members declare and none shares; default `deny`.
+    /// The level of a dependency with two declarations or more, be they of one member, of which one is not
+    /// shared; default `deny`.
     pub duplicates: LintLevel,
     /// Whether dependencies that are named by a path count too; default true.
     pub include_path_dependencies: bool,
