@@ -14,6 +14,7 @@ mod validate;
 pub use deny_entries::{
     PackageSpec, PackageSpecOrExtended, Reason, Scope, equal_specs_match_alike, parse_semver,
 };
+pub use deny_spec_index::SpecIndex;
 pub use laws::{one_policy, one_refusal};
 pub use matching::match_krate;
 pub use policy::{Policy, PolicyError, read_policy};

@@ -1,0 +1,5 @@
+pub mod Lists
+pub mod FindLemmas
+pub mod BucketLemmas
+pub mod IndexLemmas
+pub mod Rows

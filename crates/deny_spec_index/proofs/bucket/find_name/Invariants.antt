@@ -1,0 +1,13 @@
+use Rattle.std.proofs.Common.{ℕ, ◌<◌, ◌^◌, ◌-◌, length}
+use Rattle.deny_spec_index.specs.Bucket.{IsBetween}
+use Rattle.deny_spec_index.proofs.FindLemmas.{Fuel}
+use Rattle.deny_spec_index.proofs.bucket.find_name.Given as goal
+
+abbrev pub invariant-loop-low : goal.invariant-loop-low
+invariant-loop-low g l = record {
+  between : IsBetween l.bucket l.name l.low l.high;
+  fuel : (d : ℕ) → length l.bucket < 2 ^ d → Fuel d l.fn.steps l.steps l.low l.high;
+}
+
+abbrev pub decreases-loop-low : goal.decreases-loop-low
+decreases-loop-low g l = l.high - l.low

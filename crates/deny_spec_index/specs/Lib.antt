@@ -1,0 +1,4 @@
+pub mod Names
+pub mod Bucket
+pub mod Hash
+pub mod Index
