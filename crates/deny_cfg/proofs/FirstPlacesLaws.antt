@@ -1,12 +1,12 @@
 -- Of equal wordings the first is found.
 use Rattle.deny_lists.proofs.Orders.{option_text_cmp-exact, text_cmp-exact, then_first, then_second}
 use Rattle.std.proofs.Common.{◌≡◌, ◌<◌, ◌+◌, ◌&&◌, ◌++◌, add-one, length, take, ℕ, List, [], ◌∷◌, Bool, true, false, Option, Some, None, map, refl, sym, ap, ◌∙◌}
-use Rattle.std.specs.Prelude.{cond, find, is_some, not, option_map, slice_index_or}
+use Rattle.std.specs.Prelude.{cond, find, is_some, option_map, slice_index_or}
 use Rattle.std.proofs.Math.Seq.{take-suc}
 use Rattle.std.proofs.lemmas.List.{map-append}
 use Rattle.std.specs.Cmp.{IsTotalOrder, on_total, then_total}
 use Rattle.std.specs.Cmp.Lexicographic.{slice_cmp, nat_list_cmp_total, options_total, texts_ties}
-use Rattle.std.specs.FinMap.{IsAntisymmetric, nat_cmp-IsAntisymmetric, slice_cmp-IsAntisymmetric}
+use Rattle.std.specs.FinMap.{IsAntisymmetric}
 use Rattle.std.specs.Map.{lookup}
 use Rattle.std.specs.Option.{option_cmp, option_eq, option_or}
 use Rattle.std.specs.Ordering.{is_eq, nat_cmp, ordering_reverse, ordering_then}
@@ -16,7 +16,9 @@ use Rattle.deny_base.specs.declared.span.Span.{Span}
 use Rattle.deny_model.specs.Policy.{Words}
 use Rattle.deny_model.specs.Text.{same_text}
 use Rattle.deny_cfg.specs.Clashes.{clash_with, feature_at, feature_clash, specs_of, two_places}
-use Rattle.deny_cfg.specs.FirstPlaces.{FindsFirst, Gains, entry_place, place_in, plain_wording, same_wording, spec_wording, word_place, wording_cmp}
+use Rattle.deny_lists.specs.First.{FindsFirst, GainsEntry}
+use Rattle.deny_lists.proofs.FirstLemmas.{finds_more}
+use Rattle.deny_cfg.specs.FirstPlaces.{entry_place, place_in, plain_wording, same_wording, spec_wording, word_place, wording_cmp}
 use Rattle.deny_entries.specs.SpecView.{same_spec}
 use Rattle.deny_tables.specs.declared.bans.cfg.features.CrateFeatures.{CrateFeatures}
 use Rattle.deny_cfg.specs.declared.clash.ClashKind.{ClashKind}
@@ -96,7 +98,7 @@ none_there (Some x) e = cc e
 -- what was not there comes behind the others, and what was stays
 pub gains_new : (old new : FirstPlaces) (w : Wording) (p : Span) → is_some (place_in old w) ≡ false
     → ((asked : Wording) → place_in new asked ≡ cond (is_eq (wording_cmp w asked)) (Some p) (place_in old asked))
-    → Gains w p old new
+    → GainsEntry same_wording w p (place_in old) (place_in new)
 gains_new old new w p absent updated = record {
   at = λ asked.
       updated asked
@@ -105,45 +107,27 @@ gains_new old new w p absent updated = record {
       (λ e. ap (place_in old) (wording_same asked w e) ∙ none_there _ absent));
 }
 
-pub gains_none : (old : FirstPlaces) (w : Wording) (p : Span) → is_some (place_in old w) ≡ true → Gains w p old old
+pub gains_none : (old : FirstPlaces) (w : Wording) (p : Span) → is_some (place_in old w) ≡ true
+    → GainsEntry same_wording w p (place_in old) (place_in old)
 gains_none old w p there = record {
   at =
       λ asked. stays_before (same_wording asked w) (place_in old asked) p
       (λ e. ap (λ q. is_some (place_in old q)) (wording_same asked w e) ∙ there);
 }
 
-lookup_push : (test : Wording → Bool) (places : List (Wording × Span)) (w : Wording) (p : Span)
-    → lookup test (places ++ (w, p) ∷ []) ≡ option_or (lookup test places) (cond (test w) (Some p) None)
-lookup_push test [] w p = refl
-lookup_push test (x ∷ xs) w p = by_test (test x.0) (lookup_push test xs w p)
-  where
-    by_test : (b : Bool) → lookup test (xs ++ (w, p) ∷ []) ≡ option_or (lookup test xs) (cond (test w) (Some p) None)
-        → cond b (Some x.1) (lookup test (xs ++ (w, p) ∷ []))
-        ≡ option_or (cond b (Some x.1) (lookup test xs)) (cond (test w) (Some p) None)
-    by_test true e = refl
-    by_test false e = e
-
 map_more : {A B : Type 0} (f : A → B) (xs : List A) (i : ℕ) (x : A) → i < length xs → x ≡ slice_index_or xs i x
     → map f (take (i + 1) xs) ≡ map f (take i xs) ++ f x ∷ []
 map_more f xs i x inside is = rw (add-one, take-suc xs i x inside, ← is) (map-append f (take i xs) (x ∷ []))
 
-pub finds_more : (places : List (Wording × Span)) (old new : FirstPlaces) (w : Wording) (p : Span)
-    → FindsFirst places old → Gains w p old new → FindsFirst (places ++ (w, p) ∷ []) new
-finds_more places old new w p finds gains = record {
-  at = λ asked.
-      gains.at asked
-      ∙ (ap (λ o. option_or o (cond (same_wording asked w) (Some p) None)) (finds.at asked)
-      ∙ sym (lookup_push (same_wording asked) places w p));
-}
-
 -- one more of the things that have these places
 pub finds_next : {A : Type 0} (place : A → Wording × Span) (xs : List A) (i : ℕ) (x : A) (old new : FirstPlaces)
     → i < length xs → x ≡ slice_index_or xs i x
-    → FindsFirst (map place (take i xs)) old → Gains (place x).0 (place x).1 old new
-    → FindsFirst (map place (take (i + 1) xs)) new
+    → FindsFirst same_wording (map place (take i xs)) (place_in old)
+    → GainsEntry same_wording (place x).0 (place x).1 (place_in old) (place_in new)
+    → FindsFirst same_wording (map place (take (i + 1) xs)) (place_in new)
 finds_next place xs i x old new inside is finds gains =
     rw (map_more place xs i x inside is)
-    (finds_more (map place (take i xs)) old new (place x).0 (place x).1 finds gains)
+    (finds_more same_wording (map place (take i xs)) (place x).0 (place x).1 (place_in old) (place_in new) finds gains)
 
 spec_found : (s : PackageSpec) (others : List (PackageSpecOrExtended Reason))
     → lookup (same_wording (spec_wording s)) (map entry_place others)
@@ -166,7 +150,7 @@ map_twice f g (Some x) = refl
 
 -- so the clash of a spec is with the first equal one
 pub clash_found : (kind : ClashKind) (s : PackageSpec) (others : List (PackageSpecOrExtended Reason))
-    (found : FirstPlaces) → FindsFirst (map entry_place others) found
+    (found : FirstPlaces) → FindsFirst same_wording (map entry_place others) (place_in found)
     → option_map (two_places kind s.name.span) (place_in found (spec_wording s)) ≡ clash_with kind (specs_of others) s
 unfolding clash_with
 clash_found kind s others found finds =
@@ -193,7 +177,7 @@ word_found text (x ∷ xs) =
     by_test false e = e
 
 pub feature_found : (entry : CrateFeatures) (allowed : Words) (found : FirstPlaces)
-    → FindsFirst (map word_place entry.deny) found
+    → FindsFirst same_wording (map word_place entry.deny) (place_in found)
     → option_map (feature_at entry.spec.name.span allowed) (place_in found (plain_wording allowed.value))
     ≡ feature_clash entry allowed
 unfolding feature_clash

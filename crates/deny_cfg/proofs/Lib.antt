@@ -1,4 +1,3 @@
-pub mod ValidatingLaws
 pub mod ToldLaws
 pub mod LawfulLaws
 pub mod LabelValid

@@ -1,7 +1,7 @@
 -- What is told of a text that has no policy, and that a text without clashes tells none.
 use Rattle.deny_lists.proofs.Members.{no_member}
-use Rattle.std.proofs.Common.{◌≡◌, ◌++◌, ℕ, List, [], ◌∷◌, Contains, map, length, Ok, Err, inl, refl, sym, ap, ◌∙◌, subst, arith}
-use Rattle.std.specs.Prelude.{IfErr, IsUtf8, OnOk, Result}
+use Rattle.std.proofs.Common.{◌≡◌, ◌++◌, ℕ, List, [], ◌∷◌, Contains, map, Ok, Err, inl, refl, sym, ap, ◌∙◌, subst}
+use Rattle.std.specs.Prelude.{IfErr, IsUtf8, OnErr, OnOk, Result}
 use Rattle.deny_base.specs.declared.files.File.{File}
 use Rattle.deny_base.specs.declared.finding.Diagnostic.{Diagnostic}
 use Rattle.deny_base.specs.declared.span.Span.{Span}
@@ -19,7 +19,7 @@ use Rattle.deny_toml.specs.declared.value.Value.{Value}
 use Rattle.deny_cfg.specs.Clashes.{AreClashes, clash_told, clashes_in}
 use Rattle.deny_cfg.specs.PolicyText.{AreFaults, IsConfig, IsNoPolicy, Keeps, KeepsOnError, ListsFaults, faults_of_tree, kind_of, policy_file}
 use Rattle.deny_cfg.specs.PolicyText.AreFaults.{not_utf8, no_toml, of_tree}
-use Rattle.deny_cfg.specs.Validating.{Gains}
+use Rattle.deny_lists.specs.Prefix.{Gains}
 use Rattle.deny_tables.specs.declared.bans.cfg.config.Config.{Config}
 use Rattle.deny_cfg.specs.declared.clash.Clash.{Clash}
 use Rattle.deny_cfg.specs.declared.policy.PolicyError.{PolicyError}
@@ -87,6 +87,10 @@ kept_at : (e : PolicyError) (bytes : List ℕ) (old new : List File) → Keeps b
 kept_at (error.Config faults) bytes old new keeps = keeps
 kept_at (error.Invalid told) bytes old new keeps = keeps
 kept_at error.Memory bytes old new keeps = inl keeps
+
+pub on_error : {T E : Type 0} (r : Result T E) (P : Type 0) → P → OnErr r P
+on_error (Ok x) P is = tt
+on_error (Err e) P is = is
 
 pub kept_on_error : {T : Type 0} (r : Result T PolicyError) (bytes : List ℕ) (old new : List File) → Keeps bytes old new
     → IfErr r (λ e. KeepsOnError e bytes old new)

@@ -1,8 +1,8 @@
 -- The labels of what clashes lie in the text.
 use Rattle.deny_lists.proofs.Each.{all_append, all_filter, all_flat, all_found, all_given, all_mapped, all_weaker}
-use Rattle.std.proofs.Common.{◌≡◌, ◌++◌, ℕ, Bool, true, false, cond, List, [], ◌∷◌, length, map, Contains, Option, Some, None, refl, sym, subst, arith}
+use Rattle.std.proofs.Common.{◌≡◌, ℕ, Bool, true, false, cond, List, [], ◌∷◌, length, map, Contains, Option, Some, None, refl, sym, subst, arith}
 use Rattle.std.specs.Prelude.{All, IfSome, IsUtf8, filter, filter_map, find, option_and_then, option_map}
-use Rattle.std.specs.List.{AllByRecursion, cons_option, flat_map}
+use Rattle.std.specs.List.{AllByRecursion, flat_map}
 use Rattle.std.proofs.lemmas.List.Elements.{All-from_recursion, recursion_from_All}
 use Rattle.std.proofs.lemmas.Str.{IsCharBoundary-start}
 use Rattle.deny_lists.proofs.Members.{Contains-first, Contains-rest, at_member}

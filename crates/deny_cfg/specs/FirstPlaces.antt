@@ -1,9 +1,8 @@
 -- Places of things that are compared by what they say: of equal ones the first.
-use Rattle.std.specs.Prelude.{◌≡◌, ◌&&◌, ℕ, Bool, List, Option, None, Some, cond}
+use Rattle.std.specs.Prelude.{◌&&◌, ℕ, Bool, List, Option, None}
 use Rattle.std.specs.BTreeMap as tree
 use Rattle.std.specs.Cmp.Lexicographic.{slice_cmp}
-use Rattle.std.specs.Map.{lookup}
-use Rattle.std.specs.Option.{option_cmp, option_eq, option_or}
+use Rattle.std.specs.Option.{option_cmp, option_eq}
 use Rattle.std.specs.Ordering.{nat_cmp, on, then_cmp}
 use Rattle.std.specs.declared.cmp.Ordering.{Ordering}
 use Rattle.deny_base.specs.declared.span.Span.{Span}
@@ -38,12 +37,3 @@ word_place word = (plain_wording word.value, word.span)
 -- the place that is found of what says this
 abbrev pub place_in : FirstPlaces → Wording → Option Span
 place_in found wording = tree.get wording_cmp found.places wording
-
--- what was found before stays, and only what was not comes to have this place
-pub record Gains (wording : Wording) (place : Span) (old new : FirstPlaces) : Type 0 where
-  pub at : (asked : Wording)
-      → place_in new asked ≡ option_or (place_in old asked) (cond (same_wording asked wording) (Some place) None)
-
--- the first of these places that says the same is found
-pub record FindsFirst (places : List (Wording × Span)) (found : FirstPlaces) : Type 0 where
-  pub at : (asked : Wording) → place_in found asked ≡ lookup (same_wording asked) places

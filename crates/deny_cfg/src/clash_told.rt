@@ -3,7 +3,7 @@ ghost use Rattle.std.specs.Prelude.{◌≡◌, ◌∷◌, [], ◌++◌, IfOk, On
 ghost use Rattle.deny_base.specs.declared.label.LabelStyle.TheVariants.{Secondary};
 ghost use Rattle.deny_cfg.specs.Clashes as spec;
 ghost use Rattle.deny_cfg.specs.Clashes.{clash_labels, clash_message, clash_told, label_of, marks};
-ghost use Rattle.deny_cfg.specs.Validating.{GainsPrefix};
+ghost use Rattle.deny_lists.specs.Prefix.{GainsPrefix};
 
 use crate::clash::{Clash, ClashKind};
 use deny_base::{Diagnostic, FileId, Label, LabelStyle, Severity, Span};

@@ -1,6 +1,7 @@
 //! Places by what stands there, of equal things the first.
 ghost use Rattle.std.specs.Prelude.{◌≡◌, [], IfOk, OnOk, is_some, map, not};
-ghost use Rattle.deny_cfg.specs.FirstPlaces.{FindsFirst, Gains, entry_place, place_in, plain_wording, spec_wording, word_place};
+ghost use Rattle.deny_lists.specs.First.{FindsFirst, GainsEntry};
+ghost use Rattle.deny_cfg.specs.FirstPlaces.{entry_place, place_in, plain_wording, same_wording, spec_wording, word_place};
 
 use deny_base::{Span, Spanned};
 use deny_entries::PackageSpec;
@@ -48,7 +49,7 @@ pub struct FirstPlaces {
 
 impl FirstPlaces {
     fn new(alloc: Global) -> FirstPlaces
-        ensures { FindsFirst [] result }
+        ensures { FindsFirst same_wording [] (place_in result) }
     {
         FirstPlaces {
             places: BTreeMap::new(alloc),
@@ -63,7 +64,7 @@ impl FirstPlaces {
 
     /// Puts a place behind the others.
     fn add(&mut self, wording: Wording, place: Span) -> Result<(), NoMemory>
-        ensures { OnOk result (Gains wording place self.old self.new) }
+        ensures { OnOk result (GainsEntry same_wording wording place (place_in self.old) (place_in self.new)) }
     {
         if self.is_new(&wording) {
             self.places.insert(wording, place)?;
@@ -80,7 +81,7 @@ impl FirstPlaces {
 
     /// The places of the specs of entries.
     pub fn of_specs(alloc: Global, entries: &[SpecAndReason]) -> Result<FirstPlaces, NoMemory>
-        ensures { IfOk result (FindsFirst (map entry_place entries.now)) }
+        ensures { IfOk result (λ found. FindsFirst same_wording (map entry_place entries.now) (place_in found)) }
     {
         let mut found = FirstPlaces::new(alloc);
         for entry in entries {
@@ -91,7 +92,7 @@ impl FirstPlaces {
 
     /// The places of words.
     pub fn of_words(alloc: Global, words: &[Spanned<Text>]) -> Result<FirstPlaces, NoMemory>
-        ensures { IfOk result (FindsFirst (map word_place words.now)) }
+        ensures { IfOk result (λ found. FindsFirst same_wording (map word_place words.now) (place_in found)) }
     {
         let mut found = FirstPlaces::new(alloc);
         for word in words {

@@ -1,7 +1,8 @@
 //! Configurations that are checked for clashes.
 ghost use Rattle.std.specs.Prelude.{◌≡◌, ◌<◌, ◌^◌, ℕ, List, IfOk, OnErr, OnOk, length};
 ghost use Rattle.deny_base.specs.declared.finding.Diagnostic as finding;
-ghost use Rattle.deny_cfg.specs.Validating.{Gains, GainsPrefixOf, diagnostics_left, files_left};
+ghost use Rattle.deny_lists.specs.Prefix.{Gains, GainsPrefixOf};
+ghost use Rattle.deny_cfg.specs.Validating.{diagnostics_left, files_left};
 
 use deny_base::{Diagnostic, FileId, Files};
 use deny_lists::{List, NoMemory};

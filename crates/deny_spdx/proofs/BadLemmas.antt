@@ -1,10 +1,11 @@
 -- A text spells one thing at most, or goes wrong at one place, and never both.
 use Rattle.std.proofs.Common.{◌≡◌, ℕ, inl, inr, true, false, List, [], ◌∷◌, ◌++◌, length, Result, Ok, Err, refl, sym, ◌∙◌, ap, subst, arith, append_assoc, append-nil}
+use Rattle.deny_lists.specs.Reader.{Answers}
 use Rattle.deny_spdx.specs.declared.token.Token.{Token}
 use Rattle.deny_spdx.specs.declared.error.SpdxError.{SpdxError}
 use Rattle.deny_spdx.specs.declared.error.SpdxError.TheVariants.{Bad, Memory}
 use Rattle.deny_spdx.specs.Tokens.{is_blank, begins_token, HasTokens, none, blank, more}
-use Rattle.deny_spdx.specs.Bad.{Spells, AreWhole, Begin, GoesWrong, ends, no_token, token, IsBadAt, IsAnswer, Answers}
+use Rattle.deny_spdx.specs.Bad.{Spells, AreWhole, Begin, GoesWrong, ends, no_token, token, IsBadAt, IsAnswer}
 use Rattle.deny_spdx.proofs.TokenLemmas.{begins_same, begins_first, begins_some, begins_from, not_blank, GoesOn, tokens_meet}
 
 -- S spells one thing at most with the same tokens
@@ -101,15 +102,15 @@ spells_same {A} S clear text x y d e = let P : List Token → Type 0 = λ t. S t
 
 -- what is spelled is the answer
 pub only_answer : {A : Type 0} (S : List Token → A → Type 0) → IsClear S → (text : List ℕ) (result : Result A SpdxError)
-    → IsAnswer S text result → (x : A) → Spells S text x → Answers (Ok x) result
-only_answer S clear text (Ok y) d x e = ap Ok (spells_same S clear text y x d e)
+    → IsAnswer S text result → (x : A) → Spells S text x
+    → Answers Memory (Ok x) result
+only_answer S clear text (Ok y) d x e = ap Ok (spells_same S clear text x y e d)
 only_answer S clear text (Err (Bad p)) d x e = absurd (bad_spells S text p x d e)
-only_answer S clear text (Err Memory) d x e = tt
+only_answer S clear text (Err Memory) d x e = inl refl
 
 -- the place at which it goes wrong is the answer
 pub only_place : {A : Type 0} (S : List Token → A → Type 0) (text : List ℕ) (result : Result A SpdxError)
-    → IsAnswer S text result → (p : ℕ) → IsBadAt S text p → Answers (Err (Bad p)) result
+    → IsAnswer S text result → (p : ℕ) → IsBadAt S text p → Answers Memory (Err (Bad p)) result
 only_place S text (Ok x) d p e = absurd (bad_spells S text p x e d)
-only_place {A} S text (Err (Bad q)) d p e = let P : ℕ → Type 0 = λ n. Answers {A = A} (Err (Bad p)) (Err (Bad n)) in
-    subst P (place_same S text p q e d) refl
-only_place S text (Err Memory) d p e = tt
+only_place S text (Err (Bad q)) d p e = inr (ap (λ n. Err (Bad n)) (place_same S text p q e d))
+only_place S text (Err Memory) d p e = inl refl

@@ -45,9 +45,3 @@ abbrev pub IsAnswer : {A : Type 0} → (List Token → A → Type 0) → List �
 IsAnswer S text (Ok x) = Spells S text x
 IsAnswer S text (Err (Bad place)) = IsBadAt S text place
 IsAnswer S text (Err Memory) = Unit {0}
-
--- this is the answer, unless memory runs out
-abbrev pub Answers : {A : Type 0} → Result A SpdxError → Result A SpdxError → Type 0
-Answers wanted (Ok x) = Ok x ≡ wanted
-Answers wanted (Err (Bad place)) = Err (Bad place) ≡ wanted
-Answers wanted (Err Memory) = Unit {0}

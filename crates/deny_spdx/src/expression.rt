@@ -2,7 +2,8 @@ ghost use Rattle.std.specs.Prelude.{◌≡◌, ◌≢◌, ◌∷◌, [], ℕ, le
 ghost use Rattle.std.specs.List.{list_any, list_all};
 ghost use Rattle.deny_spdx.specs.Truth.{truth};
 ghost use Rattle.deny_spdx.specs.Grammar.{IsExpression, all_of, any_of};
-ghost use Rattle.deny_spdx.specs.Bad.{Spells, IsBadAt, Answers};
+ghost use Rattle.deny_lists.specs.Reader.{Answers};
+ghost use Rattle.deny_spdx.specs.Bad.{Spells, IsBadAt};
 
 use crate::error::SpdxError;
 use crate::parse::read_expression;
@@ -34,10 +35,10 @@ impl Expression {
     /// where it goes wrong first, and `Memory` where an allocation fails.
     pub fn parse(alloc: Global, text: &str) -> Result<Expression, SpdxError>
         ensures read { IfOk result (Spells IsExpression text.now) }
-        ensures spelled { (e : Expression) → Spells IsExpression text.now e → Answers (Ok e) result }
+        ensures spelled { (e : Expression) → Spells IsExpression text.now e → Answers SpdxError.Memory (Ok e) result }
 
         ensures refused { (place : ℕ) → result ≡ Err (SpdxError.Bad place) → IsBadAt IsExpression text.now place }
-        ensures bad { (place : ℕ) → IsBadAt IsExpression text.now place → Answers (Err (SpdxError.Bad place)) result }
+        ensures bad { (place : ℕ) → IsBadAt IsExpression text.now place → Answers SpdxError.Memory (Err (SpdxError.Bad place)) result }
     {
         read_expression(alloc, text)
     }

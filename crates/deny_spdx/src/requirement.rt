@@ -1,7 +1,8 @@
 ghost use Rattle.std.proofs.Common.{rules};
 ghost use Rattle.std.specs.Prelude.{◌≡◌, ℕ, IfOk, Ok, Err};
 ghost use Rattle.deny_spdx.specs.Grammar.{IsRequirement};
-ghost use Rattle.deny_spdx.specs.Bad.{Spells, IsBadAt, Answers};
+ghost use Rattle.deny_lists.specs.Reader.{Answers};
+ghost use Rattle.deny_spdx.specs.Bad.{Spells, IsBadAt};
 
 use crate::error::SpdxError;
 use crate::parse::read_requirement;
@@ -26,10 +27,10 @@ impl Requirement {
     /// fails.
     pub fn parse(alloc: Global, text: &str) -> Result<Requirement, SpdxError>
         ensures read { IfOk result (Spells IsRequirement text.now) }
-        ensures spelled { (r : Requirement) → Spells IsRequirement text.now r → Answers (Ok r) result }
+        ensures spelled { (r : Requirement) → Spells IsRequirement text.now r → Answers SpdxError.Memory (Ok r) result }
 
         ensures refused { (place : ℕ) → result ≡ Err (SpdxError.Bad place) → IsBadAt IsRequirement text.now place }
-        ensures bad { (place : ℕ) → IsBadAt IsRequirement text.now place → Answers (Err (SpdxError.Bad place)) result }
+        ensures bad { (place : ℕ) → IsBadAt IsRequirement text.now place → Answers SpdxError.Memory (Err (SpdxError.Bad place)) result }
     {
         read_requirement(alloc, text)
     }

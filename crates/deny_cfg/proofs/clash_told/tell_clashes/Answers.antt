@@ -1,16 +1,17 @@
 use Rattle.std.proofs.Common.{◌∙◌}
 use Rattle.deny_cfg.specs.Clashes.{clash_told}
-use Rattle.deny_cfg.proofs.ValidatingLaws.{on_error, told_so_far}
+use Rattle.deny_lists.proofs.PrefixLemmas.{gains_mapped}
+use Rattle.deny_cfg.proofs.PolicyLaws.{on_error}
 use Rattle.deny_cfg.proofs.clash_told.tell_clashes.Goals as goal
 
 pub returns-in_err-clash_told-clause-err : goal.returns-in_err-clash_told-clause-err
 returns-in_err-clash_told-clause-err c =
     on_error c.from_residual.result _
-    (told_so_far (clash_told c.args.file) c.args.clashes.now c.loop-clash.clash-index c.args.told.now c.loop-clash.told
+    (gains_mapped (clash_told c.args.file) c.args.clashes.now c.loop-clash.clash-index c.args.told.now c.loop-clash.told
     c.loop-clash.invariant)
 
 pub returns-in_err-push-clause-err : goal.returns-in_err-push-clause-err
 returns-in_err-push-clause-err c =
     on_error c.from_residual-in_err-push.result _
-    (told_so_far (clash_told c.args.file) c.args.clashes.now c.loop-clash.clash-index c.args.told.now c.push.new.self
+    (gains_mapped (clash_told c.args.file) c.args.clashes.now c.loop-clash.clash-index c.args.told.now c.push.new.self
     (c.in_err-push.ensures.err ∙ c.loop-clash.invariant))

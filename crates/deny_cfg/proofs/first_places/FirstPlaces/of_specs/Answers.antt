@@ -1,5 +1,6 @@
 use Rattle.std.proofs.Common.{arith, subst}
-use Rattle.deny_cfg.specs.FirstPlaces.{Gains, entry_place}
+use Rattle.deny_lists.specs.First.{GainsEntry}
+use Rattle.deny_cfg.specs.FirstPlaces.{entry_place, place_in, same_wording}
 use Rattle.deny_cfg.proofs.FirstPlacesLaws.{finds_next}
 use Rattle.deny_cfg.proofs.first_places.FirstPlaces.of_specs.Goals as goal
 
@@ -9,5 +10,5 @@ loop-entry-preserved c =
     finds_next entry_place c.args.entries.now c.loop-entry.entry-index entry c.loop-entry.found c.add.new.self
     (omega (arith, c.loop-entry-test.true)) c.entry-item.is
     c.loop-entry.invariant
-    (subst (λ w. Gains w entry.spec.name.span c.loop-entry.found c.add.new.self) c.in_ok-of_spec.ensures
-    c.in_ok-add.ensures)
+    (subst (λ w. GainsEntry same_wording w entry.spec.name.span (place_in c.loop-entry.found) (place_in c.add.new.self))
+    c.in_ok-of_spec.ensures c.in_ok-add.ensures)
