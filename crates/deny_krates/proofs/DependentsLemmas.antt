@@ -28,6 +28,7 @@ use Rattle.deny_krates.specs.declared.krate.Krate.{Krate}
 use Rattle.deny_lists.proofs.Orders.{below_or_tie, not_below_itself, text_cmp-exact}
 use Rattle.deny_krates.proofs.GraphLemmas.{last_is}
 use Rattle.deny_lists.proofs.Sorted.{ascends_at}
+use Rattle.deny_model.specs.declared.target_edge.TargetEdge.{TargetEdge}
 
 abbrev pub id_cmp : (ℕ → List ℕ) → DirectDependent → DirectDependent → Ordering
 id_cmp id = on (λ d. id d.place) (slice_cmp nat_cmp)
@@ -428,7 +429,7 @@ edge_is e parent child kind a b c =
     let same : edge_again e.parent e.child e.kind ≡ edge_again parent child kind = cc in
     sym (edge_again-is e) ∙ same
 
-module _ (root : List ℕ) (krates : List Krate) (members : List ℕ) (edges : List Edge) (incoming : List IncomingEdge)
+module _ (targeted : List TargetEdge) (root : List ℕ) (krates : List Krate) (members : List ℕ) (edges : List Edge) (incoming : List IncomingEdge)
     (lists : Lists incoming_cmp (Contains (map (incoming_of krates) edges)) incoming)
     (parents : All (λ e. e.parent < length krates) edges)
     (ids : (p q : ℕ) → p < length krates → q < length krates → id_in krates p ≡ id_in krates q → p ≡ q) where
@@ -449,14 +450,14 @@ module _ (root : List ℕ) (krates : List Krate) (members : List ℕ) (edges : L
       (All-contains (λ e. e.parent < length krates) edges from.0 parents from.1)
 
   pub dependents_are : (child : ℕ)
-      → AreDirectDependents (graph_of root krates members edges) child (fold (with_incoming child) [] incoming)
+      → AreDirectDependents (graph_of targeted root krates members edges) child (fold (with_incoming child) [] incoming)
   unfolding dependents
   dependents_are child = record {
     ascending = subst (λ (f : ℕ → List ℕ). IsStrictlySortedBy (on (λ d. f d.place) (slice_cmp nat_cmp))
         (fold (with_incoming child) [] incoming)) (sym (fun_ext (λ p. id_in_graph 0 krates p))) row.ascending;
-    whole = λ k d inside. crate_there (slice_index_or (dependents (graph_of root krates members edges) child) k d)
-        (from_there (dependents (graph_of root krates members edges) child) k _
-        (slice_get-get_or (dependents (graph_of root krates members edges) child) k d inside));
+    whole = λ k d inside. crate_there (slice_index_or (dependents (graph_of targeted root krates members edges) child) k d)
+        (from_there (dependents (graph_of targeted root krates members edges) child) k _
+        (slice_get-get_or (dependents (graph_of targeted root krates members edges) child) k d inside));
     sound = λ k d inside. dependent_there (slice_index_or (fold (with_incoming child) [] incoming) k d)
         (from_there (fold (with_incoming child) [] incoming) k _
         (slice_get-get_or (fold (with_incoming child) [] incoming) k d inside));
@@ -470,15 +471,15 @@ module _ (root : List ℕ) (krates : List Krate) (members : List ℕ) (edges : L
           (λ b c stands stands' same. ids b.parent c.parent (incoming_inside b stands) (incoming_inside c stands') same)
           lists.ascending
 
-      crate_there : (c : Crate) → Contains (dependents (graph_of root krates members edges) child) c
+      crate_there : (c : Crate) → Contains (dependents (graph_of targeted root krates members edges) child) c
           → Contains (map (λ d. d.place) (fold (with_incoming child) [] incoming)) c.place
       crate_there c stands =
-          let at = there (dependents (graph_of root krates members edges) child) c stands in
+          let at = there (dependents (graph_of targeted root krates members edges) child) c stands in
           let passes : list_any (leads c.place child) edges ≡ true = subst
           (λ (x : Crate). list_any (leads x.place child) edges ≡ true)
-          (get_or_from_slice_get (dependents (graph_of root krates members edges) child) at.0 c c at.1)
+          (get_or_from_slice_get (dependents (graph_of targeted root krates members edges) child) at.0 c c at.1)
           (filter_passes (λ (p : Crate). list_any (leads p.place child) edges) (crates_from 0 krates) at.0 c
-          (slice_get_within (dependents (graph_of root krates members edges) child) at.0 c at.1)) in
+          (slice_get_within (dependents (graph_of targeted root krates members edges) child) at.0 c at.1)) in
           let edge = any_one (leads c.place child) edges passes in
           let ends_at = leads_from c.place child edge.0 edge.2 in
           let had = row.whole (incoming_of krates edge.0) (edge_incoming edge.0 edge.1) ends_at.1 in
@@ -487,7 +488,7 @@ module _ (root : List ℕ) (krates : List Krate) (members : List ℕ) (edges : L
           had.dependent had.stands)
 
       dependent_there : (d : DirectDependent) → Contains (fold (with_incoming child) [] incoming) d
-          → Contains (map (λ (c : Crate). c.place) (dependents (graph_of root krates members edges) child)) d.place
+          → Contains (map (λ (c : Crate). c.place) (dependents (graph_of targeted root krates members edges) child)) d.place
       dependent_there d stands =
           let had = row.sound d stands in
           let edge = incoming_edge had.edge had.stands in
@@ -500,8 +501,8 @@ module _ (root : List ℕ) (krates : List Krate) (members : List ℕ) (edges : L
           let passes : list_any (leads c.0.place child) edges ≡ true = one_any (leads c.0.place child) edges at.0 edge.0
           at.1 (leads_to c.0.place child edge.0 (parent ∙ sym place) own) in
           subst (λ (p : ℕ). Contains (map (λ (c : Crate). c.place)
-          (dependents (graph_of root krates members edges) child)) p) place
-          (contains_map (λ (c : Crate). c.place) (dependents (graph_of root krates members edges) child) c.0
+          (dependents (graph_of targeted root krates members edges) child)) p) place
+          (contains_map (λ (c : Crate). c.place) (dependents (graph_of targeted root krates members edges) child) c.0
           (filter_keeps (λ (p : Crate). list_any (leads p.place child) edges) (crates_from 0 krates) d.place c.0 c.1
           passes))
         where

@@ -19,6 +19,7 @@ use Rattle.deny_krates.specs.declared.krate.Krate.{Krate}
 use Rattle.deny_krates.proofs.DependentsLemmas.{dependents_are}
 use Rattle.deny_lists.proofs.Members.{contains_map, from_contains_map, from_there}
 use Rattle.deny_krates.proofs.Runs.{length-crates_from}
+use Rattle.deny_model.specs.declared.target_edge.TargetEdge.{TargetEdge}
 
 pub children_inside : (krates : List Krate) (edges : List Edge) (incoming : List IncomingEdge)
     → All (λ e. e.child < length krates) edges → Lists incoming_cmp (Contains (map (incoming_of krates) edges)) incoming
@@ -35,15 +36,15 @@ pub rows_are_kept : (krates : List Krate) (edges : List Edge) (incoming : List I
     (direct : List (List DirectDependent)) → AreApart krates → All (λ e. e.parent < length krates) edges
     → Lists incoming_cmp (Contains (map (incoming_of krates) edges)) incoming → length direct ≡ length krates
     → ((child : ℕ) → child < length krates → slice_index_or direct child [] ≡ fold (with_incoming child) [] incoming)
-    → (root members : List ℕ)
-    → AreRows (graph_of root krates members edges) (AreDirectDependents (graph_of root krates members edges)) direct
-rows_are_kept krates edges incoming direct apart parents lists long rows root members = record {
+    → (targeted : List TargetEdge) (root members : List ℕ)
+    → AreRows (graph_of targeted root krates members edges) (AreDirectDependents (graph_of targeted root krates members edges)) direct
+rows_are_kept krates edges incoming direct apart parents lists long rows targeted root members = record {
   length = long ∙ sym (length-crates_from 0 krates);
   each = λ place row at.
       let inside : place < length krates = subst (λ (n : ℕ). place < n) long (slice_get_within direct place row at) in
-      subst (λ (r : List DirectDependent). AreDirectDependents (graph_of root krates members edges) place r)
+      subst (λ (r : List DirectDependent). AreDirectDependents (graph_of targeted root krates members edges) place r)
       (sym (rows place inside) ∙ get_or_from_slice_get direct place row [] at)
-      (dependents_are root krates members edges incoming lists parents apart.ids place);
+      (dependents_are targeted root krates members edges incoming lists parents apart.ids place);
 }
 
 -- ---- from the other end
@@ -61,11 +62,11 @@ any_reversed a b (e ∷ edges) =
     ap (λ r. r || list_any (leads a b) (map reversed edges)) (and_comm (e.child == a) (e.parent == b))
     ∙ ap (λ r. ((e.parent == b) && (e.child == a)) || r) (any_reversed a b edges)
 
-dependents_reversed : (root : List ℕ) (krates : List Krate) (members : List ℕ) (edges : List Edge) (place : ℕ)
-    → dependents (graph_of root krates members (map reversed edges)) place ≡ dependencies
-    (graph_of root krates members edges) place
+dependents_reversed : (targeted : List TargetEdge) (root : List ℕ) (krates : List Krate) (members : List ℕ) (edges : List Edge) (place : ℕ)
+    → dependents (graph_of targeted root krates members (map reversed edges)) place ≡ dependencies
+    (graph_of targeted root krates members edges) place
 unfolding dependents dependencies
-dependents_reversed root krates members edges place =
+dependents_reversed targeted root krates members edges place =
     ap (λ (p : Crate → Bool). filter p (crates_from 0 krates))
     (fun_ext (λ (c : Crate). any_reversed c.place place edges))
 
@@ -74,12 +75,12 @@ reversed_back edges e stands =
     let from = from_contains_map reversed edges (reversed e) stands in
     subst (λ (x : Edge). Contains edges x) (ap reversed from.2) from.1
 
-reversed_row : (root : List ℕ) (krates : List Krate) (members : List ℕ) (edges : List Edge) (place : ℕ)
+reversed_row : (targeted : List TargetEdge) (root : List ℕ) (krates : List Krate) (members : List ℕ) (edges : List Edge) (place : ℕ)
     (row : List DirectDependent)
-    → AreDirectDependents (graph_of root krates members (map reversed edges)) place row
-    → AreDirectDependencies (graph_of root krates members edges) place row
-reversed_row root krates members edges place row are =
-    let same = dependents_reversed root krates members edges place in
+    → AreDirectDependents (graph_of targeted root krates members (map reversed edges)) place row
+    → AreDirectDependencies (graph_of targeted root krates members edges) place row
+reversed_row targeted root krates members edges place row are =
+    let same = dependents_reversed targeted root krates members edges place in
     record {
       ascending = are.ascending;
       whole = subst (λ (cs : List Crate). All (λ c. Contains (map (λ (d : DirectDependent). d.place) row) c.place) cs)
@@ -96,12 +97,12 @@ reversed_row root krates members edges place row are =
           }) row are.kinds;
     }
 
-pub rows_reversed : (root : List ℕ) (krates : List Krate) (members : List ℕ) (edges : List Edge)
+pub rows_reversed : (targeted : List TargetEdge) (root : List ℕ) (krates : List Krate) (members : List ℕ) (edges : List Edge)
     (rows : List (List DirectDependent))
-    → AreRows (graph_of root krates members (map reversed edges))
-    (AreDirectDependents (graph_of root krates members (map reversed edges))) rows
-    → AreRows (graph_of root krates members edges) (AreDirectDependencies (graph_of root krates members edges)) rows
-rows_reversed root krates members edges rows are = record {
+    → AreRows (graph_of targeted root krates members (map reversed edges))
+    (AreDirectDependents (graph_of targeted root krates members (map reversed edges))) rows
+    → AreRows (graph_of targeted root krates members edges) (AreDirectDependencies (graph_of targeted root krates members edges)) rows
+rows_reversed targeted root krates members edges rows are = record {
   length = are.length;
-  each = λ place row at. reversed_row root krates members edges place row (are.each place row at);
+  each = λ place row at. reversed_row targeted root krates members edges place row (are.each place row at);
 }

@@ -1,6 +1,6 @@
 -- The graph that is put together by numbers is the graph of the metadata.
 use Rattle.deny_lists.proofs.Orders.{not_below_itself, then_below}
-use Rattle.std.proofs.Common.{◌≡◌, ◌⊎◌, ◌<◌, ◌+◌, ℕ, zero, suc, inl, inr, List, [], ◌∷◌, Bool, false, Some, length, map, refl, sym, ap, ◌∙◌, subst, arith, add-zero}
+use Rattle.std.proofs.Common.{◌≡◌, ◌⊎◌, ◌<◌, ◌+◌, ℕ, zero, suc, inl, inr, List, [], ◌∷◌, Bool, false, Option, Some, length, map, refl, sym, ap, ◌∙◌, subst, arith, add-zero}
 use Rattle.std.specs.Prelude.{◌≢◌, All, AllPairs, Contains, slice_get, slice_index_or}
 use Rattle.std.specs.Cmp.{IsTotalOrder, nat_cmp_total}
 use Rattle.std.specs.Cmp.Lexicographic.{slice_cmp, nat_list_cmp_total}
@@ -18,10 +18,12 @@ use Rattle.deny_krates.specs.private.Graph.{IsInverse, IsKeptNode, edge_to, edge
 use Rattle.deny_krates.specs.private.Numbered.{IsNumbered}
 use Rattle.deny_krates.specs.Packages.{package_cmp, rank_cmp, rank_of}
 use Rattle.deny_krates.specs.private.Reach.{Reaches, from_start, by_link, links_at}
-use Rattle.deny_krates.specs.Read.{IsCrate, IsEdge, IsMember, IsReached, Needs}
+use Rattle.deny_krates.specs.Read.{IsCrate, IsEdge, IsMember, IsReached, IsTargetEdge, NeedsFor}
 use Rattle.deny_metadata.specs.declared.checked.Link.{Link}
 use Rattle.deny_metadata.specs.declared.checked.ResolvedNode.{ResolvedNode}
 use Rattle.deny_metadata.specs.declared.document.Document.{Document}
+use Rattle.deny_metadata.specs.declared.document.NeededAs.{NeededAs}
+use Rattle.deny_model.specs.TargetEdge.{edge_of, target_edge_cmp}
 use Rattle.deny_metadata.specs.declared.document.Package.{Package}
 use Rattle.deny_krates.specs.declared.graph.KeptPackage.{KeptPackage}
 use Rattle.deny_krates.specs.declared.graph.Rank.{Rank}
@@ -29,7 +31,8 @@ use Rattle.deny_krates.proofs.GraphLemmas.{listed_is, one_kept}
 use Rattle.deny_lists.proofs.Members.{contains_map, from_contains_map, from_map_at, from_there, map_at, one_there, there}
 use Rattle.deny_lists.proofs.Sorted.{ascends_at, ascends_map}
 use Rattle.deny_krates.proofs.OrderLemmas.{kept_cmp-total, rank_cmp-exact}
-use Rattle.deny_krates.proofs.ResolvedLemmas.{IsAt, apart, link_needs, linked_row, member_is, need_links, node_at, owner_at, reached_id, reached_number, row_is, row_of_node, start_is}
+use Rattle.deny_krates.proofs.ResolvedLemmas.{IsAt, apart, link_needs, linked_row, member_is, need_links, needs_for, needs_of, node_at, owner_at, reached_id, reached_number, row_is, row_of_node, start_is}
+use Rattle.deny_model.specs.declared.target_edge.TargetEdge.{TargetEdge}
 
 module _ (doc : Document) (starting : List ℕ) (rows : List ResolvedNode) (marks : List Bool) (kept : List KeptPackage)
     (is : IsNumbered doc starting rows marks kept) where
@@ -200,7 +203,7 @@ module _ (doc : Document) (starting : List ℕ) (rows : List ResolvedNode) (mark
     }
 
     -- an edge from a kept package
-    pub record EdgeFrom (first : ℕ) (ks : List KeptPackage) (e : Edge) : Type 0 where
+    pub record EdgeFrom (first : ℕ) (ks : List KeptPackage) (e : TargetEdge) : Type 0 where
       pub at : ℕ
       pub kept_one : KeptPackage
       pub link : Link
@@ -209,7 +212,7 @@ module _ (doc : Document) (starting : List ℕ) (rows : List ResolvedNode) (mark
       pub linked : Contains (links_at rows kept_one.node) link
       pub made : e ≡ edge_to places (first + at) link
 
-    pub edge_from : (first : ℕ) (ks : List KeptPackage) (e : Edge) → Contains (edges_from rows places first ks) e
+    pub edge_from : (first : ℕ) (ks : List KeptPackage) (e : TargetEdge) → Contains (edges_from rows places first ks) e
         → EdgeFrom first ks e
     edge_from first [] e stands = absurd (none-some e (there [] e stands).1)
     edge_from first (k ∷ ks) e stands =
@@ -228,7 +231,7 @@ module _ (doc : Document) (starting : List ℕ) (rows : List ResolvedNode) (mark
               link = from.0;
               stands = refl;
               parent = sym
-                  (ap (λ (x : Edge). x.parent) from.2) ∙ sym (add-zero first);
+                  (ap (λ (x : TargetEdge). x.parent) from.2) ∙ sym (add-zero first);
               linked = from.1;
               made = sym from.2 ∙ ap
                   (λ (n : ℕ). edge_to places n from.0) (sym (add-zero first));
@@ -263,26 +266,35 @@ module _ (doc : Document) (starting : List ℕ) (rows : List ResolvedNode) (mark
         (edges_from rows places (first + 1) ks) (edge_to places ((first + 1) + at) l)
         (from_edge (first + 1) ks at k l stands linked))
 
-    edge_made : (e : Edge) (place : ℕ) (l : Link) → e.parent ≡ place → e.child ≡ place_at places l.node
-        → e.kind ≡ l.kind → edge_to places place l ≡ e
-    edge_made e place l a b c = cc (edge_again-is e, edge_again-is (edge_to places place l))
+    edge_made : (e : TargetEdge) (place : ℕ) (l : Link) → e.parent ≡ place → e.child ≡ place_at places l.node
+        → e.kind ≡ l.needed_as.kind → e.target ≡ l.needed_as.target → edge_to places place l ≡ e
+    edge_made e place l a b c d = cc (edge_again-is e, edge_again-is (edge_to places place l))
       where
-        edge_again : ℕ → ℕ → DepKind → Edge
-        edge_again parent child kind = record { parent = parent; child = child; kind = kind }
+        edge_again : ℕ → ℕ → DepKind → Option (List ℕ) → TargetEdge
+        edge_again parent child kind target = record { parent = parent; child = child; kind = kind; target = target }
 
-        edge_again-is : (x : Edge) → edge_again x.parent x.child x.kind ≡ x
+        edge_again-is : (x : TargetEdge) → edge_again x.parent x.child x.kind x.target ≡ x
         edge_again-is x = refl
 
-    -- the edges are the needs between crates
-    pub are_edges : (edges : List Edge) → Lists edge_cmp (Contains (edges_from rows places 0 kept)) edges
-        → Lists edge_cmp (IsEdge doc (map (listed doc.packages) kept)) edges
-    are_edges edges lists = record {
+    as_made : (n m : NeededAs) → n.kind ≡ m.kind → n.target ≡ m.target → n ≡ m
+    as_made n m a b = cc (as_again-is n, as_again-is m)
+      where
+        as_again : DepKind → Option (List ℕ) → NeededAs
+        as_again kind target = record { kind = kind; target = target }
+
+        as_again-is : (x : NeededAs) → as_again x.kind x.target ≡ x
+        as_again-is x = refl
+
+    -- the target edges are the needs between crates
+    pub are_target_edges : (edges : List TargetEdge) → Lists target_edge_cmp (Contains (edges_from rows places 0 kept))
+        edges → Lists target_edge_cmp (IsTargetEdge doc (map (listed doc.packages) kept)) edges
+    are_target_edges edges lists = record {
       ascending = lists.ascending;
       whole = λ e stands. lists.whole e (there_is e stands);
       sound = λ e stands. is_edge e (edge_from 0 kept e (lists.sound e stands));
     }
       where
-        there_is : (e : Edge) → IsEdge doc (map (listed doc.packages) kept) e
+        there_is : (e : TargetEdge) → IsTargetEdge doc (map (listed doc.packages) kept) e
             → Contains (edges_from rows places 0 kept) e
         there_is e stands =
             let k = from_map_at (listed doc.packages) kept e.parent stands.parent stands.parent_stands in
@@ -292,24 +304,25 @@ module _ (doc : Document) (starting : List ℕ) (rows : List ResolvedNode) (mark
             let at : IsAt doc k.0.node stands.parent.id = subst (λ (p : Package). IsAt doc k.0.node p.id) k.2 k_at in
             let child_at : IsAt doc m.0.node stands.child.id = subst (λ (p : Package). IsAt doc m.0.node p.id) m.2
             m_at in
-            let link = need_links doc starting rows k.0.node stands.parent.id e.kind stands.child.id is.resolved at
-            stands.needs in
+            let link = need_links doc starting rows k.0.node stands.parent.id
+            (record { kind = e.kind; target = e.target }) stands.child.id is.resolved at stands.needs in
             let node : link.0.node ≡ m.0.node = apart (node_ids doc) link.0.node m.0.node stands.child.id
             is.resolved.nodes link.3 child_at in
             let child : e.child ≡ place_at places link.0.node = sym (place_is e.child m.0 m.1) ∙ ap (place_at places)
             (sym node) in
             let zero_plus : e.parent ≡ 0 + e.parent = omega arith in
-            subst (λ (x : Edge). Contains (edges_from rows places 0 kept) x)
-            (edge_made e (0 + e.parent) link.0 zero_plus child (sym link.2))
+            subst (λ (x : TargetEdge). Contains (edges_from rows places 0 kept) x)
+            (edge_made e (0 + e.parent) link.0 zero_plus child (ap (λ (n : NeededAs). n.kind) (sym link.2))
+            (ap (λ (n : NeededAs). n.target) (sym link.2)))
             (from_edge 0 kept e.parent k.0 link.0 k.1 link.1)
 
-        is_edge : (e : Edge) → EdgeFrom 0 kept e → IsEdge doc (map (listed doc.packages) kept) e
+        is_edge : (e : TargetEdge) → EdgeFrom 0 kept e → IsTargetEdge doc (map (listed doc.packages) kept) e
         is_edge e from =
             let parent : e.parent ≡ from.at = omega (arith, from.parent) in
             let k = kept_stands from.at from.kept_one from.stands in
             let reached : Reaches rows starting from.kept_one.node = is.reached.sound from.kept_one.node k.marked in
             let m = kept_at from.link.node (by_link from.kept_one.node from.link reached from.linked) in
-            let child : e.child ≡ m.0 = ap (λ (x : Edge). x.child) from.made
+            let child : e.child ≡ m.0 = ap (λ (x : TargetEdge). x.child) from.made
             ∙ (ap (place_at places) (sym m.3) ∙ place_is m.0 m.1 m.2) in
             let row = linked_row rows from.kept_one.node from.link from.linked in
             let at = row_is doc starting rows from.kept_one.node row.0 is.resolved row.1 in
@@ -320,7 +333,9 @@ module _ (doc : Document) (starting : List ℕ) (rows : List ResolvedNode) (mark
             let needed : needs.0 ≡ (listed doc.packages m.1).id = one_there (node_ids doc) from.link.node needs.0
             (listed doc.packages m.1).id needs.1
             (subst (λ (n : ℕ). IsAt doc n (listed doc.packages m.1).id) m.3 (kept_id m.1 m.4).0) in
-            let kind : from.link.kind ≡ e.kind = sym (ap (λ (x : Edge). x.kind) from.made) in
+            let as_it_is : NeededAs = record { kind = e.kind; target = e.target } in
+            let needed_as : from.link.needed_as ≡ as_it_is = as_made from.link.needed_as as_it_is
+            (sym (ap (λ (x : TargetEdge). x.kind) from.made)) (sym (ap (λ (x : TargetEdge). x.target) from.made)) in
             record {
               parent = (listed doc.packages from.kept_one);
               child = (listed doc.packages m.1);
@@ -328,7 +343,56 @@ module _ (doc : Document) (starting : List ℕ) (rows : List ResolvedNode) (mark
                   (subst (λ (n : ℕ). slice_get kept n ≡ Some from.kept_one) (sym parent) from.stands);
               child_stands = map_at (listed doc.packages) kept e.child m.1
                   (subst (λ (n : ℕ). slice_get kept n ≡ Some m.1) (sym child) m.2);
-              needs = subst (λ (t : List ℕ). Needs doc (listed doc.packages from.kept_one).id e.kind t) needed
-                  (subst (λ (kind : DepKind). Needs doc (listed doc.packages from.kept_one).id kind needs.0) kind
-                  (subst (λ (t : List ℕ). Needs doc t from.link.kind needs.0) id needs.2));
+              needs = subst (λ (t : List ℕ). NeedsFor doc (listed doc.packages from.kept_one).id
+                  (record { kind = e.kind; target = e.target }) t) needed
+                  (subst (λ (n : NeededAs). NeedsFor doc (listed doc.packages from.kept_one).id n needs.0) needed_as
+                  (subst (λ (t : List ℕ). NeedsFor doc t from.link.needed_as needs.0) id needs.2));
             }
+
+-- the edges are what target edges are
+module _ (doc : Document) (packages : List Package) (targeted : List TargetEdge)
+    (are : Lists target_edge_cmp (IsTargetEdge doc packages) targeted) where
+  pub are_edges : (edges : List Edge) → Lists edge_cmp (Contains (map edge_of targeted)) edges
+      → Lists edge_cmp (IsEdge doc packages) edges
+  are_edges edges lists = record {
+    ascending = lists.ascending;
+    whole = λ e stands. lists.whole e (there_is e stands);
+    sound = λ e stands. is_edge e (lists.sound e stands);
+  }
+    where
+      edge_again : ℕ → ℕ → DepKind → Edge
+      edge_again parent child kind = record { parent = parent; child = child; kind = kind }
+
+      edge_again-is : (x : Edge) → edge_again x.parent x.child x.kind ≡ x
+      edge_again-is x = refl
+
+      there_is : (e : Edge) → IsEdge doc packages e → Contains (map edge_of targeted) e
+      there_is e stands =
+          let needs = needs_for doc stands.parent.id e.kind stands.child.id stands.needs in
+          let t : TargetEdge =
+          record { parent = e.parent; child = e.child; kind = needs.0.kind; target = needs.0.target } in
+          let is : IsTargetEdge doc packages t = record {
+            parent = stands.parent;
+            child = stands.child;
+            parent_stands = stands.parent_stands;
+            child_stands = stands.child_stands;
+            needs = needs.2;
+          } in
+          let same : edge_of t ≡ e = ap (λ (kind : DepKind). edge_again e.parent e.child kind) needs.1
+          ∙ edge_again-is e in
+          subst (λ (x : Edge). Contains (map edge_of targeted) x) same
+          (contains_map edge_of targeted t (are.whole t is))
+
+      is_edge : (e : Edge) → Contains (map edge_of targeted) e → IsEdge doc packages e
+      is_edge e stands =
+          let from = from_contains_map edge_of targeted e stands in
+          let is = are.sound from.0 from.1 in
+          subst (λ (x : Edge). IsEdge doc packages x) from.2
+          (record {
+            parent = is.parent;
+            child = is.child;
+            parent_stands = is.parent_stands;
+            child_stands = is.child_stands;
+            needs = needs_of doc is.parent.id (record { kind = from.0.kind; target = from.0.target }) is.child.id
+                is.needs;
+          })

@@ -27,6 +27,7 @@ use Rattle.deny_krates.specs.declared.graph.KeptPackage.{KeptPackage}
 use Rattle.deny_krates.specs.declared.graph.Rank.{Rank}
 use Rattle.deny_krates.specs.declared.krate.DirectDependent.{DirectDependent}
 use Rattle.deny_krates.specs.declared.krate.Krate.{Krate}
+use Rattle.deny_model.specs.declared.target_edge.TargetEdge.{TargetEdge}
 
 pub read_at : {A : Type 0} (xs : List A) (i : ℕ) (x : A) → i < length xs → x ≡ slice_index_or xs i x
     → slice_get xs i ≡ Some x

@@ -27,6 +27,7 @@ use Rattle.deny_krates.proofs.SearchLemmas.{not_above_itself}
 use Rattle.deny_lists.proofs.Sorted.{ascends_at}
 use Rattle.deny_lists.proofs.Members.{from_there, one_there, there}
 use Rattle.deny_krates.proofs.GraphLemmas.{id_of_krate}
+use Rattle.deny_model.specs.declared.target_edge.TargetEdge.{TargetEdge}
 
 entry_from : List ℕ → ℕ → Entry
 entry_from id place = record { id = id; place = place }
@@ -186,12 +187,12 @@ crate_from first (x ∷ ks) (suc n) k at =
     let moved : (first + 1) + n ≡ first + suc n = omega arith in
     crate_from (first + 1) ks n k at ∙ ap (λ p. Some (crate_view p k)) moved
 
-module _ (root : List ℕ) (krates : List Krate) (members : List ℕ) (edges : List Edge) (entries : List Entry)
+module _ (targeted : List TargetEdge) (root : List ℕ) (krates : List Krate) (members : List ℕ) (edges : List Edge) (entries : List Entry)
     (apart : AreApart krates) (ids : AreIds krates entries) where
   -- the place that stands with an id is that of the crate of the id
   pub found_crate : (id : List ℕ) (place : ℕ) → Contains entries (record { id = id; place = place })
       → (k : Krate) × (slice_get krates place ≡ Some k)
-      × (crate_of (graph_of root krates members edges) id ≡ Some (crate_view place k))
+      × (crate_of (graph_of targeted root krates members edges) id ≡ Some (crate_view place k))
   found_crate id place stands =
       let entry = entry_at 0 krates (record { id = id; place = place })
       (ids.sound (record { id = id; place = place }) stands) in
@@ -218,7 +219,7 @@ module _ (root : List ℕ) (krates : List Krate) (members : List ℕ) (edges : L
       )
 
   pub no_crate : (id : List ℕ) → ((e : Entry) → Contains entries e → e.id ≡ id → ⊥)
-      → crate_of (graph_of root krates members edges) id ≡ None
+      → crate_of (graph_of targeted root krates members edges) id ≡ None
   no_crate id none = find_none (λ (c : Crate). same_text c.id id) (crates_from 0 krates) (λ c stands same.
       let at = crate_there 0 krates c stands in
       none (record { id = at.1.id.0; place = 0 + at.0 })
@@ -226,21 +227,21 @@ module _ (root : List ℕ) (krates : List Krate) (members : List ℕ) (edges : L
       (ap (λ (x : Crate). x.id) at.3 ∙ (bytes_eq-Decides c.id id).0 same))
 
   pub place_answers : (id : List ℕ) (result : Option ℕ) → FoundIn entries id result
-      → result ≡ option_map (λ (c : Crate). c.place) (crate_of (graph_of root krates members edges) id)
+      → result ≡ option_map (λ (c : Crate). c.place) (crate_of (graph_of targeted root krates members edges) id)
   place_answers id None is = sym (ap (option_map (λ (c : Crate). c.place)) (no_crate id is.none))
   place_answers id (Some place) is = sym (ap (option_map (λ (c : Crate). c.place)) (found_crate id place is.found).2)
 
   -- the crate at the place that was found
   pub krate_answers : (id : List ℕ) (place : ℕ) (result : Option (Bor Krate))
       → Contains entries (record { id = id; place = place }) → option_copied result ≡ slice_get krates place
-      → MatchOption result (crate_of (graph_of root krates members edges) id ≡ None)
-      (λ k. (at : ℕ) × (crate_of (graph_of root krates members edges) id ≡ Some (crate_view at k.now)))
+      → MatchOption result (crate_of (graph_of targeted root krates members edges) id ≡ None)
+      (λ k. (at : ℕ) × (crate_of (graph_of targeted root krates members edges) id ≡ Some (crate_view at k.now)))
   krate_answers id place None stands is =
       absurd (none-some (found_crate id place stands).0 (is ∙ (found_crate id place stands).1))
   krate_answers id place (Some k) stands is =
       let found = found_crate id place stands in
       let same : k.now ≡ found.0 = same_Some k.now found.0 (is ∙ found.1) in (
         place,
-        subst (λ (x : Krate). crate_of (graph_of root krates members edges) id ≡ Some (crate_view place x))
+        subst (λ (x : Krate). crate_of (graph_of targeted root krates members edges) id ≡ Some (crate_view place x))
             (sym same) found.2,
       )

@@ -1,3 +1,4 @@
+pub mod BoundsLemmas
 pub mod BuildLemmas
 pub mod CrateOrderLemmas
 pub mod DependentsLemmas
@@ -12,6 +13,7 @@ pub mod OrderLemmas
 pub mod OrderlyLemmas
 pub mod PassedLemmas
 pub mod ReachLemmas
+pub mod ResolutionLemmas
 pub mod ResolvedLemmas
 pub mod Runs
 pub mod SearchLemmas

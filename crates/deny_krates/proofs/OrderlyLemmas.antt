@@ -12,6 +12,7 @@ use Rattle.deny_lists.specs.Ascending.{Lists}
 use Rattle.deny_base.specs.Edge.{edge_cmp}
 use Rattle.deny_base.specs.declared.edge.Edge.{Edge}
 use Rattle.deny_model.specs.Graph.{Crate, Graph}
+use Rattle.deny_model.specs.TargetEdge.{edge_of, target_edge_cmp}
 use Rattle.deny_metadata.specs.Checked.{distinct, node_ids}
 use Rattle.deny_krates.specs.Crates.{crate_view, crates_from, graph_of}
 use Rattle.deny_krates.specs.private.Direct.{AreApart, id_in}
@@ -28,12 +29,13 @@ use Rattle.deny_metadata.specs.declared.document.Package.{Package}
 use Rattle.deny_krates.specs.declared.graph.KeptPackage.{KeptPackage}
 use Rattle.deny_krates.specs.declared.krate.Krate.{Krate}
 use Rattle.deny_krates.proofs.CrateOrderLemmas.{crates_ascend, features_ascend}
-use Rattle.deny_krates.proofs.GraphIs.{are_crates, are_edges, are_members, ids_apart, kept_id}
+use Rattle.deny_krates.proofs.GraphIs.{are_crates, are_edges, are_members, are_target_edges, ids_apart, kept_id}
 use Rattle.deny_lists.proofs.Orders.{below_or_tie, not_less}
 use Rattle.deny_lists.proofs.Members.{from_map_at, from_there, map_at, one_there, there}
 use Rattle.deny_lists.proofs.Sorted.{ascends_at}
 use Rattle.deny_krates.proofs.ResolvedLemmas.{IsAt, apart}
 use Rattle.deny_krates.proofs.Runs.{length-crates_from}
+use Rattle.deny_model.specs.declared.target_edge.TargetEdge.{TargetEdge}
 
 -- the features of a node are those that its id enables
 enabled_of : (doc : Document) (n : ℕ) (id : List ℕ) (node : Node) (fs : List (List ℕ)) → distinct (node_ids doc) ≡ Ok tt
@@ -144,8 +146,10 @@ krates_ascend ks up long k d low inside =
 pub is_orderly : (doc : Document) (ps : List Package) (g : Graph) → AreCratesAt doc 0 ps g.crates
     → ((p : Package) → Contains ps p → HasVersion p) → IsStrictlySortedBy package_cmp ps
     → ((i j : ℕ) (p q : Package) → i < j → slice_get ps i ≡ Some p → slice_get ps j ≡ Some q → p.id ≡ q.id → ⊥)
-    → Lists nat_cmp (IsMember doc ps) g.members → Lists edge_cmp (IsEdge doc ps) g.edges → IsOrderly g
-is_orderly doc ps g crates versions up apart_ids members edges = record {
+    → Lists nat_cmp (IsMember doc ps) g.members → Lists edge_cmp (IsEdge doc ps) g.edges
+    → IsStrictlySortedBy target_edge_cmp g.target_edges
+    → Lists edge_cmp (Contains (map edge_of g.target_edges)) g.edges → IsOrderly g
+is_orderly doc ps g crates versions up apart_ids members edges targeted_ascend edges_are = record {
   crates = crates_ascend doc 0 ps g.crates versions crates up;
   names = names_ascend doc ps g.crates crates up;
   ids = λ i j d below inside same.
@@ -161,6 +165,8 @@ is_orderly doc ps g crates versions up apart_ids members edges = record {
   children = λ k d inside.
       let is = edge_at k d inside in place_inside (slice_index_or g.edges k d).child is.child is.child_stands;
   edges_ascend = edges.ascending;
+  target_edges_ascend = targeted_ascend;
+  edges_are = edges_are;
 }
   where
     crate_at : (k : ℕ) (d : Crate) → k < length g.crates
@@ -193,33 +199,39 @@ pub joined : (doc : Document) (starts : List ℕ) (rows : List ResolvedNode) (ma
     (is : IsNumbered doc starts rows marks kept)
     (places : List ℕ) (inverse : IsInverse (map (λ (k : KeptPackage). k.node) kept) (length rows) places)
     (members : List ℕ) → Lists nat_cmp (Contains (map (place_at places) starts)) members
-    → (edges : List Edge) → Lists edge_cmp (Contains (edges_from rows places 0 kept)) edges
+    → (targeted : List TargetEdge) → Lists target_edge_cmp (Contains (edges_from rows places 0 kept)) targeted
+    → (edges : List Edge) → Lists edge_cmp (Contains (map edge_of targeted)) edges
     → (root : List ℕ) (krates : List Krate) → root ≡ doc.workspace_root
     → AllZip (IsKrateOf doc.packages doc.nodes) kept krates
-    → IsGraph doc (graph_of root krates members edges)
-joined doc starts rows marks kept is places inverse members m edges e root krates same zip = record {
+    → IsGraph doc (graph_of targeted root krates members edges)
+joined doc starts rows marks kept is places inverse members m targeted t edges e root krates same zip = record {
   packages = map (listed doc.packages) kept;
   kept = are_crates doc starts rows marks kept is;
   root = same;
   crates = kept_crates doc starts rows marks kept is krates zip;
   members = are_members doc starts rows marks kept is places inverse members m;
-  edges = are_edges doc starts rows marks kept is places inverse edges e;
+  edges = are_edges doc (map (listed doc.packages) kept) targeted
+      (are_target_edges doc starts rows marks kept is places inverse targeted t) edges e;
+  target_edges = are_target_edges doc starts rows marks kept is places inverse targeted t;
 }
 
 pub joined_orderly : (doc : Document) (starts : List ℕ) (rows : List ResolvedNode) (marks : List Bool)
     (kept : List KeptPackage) (is : IsNumbered doc starts rows marks kept)
     (places : List ℕ) (inverse : IsInverse (map (λ (k : KeptPackage). k.node) kept) (length rows) places)
     (members : List ℕ) → Lists nat_cmp (Contains (map (place_at places) starts)) members
-    → (edges : List Edge) → Lists edge_cmp (Contains (edges_from rows places 0 kept)) edges
+    → (targeted : List TargetEdge) → Lists target_edge_cmp (Contains (edges_from rows places 0 kept)) targeted
+    → (edges : List Edge) → Lists edge_cmp (Contains (map edge_of targeted)) edges
     → (root : List ℕ) (krates : List Krate) → AllZip (IsKrateOf doc.packages doc.nodes) kept krates
-    → IsOrderly (graph_of root krates members edges)
-joined_orderly doc starts rows marks kept is places inverse members m edges e root krates zip =
-    is_orderly doc (map (listed doc.packages) kept) (graph_of root krates members edges)
+    → IsOrderly (graph_of targeted root krates members edges)
+joined_orderly doc starts rows marks kept is places inverse members m targeted t edges e root krates zip =
+    is_orderly doc (map (listed doc.packages) kept) (graph_of targeted root krates members edges)
     (kept_crates doc starts rows marks kept is krates zip)
     (λ p stands. is.resolved.versions p ((are_crates doc starts rows marks kept is).sound p stands).stands)
     (are_crates doc starts rows marks kept is).ascending
     (ids_apart doc starts rows marks kept is) (are_members doc starts rows marks kept is places inverse members m)
-    (are_edges doc starts rows marks kept is places inverse edges e)
+    (are_edges doc (map (listed doc.packages) kept) targeted
+    (are_target_edges doc starts rows marks kept is places inverse targeted t) edges e)
+    t.ascending e
 
 pub joined_names : (doc : Document) (starts : List ℕ) (rows : List ResolvedNode) (marks : List Bool)
     (kept : List KeptPackage) (is : IsNumbered doc starts rows marks kept) (krates : List Krate) → AllZip
@@ -232,19 +244,19 @@ joined_names doc starts rows marks kept is krates zip =
 
 -- ---- what an orderly graph says of its crates and edges
 
-pub parents_inside : (root : List ℕ) (krates : List Krate) (members : List ℕ) (edges : List Edge)
-    → IsOrderly (graph_of root krates members edges) → All (λ e. e.parent < length krates) edges
-parents_inside root krates members edges is =
+pub parents_inside : (targeted : List TargetEdge) (root : List ℕ) (krates : List Krate) (members : List ℕ) (edges : List Edge)
+    → IsOrderly (graph_of targeted root krates members edges) → All (λ e. e.parent < length krates) edges
+parents_inside targeted root krates members edges is =
     subst (λ (n : ℕ). All (λ e. e.parent < n) edges) (length-crates_from 0 krates) is.parents
 
-pub children_inside : (root : List ℕ) (krates : List Krate) (members : List ℕ) (edges : List Edge)
-    → IsOrderly (graph_of root krates members edges) → All (λ e. e.child < length krates) edges
-children_inside root krates members edges is =
+pub children_inside : (targeted : List TargetEdge) (root : List ℕ) (krates : List Krate) (members : List ℕ) (edges : List Edge)
+    → IsOrderly (graph_of targeted root krates members edges) → All (λ e. e.child < length krates) edges
+children_inside targeted root krates members edges is =
     subst (λ (n : ℕ). All (λ e. e.child < n) edges) (length-crates_from 0 krates) is.children
 
-pub members_inside : (root : List ℕ) (krates : List Krate) (members : List ℕ) (edges : List Edge)
-    → IsOrderly (graph_of root krates members edges) → All (λ place. place < length krates) members
-members_inside root krates members edges is =
+pub members_inside : (targeted : List TargetEdge) (root : List ℕ) (krates : List Krate) (members : List ℕ) (edges : List Edge)
+    → IsOrderly (graph_of targeted root krates members edges) → All (λ place. place < length krates) members
+members_inside targeted root krates members edges is =
     subst (λ (n : ℕ). All (λ place. place < n) members) (length-crates_from 0 krates) is.members
 
 crate_id : (first : ℕ) (ks : List Krate) (p : ℕ) (c : Crate) → p < length ks
@@ -253,11 +265,11 @@ crate_id first [] p c inside = absurd (omega (arith, inside))
 crate_id first (k ∷ ks) zero c inside = refl
 crate_id first (k ∷ ks) (suc p) c inside = crate_id (first + 1) ks p c (omega (arith, inside))
 
-pub ids_of_places : (root : List ℕ) (krates : List Krate) (members : List ℕ) (edges : List Edge)
-    → IsOrderly (graph_of root krates members edges) → (p q : ℕ) → p < length krates → q < length krates
+pub ids_of_places : (targeted : List TargetEdge) (root : List ℕ) (krates : List Krate) (members : List ℕ) (edges : List Edge)
+    → IsOrderly (graph_of targeted root krates members edges) → (p q : ℕ) → p < length krates → q < length krates
     → id_in krates p ≡ id_in krates q → p ≡ q
-ids_of_places root [] members edges is p q a b same = absurd (omega (arith, a))
-ids_of_places root (k ∷ ks) members edges is p q a b same = elim (cases_lt p q) as (λ _. p ≡ q) [
+ids_of_places targeted root [] members edges is p q a b same = absurd (omega (arith, a))
+ids_of_places targeted root (k ∷ ks) members edges is p q a b same = elim (cases_lt p q) as (λ _. p ≡ q) [
   | inl below ↦ absurd (differ p q below b same)
   | inr not_below ↦ elim (cases_lt q p) as (λ _. p ≡ q) [
     | inl above ↦ absurd (differ q p above a (sym same))
@@ -271,6 +283,6 @@ ids_of_places root (k ∷ ks) members edges is p q a b same = elim (cases_lt p q
         is.ids m n c below (subst (λ (j : ℕ). n < j) (sym (length-crates_from 0 (k ∷ ks))) inside)
         (crate_id 0 (k ∷ ks) m c (omega (arith, below, inside)) ∙ (e ∙ sym (crate_id 0 (k ∷ ks) n c inside)))
 
-pub apart_of : (root : List ℕ) (krates : List Krate) (members : List ℕ) (edges : List Edge)
-    → IsOrderly (graph_of root krates members edges) → AreApart krates
-apart_of root krates members edges is = record { ids = ids_of_places root krates members edges is }
+pub apart_of : (targeted : List TargetEdge) (root : List ℕ) (krates : List Krate) (members : List ℕ) (edges : List Edge)
+    → IsOrderly (graph_of targeted root krates members edges) → AreApart krates
+apart_of targeted root krates members edges is = record { ids = ids_of_places targeted root krates members edges is }

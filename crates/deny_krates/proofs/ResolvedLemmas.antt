@@ -12,10 +12,11 @@ use Rattle.deny_model.specs.Text.{same_text}
 use Rattle.deny_metadata.specs.Checked.{Numbering, Resolved, distinct, distinct_after, known, links_of, links_to, node_ids, node_numbers, number_in, number_or, package_ids, package_numbers, packages_read, resolved, resolved_by, resolved_node}
 use Rattle.deny_krates.specs.private.Numbered.{IsResolved}
 use Rattle.deny_krates.specs.private.Reach.{Reaches, from_start, by_link, links_at}
-use Rattle.deny_krates.specs.Read.{IsReached, is_member, by_need, Needs}
+use Rattle.deny_krates.specs.Read.{IsReached, is_member, by_need, Needs, NeedsFor}
 use Rattle.deny_metadata.specs.Reading.{◌>>=◌, each}
 use Rattle.deny_metadata.specs.declared.checked.Link.{Link}
 use Rattle.deny_metadata.specs.declared.checked.ResolvedNode.{ResolvedNode}
+use Rattle.deny_metadata.specs.declared.document.NeededAs.{NeededAs}
 use Rattle.deny_metadata.specs.declared.document.NodeDependency.{NodeDependency}
 use Rattle.deny_metadata.specs.declared.document.Document.{Document}
 use Rattle.deny_metadata.specs.declared.document.Node.{Node}
@@ -172,13 +173,13 @@ owner_is packages nodes node r is =
           (λ (s : ResolvedNode). Ok s.links) same,
     )
 
-abbrev link_with : ℕ → DepKind → Link
-link_with node kind = record { node = node; kind = kind }
+abbrev link_with : ℕ → NeededAs → Link
+link_with node kind = record { node = node; needed_as = kind }
 
 pub record LinkIs (nodes : Numbering) (deps : List NodeDependency) (l : Link) : Type 0 where
   pub dep : NodeDependency
   pub stands : Contains deps dep
-  pub of : Contains dep.kinds l.kind
+  pub of : Contains dep.kinds l.needed_as
   pub at : nodes dep.pkg ≡ Some l.node
 
 link_sound : (packages nodes : Numbering) (deps : List NodeDependency) (links : List Link) (l : Link)
@@ -206,19 +207,19 @@ link_sound packages nodes (dep ∷ deps) links l is stands =
         record {
           dep = dep;
           stands = from_there (dep ∷ deps) 0 dep refl;
-          of = subst (λ (kind : DepKind). Contains dep.kinds kind) (ap (λ (m : Link). m.kind) from.2) from.1;
+          of = subst (λ (kind : NeededAs). Contains dep.kinds kind) (ap (λ (m : Link). m.needed_as) from.2) from.1;
           at = knows packages nodes dep.pkg n knows_it ∙ ap (λ (m : Link). Some m.node) from.2;
         }
     by_part more in_rest n knows_it rest reads (inr other) = later (in_rest other)
 
-pub record IsLinked (nodes : Numbering) (links : List Link) (pkg : List ℕ) (kind : DepKind) : Type 0 where
+pub record IsLinked (nodes : Numbering) (links : List Link) (pkg : List ℕ) (kind : NeededAs) : Type 0 where
   pub link : Link
   pub stands : Contains links link
-  pub of : link.kind ≡ kind
+  pub of : link.needed_as ≡ kind
   pub at : nodes pkg ≡ Some link.node
 
 link_whole : (packages nodes : Numbering) (deps : List NodeDependency) (links : List Link) (dep : NodeDependency)
-    (kind : DepKind) → links_of packages nodes deps ≡ Ok links → Contains deps dep → Contains dep.kinds kind → IsLinked
+    (kind : NeededAs) → links_of packages nodes deps ≡ Ok links → Contains deps dep → Contains dep.kinds kind → IsLinked
     nodes links dep.pkg kind
 unfolding links_of
 link_whole packages nodes [] links dep kind is stands of = absurd (none-some dep (there [] dep stands).1)
@@ -307,9 +308,39 @@ owner_at doc n r is = from_map_at (λ (p : Package). p.id) doc.packages r.owner 
     (number_is (package_ids doc) is.node.id r.owner
     (owner_is (package_numbers doc) (node_numbers doc) is.node r is.reads).0)
 
+-- what is needed for a target is needed, and what is needed is so for a target or for all
+pub needs_of : (doc : Document) (id : List ℕ) (kind : NeededAs) (needed : List ℕ) → NeedsFor doc id kind needed
+    → Needs doc id kind.kind needed
+needs_of doc id kind needed needs = record {
+  node = needs.node;
+  need = needs.need;
+  stands = needs.stands;
+  owner = needs.owner;
+  named = needs.named;
+  is = needs.is;
+  of = contains_map (λ (k : NeededAs). k.kind) needs.need.kinds kind needs.of;
+}
+
+pub needs_for : (doc : Document) (id : List ℕ) (kind : DepKind) (needed : List ℕ) → Needs doc id kind needed
+    → (k : NeededAs) × (k.kind ≡ kind) × NeedsFor doc id k needed
+needs_for doc id kind needed needs =
+    let from = from_contains_map (λ (k : NeededAs). k.kind) needs.need.kinds kind needs.of in (
+      from.0,
+      from.2,
+      record {
+        node = needs.node;
+        need = needs.need;
+        stands = needs.stands;
+        owner = needs.owner;
+        named = needs.named;
+        is = needs.is;
+        of = from.1;
+      },
+    )
+
 -- a link is a need of its node's id
 pub link_needs : (doc : Document) (n : ℕ) (r : ResolvedNode) (l : Link) → (is : IsRowAt doc n r) → Contains r.links l
-    → (needed : List ℕ) × IsAt doc l.node needed × Needs doc is.node.id l.kind needed
+    → (needed : List ℕ) × IsAt doc l.node needed × NeedsFor doc is.node.id l.needed_as needed
 link_needs doc n r l is stands =
     let link = link_sound (package_numbers doc) (node_numbers doc) is.node.deps r.links l
     (owner_is (package_numbers doc) (node_numbers doc) is.node r is.reads).1 stands in (
@@ -327,9 +358,9 @@ link_needs doc n r l is stands =
     )
 
 -- a need of an id is a link of its node
-pub need_links : (doc : Document) (starts : List ℕ) (rows : List ResolvedNode) (n : ℕ) (id : List ℕ) (kind : DepKind)
-    (needed : List ℕ) → IsResolved doc starts rows → IsAt doc n id → Needs doc id kind needed
-    → (l : Link) × Contains (links_at rows n) l × (l.kind ≡ kind) × IsAt doc l.node needed
+pub need_links : (doc : Document) (starts : List ℕ) (rows : List ResolvedNode) (n : ℕ) (id : List ℕ) (kind : NeededAs)
+    (needed : List ℕ) → IsResolved doc starts rows → IsAt doc n id → NeedsFor doc id kind needed
+    → (l : Link) × Contains (links_at rows n) l × (l.needed_as ≡ kind) × IsAt doc l.node needed
 need_links doc starts rows n id kind needed is at needs =
     let place = there doc.nodes needs.node needs.stands in
     let here : place.0 ≡ n = apart (node_ids doc) place.0 n id is.nodes
@@ -370,8 +401,9 @@ reached_id doc starts rows n is (by_link m l reached stands) =
     before.1 in (
       needs.0,
       needs.1,
-      by_need before.0 l.kind needs.0 before.2
-          (subst (λ (t : List ℕ). Needs doc t l.kind needs.0) same needs.2),
+      by_need before.0 l.needed_as.kind needs.0 before.2
+          (needs_of doc before.0 l.needed_as needs.0
+          (subst (λ (t : List ℕ). NeedsFor doc t l.needed_as needs.0) same needs.2)),
     )
 
 pub reached_number : (doc : Document) (starts : List ℕ) (rows : List ResolvedNode) (id : List ℕ)
@@ -381,7 +413,8 @@ reached_number doc starts rows id is (is_member m stands) =
     (to.0, to.2, from_start to.0 to.1)
 reached_number doc starts rows id is (by_need from kind needed reached needs) =
     let before = reached_number doc starts rows from is reached in
-    let link = need_links doc starts rows before.0 from kind needed is before.1 needs in
+    let for_target = needs_for doc from kind needed needs in
+    let link = need_links doc starts rows before.0 from for_target.0 needed is before.1 for_target.2 in
     (link.0.node, link.3, by_link before.0 link.0 before.2 link.1)
 
 -- numbers are within the rows

@@ -12,6 +12,7 @@ use Rattle.deny_metadata.specs.declared.source.Source.{Source}
 use Rattle.deny_metadata.specs.declared.source.Source.TheVariants.{CratesIo, Registry, Sparse, Git}
 use Rattle.deny_model.specs.Graph.{Crate, Graph}
 use Rattle.deny_model.specs.Graph as model
+use Rattle.deny_model.specs.declared.target_edge.TargetEdge.{TargetEdge}
 
 abbrev pub git_spec_view : GitSpec → model.GitSpec
 git_spec_view Any = model.Any
@@ -65,6 +66,11 @@ abbrev pub crates_from : ℕ → List Krate → List Crate
 crates_from place [] = []
 crates_from place (k ∷ ks) = crate_view place k ∷ crates_from (place + 1) ks
 
-abbrev pub graph_of : List ℕ → List Krate → List ℕ → List Edge → Graph
-graph_of root krates members edges =
-    record { root = root; crates = crates_from 0 krates; members = members; edges = edges }
+abbrev pub graph_of : List TargetEdge → List ℕ → List Krate → List ℕ → List Edge → Graph
+graph_of targeted root krates members edges = record {
+  root = root;
+  crates = crates_from 0 krates;
+  members = members;
+  edges = edges;
+  target_edges = targeted;
+}

@@ -6,6 +6,7 @@ pub use Rattle.deny_metadata.specs.Versions
 pub use Rattle.deny_metadata.specs.declared.document
 pub use Rattle.deny_metadata.specs.declared.fault
 pub use Rattle.deny_metadata.specs.declared.source
+pub mod Bounds
 pub mod Crates
 pub mod Dependents
 pub mod Filtered

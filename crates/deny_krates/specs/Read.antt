@@ -1,15 +1,18 @@
 -- The graph of metadata.
-use Rattle.std.specs.Prelude.{◌≡◌, ℕ, List, Some, Ok, Contains, slice_get}
+use Rattle.std.specs.Prelude.{◌≡◌, ℕ, List, Some, Ok, Contains, map, slice_get}
 use Rattle.std.specs.Ordering.{nat_cmp}
 use Rattle.deny_lists.specs.Ascending.{Lists}
 use Rattle.deny_base.specs.Edge.{edge_cmp}
 use Rattle.deny_base.specs.declared.edge.DepKind.{DepKind}
 use Rattle.deny_base.specs.declared.edge.Edge.{Edge}
 use Rattle.deny_model.specs.Graph.{Graph}
+use Rattle.deny_model.specs.TargetEdge.{target_edge_cmp}
+use Rattle.deny_model.specs.declared.target_edge.TargetEdge.{TargetEdge}
 use Rattle.deny_metadata.specs.Checked.{Resolved, checked}
 use Rattle.deny_krates.specs.Listed.{AreCratesAt}
 use Rattle.deny_krates.specs.Packages.{package_cmp}
 use Rattle.deny_metadata.specs.declared.document.Document.{Document}
+use Rattle.deny_metadata.specs.declared.document.NeededAs.{NeededAs}
 use Rattle.deny_metadata.specs.declared.document.NodeDependency.{NodeDependency}
 use Rattle.deny_metadata.specs.declared.document.Node.{Node}
 use Rattle.deny_metadata.specs.declared.document.Package.{Package}
@@ -22,7 +25,17 @@ pub record Needs (doc : Document) (id : List ℕ) (kind : DepKind) (needed : Lis
   pub owner : node.id ≡ id
   pub named : Contains node.deps need
   pub is : need.pkg ≡ needed
-  pub of : Contains need.kinds kind
+  pub of : Contains (map (λ needed_as. needed_as.kind) need.kinds) kind
+
+-- the same, with the kind and the target
+pub record NeedsFor (doc : Document) (id : List ℕ) (needed_as : NeededAs) (needed : List ℕ) : Type 0 where
+  pub node : Node
+  pub need : NodeDependency
+  pub stands : Contains doc.nodes node
+  pub owner : node.id ≡ id
+  pub named : Contains node.deps need
+  pub is : need.pkg ≡ needed
+  pub of : Contains need.kinds needed_as
 
 -- a chain of dependencies of any kind leads from a member
 pub data IsReached (doc : Document) : List ℕ → Type 0 where
@@ -49,8 +62,16 @@ pub record IsEdge (doc : Document) (crates : List Package) (e : Edge) : Type 0 w
   pub child_stands : slice_get crates e.child ≡ Some child
   pub needs : Needs doc parent.id e.kind child.id
 
--- the crates are the packages that a member reaches, in order; members ascend by place, and edges
--- by parent, child and kind, each once
+-- the crate at one place needs the crate at another for a target
+pub record IsTargetEdge (doc : Document) (crates : List Package) (e : TargetEdge) : Type 0 where
+  pub parent : Package
+  pub child : Package
+  pub parent_stands : slice_get crates e.parent ≡ Some parent
+  pub child_stands : slice_get crates e.child ≡ Some child
+  pub needs : NeedsFor doc parent.id (record { kind = e.kind; target = e.target }) child.id
+
+-- the crates are the packages that a member reaches, in order; members ascend by place, edges by
+-- parent, child and kind, and target edges by their target too, each once
 pub record IsGraph (doc : Document) (g : Graph) : Type 0 where
   pub packages : List Package
   pub kept : Lists package_cmp (IsCrate doc) packages
@@ -58,6 +79,7 @@ pub record IsGraph (doc : Document) (g : Graph) : Type 0 where
   pub crates : AreCratesAt doc 0 packages g.crates
   pub members : Lists nat_cmp (IsMember doc packages) g.members
   pub edges : Lists edge_cmp (IsEdge doc packages) g.edges
+  pub target_edges : Lists target_edge_cmp (IsTargetEdge doc packages) g.target_edges
 
 -- the bytes are metadata without fault, and this is its graph
 pub record IsGraphOf (bytes : List ℕ) (g : Graph) : Type 0 where

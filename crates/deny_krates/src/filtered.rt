@@ -4,7 +4,7 @@ ghost use Rattle.deny_krates.specs.private.Reach.{links_at};
 
 use deny_base::{DepKind, Edge};
 use deny_lists::{List, NoMemory};
-use deny_metadata::{Link, ResolvedNode};
+use deny_metadata::{Link, NeededAs, ResolvedNode};
 use std::alloc::Global;
 
 /// For each crate, by its place, the links to the crates that it needs in another way than `kind`.
@@ -24,7 +24,10 @@ pub fn ways(
             let row = &mut rows[edge.parent as usize];
             row.links.push(Link {
                 node: edge.child,
-                kind: edge.kind,
+                needed_as: NeededAs {
+                    kind: edge.kind,
+                    target: None,
+                },
             })?;
         }
     }

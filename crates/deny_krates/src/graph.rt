@@ -4,6 +4,7 @@ ghost use Rattle.std.specs.FinMap.{IsAntisymmetric};
 ghost use Rattle.std.specs.Ordering.{nat_cmp};
 ghost use Rattle.deny_lists.specs.Ascending.{Lists};
 ghost use Rattle.deny_base.specs.Edge.{edge_cmp};
+ghost use Rattle.deny_model.specs.TargetEdge.{edge_of, target_edge_cmp};
 ghost use Rattle.deny_krates.specs.private.Graph.{kept_cmp, IsKeptNode, IsInverse, place_at, edge_to, edges_from};
 ghost use Rattle.deny_krates.specs.Packages.{rank_of};
 ghost use Rattle.deny_krates.specs.private.Reach.{links_at};
@@ -12,6 +13,7 @@ ghost use Rattle.deny_krates.specs.declared.graph.KeptPackage.{KeptPackage};
 use deny_base::{Edge, edge_order};
 use deny_lists::{List, NoMemory, Text, put_in_order};
 use deny_metadata::{Link, Package, ResolvedNode};
+use deny_model::{TargetEdge, target_edge_order};
 use std::alloc::Global;
 
 /// What crates are ordered by: name, version text, source text (none first) and id.
@@ -152,21 +154,46 @@ fn places_of(alloc: Global, starts: &[u32], places: &[u32]) -> Result<List<u32>,
     Ok(members)
 }
 
-/// The edges between kept packages, ascending, each once.
-pub fn edges_of(
+/// The target edges between kept packages, ascending, each once.
+pub fn target_edges_of(
     alloc: Global,
     kept: &[KeptPackage],
     rows: &[ResolvedNode],
     places: &[u32],
-) -> Result<List<Edge>, NoMemory>
+) -> Result<List<TargetEdge>, NoMemory>
     requires few { length kept.now < 2 ^ 28 }
     requires nodes { All (λ k. k.node < length rows.now) kept.now }
     requires links { (node : ℕ) → All (λ l. l.node < length places.now) (links_at rows.now node) }
-    ensures { IfOk result (λ edges. Lists edge_cmp (Contains (edges_from rows.now places.now 0 kept.now)) edges) }
+    ensures { IfOk result (λ edges.
+        Lists target_edge_cmp (Contains (edges_from rows.now places.now 0 kept.now)) edges) }
 {
     let mut edges = all_edges(alloc, kept, rows, places)?;
+    target_edge_order();
+    put_in_order(&mut edges)?;
+    Ok(edges)
+}
+
+/// The edges that target edges are, whatever their targets, ascending, each once.
+pub fn edges_of(alloc: Global, targeted: &[TargetEdge]) -> Result<List<Edge>, NoMemory>
+    ensures { IfOk result (λ edges. Lists edge_cmp (Contains (map edge_of targeted.now)) edges) }
+{
+    let mut edges = without_targets(alloc, targeted)?;
     edge_order();
     put_in_order(&mut edges)?;
+    Ok(edges)
+}
+
+fn without_targets(alloc: Global, targeted: &[TargetEdge]) -> Result<List<Edge>, NoMemory>
+    ensures { IfOk result (λ edges. edges ≡ map edge_of targeted.now) }
+{
+    let mut edges = List::new(alloc);
+    for each in targeted {
+        edges.push(Edge {
+            parent: each.parent,
+            child: each.child,
+            kind: each.kind,
+        })?;
+    }
     Ok(edges)
 }
 
@@ -175,7 +202,7 @@ fn all_edges(
     kept: &[KeptPackage],
     rows: &[ResolvedNode],
     places: &[u32],
-) -> Result<List<Edge>, NoMemory>
+) -> Result<List<TargetEdge>, NoMemory>
     requires few { length kept.now < 2 ^ 28 }
     requires nodes { All (λ k. k.node < length rows.now) kept.now }
     requires links { (node : ℕ) → All (λ l. l.node < length places.now) (links_at rows.now node) }
@@ -194,7 +221,7 @@ fn all_edges(
 }
 
 fn push_edges(
-    edges: &mut List<Edge>,
+    edges: &mut List<TargetEdge>,
     parent: u32,
     links: &[Link],
     places: &[u32],
@@ -203,10 +230,11 @@ fn push_edges(
     ensures { OnOk result (edges.new ≡ edges.old ++ map (edge_to places.now parent) links.now) }
 {
     for link in links {
-        edges.push(Edge {
+        edges.push(TargetEdge {
             parent,
             child: places[link.node as usize],
-            kind: link.kind,
+            kind: link.needed_as.kind,
+            target: link.needed_as.target.clone()?,
         })?;
     }
     Ok(())

@@ -1,8 +1,10 @@
 ghost use Rattle.std.specs.Prelude.{Bool, List, ℕ, Ok, Some, None, ◌↔◌, IsTrue, All, Contains, MatchOption, option_copied, option_map, ◌≡◌, ◌≤◌, ◌<◌, ◌^◌, ◌-◌, ◌≢◌, true, false, length, take, drop, filter, IfOk, IfErr};
 ghost use Rattle.std.specs.Cmp.Lexicographic.{slice_cmp};
 ghost use Rattle.std.specs.List.Sorted.{IsPartitionPoint, IsSortedByKey, IsStrictlySortedBy};
+ghost use Rattle.std.specs.Option.{option_and_then};
 ghost use Rattle.std.specs.Ordering.{nat_cmp, is_lt, is_le};
 ghost use Rattle.deny_model.specs.Groups.{has_name};
+ghost use Rattle.deny_krates.specs.Bounds.{lock_length, node_count};
 ghost use Rattle.deny_krates.specs.Crates.{crate_view, crates_from, graph_of};
 ghost use Rattle.deny_krates.specs.private.Numbered.{IsNumbered, IsResolved};
 ghost use Rattle.deny_krates.specs.Orderly.{IsOrderly};
@@ -14,17 +16,21 @@ ghost use Rattle.deny_krates.specs.Filtered.{AreMarks};
 ghost use Rattle.deny_krates.specs.Ids.{crate_of};
 ghost use Rattle.deny_base.specs.Edge.{edge_cmp};
 ghost use Rattle.deny_model.specs.Graph.{Graph};
+ghost use Rattle.deny_model.specs.Resolution.{declaration_at, resolution};
 
+use crate::bounds::check_bounds;
 use crate::crates::krates_of;
 use crate::direct::{dependencies_of, dependents_of};
 use crate::filtered::ways;
-use crate::graph::{KeptPackage, edges_of, kept_of, members_of, places_in};
+use crate::graph::{KeptPackage, edges_of, kept_of, members_of, places_in, target_edges_of};
 use crate::ids::{Entry, ids_of, place_of};
 use crate::krate::{DirectDependent, Krate};
 use crate::reach::reach;
+use crate::resolution::{declared, resolution};
 use deny_base::{DepKind, Edge, Kid, edge_order};
 use deny_lists::{List, NoMemory, Text};
 use deny_metadata::{Document, MetadataFault, ResolvedNode, document_in, resolve, value_of};
+use deny_model::TargetEdge;
 use std::alloc::Global;
 use std::marker::Model;
 use std::ops::Range;
@@ -38,6 +44,7 @@ pub struct Krates {
     krates: List<Krate>,
     members: List<u32>,
     edges: List<Edge>,
+    target_edges: List<TargetEdge>,
     dependents: List<List<DirectDependent>>,
     dependencies: List<List<DirectDependent>>,
     ids: List<Entry>,
@@ -57,9 +64,9 @@ impl Model for Krates {
     ghost use Rattle.deny_krates.specs.Crates.{graph_of};
     ghost use Rattle.deny_krates.specs.private.Kept.{IsKept};
 
-    ghost view = { λ k. graph_of k.root k.krates k.members k.edges };
+    ghost view = { λ k. graph_of k.target_edges k.root k.krates k.members k.edges };
 
-    ghost invariant = { λ k. IsKept k.root k.krates k.members k.edges k.dependents k.dependencies k.ids };
+    ghost invariant = { λ k. IsKept k.target_edges k.root k.krates k.members k.edges k.dependents k.dependencies k.ids };
 }
 
 impl Krates {
@@ -81,11 +88,14 @@ impl Krates {
         graph_in(alloc, &document)
     }
 
-    /// The crates in order.
+    /// The crates in order. Their lock text and their nodes, a crate and its enabled features, are within
+    /// the bounds that later calls count with.
     pub fn krates(&self) -> &[Krate]
         ensures crates { crates_from 0 result.now ≡ self.now.crates }
         ensures few { length result.now < 2 ^ 28 }
         ensures orderly { IsOrderly self.now }
+        ensures lock { lock_length self.now.crates < 2 ^ 29 }
+        ensures nodes { node_count self.now.crates < 2 ^ 32 }
     {
         self.krates.as_slice()
     }
@@ -154,6 +164,19 @@ impl Krates {
                 kind,
             },
         )
+    }
+
+    /// The place of the crate that the declaration at `index` of the crate at `place` resolves to: of
+    /// the crates of its name that cargo resolved for its kind and target, the first by place whose
+    /// version its requirement matches, or else the first. None where there is no such crate, as for
+    /// an optional dependency that no feature enables, or for a target that was left out; and where
+    /// there is no such declaration.
+    pub fn resolved_dependency(&self, place: u32, index: usize) -> Option<u32>
+        ensures { result ≡ option_and_then (resolution self.now place) (declaration_at self.now place index) }
+    {
+        let krates = self.krates.as_slice();
+        let declaration = declared(krates, place, index)?;
+        resolution(krates, self.target_edges.as_slice(), place, declaration)
     }
 
     /// The place of the crate of an id.
@@ -246,7 +269,8 @@ fn join(
 {
     let places = places_in(alloc, kept, rows.len())?;
     let members = members_of(alloc, starts, places.as_slice())?;
-    let edges = edges_of(alloc, kept, rows, places.as_slice())?;
+    let target_edges = target_edges_of(alloc, kept, rows, places.as_slice())?;
+    let edges = edges_of(alloc, target_edges.as_slice())?;
     let root = document.workspace_root.clone()?;
     let krates = krates_of(
         alloc,
@@ -254,7 +278,7 @@ fn join(
         document.nodes.as_slice(),
         kept,
     )?;
-    finish(alloc, root, krates, members, edges)
+    finish(alloc, root, krates, members, edges, target_edges)
 }
 
 // A graph with what is kept of its crates' neighbours and ids.
@@ -264,20 +288,23 @@ fn finish(
     krates: List<Krate>,
     members: List<u32>,
     edges: List<Edge>,
+    target_edges: List<TargetEdge>,
 ) -> Result<Krates, NoMemory>
     requires few { length krates < 2 ^ 28 }
     requires names { IsSortedByKey (λ k. k.name) (slice_cmp nat_cmp) krates }
-    requires orderly { IsOrderly (graph_of root krates members edges) }
-    ensures { IfOk result (λ g. g ≡ graph_of root krates members edges) }
+    requires orderly { IsOrderly (graph_of target_edges root krates members edges) }
+    ensures { IfOk result (λ g. g ≡ graph_of target_edges root krates members edges) }
 {
     let dependents = dependents_of(alloc, krates.as_slice(), edges.as_slice())?;
     let dependencies = dependencies_of(alloc, krates.as_slice(), edges.as_slice())?;
     let ids = ids_of(alloc, krates.as_slice())?;
+    check_bounds(alloc, krates.as_slice())?;
     Ok(Krates {
         root,
         krates,
         members,
         edges,
+        target_edges,
         dependents,
         dependencies,
         ids,

@@ -1,6 +1,7 @@
 //! The dependency graph of a workspace, read from the text that `cargo metadata` prints.
 #![tactic(auto)]
 
+mod bounds;
 mod crates;
 mod direct;
 mod filtered;
@@ -9,6 +10,7 @@ mod ids;
 mod krate;
 mod krates;
 mod reach;
+mod resolution;
 
 pub use deny_base::DepKind;
 pub use deny_metadata::{GitSpec, MetadataFault, Source, Target};

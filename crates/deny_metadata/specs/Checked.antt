@@ -2,7 +2,6 @@
 use Rattle.std.specs.Prelude.{◌++◌, ℕ, List, [], ◌∷◌, Option, Some, None, Result, Ok, Err, ◌==◌, if◌then◌else◌, map}
 use Rattle.std.specs.Result.{result_ok}
 use Rattle.std.specs.List.{list_any, position_from}
-use Rattle.deny_base.specs.declared.edge.DepKind.{DepKind}
 use Rattle.semver.specs.Parse.{req_of, version_parts}
 use Rattle.deny_model.specs.Text.{same_text}
 use Rattle.deny_metadata.specs.Document.{value_at, document_of}
@@ -15,6 +14,7 @@ use Rattle.deny_metadata.specs.declared.checked.Rule.{Rule}
 use Rattle.deny_metadata.specs.declared.checked.Rule.TheVariants.{Versions, Requirements, Sources, ManifestPaths}
 use Rattle.deny_metadata.specs.declared.document.Declaration.{Declaration}
 use Rattle.deny_metadata.specs.declared.document.Document.{Document}
+use Rattle.deny_metadata.specs.declared.document.NeededAs.{NeededAs}
 use Rattle.deny_metadata.specs.declared.document.NodeDependency.{NodeDependency}
 use Rattle.deny_metadata.specs.declared.document.Node.{Node}
 use Rattle.deny_metadata.specs.declared.document.Package.{Package}
@@ -61,8 +61,8 @@ known packages nodes id = do
   _ ← number_or id (packages id)
   number_or id (nodes id)
 
-abbrev pub links_to : ℕ → List DepKind → List Link
-links_to node kinds = map (λ kind. record { node = node; kind = kind }) kinds
+abbrev pub links_to : ℕ → List NeededAs → List Link
+links_to node kinds = map (λ kind. record { node = node; needed_as = kind }) kinds
 
 -- the links of these dependencies
 unfoldable pub links_of : Numbering → Numbering → List NodeDependency → Result (List Link) MetadataFault

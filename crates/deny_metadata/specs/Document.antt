@@ -15,6 +15,7 @@ use Rattle.deny_metadata.specs.Reading.{◌>>=◌}
 use Rattle.deny_metadata.specs.declared.document.Declaration.{Declaration}
 use Rattle.deny_metadata.specs.declared.document.Document.{Document}
 use Rattle.deny_metadata.specs.declared.document.Feature.{Feature}
+use Rattle.deny_metadata.specs.declared.document.NeededAs.{NeededAs}
 use Rattle.deny_metadata.specs.declared.document.NodeDependency.{NodeDependency}
 use Rattle.deny_metadata.specs.declared.document.Node.{Node}
 use Rattle.deny_metadata.specs.declared.document.Package.{Package}
@@ -136,23 +137,23 @@ package_at path d = do
     dependencies = dependencies;
   })
 
-unfoldable pub kind_at : List ℕ → Data → Result DepKind MetadataFault
-kind_at path d = do
+unfoldable pub needed_as_at : List ℕ → Data → Result NeededAs MetadataFault
+needed_as_at path d = do
   _ ← object_at path d
   kind ← kind_member path d
-  _ ← optional_text path ForTarget d
-  Ok kind
+  target ← optional_text path ForTarget d
+  Ok (record { kind = kind; target = target })
 
--- no kinds are one normal kind
-unfoldable pub kinds_of : List DepKind → List DepKind
-kinds_of [] = Normal ∷ []
+-- no kinds are one normal kind, for all targets
+unfoldable pub kinds_of : List NeededAs → List NeededAs
+kinds_of [] = (record { kind = Normal; target = None }) ∷ []
 kinds_of (kind ∷ kinds) = kind ∷ kinds
 
 unfoldable pub node_dependency_at : List ℕ → Data → Result NodeDependency MetadataFault
 node_dependency_at path d = do
   _ ← object_at path d
   pkg ← text_member path Pkg d
-  kinds ← each_optional kind_at path DepKinds d
+  kinds ← each_optional needed_as_at path DepKinds d
   Ok (record { pkg = pkg; kinds = kinds_of kinds })
 
 unfoldable pub node_at : List ℕ → Data → Result Node MetadataFault

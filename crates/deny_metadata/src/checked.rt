@@ -3,21 +3,20 @@ ghost use Rattle.deny_metadata.specs.Checked.{Resolved, resolved, resolved_by, n
 ghost use Rattle.deny_metadata.specs.private.Index.{IsIndex, number_by};
 ghost use Rattle.deny_metadata.specs.Reading.{Fails, Gives, each, each_passes};
 
-use crate::document::{Declaration, Document, Node, NodeDependency, Package};
+use crate::document::{Declaration, Document, NeededAs, Node, NodeDependency, Package};
 use crate::fault::MetadataFault;
 use crate::index::index_of;
 use crate::source::source_in;
 use crate::versions::{requirement_in, rust_version_in, version_in};
-use deny_base::DepKind;
 use deny_lists::{List, NoMemory, Text};
 use std::alloc::Global;
 use std::collections::BTreeMap;
 
-/// A dependency of a kind on a node, by the node's number.
-#[derive(Debug, Clone, Copy, PartialEq, Eq)]
+/// A dependency on a node, by the node's number, and what it is needed as.
+#[derive(Debug, PartialEq, Eq, Drop)]
 pub struct Link {
     pub node: u32,
-    pub kind: DepKind,
+    pub needed_as: NeededAs,
 }
 
 /// What a node resolves to: the number of its package, and its links.
@@ -73,11 +72,14 @@ fn numbers(alloc: Global, indexes: &Indexes, members: &[Text]) -> Result<List<u3
 }
 
 // Puts a link of each kind at the end.
-fn push_links(links: &mut List<Link>, node: u32, kinds: &[DepKind]) -> Result<(), NoMemory>
+fn push_links(links: &mut List<Link>, node: u32, kinds: &[NeededAs]) -> Result<(), NoMemory>
     ensures { OnOk result (links.new ≡ links.old ++ links_to node kinds.now) }
 {
     for kind in kinds {
-        links.push(Link { node, kind: *kind })?;
+        links.push(Link {
+            node,
+            needed_as: kind.clone()?,
+        })?;
     }
     Ok(())
 }

@@ -2,7 +2,7 @@ ghost use Rattle.std.proofs.Common.{rules};
 ghost use Rattle.std.specs.Prelude.{◌≡◌, ◌⊎◌, Some, None, Ok, IfOk, IfErr, MatchResult};
 ghost use Rattle.serde_json.specs.Read.{read};
 ghost use Rattle.serde_json.specs.View.{view, members_view};
-ghost use Rattle.deny_metadata.specs.Document.{json_at, value_at, target_at, declaration_at, feature_at, features_from, features_member, package_at, kind_named, kind_member, kind_at, kinds_of, node_dependency_at, node_at, resolve_given, document_of};
+ghost use Rattle.deny_metadata.specs.Document.{json_at, value_at, target_at, declaration_at, feature_at, features_from, features_member, package_at, kind_named, kind_member, needed_as_at, kinds_of, node_dependency_at, node_at, resolve_given, document_of};
 ghost use Rattle.deny_metadata.specs.Reading.{Fails, Gives};
 
 use crate::elements::{
@@ -200,23 +200,35 @@ fn kind_in(alloc: Global, path: &str, dependency: &Value) -> Result<DepKind, Met
     }
 }
 
-impl Element for DepKind {
-    ghost read_at = { kind_at };
+/// What a dependency is needed as: its kind, and the target that it is for; none for all.
+#[derive(Debug, Clone, PartialEq, Eq, Drop)]
+pub struct NeededAs {
+    pub kind: DepKind,
+    pub target: Option<Text>,
+}
 
-    #[tactic(auto, unfolding(crate::specs::Document::kind_at))]
-    fn from_value(alloc: Global, path: &str, value: &Value) -> Result<DepKind, MetadataFault> {
+impl Plain for NeededAs {
+    ghost clone_is_equal = { Prim.search rules };
+}
+
+impl Element for NeededAs {
+    ghost read_at = { needed_as_at };
+
+    #[tactic(auto, unfolding(crate::specs::Document::needed_as_at))]
+    fn from_value(alloc: Global, path: &str, value: &Value) -> Result<NeededAs, MetadataFault> {
         object(alloc, path, value)?;
         let kind = kind_in(alloc, path, value)?;
-        let _target = optional_text_in(alloc, path, value, Member::Target)?;
-        Ok(kind)
+        let target = optional_text_in(alloc, path, value, Member::Target)?;
+        Ok(NeededAs { kind, target })
     }
 }
 
-/// A dependency that cargo resolved: the id of the package, and the kinds it is needed as.
+/// A dependency that cargo resolved: the id of the package, and the kinds it is needed as, each
+/// with its target.
 #[derive(Debug, Drop)]
 pub struct NodeDependency {
     pub pkg: Text,
-    pub kinds: List<DepKind>,
+    pub kinds: List<NeededAs>,
 }
 
 impl Element for NodeDependency {
@@ -236,13 +248,16 @@ impl Element for NodeDependency {
     }
 }
 
-// The kinds of a dependency: without any it is a normal one.
+// The kinds of a dependency: without any it is a normal one for all targets.
 #[tactic(auto, unfolding(crate::specs::Document::kinds_of))]
-fn kinds_in(mut written: List<DepKind>) -> Result<List<DepKind>, NoMemory>
+fn kinds_in(mut written: List<NeededAs>) -> Result<List<NeededAs>, NoMemory>
     ensures { IfOk result (λ kinds. kinds ≡ kinds_of written) }
 {
     if written.len() == 0 {
-        written.push(DepKind::Normal)?;
+        written.push(NeededAs {
+            kind: DepKind::Normal,
+            target: None,
+        })?;
     }
     Ok(written)
 }

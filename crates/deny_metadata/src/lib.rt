@@ -14,7 +14,8 @@ mod versions;
 
 pub use checked::{Link, Resolution, ResolvedNode, resolve};
 pub use document::{
-    Declaration, Document, Feature, Node, NodeDependency, Package, Target, document_in, value_of,
+    Declaration, Document, Feature, NeededAs, Node, NodeDependency, Package, Target, document_in,
+    value_of,
 };
 pub use fault::MetadataFault;
 pub use source::{GitSpec, Source, source_in};

@@ -52,7 +52,7 @@ edge parent child = record { parent = parent; child = child; kind = Normal }
 
 -- the member `app` and other crates
 graph : List Crate → List Edge → Graph
-graph crates edges = record { root = []; crates = app ∷ crates; members = 0 ∷ []; edges = edges }
+graph crates edges = record { root = []; crates = app ∷ crates; members = 0 ∷ []; edges = edges; target_edges = [] }
 
 range : ℕ → Span
 range start = record { start = start; end = start + 1 }

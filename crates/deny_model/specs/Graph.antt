@@ -7,6 +7,7 @@ use Rattle.deny_lists.specs.TextMap.{TextFinMap}
 use Rattle.deny_base.specs.declared.edge.DepKind.{DepKind}
 use Rattle.deny_base.specs.declared.edge.Edge.{Edge}
 use Rattle.deny_base.specs.declared.span.Kid.{Kid}
+use Rattle.deny_model.specs.declared.target_edge.TargetEdge.{TargetEdge}
 
 -- the part of a repository that a git source asks for
 pub data GitSpec : Type 0 where
@@ -61,12 +62,14 @@ pub record Crate : Type 0 where
   -- the enabled features, ascending
   pub enabled : List (List ℕ)
 
--- members are named by their places; the root is the folder of the workspace
+-- members are named by their places; the root is the folder of the workspace; edges are those of the
+-- target edges, whatever the target
 pub record Graph : Type 0 where
   pub root : List ℕ
   pub crates : List Crate
   pub members : List ℕ
   pub edges : List Edge
+  pub target_edges : List TargetEdge
 
 -- how a crate is shown: `name = version`
 abbrev pub crate_text : Crate → List ℕ

@@ -9,9 +9,11 @@ pub mod Hits
 pub mod Keys
 pub mod Match
 pub mod Policy
+pub mod Resolution
 pub mod Roots
 pub mod Rules
 pub mod Skips
+pub mod TargetEdge
 pub mod Text
 pub mod Told
 pub mod VersionOrder

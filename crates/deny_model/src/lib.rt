@@ -4,5 +4,7 @@
 #![tactic(auto)]
 
 mod laws;
+mod target_edge;
 
 pub use laws::{one_group, one_report};
+pub use target_edge::{TargetEdge, target_edge_order};

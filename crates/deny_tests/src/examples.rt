@@ -4,12 +4,12 @@ ghost use Rattle.deny_spdx.specs.Bad.{Spells};
 ghost use Rattle.deny_spdx.specs.Grammar.{IsExpression};
 ghost use Rattle.deny_spdx.specs.Truth.{truth};
 ghost use Rattle.deny_spdx.specs.declared.expression.Expression.{Expression};
-ghost use Rattle.deny_std.specs.Entries.{Entry};
-ghost use Rattle.deny_std.specs.Table.{entry_named, table};
+ghost use Rattle.deny_std_table.specs.Entries.{Entry};
+ghost use Rattle.deny_std_table.specs.Table.{entry_named, table};
 
 use deny_globs::{Glob, GlobError, GlobSet};
 use deny_spdx::{Expression, SpdxError};
-use deny_std::{ReplacementData, ReplacementError};
+use deny_std_table::{ReplacementData, ReplacementError};
 use deny_toml::{TomlError, parse};
 use std::alloc::Global;
 

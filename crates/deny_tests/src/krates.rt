@@ -1,7 +1,10 @@
 //! Calls on a graph, the reference of a git source, and the texts of faults.
+ghost use Rattle.std.specs.Prelude.{◌<◌, IsTrue, length};
 
 use deny_base::Kid;
-use deny_krates::{DepKind, Dependency, GitSpec, Krate, Krates, MetadataFault, Source, Target};
+use deny_krates::{
+    DepKind, Dependency, DirectDependent, GitSpec, Krate, Krates, MetadataFault, Source, Target,
+};
 use deny_lists::{List, NoMemory, Text};
 use semver::Version;
 use std::alloc::Global;
@@ -57,6 +60,50 @@ fn are_in_order(krates: &Krates) -> bool {
         && are_crates(krates.krates_by_name("z"), &[])
         && krates.workspace_members() == [0].as_slice()
         && krates.workspace_root() == "/w"
+}
+
+fn are_neighbours(found: &[DirectDependent], expected: &[(u32, DepKind)]) -> bool {
+    let mut all = found.len() == expected.len();
+    for (place, (neighbour, kind)) in expected.iter().enumerate() {
+        all = all
+            && found.get(place)
+                == Some(&DirectDependent {
+                    place: *neighbour,
+                    kind: *kind,
+                });
+    }
+    all
+}
+
+fn is_place(krates: &Krates, place: u32) -> bool
+    ensures { IsTrue result → place < length krates.now.crates }
+{
+    (place as usize) < krates.krates().len()
+}
+
+fn needed_by(krates: &Krates, place: u32, expected: &[(u32, DepKind)]) -> bool {
+    is_place(krates, place) && are_neighbours(krates.direct_dependents(place), expected)
+}
+
+fn needs(krates: &Krates, place: u32, expected: &[(u32, DepKind)]) -> bool {
+    is_place(krates, place) && are_neighbours(krates.direct_dependencies(place), expected)
+}
+
+fn has_edge(krates: &Krates, parent: u32, child: u32, kind: DepKind) -> bool {
+    is_place(krates, parent) && is_place(krates, child) && krates.has_edge(parent, child, kind)
+}
+
+// The id of `x` 1.9.0 is below that of `y`, and a build dependency counts after a normal one.
+fn have_neighbours(krates: &Krates) -> bool {
+    needed_by(krates, 0, &[])
+        && needed_by(krates, 2, &[(0, DepKind::Normal), (3, DepKind::Normal)])
+        && needed_by(krates, 3, &[(0, DepKind::Dev)])
+        && needs(krates, 0, &[(2, DepKind::Normal), (3, DepKind::Dev)])
+        && needs(krates, 3, &[(2, DepKind::Normal), (1, DepKind::Normal)])
+        && has_edge(krates, 0, 2, DepKind::Normal)
+        && has_edge(krates, 0, 2, DepKind::Build)
+        && !has_edge(krates, 0, 2, DepKind::Dev)
+        && !has_edge(krates, 2, 0, DepKind::Normal)
 }
 
 fn are_texts(found: Option<&[Text]>, expected: &[&str]) -> bool {
@@ -200,12 +247,83 @@ fn answers(alloc: Global, krates: &Krates) -> Result<bool, NoMemory> {
 
 fn all_answer(alloc: Global) -> Result<bool, MetadataFault> {
     let krates = built(alloc, GRAPH)?;
-    Ok(are_in_order(&krates) && have_fields(&krates) && answers(alloc, &krates)?)
+    Ok(
+        are_in_order(&krates)
+            && have_neighbours(&krates)
+            && have_fields(&krates)
+            && answers(alloc, &krates)?,
+    )
 }
 
 #[test]
 fn each_call_answers_of_the_graph(rt: HostRuntime) {
     assert!(rt; all_answer(rt.alloc()) == Ok(true));
+}
+
+// `app` needs `x` in one version on Unix and in another on Windows, `y` under another name and, in a
+// later version, for its build script, and two versions of `z`; `y` alone needs `w`. By name and
+// version the places are `app` 0, `w` 1, `x` 2 and 3, `y` 4 and 5, `z` 6 and 7.
+const RESOLVED: &str = r#"{"packages":[
+{"name":"app","version":"0.1.0","id":"app","manifest_path":"/w/Cargo.toml","dependencies":[
+{"name":"x","req":"*","target":"cfg(unix)"},
+{"name":"x","req":"^1","target":"cfg(windows)"},
+{"name":"x","req":"^1","target":"cfg(target_os = \"macos\")"},
+{"name":"x","req":"^1"},
+{"name":"y","req":"^1","rename":"why"},
+{"name":"y","req":"^1","kind":"build"},
+{"name":"y","req":"^1","kind":"dev"},
+{"name":"z","req":"^2"},
+{"name":"z","req":"^3"},
+{"name":"w","req":"*"}]},
+{"name":"w","version":"1.0.0","id":"w","manifest_path":"/w/Cargo.toml"},
+{"name":"x","version":"1.0.0","id":"x1","manifest_path":"/x/Cargo.toml"},
+{"name":"x","version":"2.0.0","id":"x2","manifest_path":"/x/Cargo.toml"},
+{"name":"y","version":"1.0.0","id":"y1","manifest_path":"/y/Cargo.toml","dependencies":[{"name":"w","req":"*"}]},
+{"name":"y","version":"1.1.0","id":"y2","manifest_path":"/y/Cargo.toml"},
+{"name":"z","version":"1.0.0","id":"z1","manifest_path":"/z/Cargo.toml"},
+{"name":"z","version":"2.0.0","id":"z2","manifest_path":"/z/Cargo.toml"}],
+"workspace_members":["app"],"workspace_root":"/w",
+"resolve":{"nodes":[
+{"id":"app","deps":[
+{"pkg":"z2"},
+{"pkg":"z1","dep_kinds":[{"kind":null,"target":null}]},
+{"pkg":"y2","dep_kinds":[{"kind":"build"}]},
+{"pkg":"y1","dep_kinds":[{"kind":"normal"}]},
+{"pkg":"x1","dep_kinds":[{"kind":null,"target":"cfg(unix)"}]},
+{"pkg":"x2","dep_kinds":[{"kind":null,"target":"cfg(windows)"},{"kind":null,"target":"cfg(windows)"}]}]},
+{"id":"w"},{"id":"x1"},{"id":"x2"},{"id":"y1","deps":[{"pkg":"w"}]},{"id":"y2"},{"id":"z1"},{"id":"z2"}]}}"#;
+
+// Two targets, then a target that no node names and none; another name; kinds; the version that
+// matches, or else the first; a dependency of another crate, and no declaration.
+fn are_resolved(krates: &Krates) -> bool {
+    let places = [
+        Some(2),
+        Some(3),
+        None,
+        None,
+        Some(4),
+        Some(5),
+        None,
+        Some(7),
+        Some(6),
+        None,
+        None,
+    ];
+    let mut all = krates.resolved_dependency(4, 0) == Some(1);
+    for (index, place) in places.iter().enumerate() {
+        all = all && krates.resolved_dependency(0, index) == *place;
+    }
+    all
+}
+
+fn all_resolve(alloc: Global) -> Result<bool, MetadataFault> {
+    let krates = built(alloc, RESOLVED)?;
+    Ok(are_resolved(&krates))
+}
+
+#[test]
+fn a_declaration_resolves_by_name_kind_target_and_version(rt: HostRuntime) {
+    assert!(rt; all_resolve(rt.alloc()) == Ok(true));
 }
 
 // A workspace of one package, which comes from `source`.

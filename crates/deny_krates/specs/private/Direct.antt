@@ -11,6 +11,7 @@ use Rattle.deny_krates.specs.Dependents.{AreDirectDependencies, AreDirectDepende
 use Rattle.deny_krates.specs.declared.direct.IncomingEdge.{IncomingEdge}
 use Rattle.deny_krates.specs.declared.krate.DirectDependent.{DirectDependent}
 use Rattle.deny_krates.specs.declared.krate.Krate.{Krate}
+use Rattle.deny_model.specs.declared.target_edge.TargetEdge.{TargetEdge}
 
 abbrev pub id_in : List Krate → ℕ → List ℕ
 id_in krates place = option_map_or (λ k. k.id.0) (slice_get krates place) []
@@ -47,9 +48,9 @@ with_incoming child ds a = if a.child == child then with_dependent ds (record { 
 
 -- a row for each of these crates, of any graph with these edges
 abbrev pub AreDependents : List Krate → List Edge → List (List DirectDependent) → Type 0
-AreDependents krates edges rows = (root members : List ℕ) → AreRows (graph_of root krates members edges)
-    (AreDirectDependents (graph_of root krates members edges)) rows
+AreDependents krates edges rows = (targeted : List TargetEdge) (root members : List ℕ) → AreRows (graph_of targeted root krates members edges)
+    (AreDirectDependents (graph_of targeted root krates members edges)) rows
 
 abbrev pub AreDependencies : List Krate → List Edge → List (List DirectDependent) → Type 0
-AreDependencies krates edges rows = (root members : List ℕ) → AreRows (graph_of root krates members edges)
-    (AreDirectDependencies (graph_of root krates members edges)) rows
+AreDependencies krates edges rows = (targeted : List TargetEdge) (root members : List ℕ) → AreRows (graph_of targeted root krates members edges)
+    (AreDirectDependencies (graph_of targeted root krates members edges)) rows

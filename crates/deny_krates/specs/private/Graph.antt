@@ -5,7 +5,6 @@ use Rattle.std.specs.Option.{option_map_or}
 use Rattle.std.specs.Ordering.{nat_cmp, on, then_cmp}
 use Rattle.std.specs.declared.cmp.Ordering.{Ordering}
 use Rattle.deny_lists.specs.Ascending.{Lists}
-use Rattle.deny_base.specs.declared.edge.Edge.{Edge}
 use Rattle.deny_krates.specs.Crates.{crate_view}
 use Rattle.deny_krates.specs.Listed.{crate_at}
 use Rattle.deny_krates.specs.Packages.{rank_cmp, rank_of}
@@ -17,6 +16,7 @@ use Rattle.deny_metadata.specs.declared.document.Node.{Node}
 use Rattle.deny_metadata.specs.declared.document.Package.{Package}
 use Rattle.deny_krates.specs.declared.graph.KeptPackage.{KeptPackage}
 use Rattle.deny_krates.specs.declared.krate.Krate.{Krate}
+use Rattle.deny_model.specs.declared.target_edge.TargetEdge.{TargetEdge}
 
 abbrev pub kept_cmp : KeptPackage → KeptPackage → Ordering
 kept_cmp = then_cmp (on (λ k. k.rank) rank_cmp) (then_cmp (on (λ k. k.owner) nat_cmp) (on (λ k. k.node) nat_cmp))
@@ -58,11 +58,16 @@ pub record IsInverse (numbers : List ℕ) (size : ℕ) (places : List ℕ) : Typ
 abbrev pub place_at : List ℕ → ℕ → ℕ
 place_at places n = slice_index_or places n 0
 
-abbrev pub edge_to : List ℕ → ℕ → Link → Edge
-edge_to places parent l = record { parent = parent; child = place_at places l.node; kind = l.kind }
+abbrev pub edge_to : List ℕ → ℕ → Link → TargetEdge
+edge_to places parent l = record {
+  parent = parent;
+  child = place_at places l.node;
+  kind = l.needed_as.kind;
+  target = l.needed_as.target;
+}
 
--- the edges of crates that stand side by side, the first at this place
-abbrev pub edges_from : List ResolvedNode → List ℕ → ℕ → List KeptPackage → List Edge
+-- the target edges of crates that stand side by side, the first at this place
+abbrev pub edges_from : List ResolvedNode → List ℕ → ℕ → List KeptPackage → List TargetEdge
 edges_from rows places parent [] = []
 edges_from rows places parent (k ∷ ks) =
     map (edge_to places parent) (links_at rows k.node) ++ edges_from rows places (parent + 1) ks

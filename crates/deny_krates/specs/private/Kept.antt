@@ -4,23 +4,27 @@ use Rattle.std.specs.Cmp.Lexicographic.{slice_cmp}
 use Rattle.std.specs.List.Sorted.{IsSortedByKey}
 use Rattle.std.specs.Ordering.{nat_cmp}
 use Rattle.deny_base.specs.declared.edge.Edge.{Edge}
-use Rattle.deny_krates.specs.Crates.{graph_of}
+use Rattle.deny_krates.specs.Bounds.{lock_length, node_count}
+use Rattle.deny_krates.specs.Crates.{crates_from, graph_of}
 use Rattle.deny_krates.specs.Dependents.{AreDirectDependencies, AreDirectDependents, AreRows}
 use Rattle.deny_krates.specs.private.IdEntries.{AreIds}
 use Rattle.deny_krates.specs.Orderly.{IsOrderly}
 use Rattle.deny_krates.specs.declared.ids.Entry.{Entry}
 use Rattle.deny_krates.specs.declared.krate.DirectDependent.{DirectDependent}
 use Rattle.deny_krates.specs.declared.krate.Krate.{Krate}
+use Rattle.deny_model.specs.declared.target_edge.TargetEdge.{TargetEdge}
 
--- the crates are in order and few, and what is kept of the crates' neighbours and
+-- the crates are in order and few, their lock text and nodes too, and what is kept of the crates' neighbours and
 -- ids is the graph's
-pub record IsKept (root : List ℕ) (krates : List Krate) (members : List ℕ) (edges : List Edge)
+pub record IsKept (targeted : List TargetEdge) (root : List ℕ) (krates : List Krate) (members : List ℕ) (edges : List Edge)
     (dependents dependencies : List (List DirectDependent)) (entries : List Entry) : Type 0 where
   pub few : length krates < 2 ^ 28
   pub names : IsSortedByKey (λ k. k.name) (slice_cmp nat_cmp) krates
-  pub orderly : IsOrderly (graph_of root krates members edges)
-  pub dependent_rows : AreRows (graph_of root krates members edges)
-      (AreDirectDependents (graph_of root krates members edges)) dependents
-  pub dependency_rows : AreRows (graph_of root krates members edges)
-      (AreDirectDependencies (graph_of root krates members edges)) dependencies
+  pub orderly : IsOrderly (graph_of targeted root krates members edges)
+  pub dependent_rows : AreRows (graph_of targeted root krates members edges)
+      (AreDirectDependents (graph_of targeted root krates members edges)) dependents
+  pub dependency_rows : AreRows (graph_of targeted root krates members edges)
+      (AreDirectDependencies (graph_of targeted root krates members edges)) dependencies
   pub ids : AreIds krates entries
+  pub lock : lock_length (crates_from 0 krates) < 2 ^ 29
+  pub nodes : node_count (crates_from 0 krates) < 2 ^ 32

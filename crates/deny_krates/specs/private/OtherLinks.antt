@@ -1,5 +1,5 @@
 -- Links to the crates that a crate needs in another way than one kind.
-use Rattle.std.specs.Prelude.{◌≡◌, ◌==◌, ◌&&◌, ◌<◌, ℕ, Bool, not, List, filter, length, map}
+use Rattle.std.specs.Prelude.{◌≡◌, ◌==◌, ◌&&◌, ◌<◌, ℕ, Bool, None, not, List, filter, length, map}
 use Rattle.deny_base.specs.declared.edge.DepKind.{DepKind}
 use Rattle.deny_base.specs.declared.edge.Edge.{Edge}
 use Rattle.deny_krates.specs.private.Reach.{links_at}
@@ -8,7 +8,7 @@ use Rattle.deny_metadata.specs.declared.checked.ResolvedNode.{ResolvedNode}
 use Rattle.deny_model.specs.Counting.{is_of_kind}
 
 abbrev pub link_of : Edge → Link
-link_of e = record { node = e.child; kind = e.kind }
+link_of e = record { node = e.child; needed_as = record { kind = e.kind; target = None } }
 
 -- whether an edge begins here and is of another kind
 unfoldable pub is_way : DepKind → ℕ → Edge → Bool

@@ -23,6 +23,6 @@ dependents_of-requires-clause-children c =
 pub returns : goal.returns
 returns c =
     if_ok_then _ (AreDependencies c.args.krates.now c.args.edges.now) c.dependents_of.result c.dependents_of.ensures
-    (λ rows are root members. rows_reversed root c.args.krates.now members c.args.edges.now rows
+    (λ rows are targeted root members. rows_reversed targeted root c.args.krates.now members c.args.edges.now rows
     (subst (λ (es : List Edge). AreDependents c.args.krates.now es rows) (c.as_slice.ensures ∙ c.in_ok-others.ensures)
-    are root members))
+    are targeted root members))

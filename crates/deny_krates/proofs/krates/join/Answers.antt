@@ -7,6 +7,8 @@ use Rattle.deny_base.specs.Edge.{edge_cmp}
 use Rattle.deny_krates.specs.private.Graph.{IsKrateOf, edges_from, place_at}
 use Rattle.deny_krates.specs.Read.{IsGraph}
 use Rattle.deny_model.specs.Graph.{Graph}
+use Rattle.deny_model.specs.TargetEdge.{edge_of, target_edge_cmp}
+use Rattle.deny_model.specs.declared.target_edge.TargetEdge.{TargetEdge}
 use Rattle.deny_krates.specs.private.Reach.{links_at}
 use Rattle.deny_metadata.specs.declared.document.Document.{Document}
 use Rattle.deny_metadata.specs.declared.document.Node.{Node}
@@ -33,19 +35,19 @@ members_of-requires c =
     (sym (ap (λ (ps : List ℕ). length ps) c.as_slice.ensures ∙ c.in_ok-places.ensures.long))
     (starts_inside c.args.document.now c.args.starts.now c.args.rows.now c.requires.numbered.1.resolved)
 
-pub edges_of-requires-clause-nodes : goal.edges_of-requires-clause-nodes
-edges_of-requires-clause-nodes c = kept_inside c.args.document.now c.args.starts.now c.args.rows.now
+pub target_edges_of-requires-clause-nodes : goal.target_edges_of-requires-clause-nodes
+target_edges_of-requires-clause-nodes c = kept_inside c.args.document.now c.args.starts.now c.args.rows.now
     c.requires.numbered.0 c.args.kept.now c.requires.numbered.1
 
-pub edges_of-requires-clause-links : goal.edges_of-requires-clause-links
-edges_of-requires-clause-links c node =
+pub target_edges_of-requires-clause-links : goal.target_edges_of-requires-clause-links
+target_edges_of-requires-clause-links c node =
     subst (λ (n : ℕ). All (λ l. l.node < n) (links_at c.args.rows.now node))
     (sym (ap (λ (ps : List ℕ). length ps) c.as_slice-2.ensures ∙ c.in_ok-places.ensures.long))
     (links_inside c.args.document.now c.args.starts.now c.args.rows.now c.requires.numbered.1.resolved node)
 
 pub krates_of-requires-clause-packages : goal.krates_of-requires-clause-packages
 krates_of-requires-clause-packages c =
-    subst (λ (ps : List Package). All (λ k. k.owner < length ps) c.args.kept.now) (sym c.as_slice-3.ensures)
+    subst (λ (ps : List Package). All (λ k. k.owner < length ps) c.args.kept.now) (sym c.as_slice-4.ensures)
     (owners_kept c.args.document.now c.args.starts.now c.args.rows.now c.requires.numbered.0 c.args.kept.now
     c.requires.numbered.1)
 
@@ -53,7 +55,7 @@ pub krates_of-requires-clause-nodes : goal.krates_of-requires-clause-nodes
 krates_of-requires-clause-nodes c =
     subst (λ (n : ℕ). All (λ k. k.node < n) c.args.kept.now)
     (sym (rows_long c.args.document.now c.args.starts.now c.args.rows.now c.requires.numbered.1.resolved) ∙ ap
-    (λ (ns : List Node). length ns) (sym c.as_slice-4.ensures))
+    (λ (ns : List Node). length ns) (sym c.as_slice-5.ensures))
     (kept_inside c.args.document.now c.args.starts.now c.args.rows.now c.requires.numbered.0 c.args.kept.now
     c.requires.numbered.1)
 
@@ -72,32 +74,40 @@ pub finish-requires-clause-names : goal.finish-requires-clause-names
 finish-requires-clause-names c =
     joined_names c.args.document.now c.args.starts.now c.args.rows.now c.requires.numbered.0 c.args.kept.now
     c.requires.numbered.1 c.in_ok-krates.krates
-    (as_listed c.args.document.now _ _ c.args.kept.now c.in_ok-krates.krates c.as_slice-3.ensures c.as_slice-4.ensures
+    (as_listed c.args.document.now _ _ c.args.kept.now c.in_ok-krates.krates c.as_slice-4.ensures c.as_slice-5.ensures
     c.in_ok-krates.ensures)
 
 pub finish-requires-clause-orderly : goal.finish-requires-clause-orderly
 finish-requires-clause-orderly c =
-    let zip = as_listed c.args.document.now _ _ c.args.kept.now c.in_ok-krates.krates c.as_slice-3.ensures
-    c.as_slice-4.ensures c.in_ok-krates.ensures in
+    let zip = as_listed c.args.document.now _ _ c.args.kept.now c.in_ok-krates.krates c.as_slice-4.ensures
+    c.as_slice-5.ensures c.in_ok-krates.ensures in
     let members = subst (λ (ps : List ℕ). Lists nat_cmp (Contains (map (place_at ps) c.args.starts.now))
     c.in_ok-members.members) c.as_slice.ensures c.in_ok-members.ensures in
-    let edges = subst (λ (ps : List ℕ). Lists edge_cmp (Contains (edges_from c.args.rows.now ps 0 c.args.kept.now))
-    c.in_ok-edges.edges) c.as_slice-2.ensures c.in_ok-edges.ensures in
+    let targeted = subst (λ (ps : List ℕ). Lists target_edge_cmp
+    (Contains (edges_from c.args.rows.now ps 0 c.args.kept.now)) c.in_ok-target_edges.target_edges) c.as_slice-2.ensures
+    c.in_ok-target_edges.ensures in
+    let edges = subst (λ (ts : List TargetEdge). Lists edge_cmp (Contains (map edge_of ts)) c.in_ok-edges.edges)
+    c.as_slice-3.ensures c.in_ok-edges.ensures in
     joined_orderly c.args.document.now c.args.starts.now c.args.rows.now c.requires.numbered.0 c.args.kept.now
     c.requires.numbered.1 c.in_ok-places.places c.in_ok-places.ensures
-    c.in_ok-members.members members c.in_ok-edges.edges edges c.in_ok-root.root c.in_ok-krates.krates zip
+    c.in_ok-members.members members c.in_ok-target_edges.target_edges targeted c.in_ok-edges.edges edges
+    c.in_ok-root.root c.in_ok-krates.krates zip
 
 pub returns : goal.returns
 returns c =
-    let zip = as_listed c.args.document.now _ _ c.args.kept.now c.in_ok-krates.krates c.as_slice-3.ensures
-    c.as_slice-4.ensures c.in_ok-krates.ensures in
+    let zip = as_listed c.args.document.now _ _ c.args.kept.now c.in_ok-krates.krates c.as_slice-4.ensures
+    c.as_slice-5.ensures c.in_ok-krates.ensures in
     let members = subst (λ (ps : List ℕ). Lists nat_cmp (Contains (map (place_at ps) c.args.starts.now))
     c.in_ok-members.members) c.as_slice.ensures c.in_ok-members.ensures in
-    let edges = subst (λ (ps : List ℕ). Lists edge_cmp (Contains (edges_from c.args.rows.now ps 0 c.args.kept.now))
-    c.in_ok-edges.edges) c.as_slice-2.ensures c.in_ok-edges.ensures in
+    let targeted = subst (λ (ps : List ℕ). Lists target_edge_cmp
+    (Contains (edges_from c.args.rows.now ps 0 c.args.kept.now)) c.in_ok-target_edges.target_edges) c.as_slice-2.ensures
+    c.in_ok-target_edges.ensures in
+    let edges = subst (λ (ts : List TargetEdge). Lists edge_cmp (Contains (map edge_of ts)) c.in_ok-edges.edges)
+    c.as_slice-3.ensures c.in_ok-edges.ensures in
     let graph = joined c.args.document.now c.args.starts.now c.args.rows.now c.requires.numbered.0 c.args.kept.now
     c.requires.numbered.1 c.in_ok-places.places c.in_ok-places.ensures
-    c.in_ok-members.members members c.in_ok-edges.edges edges c.in_ok-root.root c.in_ok-krates.krates
+    c.in_ok-members.members members c.in_ok-target_edges.target_edges targeted c.in_ok-edges.edges edges
+    c.in_ok-root.root c.in_ok-krates.krates
     c.in_ok-root.ensures.cases zip in
     if_ok_then _ (IsGraph c.args.document.now) c.finish.result c.finish.ensures
     (λ g is. subst (λ (h : Graph). IsGraph c.args.document.now h) (sym is) graph)

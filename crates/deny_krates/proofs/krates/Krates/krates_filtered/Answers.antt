@@ -13,26 +13,26 @@ filtered-requires-clause-members c =
     let k = c.self.inside in
     subst (λ (ms : List ℕ). All (λ place. place < c.len.result) ms) (sym c.as_slice.ensures)
     (subst (λ (n : ℕ). All (λ place. place < n) k.members) (sym c.len.ensures)
-    (members_inside k.root k.krates k.members k.edges c.self.invariant.orderly))
+    (members_inside k.target_edges k.root k.krates k.members k.edges c.self.invariant.orderly))
 
 pub filtered-requires-clause-parents : goal.filtered-requires-clause-parents
 filtered-requires-clause-parents c =
     let k = c.self.inside in
     subst (λ (es : List Edge). All (λ e. e.parent < c.len.result) es) (sym c.as_slice-2.ensures)
     (subst (λ (n : ℕ). All (λ e. e.parent < n) k.edges) (sym c.len.ensures)
-    (parents_inside k.root k.krates k.members k.edges c.self.invariant.orderly))
+    (parents_inside k.target_edges k.root k.krates k.members k.edges c.self.invariant.orderly))
 
 pub filtered-requires-clause-children : goal.filtered-requires-clause-children
 filtered-requires-clause-children c =
     let k = c.self.inside in
     subst (λ (es : List Edge). All (λ e. e.child < c.len.result) es) (sym c.as_slice-2.ensures)
     (subst (λ (n : ℕ). All (λ e. e.child < n) k.edges) (sym c.len.ensures)
-    (children_inside k.root k.krates k.members k.edges c.self.invariant.orderly))
+    (children_inside k.target_edges k.root k.krates k.members k.edges c.self.invariant.orderly))
 
 pub returns : goal.returns
 returns c =
     let k = c.self.inside in
     subst (λ (bs : List Bool). AreMarks c.args.kind c.args.self.now bs) (sym c.marks.view_is)
     (subst (λ (g : Graph). AreMarks c.args.kind g c.in_ok-marks.marks) c.self.view_is
-    (c.in_ok-marks.ensures (graph_of k.root k.krates k.members k.edges) (sym c.as_slice.ensures)
+    (c.in_ok-marks.ensures (graph_of k.target_edges k.root k.krates k.members k.edges) (sym c.as_slice.ensures)
     (sym c.as_slice-2.ensures) (length-crates_from 0 k.krates ∙ sym c.len.ensures)))

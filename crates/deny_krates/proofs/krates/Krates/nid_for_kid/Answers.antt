@@ -17,5 +17,5 @@ returns c =
     (subst (λ (es : List Entry). FoundIn es c.as_str.result.now place) c.as_slice.ensures
     record { found = c.place_of.ensures.found; none = c.place_of.ensures.none }) in
     subst (λ (g : Graph). place ≡ option_map (λ (c : Crate). c.place) (crate_of g id)) c.self.view_is
-    (place_answers k.root k.krates k.members k.edges k.ids
-    (apart_of k.root k.krates k.members k.edges c.self.invariant.orderly) c.self.invariant.ids id place found)
+    (place_answers k.target_edges k.root k.krates k.members k.edges k.ids
+    (apart_of k.target_edges k.root k.krates k.members k.edges c.self.invariant.orderly) c.self.invariant.ids id place found)

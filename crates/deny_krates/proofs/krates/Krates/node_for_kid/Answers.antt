@@ -25,8 +25,8 @@ returns-in_err-place c =
     c.in_err-place.ensures.none) in
     subst (λ (g : Graph). Answers id c.from_residual.result g) c.self.view_is
     (match_none _ _ c.from_residual.result c.from_residual.ensures
-    (no_crate k.root k.krates k.members k.edges k.ids
-    (apart_of k.root k.krates k.members k.edges c.self.invariant.orderly) c.self.invariant.ids id none))
+    (no_crate k.target_edges k.root k.krates k.members k.edges k.ids
+    (apart_of k.target_edges k.root k.krates k.members k.edges c.self.invariant.orderly) c.self.invariant.ids id none))
 
 pub returns : goal.returns
 returns c =
@@ -37,8 +37,8 @@ returns c =
     (subst (λ (es : List Entry). Contains es (record { id = c.as_str.result.now; place = place })) c.as_slice.ensures
     c.in_ok-place.ensures.found) in
     subst (λ (g : Graph). Answers id c.get.result g) c.self.view_is
-    (krate_answers k.root k.krates k.members k.edges k.ids
-    (apart_of k.root k.krates k.members k.edges c.self.invariant.orderly) c.self.invariant.ids id place c.get.result
+    (krate_answers k.target_edges k.root k.krates k.members k.edges k.ids
+    (apart_of k.target_edges k.root k.krates k.members k.edges c.self.invariant.orderly) c.self.invariant.ids id place c.get.result
     found
     (got c.as_slice-2.result.now place c.get.result c.get.ensures.lookup.3 ∙ ap
     (λ (ks : List Krate). slice_get ks place) c.as_slice-2.ensures))

@@ -1,0 +1,12 @@
+use Rattle.std.proofs.Common.{rules}
+use Rattle.std.specs.Prelude.{nat_le}
+use Rattle.std.proofs.lemmas.List.Sorted.{IsPartitionPoint-from_clause}
+use Rattle.deny_krates.proofs.ResolutionLemmas.{partitioned_upto}
+use Rattle.deny_krates.proofs.resolution.first_above.Goals as goal
+
+pub returns-clause-point : goal.returns-clause-point
+returns-clause-point c =
+    let edges = c.args.edges.now in
+    let parent = c.args.parent in
+    IsPartitionPoint-from_clause (λ e. nat_le e.parent parent) edges c.partition_point.result
+    c.partition_point.ensures.partitioned (partitioned_upto edges parent c.requires) (λ a r f called. search rules)

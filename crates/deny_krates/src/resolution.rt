@@ -1,0 +1,145 @@
+ghost use Rattle.std.specs.Prelude.{◌≡◌, ◌==◌, ◌&&◌, ◌≤◌, ◌-◌, true, false, drop, filter, find, length, nat_le, nat_lt, option_map, slice_get, take};
+ghost use Rattle.std.specs.Option.{option_and_then};
+ghost use Rattle.std.specs.List.Sorted.{IsPartitionPoint, IsStrictlySortedBy};
+ghost use Rattle.deny_krates.specs.Crates.{crate_view, crates_from, dependency_view};
+ghost use Rattle.deny_model.specs.Graph.{Graph};
+ghost use Rattle.deny_model.specs.Groups.{has_name};
+ghost use Rattle.deny_model.specs.Resolution.{is_wanted, passes_at, resolution, suits};
+ghost use Rattle.deny_model.specs.TargetEdge.{target_edge_cmp};
+
+use crate::krate::{Dependency, Krate};
+use deny_lists::Text;
+use deny_model::TargetEdge;
+use std::ops::Range;
+
+/// The place of the crate that a declaration of the crate at `parent` resolves to, in a list of
+/// target edges that ascends.
+pub fn resolution(
+    krates: &[Krate],
+    edges: &[TargetEdge],
+    parent: u32,
+    declaration: &Dependency,
+) -> Option<u32>
+    requires { IsStrictlySortedBy target_edge_cmp edges.now }
+    ensures { (g : Graph) → g.crates ≡ crates_from 0 krates.now → g.target_edges ≡ edges.now
+        → result ≡ resolution g parent (dependency_view declaration.now) }
+{
+    let own = edges_of_parent(edges, parent);
+    match first_wanted(krates, own, declaration) {
+        Some(place) => Some(place),
+        None => first_suiting(krates, own, declaration),
+    }
+}
+
+// The edges from a place, in a list that ascends.
+fn edges_of_parent(edges: &[TargetEdge], parent: u32) -> &[TargetEdge]
+    requires { IsStrictlySortedBy target_edge_cmp edges.now }
+    ensures { result.now ≡ filter (λ e. e.parent == parent) edges.now }
+{
+    let run = run_of(edges, parent);
+    &edges[run.start..run.end]
+}
+
+fn run_of(edges: &[TargetEdge], parent: u32) -> Range<usize>
+    requires { IsStrictlySortedBy target_edge_cmp edges.now }
+    ensures upward { result.start ≤ result.end }
+    ensures within { result.end ≤ length edges.now }
+    ensures own { take (result.end - result.start) (drop result.start edges.now)
+        ≡ filter (λ e. e.parent == parent) edges.now }
+{
+    let start = first_at_least(edges, parent);
+    let end = first_above(edges, parent);
+    start..end
+}
+
+fn first_at_least(edges: &[TargetEdge], parent: u32) -> usize
+    requires { IsStrictlySortedBy target_edge_cmp edges.now }
+    ensures within { result ≤ length edges.now }
+    ensures point { IsPartitionPoint (λ e. nat_lt e.parent parent ≡ true) (λ e. nat_lt e.parent parent ≡ false)
+        edges.now result }
+{
+    edges.partition_point(|edge| edge.parent < parent)
+}
+
+fn first_above(edges: &[TargetEdge], parent: u32) -> usize
+    requires { IsStrictlySortedBy target_edge_cmp edges.now }
+    ensures within { result ≤ length edges.now }
+    ensures point { IsPartitionPoint (λ e. nat_le e.parent parent ≡ true) (λ e. nat_le e.parent parent ≡ false)
+        edges.now result }
+{
+    edges.partition_point(|edge| edge.parent <= parent)
+}
+
+// The child of the first edge that suits a declaration and whose version it wants.
+fn first_wanted(krates: &[Krate], edges: &[TargetEdge], declaration: &Dependency) -> Option<u32>
+    ensures { result ≡ option_map (λ e. e.child) (find (λ e.
+        is_wanted (crates_from 0 krates.now) (dependency_view declaration.now) e.child
+        && suits (crates_from 0 krates.now) (dependency_view declaration.now) e) edges.now) }
+{
+    for edge in edges {
+        if wants(krates, declaration, edge.child) && suits(krates, declaration, edge) {
+            return Some(edge.child);
+        }
+    }
+    None
+}
+
+// The child of the first edge that suits a declaration.
+fn first_suiting(krates: &[Krate], edges: &[TargetEdge], declaration: &Dependency) -> Option<u32>
+    ensures { result ≡ option_map (λ e. e.child)
+        (find (suits (crates_from 0 krates.now) (dependency_view declaration.now)) edges.now) }
+{
+    for edge in edges {
+        if suits(krates, declaration, edge) {
+            return Some(edge.child);
+        }
+    }
+    None
+}
+
+// Whether an edge is of a declaration's kind, for its target, and leads to a crate of its name.
+#[tactic(auto, unfolding(deny_model::specs::Resolution::suits))]
+fn suits(krates: &[Krate], declaration: &Dependency, edge: &TargetEdge) -> bool
+    ensures { result ≡ suits (crates_from 0 krates.now) (dependency_view declaration.now) edge.now }
+{
+    edge.kind == declaration.kind
+        && edge.target == declaration.target
+        && is_named(krates, edge.child, &declaration.name)
+}
+
+// Whether the crate at a place has this name.
+#[tactic(auto, unfolding(deny_model::specs::Groups::has_name))]
+fn is_named(krates: &[Krate], place: u32, name: &Text) -> bool
+    ensures { result ≡ passes_at (has_name name.now) (crates_from 0 krates.now) place }
+{
+    match krate_at(krates, place) {
+        Some(krate) => krate.name == *name,
+        None => false,
+    }
+}
+
+// Whether a declaration's requirement matches the version of the crate at a place.
+fn wants(krates: &[Krate], declaration: &Dependency, place: u32) -> bool
+    ensures { result ≡ is_wanted (crates_from 0 krates.now) (dependency_view declaration.now) place }
+{
+    match krate_at(krates, place) {
+        Some(krate) => declaration.req.matches(&krate.version),
+        None => false,
+    }
+}
+
+/// A declaration of the crate at a place.
+pub fn declared(krates: &[Krate], place: u32, index: usize) -> Option<&Dependency>
+    ensures { option_map (λ d. dependency_view d.now) result
+        ≡ option_and_then (λ c. slice_get c.deps index) (slice_get (crates_from 0 krates.now) place) }
+{
+    let krate = krate_at(krates, place)?;
+    krate.deps.as_slice().get(index)
+}
+
+// The crate at a place.
+fn krate_at(krates: &[Krate], place: u32) -> Option<&Krate>
+    ensures { option_map (λ k. crate_view place k.now) result ≡ slice_get (crates_from 0 krates.now) place }
+{
+    krates.get(place as usize)
+}
