@@ -25,6 +25,9 @@ FITTING_BY_HAND = [
     (["?"], "😀", [0]), (["[]-a]"], "^", [0]), (["[a-b-c]"], "-", [0]), (["{}"], "", [0]),
     (["***/a", "**/**/a", "a**/**/b"], "a", []), (["{a/**/b}", "a/**/b"], "a/b", [1]),
     (["*.rs", "**.rs", "*.Rs", "*.rs"], "a.rs", [0, 1, 3]), (["*.rs"], "a.x/rs", []),
+    (["**/ab.c", "*ab.c", "b.c", "*b.c", "c", "*"], "b.c", [2, 3, 5]), (["*é", "*xé", "*e"], "xé", [0, 1]),
+    (["a/*", "a/b*", "ab*", "a*", "*"], "a/b", [0, 1, 3, 4]), (["ab*bc", "ab*c", "abc"], "abc", [1, 2]),
+    (["*\\*", "*\\]", "*[a]", "*{a,b}"], "x*", [0]), (["", "*", "a*", "*a"], "", [0, 1]),
 ]
 BAD_BY_HAND = [
     ("a[", 1), ("a}", 1), ("[z-a]", 1), ("x\\", 1), ("{a[", 0), ("[z-a", 1), ("[]", 0), ("é}", 2), ("[^é-a]", 2), ("{" * 17, 16), ("😀{a,b", 4),
@@ -51,6 +54,20 @@ SETS = [
     (["*.%s" % c for c in "mdzaqkbxmm0Z9"], ["f.%s" % c for c in "abcdmzqkx0Z9"] + ["m", "f.mm", "f.", ""]),
     # states that many ways lead to
     (["{a,a}{a,a}", "{*,**}*", "*{,*}*x", "**/{a,*}/**"], ["aa", "a", "", "x", "ax/x", "a/a/a", "/a/"]),
+    # ends that are ends of one another, and paths that have a part of them
+    (["**/ab.c", "*ab.c", "ab.c", "b.c", "*b.c", "*.c", "**.c", "*c", "c", "", "*", "a*.c", "a*b.c", "**/b.c", "?b.c"],
+     ["ab.c", "b.c", ".c", "c", "", "xab.c", "x/ab.c", "x/b.c", "b.cc", "ab.", "ab.c/", "c.ba", "aab.c"]),
+    # beginnings that are beginnings of one another
+    (["a", "a/", "a/b", "a/b/", "a/*", "a/b*", "a/**", "a/b/**", "a/**/c", "a?", "a[/]b", "ab*", "/a*", "a/b/c/d*"],
+     ["a", "a/", "a/b", "a/b/", "a/bc", "a/b/c", "a/c", "ab", "abc", "/a", "", "a/b/c/d", "a/b/c/", "b/a"]),
+    # a beginning and an end that share characters of the path
+    (["aba*aba", "ab*ba", "a*a", "aba", "ab**a", "**/aba*", "*aba/**", "aa*a", "*aa"], ["a", "aa", "aba", "ababa", "abaaba", "abba", "aba/", ""]),
+    # escapes, classes and alternatives at the ends
+    (["*\\*", "*\\]", "*[a]", "*{a,b}", "*a\\?", "\\**", "\\[*", "[\\]*", "{a,b}*", "*{ca,cb}d", "*[^a]b", "*,", "*\\\\", "\\\\*"],
+     ["x*", "*x", "x]", "xa", "xb", "a?", "*", "[x", "\\x", "x\\", "\\", "cad", "cbd", "cd", "bb", "ab", "a,", ""]),
+    # last and first characters of two, three and four bytes, and pairs of which the last bytes are one
+    (["*é", "*€", "*😀", "é*", "€*", "😀*", "*xé", "*©", "*ã©", "**/ü.é", "[é]*", "*[é]"],
+     ["é", "€", "😀", "xé", "éx", "x€", "€x", "x😀", "😀x", "©", "ã©", "Ã©", "ü.é", "a/ü.é", "é€😀", ""]),
 ]
 
 BAD = [
@@ -73,6 +90,19 @@ def random_sets():
         yield globs, [random_text(choice, ["a", "b", "/", ".", ".a", "é", "/a"], 6) for _ in range(20)]
 
 
+def random_words():
+    """Sets whose globs begin and end with words that share beginnings and ends."""
+    choice = random.Random(30)
+    letters = ["a", "b", "ab", "ba", "/", ".", "é", "\\*"]
+    forms = ["%s*%s", "%s**/%s", "%s?%s", "%s/**/%s", "%s{%s,a}", "%s[ab]%s", "*%s%s", "**/%s%s", "%s%s*", "%s%s/**", "%s%s"]
+    for _ in range(20):
+        words = ["".join(choice.choice(letters) for _ in range(choice.randint(0, 4))) for _ in range(5)]
+        globs = [choice.choice(forms) % (choice.choice(words), choice.choice(words)) for _ in range(16)]
+        plain = [word.replace("\\", "") for word in words]
+        paths = ["".join(choice.choice(plain + ["a", "b", "/"]) for _ in range(choice.randint(0, 3))) for _ in range(20)]
+        yield globs, paths
+
+
 def check_by_hand():
     """Ends the maker where the reading says other than what is said by hand."""
     for globs, path, numbers in FITTING_BY_HAND:
@@ -89,7 +119,7 @@ def check_by_hand():
 def lines():
     """The cases and the answers."""
     check_by_hand()
-    for globs, paths in SETS + [(BAD, ["a"])] + list(random_sets()):
+    for globs, paths in SETS + [(BAD, ["a"])] + list(random_sets()) + list(random_words()):
         yield "set", "set"
         fitting = []
         for glob in globs:

@@ -15,7 +15,7 @@ use Rattle.deny_globs.specs.declared.extensions.Extension.{Extension}
 use Rattle.deny_globs.specs.Index.{name_of, Ascend, IsNamedAt, IsGap, IsNumbered, IsExtended, numbered, inserted, IsIndexed}
 use Rattle.deny_globs.specs.Patterns.{Pattern, characters_of}
 use Rattle.deny_globs.specs.Sets.{is_simple, extension_of, AsksFor}
-use Rattle.deny_globs.proofs.ListingLemmas.{sorted_push, sorted_none}
+use Rattle.deny_globs.proofs.Ascending.{sorted_push, sorted_none}
 use Rattle.deny_globs.proofs.MarkedLemmas.{contains_none}
 use Rattle.deny_globs.proofs.StateLemmas.{slice_get_last, some_inj}
 
@@ -77,7 +77,7 @@ names_set (x ∷ xs) (suc p) e new at same = ap (λ ns. x.name ∷ ns) (names_se
 
 -- what stands where then
 
-get_set : (xs : List Extension) (p : ℕ) (new : Extension) (q : ℕ) (x : Extension)
+pub get_set : {A : Type 0} (xs : List A) (p : ℕ) (new : A) (q : ℕ) (x : A)
     → slice_get (slice_set xs p new) q ≡ Some x → ((q ≡ p) × (x ≡ new)) ⊎ ((q ≢ p) × (slice_get xs q ≡ Some x))
 get_set [] p new q x at = absurd (none_some at) where
   none_some : {A : Type 0} {y : A} → None ≡ Some y → ⊥
@@ -90,13 +90,13 @@ get_set (y ∷ ys) (suc p) new (suc q) x at = elim (get_set ys p new q x at) [
   | inr other ↦ inr (λ e. other.0 (omega (arith, e)), other.1)
 ]
 
-set_here : (xs : List Extension) (p : ℕ) (new : Extension) (e : Extension) → slice_get xs p ≡ Some e
+pub set_here : {A : Type 0} (xs : List A) (p : ℕ) (new : A) (e : A) → slice_get xs p ≡ Some e
     → slice_get (slice_set xs p new) p ≡ Some new
 set_here [] p new e at = cc
 set_here (y ∷ ys) zero new e at = refl
 set_here (y ∷ ys) (suc p) new e at = set_here ys p new e at
 
-set_other : (xs : List Extension) (p : ℕ) (new : Extension) (q : ℕ) → q ≢ p
+pub set_other : {A : Type 0} (xs : List A) (p : ℕ) (new : A) (q : ℕ) → q ≢ p
     → slice_get (slice_set xs p new) q ≡ slice_get xs q
 set_other [] p new q other = refl
 set_other (y ∷ ys) zero new zero other = absurd (other refl)

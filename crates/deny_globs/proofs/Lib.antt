@@ -1,3 +1,4 @@
+pub mod Ascending
 pub mod Braces
 pub mod Bytes
 pub mod ClassLemmas
@@ -8,7 +9,7 @@ pub mod FormLemmas
 pub mod GlobLemmas
 pub mod GlobSizes
 pub mod IndexLemmas
-pub mod ListingLemmas
+pub mod LiteralLemmas
 pub mod MarkedLemmas
 pub mod Once
 pub mod PieceLemmas
@@ -19,5 +20,7 @@ pub mod SetLemmas
 pub mod SimpleLemmas
 pub mod SizeLemmas
 pub mod Spelling
+pub mod StartLemmas
 pub mod StateLemmas
 pub mod WalkLemmas
+pub mod WordLemmas

@@ -1,5 +1,5 @@
 -- A set with a glob more, and what it finds.
-use Rattle.std.proofs.Common.{◌≡◌, ◌≢◌, ℕ, zero, suc, ◌+◌, ◌*◌, ◌^◌, ◌<◌, ◌≤◌, List, [], ◌∷◌, ◌++◌, length, map, replicate, Bool, true, false, get_or, refl, sym, ap, subst, inl, inr, ◌∙◌, arith, append-nil}
+use Rattle.std.proofs.Common.{◌≡◌, ◌≢◌, ℕ, zero, suc, ◌+◌, ◌*◌, ◌^◌, ◌<◌, ◌≤◌, List, [], ◌∷◌, ◌++◌, length, map, Bool, true, false, get_or, refl, sym, ap, subst, inl, inr, ◌∙◌, arith, append-nil}
 use Rattle.std.specs.Prelude.{◌⊎◌, ◌↔◌, Option, Some, None, Contains, IsSomeAnd, slice_get, if◌then◌else◌}
 use Rattle.std.specs.Option.{option_map}
 use Rattle.std.specs.Cmp.Lexicographic.{nat_list_cmp_total}
@@ -9,19 +9,23 @@ use Rattle.std.proofs.lemmas.Nat.{mul-le}
 use Rattle.std.proofs.lemmas.Option.{slice_get-map, slice_get_read, slice_get_within}
 use Rattle.std.proofs.lemmas.List.{length-map}
 use Rattle.std.proofs.lemmas.List.Sums.{sum_by-append, sum_by-cons}
-use Rattle.std.proofs.lemmas.List.Elements.{Contains-push, Contains-push_cases, Contains-append_left}
+use Rattle.std.specs.Ordering.{nat_cmp}
+use Rattle.std.proofs.lemmas.Map.Keys.{IsStrictlyIncreasing-from_sorted}
 use Rattle.deny_lists.proofs.Sorted.{length-ascending}
+use Rattle.deny_lists.specs.Ascending.{Lists}
 use Rattle.deny_globs.specs.declared.extensions.Extension.{Extension}
+use Rattle.deny_globs.specs.declared.starts.Starts.{Starts}
 use Rattle.deny_globs.specs.declared.token.Token.{Token}
 use Rattle.deny_globs.specs.declared.token.Token.TheVariants.{Alternatives}
 use Rattle.deny_globs.specs.declared.state.State.{State}
 use Rattle.deny_globs.specs.declared.state.State.TheVariants.{End}
-use Rattle.deny_globs.specs.Compiled.{Grows, StandsFor, AddsStates}
+use Rattle.deny_globs.specs.Compiled.{Grows, IsPushed, IsBuilt, StandsFor, AddsStates}
 use Rattle.deny_globs.specs.Fits.{Fits, nothing}
-use Rattle.deny_globs.specs.Index.{name_of, IsNamedAt, IsGap, IsExtended, IsIndexed, AreCompiled, FitsSimply, NotesNamed, BoundsNamed, BoundsSimple, Indexes, AreNoted, AreFirstNoted}
+use Rattle.deny_globs.specs.Index.{name_of, IsNamedAt, IsGap, IsExtended, IsIndexed, AreCompiled, FitsSimply, NotesNamed, BoundsNamed, BoundsSimple, Indexes}
 use Rattle.deny_globs.specs.Patterns.{Pattern, characters_of, tokens_of}
 use Rattle.deny_globs.specs.Sets.{FitsAt, is_simple, extension_of, AsksFor, FitsOther, HasExtensions, weight, weight_of, KeepsBound, AreFitting, AreFirstFitting}
-use Rattle.deny_globs.specs.States.{end_of, Leads, ends, SomeLeads}
+use Rattle.deny_globs.specs.Starts.{Starting, AddsStart, KeepsStarts, SomeStarts}
+use Rattle.deny_globs.specs.States.{end_of, Leads, ends}
 use Rattle.deny_globs.specs.Tree.{IsGlob}
 use Rattle.deny_globs.specs.Walk.{Notes}
 use Rattle.deny_globs.proofs.BuildLemmas.{grows_on, grows_push, length_grown, length_pushed, leads_grown, leads_ungrown, pushed_at}
@@ -29,8 +33,9 @@ use Rattle.deny_globs.proofs.FitsLemmas.{nothing_fits, split_list}
 use Rattle.deny_globs.proofs.FormLemmas.{one_from_fits, none_fits}
 use Rattle.deny_globs.proofs.GlobSizes.{glob_states}
 use Rattle.deny_globs.proofs.IndexLemmas.{get_more, get_left, get_last, none_at, no_asks, indexed_simple, indexed_other}
-use Rattle.deny_globs.proofs.MarkedLemmas.{contains_none, marked_inside}
+use Rattle.deny_globs.proofs.MarkedLemmas.{contains_none, contains_in}
 use Rattle.deny_globs.proofs.SimpleLemmas.{simple_fits}
+use Rattle.deny_globs.proofs.StartLemmas.{none_start, tree_none}
 use Rattle.deny_globs.proofs.StateLemmas.{some_inj, Turn, ended, took, moved, turn}
 use Rattle.deny_globs.proofs.WalkLemmas.{notes_same, notes_on, notes_none}
 
@@ -70,12 +75,13 @@ other_cases globs glob i path h = elim (get_more globs glob i h.at) [
   )
 ]
 
-pub compiled_simple : (globs : List Pattern) (glob : Pattern) (states : List State) (starts : List ℕ)
+pub compiled_simple : (globs : List Pattern) (glob : Pattern) (states : List State) (starts : Starts)
     → IsGlob (characters_of glob) (tokens_of glob) → is_simple (characters_of glob) ≡ true →
     AreCompiled globs states starts → AreCompiled (globs ++ glob ∷ []) states starts
 compiled_simple globs glob states starts own is x = record {
   globs_are = globs_more globs glob own x.globs_are;
   program = x.program;
+  are = x.are;
   within = x.within;
   leads = λ i path. (
     λ s. other_more globs glob i path ((x.leads i path).0 s),
@@ -119,15 +125,16 @@ stands_none : {states : List State} {number own glob : ℕ} → slice_get states
     → StandsFor states glob number (Alternatives [] ∷ [])
 stands_none at other cs = (λ l. absurd (other (end_is at l).0), λ f. absurd (no_fit f))
 
-pub compiled_other : (globs : List Pattern) (glob : Pattern) (states states' : List State) (starts starts' : List ℕ)
+pub compiled_other : (globs : List Pattern) (glob : Pattern) (states states' : List State) (starts starts' : Starts)
     → is_simple (characters_of glob) ≡ false → AreCompiled globs states starts →
     AddsStates glob (length globs) states starts states' starts' → AreCompiled (globs ++ glob ∷ []) states' starts'
 compiled_other globs glob states states' starts starts' isnt x a = record {
   globs_are = globs_more globs glob a.is_glob x.globs_are;
   program = a.built.program;
-  within = λ n h. within n (cases n h);
+  are = a.started.are;
+  within = λ path n h. within path n (a.started.only path n h);
   leads = λ i path. (
-    λ s. to i path s.number s.leads (cases s.number s.is_marked),
+    λ s. to i path s.number s.leads (a.started.only path s.number s.starts_here),
     λ h. from i path (other_cases globs glob i path h),
   );
   size = omega (
@@ -143,18 +150,9 @@ compiled_other globs glob states states' starts starts' isnt x a = record {
   grows : Grows states states'
   grows = grows_on (grows_push a.pushed) a.built.grows
 
-  cases : (n : ℕ) → Contains starts' n → Contains starts n ⊎ (a.start ≡ n)
-  cases n h = Contains-push_cases starts a.start n (subst (λ l. Contains l n) a.whole h)
-
-  old_start : (n : ℕ) → Contains starts n → Contains starts' n
-  old_start n h = subst (λ l. Contains l n) (sym a.whole) (Contains-append_left starts (a.start ∷ []) n h)
-
-  new_start : Contains starts' a.start
-  new_start = subst (λ l. Contains l a.start) (sym a.whole) (Contains-push starts a.start)
-
-  within : (n : ℕ) → Contains starts n ⊎ (a.start ≡ n) → n < length states'
-  within n (inl h) = omega (arith, x.within n h, length_grown grows)
-  within n (inr e) = omega (arith, e, a.built.in_range)
+  within : (path : List ℕ) (n : ℕ) → Starting starts path n ⊎ (n ≡ a.start) → n < length states'
+  within path n (inl h) = omega (arith, x.within path n h, length_grown grows)
+  within path n (inr e) = omega (arith, e, a.built.in_range)
 
   own : (path : List ℕ) → Leads states' (length globs) a.start path ↔ Fits (tokens_of glob) path
   own path =
@@ -179,40 +177,68 @@ compiled_other globs glob states states' starts starts' isnt x a = record {
     fits = (own path).0 (subst (λ k. Leads states' k a.start path) same l);
   }
 
-  to : (i : ℕ) (path : List ℕ) (n : ℕ) → Leads states' i n path → Contains starts n ⊎ (a.start ≡ n)
+  to : (i : ℕ) (path : List ℕ) (n : ℕ) → Leads states' i n path → Starting starts path n ⊎ (n ≡ a.start)
       → FitsOther (globs ++ glob ∷ []) i path
   to i path n l (inl h) = other_more globs glob i path
       ((x.leads i path).0 (record
-      { number = n; is_marked = h; leads = leads_ungrown x.program (x.within n h) grows l }))
-  to i path n l (inr e) = at_new i path (subst (λ k. Leads states' i k path) (sym e) l) (cases_eq i (length globs))
+      { number = n; starts_here = h; leads = leads_ungrown x.program (x.within path n h) grows l }))
+  to i path n l (inr e) = at_new i path (subst (λ k. Leads states' i k path) e l) (cases_eq i (length globs))
 
   from : (i : ℕ) (path : List ℕ)
       → FitsOther globs i path ⊎
       ((i ≡ length globs) × (is_simple (characters_of glob) ≡ false) × Fits (tokens_of glob) path)
-      → SomeLeads states' starts' i path
+      → SomeStarts states' starts' i path
   from i path (inl h) = let s = (x.leads i path).1 h in
-      record { number = s.number; is_marked = old_start s.number s.is_marked; leads = leads_grown grows s.leads }
+      record { number = s.number; starts_here = a.started.kept path s.number s.starts_here; leads = leads_grown grows s.leads }
   from i path (inr h) = record {
     number = a.start;
-    is_marked = new_start;
+    starts_here = a.started.added path h.2;
     leads = subst (λ k. Leads states' k a.start path) (sym h.0)
         ((own path).1 h.2);
   }
 
-pub compiled_none : {states : List State} {starts : List ℕ} → states ≡ [] → starts ≡ [] → AreCompiled [] states starts
-compiled_none {states} {starts} e f = subst (λ s. AreCompiled [] s starts) (sym e)
-    (subst (λ s. AreCompiled [] [] s) (sym f) (record {
-      globs_are = λ i g at. none_at at;
-      program = record { points = λ n s at. none_at at };
-      within = λ n h. contains_none h;
-      leads = λ i path. (λ s. contains_none s.is_marked, λ h. none_at h.at);
-      size = omega arith;
-    }))
+pub compiled_none : {states : List State} {starts : Starts} → states ≡ [] → starts.beginnings.items ≡ []
+    → starts.endings.items ≡ [] → AreCompiled [] states starts
+compiled_none {states} {starts} e f g = subst (λ s. AreCompiled [] s starts) (sym e) (record {
+  globs_are = λ i glob at. none_at at;
+  program = record { points = λ n s at. none_at at };
+  are = record { beginnings = tree_none f; endings = tree_none g };
+  within = λ path n h. absurd (none_start starts f g h);
+  leads = λ i path. (λ s. absurd (none_start starts f g s.starts_here), λ h. none_at h.at);
+  size = omega arith;
+})
+
+-- where no state has come at which a glob starts, nothing is another
+pub compiled_kept : {globs : List Pattern} {states : List State} {old new : Starts} → AreCompiled globs states old
+    → KeepsStarts old new → AreCompiled globs states new
+compiled_kept x keeps = record {
+  globs_are = x.globs_are;
+  program = x.program;
+  are = keeps.are;
+  within = λ path n h. x.within path n ((keeps.same path n).0 h);
+  leads = λ i path. (
+    λ s. (x.leads i path).0 (record
+        { number = s.number; starts_here = (keeps.same path s.number).0 s.starts_here; leads = s.leads }),
+    λ h. let s = (x.leads i path).1 h in record
+        { number = s.number; starts_here = (keeps.same path s.number).1 s.starts_here; leads = s.leads },
+  );
+  size = x.size;
+}
+
+pub index_kept : {globs globs' : List Pattern} {extensions extensions' : List Extension} {states states' : List State}
+    {old new : Starts} → IsIndexed globs extensions × AreCompiled globs states old → globs' ≡ globs →
+    extensions' ≡ extensions → states' ≡ states → KeepsStarts old new
+    → IsIndexed globs' extensions' × AreCompiled globs' states' new
+index_kept {globs} {globs'} {extensions} {extensions'} {states} {states'} {old} {new} x same extensions_are states_are keeps = (
+  subst (λ gs. IsIndexed gs extensions') (sym same) (subst (λ es. IsIndexed globs es) (sym extensions_are) x.0),
+  subst (λ gs. AreCompiled gs states' new) (sym same)
+      (subst (λ ss. AreCompiled globs ss new) (sym states_are) (compiled_kept x.1 keeps)),
+)
 
 -- the whole index, with a glob more
 
 pub indexes_simple : {glob : Pattern} {number : ℕ} {name : List ℕ} {extensions extensions' : List Extension}
-    {states : List State} {starts : List ℕ} → IsGlob (characters_of glob) (tokens_of glob) →
+    {states : List State} {starts : Starts} → IsGlob (characters_of glob) (tokens_of glob) →
     is_simple (characters_of glob) ≡ true → extension_of (characters_of glob) ≡ name
     → IsExtended extensions name number extensions'
     → Indexes glob number extensions states starts extensions' states starts
@@ -225,8 +251,22 @@ indexes_simple {glob} {number} {name} {extensions} {extensions'} {states} {start
   );
 }
 
+pub adds_states : {glob : Pattern} {number end start : ℕ} {old mid new : List State} {starts starts' : Starts}
+    {tokens spelled : List Token} → IsGlob (characters_of glob) (tokens_of glob) → IsPushed (End number) old mid end →
+    spelled ≡ tokens_of glob → IsBuilt spelled end mid new start → tokens ≡ spelled → AddsStart tokens start starts starts'
+    → AddsStates glob number old starts new starts'
+adds_states {glob} {number} {end} {start} {old} {mid} {new} {starts} {starts'} own pushed is built same a = record {
+  is_glob = own;
+  mid = mid;
+  end = end;
+  pushed = pushed;
+  start = start;
+  built = subst (λ ts. IsBuilt ts end mid new start) is built;
+  started = subst (λ ts. AddsStart ts start starts starts') (same ∙ is) a;
+}
+
 pub indexes_other : {glob : Pattern} {number : ℕ} {extensions : List Extension} {states states' : List State}
-    {starts starts' : List ℕ} → is_simple (characters_of glob) ≡ false →
+    {starts starts' : Starts} → is_simple (characters_of glob) ≡ false →
     AddsStates glob number states starts states' starts'
     → Indexes glob number extensions states starts extensions states' starts'
 indexes_other {glob} {number} {extensions} {states} {states'} {starts} {starts'} isnt a = record {
@@ -254,11 +294,11 @@ fits_at : (globs : List Pattern) (i : ℕ) (path : List ℕ) (glob : Pattern) �
     → Fits (tokens_of glob) path → FitsAt globs i path
 fits_at globs i path glob e h = subst (λ o. IsSomeAnd o (λ g. Fits (tokens_of g) path)) (sym e) h
 
-fits_by : (globs : List Pattern) (states : List State) (starts : List ℕ) → AreCompiled globs states starts
-    → (i : ℕ) (path : List ℕ) → FitsAt globs i path → FitsSimply globs path i ⊎ SomeLeads states starts i path
+fits_by : (globs : List Pattern) (states : List State) (starts : Starts) → AreCompiled globs states starts
+    → (i : ℕ) (path : List ℕ) → FitsAt globs i path → FitsSimply globs path i ⊎ SomeStarts states starts i path
 fits_by globs states starts x i path f = go (glob_at globs i path f) where
   by_test : (g : GlobAt globs i path) (test : Bool) → is_simple (characters_of g.glob) ≡ test
-      → FitsSimply globs path i ⊎ SomeLeads states starts i path
+      → FitsSimply globs path i ⊎ SomeStarts states starts i path
   by_test g true is = inl (
     extension_of (characters_of g.glob),
     (simple_fits (x.globs_are i g.glob g.at) is).0 g.fits,
@@ -267,68 +307,44 @@ fits_by globs states starts x i path f = go (glob_at globs i path f) where
   by_test g false isnt = inr
       ((x.leads i path).1 (record { glob = g.glob; at = g.at; not_simple = isnt; fits = g.fits }))
 
-  go : GlobAt globs i path → FitsSimply globs path i ⊎ SomeLeads states starts i path
+  go : GlobAt globs i path → FitsSimply globs path i ⊎ SomeStarts states starts i path
   go g = by_test g (is_simple (characters_of g.glob)) refl
 
-pub simply_fits : (globs : List Pattern) (states : List State) (starts : List ℕ) → AreCompiled globs states starts
+pub simply_fits : (globs : List Pattern) (states : List State) (starts : Starts) → AreCompiled globs states starts
     → (i : ℕ) (path : List ℕ) → FitsSimply globs path i → FitsAt globs i path
 simply_fits globs states starts x i path h =
     let asks = h.2 in
     fits_at globs i path asks.glob asks.at
     ((simple_fits (x.globs_are i asks.glob asks.at) asks.simple).1 (h.1 ∙ ap (λ n. Some n) (sym asks.named)))
 
-by_fits : (globs : List Pattern) (states : List State) (starts : List ℕ) → AreCompiled globs states starts
-    → (i : ℕ) (path : List ℕ) → FitsSimply globs path i ⊎ SomeLeads states starts i path → FitsAt globs i path
+by_fits : (globs : List Pattern) (states : List State) (starts : Starts) → AreCompiled globs states starts
+    → (i : ℕ) (path : List ℕ) → FitsSimply globs path i ⊎ SomeStarts states starts i path → FitsAt globs i path
 by_fits globs states starts x i path (inl h) = simply_fits globs states starts x i path h
 by_fits globs states starts x i path (inr s) = let o = (x.leads i path).0 s in fits_at globs i path o.glob o.at o.fits
 
-at_inside : (globs : List Pattern) (i : ℕ) (path : List ℕ) → FitsAt globs i path → i < length globs
-at_inside globs i path f = let g = glob_at globs i path f in slice_get_within globs i g.glob g.at
+pub noted_fit : {globs : List Pattern} {states : List State} {starts : Starts} {path old mid new : List ℕ}
+    → AreCompiled globs states starts → Notes (FitsSimply globs path) old mid
+    → Notes (λ i. SomeStarts states starts i path) mid new → Notes (λ i. FitsAt globs i path) old new
+noted_fit {globs} {states} {starts} {path} x first second = notes_on
+    (λ k f. fits_by globs states starts x k path f) (λ k h. by_fits globs states starts x k path h) first second
 
-none_noted : (n i : ℕ) → get_or (replicate n false) i false ≡ true → ⊥
-none_noted zero i e = absurd (false≢true e)
-none_noted (suc n) zero e = absurd (false≢true e)
-none_noted (suc n) (suc i) e = none_noted n i e
+pub fitting_of : {globs : List Pattern} {path none found sorted slice indices old : List ℕ} → old ≡ []
+    → indices ≡ old ++ slice → slice ≡ sorted → none ≡ [] → Notes (λ i. FitsAt globs i path) none found
+    → Lists nat_cmp (Contains found) sorted → AreFitting globs path indices
+fitting_of {globs} {path} {none} {found} {sorted} {slice} {indices} {old} empty added same e notes lists =
+    subst (AreFitting globs path) (sym whole) (record {
+      ascending = IsStrictlyIncreasing-from_sorted sorted lists.ascending;
+      exact = λ i. (
+        λ c. to i ((notes.each i).0 (lists.sound i c)),
+        λ f. lists.whole i ((notes.each i).1 (inr f)),
+      );
+    }) where
+      whole : indices ≡ sorted
+      whole = added ∙ ap (λ l. l ++ slice) empty ∙ same
 
-pub noted_fit : (globs : List Pattern) (states : List State) (starts path : List ℕ) (old mid new : List Bool)
-    → AreCompiled globs states starts → old ≡ replicate (length globs) false → length old ≡ length globs →
-    length mid ≡ length old → length new ≡ length mid → Notes (FitsSimply globs path) old mid
-    → Notes (λ i. SomeLeads states starts i path) mid new → (i : ℕ)
-    → (get_or new i false ≡ true) ↔ FitsAt globs i path
-noted_fit globs states starts path old mid new x none size one two first second i = (λ e. to e, λ f. from f) where
-  whole : Notes (λ k. FitsAt globs k path) old new
-  whole = notes_on one (λ k f. fits_by globs states starts x k path f) (λ k h. by_fits globs states starts x k path h)
-      first second
-
-  go : (get_or old i false ≡ true) ⊎ FitsAt globs i path → FitsAt globs i path
-  go (inl e) = absurd (none_noted (length globs) i (subst (λ l. get_or l i false ≡ true) none e))
-  go (inr f) = f
-
-  to : get_or new i false ≡ true → FitsAt globs i path
-  to e = let p = marked_inside new i e in go ((whole.each i (omega (arith, p, one, two))).0 e)
-
-  from : FitsAt globs i path → get_or new i false ≡ true
-  from f = let p = at_inside globs i path f in (whole.each i (omega (arith, p, size))).1 (inr f)
-
-pub fitting_of : (globs : List Pattern) (path : List ℕ) {indices : List ℕ} (fitting : List Bool)
-    → ((i : ℕ) → (get_or fitting i false ≡ true) ↔ FitsAt globs i path) → AreNoted fitting indices
-    → AreFitting globs path indices
-fitting_of globs path fitting same noted = record {
-  ascending = noted.ascending;
-  exact = λ i. (
-    λ c. (same i).0 ((noted.exact i).0 c),
-    λ f. (noted.exact i).1 ((same i).1 f),
-  );
-}
-
-pub first_fitting_of : (globs : List Pattern) (path : List ℕ) {indices : List ℕ} (fitting : List Bool)
-    → ((i : ℕ) → (get_or fitting i false ≡ true) ↔ FitsAt globs i path) → AreFirstNoted fitting indices
-    → AreFirstFitting globs path indices
-first_fitting_of globs path fitting same noted = record {
-  ascending = noted.ascending;
-  fit = λ i c. (same i).0 (noted.noted i c);
-  first = λ i j c below f. noted.first i j c below ((same i).1 f);
-}
+      to : (i : ℕ) → Contains none i ⊎ FitsAt globs i path → FitsAt globs i path
+      to i (inl c) = contains_none (contains_in e c)
+      to i (inr f) = f
 
 pub first_of_none : (globs : List Pattern) (path : List ℕ) {indices : List ℕ} → indices ≡ []
     → AreFirstFitting globs path indices
@@ -367,8 +383,17 @@ named_bound extensions name place start steps extension at named bound globs hit
 walk_bound : (places states weights : ℕ) → states ≤ weights → places * states ≤ places * weights
 walk_bound places states weights p = mul-le places states places weights (omega arith) p
 
-pub total_bound : (globs : List Pattern) (extensions : List Extension) (states : List State) (starts path : List ℕ)
-    (first second third : ℕ) → IsIndexed globs extensions → AreCompiled globs states starts →
+pub simple_bound : (globs : List Pattern) (extensions : List Extension) (states : List State) (starts : Starts)
+    (path : List ℕ) (first second : ℕ) → IsIndexed globs extensions → AreCompiled globs states starts →
+    BoundsSimple extensions path first second → KeepsBound globs path first second
+simple_bound globs extensions states starts path first second x y simple names hits d has covers less =
+    let fewer = names_fewer globs extensions names x has in
+    let one = simple globs hits d x (λ i h. covers i h.0 h.2 (simply_fits globs states starts y i path h))
+    (omega (arith, fewer, less)) in
+    omega (arith, one)
+
+pub total_bound : (globs : List Pattern) (extensions : List Extension) (states : List State) (starts : Starts)
+    (path : List ℕ) (first second third : ℕ) → IsIndexed globs extensions → AreCompiled globs states starts →
     BoundsSimple extensions path first second → third ≤ second + (length path + 1) * length states
     → KeepsBound globs path first third
 total_bound globs extensions states starts path first second third x y simple walk names hits d has covers less =
@@ -389,7 +414,7 @@ named_at {extensions} {name} {place} {extension} found is =
     (at, ap name_of (some_inj (sym at ∙ found.at)) ∙ found.named)
 
 pub notes_named : {extensions : List Extension} {name : List ℕ} (place : ℕ) (extension : Extension)
-    {old new : List Bool} → slice_get extensions place ≡ Some extension → extension.name ≡ name →
+    {old new : List ℕ} → slice_get extensions place ≡ Some extension → extension.name ≡ name →
     Notes (Contains extension.globs) old new → NotesNamed extensions name old new
 notes_named place extension at named notes globs x =
     notes_same (λ i. (
@@ -397,7 +422,7 @@ notes_named place extension at named notes globs x =
       λ h. (x.numbers place extension at i).1 (subst (λ n. AsksFor globs i n) (sym named) h),
     )) notes
 
-pub notes_gap : {extensions : List Extension} {name : List ℕ} {place : ℕ} {old : List Bool}
+pub notes_gap : {extensions : List Extension} {name : List ℕ} {place : ℕ} {old : List ℕ}
     → IsGap extensions name place → NotesNamed extensions name old old
 notes_gap {extensions} {name} {place} gap globs x = notes_none refl
-    (λ i p h. no_asks globs extensions name place x gap i h)
+    (λ i h. no_asks globs extensions name place x gap i h)

@@ -1,8 +1,8 @@
 -- What the walk finds, place by place.
-use Rattle.std.proofs.Common.{◌≡◌, ℕ, zero, suc, ◌+◌, ◌*◌, ◌<◌, ◌≤◌, List, [], ◌∷◌, ◌++◌, length, take, drop, set, Bool, true, false, refl, sym, ap, subst, inl, inr, ◌∙◌, arith, get_or, ◌≢◌}
-use Rattle.std.specs.Prelude.{◌⊎◌, ◌↔◌, Some, Contains, nat_eq, slice_get}
-use Rattle.std.proofs.lemmas.Bool.{cases_eq, cases_lt, false≢true}
-use Rattle.std.proofs.lemmas.List.{take_more, get_or_append_left, get_or_default, get_or-set_same, get_or-set_other}
+use Rattle.std.proofs.Common.{◌≡◌, ℕ, zero, suc, ◌+◌, ◌*◌, ◌<◌, ◌≤◌, List, [], ◌∷◌, ◌++◌, length, take, drop, Bool, true, refl, sym, ap, subst, inl, inr, ◌∙◌, arith, get_or}
+use Rattle.std.specs.Prelude.{◌⊎◌, ◌↔◌, Some, None, Contains, nat_eq, slice_get}
+use Rattle.std.proofs.lemmas.Bool.{cases_lt, false≢true}
+use Rattle.std.proofs.lemmas.List.{take_more, get_or_append_left, get_or_default}
 use Rattle.std.proofs.lemmas.List.Elements.{Contains-get_or, Contains-push, Contains-push_cases, Contains-append_left}
 use Rattle.std.proofs.lemmas.Option.{slice_get_read}
 use Rattle.deny_globs.specs.declared.state.State.{State}
@@ -296,7 +296,7 @@ at_first_place only all = record {
   );
 }
 
-drop_one : (path : List ℕ) (place : ℕ) → place < length path → (c : ℕ) × (drop place path ≡ c ∷ drop (suc place) path)
+pub drop_one : (path : List ℕ) (place : ℕ) → place < length path → (c : ℕ) × (drop place path ≡ c ∷ drop (suc place) path)
 drop_one [] place p = absurd (omega arith)
 drop_one (c ∷ cs) zero p = (c, refl)
 drop_one (c ∷ cs) (suc place) p = drop_one cs place (omega (arith, p))
@@ -304,6 +304,15 @@ drop_one (c ∷ cs) (suc place) p = drop_one cs place (omega (arith, p))
 drop_all : (path : List ℕ) → drop (length path) path ≡ []
 drop_all [] = refl
 drop_all (c ∷ cs) = drop_all cs
+
+-- from nothing nothing leads
+pub nothing_leads : {states : List State} {marked : List ℕ} {glob : ℕ} {cs : List ℕ} → marked ≡ []
+    → SomeLeads states marked glob cs → ⊥
+nothing_leads e s = contains_none (subst (λ l. Contains l s.number) e s.is_marked)
+
+pub no_more : {states : List State} {starts path now : List ℕ} {place glob : ℕ} → now ≡ []
+    → IsAtPlace states starts path place now → SomeLeads states starts glob path → ⊥
+no_more {glob = glob} e at s = nothing_leads e ((at.leads glob).0 s)
 
 pub at_next_place : {states : List State} {starts path : List ℕ} (place : ℕ) {rest before now next : List ℕ}
     → place < length path → rest ≡ drop place path → IsAtPlace states starts path place before →
@@ -337,76 +346,71 @@ rest_at_end path is = is ∙ drop_all path
 
 -- notes
 
-pub notes_same : {P Q : ℕ → Type 0} {old new : List Bool} → ((glob : ℕ) → P glob ↔ Q glob) → Notes P old new
+pub notes_same : {P Q : ℕ → Type 0} {old new : List ℕ} → ((glob : ℕ) → P glob ↔ Q glob) → Notes P old new
     → Notes Q old new
-notes_same same notes = record { each = λ glob p. (λ e. map_right (same glob).0 ((notes.each glob p).0 e), λ h. (notes.each glob p).1 (map_right (same glob).1 h)) } where
+notes_same same notes = record { each = λ glob. (λ e. map_right (same glob).0 ((notes.each glob).0 e), λ h. (notes.each glob).1 (map_right (same glob).1 h)) } where
   map_right : {A B C : Type 0} → (B → C) → A ⊎ B → A ⊎ C
   map_right f (inl a) = inl a
   map_right f (inr b) = inr (f b)
 
-pub notes_on : {P Q R : ℕ → Type 0} {old mid new : List Bool} → length mid ≡ length old
-    → ((glob : ℕ) → R glob → P glob ⊎ Q glob) → ((glob : ℕ) → P glob ⊎ Q glob → R glob) →
-    Notes P old mid → Notes Q mid new → Notes R old new
-notes_on {P} {Q} {R} {old} {mid} {new} size apart joined first second = record {
-  each = λ glob p.
-      let there = second.each glob (omega (arith, size, p)) in
-      (λ e. to glob p (there.0 e), λ h. there.1 (from glob p h));
+pub notes_on : {P Q R : ℕ → Type 0} {old mid new : List ℕ} → ((glob : ℕ) → R glob → P glob ⊎ Q glob)
+    → ((glob : ℕ) → P glob ⊎ Q glob → R glob) → Notes P old mid → Notes Q mid new → Notes R old new
+notes_on {P} {Q} {R} {old} {mid} {new} apart joined first second = record {
+  each = λ glob. (λ e. to glob ((second.each glob).0 e), λ h. (second.each glob).1 (from glob h));
 } where
-  old_to : (glob : ℕ) → (get_or old glob false ≡ true) ⊎ P glob → (get_or old glob false ≡ true) ⊎ R glob
+  old_to : (glob : ℕ) → Contains old glob ⊎ P glob → Contains old glob ⊎ R glob
   old_to glob (inl e) = inl e
   old_to glob (inr h) = inr (joined glob (inl h))
 
-  to : (glob : ℕ) → glob < length old → (get_or mid glob false ≡ true) ⊎ Q glob
-      → (get_or old glob false ≡ true) ⊎ R glob
-  to glob p (inl e) = old_to glob ((first.each glob p).0 e)
-  to glob p (inr h) = inr (joined glob (inr h))
+  to : (glob : ℕ) → Contains mid glob ⊎ Q glob → Contains old glob ⊎ R glob
+  to glob (inl e) = old_to glob ((first.each glob).0 e)
+  to glob (inr h) = inr (joined glob (inr h))
 
-  apart_to : (glob : ℕ) → glob < length old → P glob ⊎ Q glob → (get_or mid glob false ≡ true) ⊎ Q glob
-  apart_to glob p (inl h) = inl ((first.each glob p).1 (inr h))
-  apart_to glob p (inr h) = inr h
+  apart_to : (glob : ℕ) → P glob ⊎ Q glob → Contains mid glob ⊎ Q glob
+  apart_to glob (inl h) = inl ((first.each glob).1 (inr h))
+  apart_to glob (inr h) = inr h
 
-  from : (glob : ℕ) → glob < length old → (get_or old glob false ≡ true) ⊎ R glob
-      → (get_or mid glob false ≡ true) ⊎ Q glob
-  from glob p (inl e) = inl ((first.each glob p).1 (inl e))
-  from glob p (inr h) = apart_to glob p (apart glob h)
+  from : (glob : ℕ) → Contains old glob ⊎ R glob → Contains mid glob ⊎ Q glob
+  from glob (inl e) = inl ((first.each glob).1 (inl e))
+  from glob (inr h) = apart_to glob (apart glob h)
 
-pub notes_none : {P : ℕ → Type 0} {old new : List Bool} → new ≡ old → ((glob : ℕ) → glob < length old → P glob → ⊥)
-    → Notes P old new
+pub notes_none : {P : ℕ → Type 0} {old new : List ℕ} → new ≡ old → ((glob : ℕ) → P glob → ⊥) → Notes P old new
 notes_none {P} {old} {new} e none = record {
-  each = λ glob p. (
-    λ h. inl (subst (λ l. get_or l glob false ≡ true) e h),
-    λ h. subst (λ l. get_or l glob false ≡ true) (sym e) (from glob p h),
+  each = λ glob. (
+    λ h. inl (subst (λ l. Contains l glob) e h),
+    λ h. subst (λ l. Contains l glob) (sym e) (from glob h),
   );
 } where
-  from : (glob : ℕ) → glob < length old → (get_or old glob false ≡ true) ⊎ P glob → get_or old glob false ≡ true
-  from glob p (inl h) = h
-  from glob p (inr h) = absurd (none glob p h)
+  from : (glob : ℕ) → Contains old glob ⊎ P glob → Contains old glob
+  from glob (inl h) = h
+  from glob (inr h) = absurd (none glob h)
 
-pub notes_one : {n : ℕ} {old new : List Bool} → new ≡ set old n true → n < length old
-    → Notes (λ other. other ≡ n) old new
-notes_one {n} {old} {new} e less = record {
-  each = λ glob p. (
-    λ h. to glob (cases_eq glob n) (subst (λ l. get_or l glob false ≡ true) e h),
-    λ h. subst (λ l. get_or l glob false ≡ true) (sym e) (from glob h),
+pub notes_one : {n : ℕ} {old new : List ℕ} → new ≡ old ++ n ∷ [] → Notes (λ other. other ≡ n) old new
+notes_one {n} {old} {new} e = record {
+  each = λ glob. (
+    λ h. to glob (Contains-push_cases old n glob (subst (λ l. Contains l glob) e h)),
+    λ h. subst (λ l. Contains l glob) (sym e) (from glob h),
   );
 } where
-  to : (glob : ℕ) → (glob ≡ n) ⊎ (glob ≢ n) → get_or (set old n true) glob false ≡ true
-      → (get_or old glob false ≡ true) ⊎ (glob ≡ n)
-  to glob (inl same) h = inr same
-  to glob (inr other) h = inl (sym (get_or-set_other old n glob true false other) ∙ h)
+  to : (glob : ℕ) → Contains old glob ⊎ (n ≡ glob) → Contains old glob ⊎ (glob ≡ n)
+  to glob (inl h) = inl h
+  to glob (inr same) = inr (sym same)
 
-  here : (glob : ℕ) → glob ≡ n → get_or (set old n true) glob false ≡ true
-  here glob same = subst (λ k. get_or (set old n true) k false ≡ true) (sym same)
-      (get_or-set_same old n true false less)
+  from : (glob : ℕ) → Contains old glob ⊎ (glob ≡ n) → Contains (old ++ n ∷ []) glob
+  from glob (inl h) = Contains-append_left old (n ∷ []) glob h
+  from glob (inr same) = subst (λ k. Contains (old ++ n ∷ []) k) (sym same) (Contains-push old n)
 
-  still : (glob : ℕ) → (glob ≡ n) ⊎ (glob ≢ n) → get_or old glob false ≡ true
-      → get_or (set old n true) glob false ≡ true
-  still glob (inl same) h = here glob same
-  still glob (inr other) h = get_or-set_other old n glob true false other ∙ h
+-- the end of a glob is noted as its number
+pub notes_ended : (kind : State) {n : ℕ} {old new : List ℕ} → end_of kind ≡ Some n → new ≡ old ++ n ∷ []
+    → Notes (λ glob. end_of kind ≡ Some glob) old new
+notes_ended kind {n} at e = notes_same (λ glob. (λ same. at ∙ ap Some (sym same), λ there. some_inj (sym there ∙ at)))
+    (notes_one e)
 
-  from : (glob : ℕ) → (get_or old glob false ≡ true) ⊎ (glob ≡ n) → get_or (set old n true) glob false ≡ true
-  from glob (inl h) = still glob (cases_eq glob n) h
-  from glob (inr same) = here glob same
+pub notes_not_ended : (kind : State) {old new : List ℕ} → end_of kind ≡ None → new ≡ old
+    → Notes (λ glob. end_of kind ≡ Some glob) old new
+notes_not_ended kind none e = notes_none e (λ glob there. no_number (sym none ∙ there)) where
+  no_number : {n : ℕ} → None ≡ Some n → ⊥
+  no_number h = cc
 
 pub is_end_of : (kind : State) (glob : ℕ) → end_of kind ≡ Some glob → kind ≡ End glob
 is_end_of (End other) glob e = ap End (some_inj e)
@@ -417,7 +421,7 @@ is_end_of (AnyText next) glob e = cc
 is_end_of (Either first second) glob e = cc
 is_end_of Never glob e = cc
 
-pub notes_end : (states : List State) {number : ℕ} {kind : State} {old new : List Bool} → number < length states
+pub notes_end : (states : List State) {number : ℕ} {kind : State} {old new : List ℕ} → number < length states
     → kind ≡ get_or states number kind →
     Notes (λ glob. end_of kind ≡ Some glob) old new → Notes (λ glob. slice_get states number ≡ Some (End glob)) old new
 notes_end states {number} {kind} inside is notes = notes_same same notes where
@@ -428,11 +432,10 @@ notes_end states {number} {kind} inside is notes = notes_same same notes where
   same glob = (λ e. at ∙ ap Some (is_end_of kind glob e), λ e. ap end_of (some_inj (sym at ∙ e)))
 
 -- one more of the marked
-pub notes_more : {states : List State} (marked : List ℕ) {k n : ℕ} {old mid new : List Bool} → length mid ≡ length old
-    → k < length marked → n ≡ get_or marked k 0 →
+pub notes_more : {states : List State} (marked : List ℕ) {k n : ℕ} {old mid new : List ℕ} → k < length marked → n ≡ get_or marked k 0 →
     Notes (HasEnd states (take k marked)) old mid → Notes (λ glob. slice_get states n ≡ Some (End glob)) mid new
     → Notes (HasEnd states (take (k + 1) marked)) old new
-notes_more {states} marked {k} {n} {old} {mid} {new} size less is first second = notes_on size apart joined first second where
+notes_more {states} marked {k} {n} {old} {mid} {new} less is first second = notes_on apart joined first second where
   more : take (k + 1) marked ≡ take k marked ++ n ∷ []
   more = take_more marked k 0 less ∙ ap (λ m. take k marked ++ m ∷ []) (sym is)
 
@@ -457,23 +460,23 @@ notes_more {states} marked {k} {n} {old} {mid} {new} size less is first second =
   joined glob (inr e) = record
       { number = n; is_marked = subst (λ l. Contains l n) (sym more) (Contains-push (take k marked) n); is_end = e }
 
-pub notes_start : {states : List State} (old : List Bool) → Notes (HasEnd states []) old old
-notes_start {states} old = notes_none refl (λ glob p h. contains_none h.is_marked)
+pub notes_start : {states : List State} (old : List ℕ) → Notes (HasEnd states []) old old
+notes_start {states} old = notes_none refl (λ glob h. contains_none h.is_marked)
 
 pub state_at : (states : List State) {number : ℕ} {x y : State} → number < length states → x ≡ get_or states number x
     → x ≡ y → slice_get states number ≡ Some y
 state_at states {number} {x} inside is e = slice_get_read states (length states) number x refl inside is ∙ ap Some e
 
-pub notes_back : {P Q : ℕ → Type 0} {old new : List Bool} → ((glob : ℕ) → Q glob ↔ P glob) → Notes P old new
+pub notes_back : {P Q : ℕ → Type 0} {old new : List ℕ} → ((glob : ℕ) → Q glob ↔ P glob) → Notes P old new
     → Notes Q old new
 notes_back same notes = notes_same (λ glob. ((same glob).1, (same glob).0)) notes
 
 -- notes of the members of a list
 
-pub notes_listed : (globs : List ℕ) {k n : ℕ} {old mid new : List Bool} → length mid ≡ length old → k < length globs
+pub notes_listed : (globs : List ℕ) {k n : ℕ} {old mid new : List ℕ} → k < length globs
     → n ≡ get_or globs k 0 → Notes (Contains (take k globs)) old mid → Notes (λ other. other ≡ n) mid new →
     Notes (Contains (take (k + 1) globs)) old new
-notes_listed globs {k} {n} size less is first second = notes_on size (λ glob h. apart glob (Contains-push_cases (take k globs) n glob (subst (λ l. Contains l glob) more h))) joined first second where
+notes_listed globs {k} {n} less is first second = notes_on (λ glob h. apart glob (Contains-push_cases (take k globs) n glob (subst (λ l. Contains l glob) more h))) joined first second where
   more : take (k + 1) globs ≡ take k globs ++ n ∷ []
   more = take_more globs k 0 less ∙ ap (λ m. take k globs ++ m ∷ []) (sym is)
 
@@ -486,8 +489,8 @@ notes_listed globs {k} {n} size less is first second = notes_on size (λ glob h.
   joined glob (inr e) = subst (λ l. Contains l glob) (sym more)
       (subst (λ g. Contains (take k globs ++ n ∷ []) g) (sym e) (Contains-push (take k globs) n))
 
-pub notes_unlisted : (old : List Bool) → Notes (Contains []) old old
-notes_unlisted old = notes_none refl (λ glob p h. contains_none h)
+pub notes_unlisted : (old : List ℕ) → Notes (Contains []) old old
+notes_unlisted old = notes_none refl (λ glob h. contains_none h)
 
 pub times : (p n : ℕ) → (p + 1) * n ≡ p * n + n
 times p n = grind arith

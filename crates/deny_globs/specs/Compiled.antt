@@ -5,6 +5,8 @@ use Rattle.deny_globs.specs.declared.state.State.{State}
 use Rattle.deny_globs.specs.declared.state.State.TheVariants.{End}
 use Rattle.deny_globs.specs.Fits.{Fits}
 use Rattle.deny_globs.specs.Patterns.{Pattern, characters_of, tokens_of}
+use Rattle.deny_globs.specs.declared.starts.Starts.{Starts}
+use Rattle.deny_globs.specs.Starts.{AddsStart}
 use Rattle.deny_globs.specs.Tree.{IsGlob}
 use Rattle.deny_globs.specs.States.{Leads, PointsBelow}
 use Rattle.deny_globs.specs.Sizes.{states_of, states_of_all}
@@ -59,12 +61,12 @@ pub record IsBuiltBeside (tokens : List Token) (next others : ℕ) (old new : Li
       (cs : List ℕ) → Leads new glob start cs ↔ (Leads old glob others cs ⊎ Fits (tokens ++ rest) cs)
   pub size : length new ≤ length old + (states_of tokens + 1)
 
--- states have come that stand for the glob, whose start is the last of the starts
-pub record AddsStates (glob : Pattern) (number : ℕ) (old : List State) (starts : List ℕ) (new : List State) (starts' : List ℕ) : Type 0 where
+-- states have come that stand for the glob, and the state at which it starts
+pub record AddsStates (glob : Pattern) (number : ℕ) (old : List State) (starts : Starts) (new : List State) (starts' : Starts) : Type 0 where
   pub is_glob : IsGlob (characters_of glob) (tokens_of glob)
   pub mid : List State
   pub end : ℕ
   pub pushed : IsPushed (End number) old mid end
   pub start : ℕ
   pub built : IsBuilt (tokens_of glob) end mid new start
-  pub whole : starts' ≡ starts ++ start ∷ []
+  pub started : AddsStart (tokens_of glob) start starts starts'

@@ -1,9 +1,9 @@
 -- The simple globs by their extensions, and the others as states.
-use Rattle.std.specs.Prelude.{ℕ, ◌≡◌, ◌<◌, ◌≤◌, ◌↔◌, List, [], ◌∷◌, ◌++◌, length, map, Bool, true, false, ◌==◌, if◌then◌else◌, Option, Some, None, Contains, slice_get, slice_set, insert, get_or, ◌+◌, ◌^◌}
+use Rattle.std.specs.Prelude.{ℕ, ◌≡◌, ◌<◌, ◌≤◌, ◌↔◌, List, [], ◌∷◌, ◌++◌, length, map, ◌==◌, if◌then◌else◌, Option, Some, None, Contains, slice_get, slice_set, insert, ◌+◌, ◌^◌}
 use Rattle.std.specs.Ordering.{nat_cmp}
 use Rattle.std.specs.declared.cmp.Ordering.TheVariants.{Less}
 use Rattle.std.specs.Cmp.Lexicographic.{slice_cmp}
-use Rattle.std.specs.List.Sorted.{IsStrictlySortedBy, IsStrictlyIncreasing}
+use Rattle.std.specs.List.Sorted.{IsStrictlySortedBy}
 use Rattle.deny_globs.specs.declared.extensions.Extension.{Extension}
 use Rattle.deny_globs.specs.declared.extensions.Search.{Search}
 use Rattle.deny_globs.specs.declared.extensions.Search.TheVariants.{Found, Between}
@@ -12,7 +12,8 @@ use Rattle.deny_globs.specs.Characters.{dot}
 use Rattle.deny_globs.specs.Compiled.{IsProgram}
 use Rattle.deny_globs.specs.Patterns.{Pattern, characters_of, tokens_of}
 use Rattle.deny_globs.specs.Sets.{AsksFor, FitsOther, weight_of}
-use Rattle.deny_globs.specs.States.{SomeLeads}
+use Rattle.deny_globs.specs.declared.starts.Starts.{Starts}
+use Rattle.deny_globs.specs.Starts.{AreStarts, Starting, SomeStarts}
 use Rattle.deny_globs.specs.Tree.{IsGlob}
 use Rattle.deny_globs.specs.Walk.{Notes}
 
@@ -93,12 +94,13 @@ pub record IsIndexed (globs : List Pattern) (extensions : List Extension) : Type
   pub all : (i : ℕ) (name : List ℕ) → AsksFor globs i name → (place : ℕ) × IsNamedAt extensions name place
 
 -- the states stand for the globs that are not simple
-pub record AreCompiled (globs : List Pattern) (states : List State) (starts : List ℕ) : Type 0 where
+pub record AreCompiled (globs : List Pattern) (states : List State) (starts : Starts) : Type 0 where
   pub globs_are : (i : ℕ) (glob : Pattern) → slice_get globs i ≡ Some glob
       → IsGlob (characters_of glob) (tokens_of glob)
   pub program : IsProgram states
-  pub within : (number : ℕ) → Contains starts number → number < length states
-  pub leads : (i : ℕ) (path : List ℕ) → SomeLeads states starts i path ↔ FitsOther globs i path
+  pub are : AreStarts starts
+  pub within : (path : List ℕ) (number : ℕ) → Starting starts path number → number < length states
+  pub leads : (i : ℕ) (path : List ℕ) → SomeStarts states starts i path ↔ FitsOther globs i path
   pub size : length states ≤ weight_of globs
 
 -- a simple glob fits by its extension
@@ -106,11 +108,11 @@ abbrev pub FitsSimply : List Pattern → List ℕ → ℕ → Type 0
 FitsSimply globs path i = (name : List ℕ) × (behind_last_dot path ≡ Some name) × AsksFor globs i name
 
 -- noted are the simple globs that ask for the name, and those that fit by the path's extension
-abbrev pub NotesNamed : List Extension → List ℕ → List Bool → List Bool → Type 0
+abbrev pub NotesNamed : List Extension → List ℕ → List ℕ → List ℕ → Type 0
 NotesNamed extensions name old new = (globs : List Pattern) → IsIndexed globs extensions
     → Notes (λ i. AsksFor globs i name) old new
 
-abbrev pub NotesSimple : List Extension → List ℕ → List Bool → List Bool → Type 0
+abbrev pub NotesSimple : List Extension → List ℕ → List ℕ → List ℕ → Type 0
 NotesSimple extensions path old new = (globs : List Pattern) → IsIndexed globs extensions
     → Notes (FitsSimply globs path) old new
 
@@ -124,18 +126,7 @@ BoundsSimple extensions path old new = (globs : List Pattern) (hits : List ℕ) 
     ((i : ℕ) → FitsSimply globs path i → Contains hits i) → length extensions < 2 ^ d → new ≤ old + d + length hits
 
 -- with one glob more the index stands for it too
-pub record Indexes (glob : Pattern) (number : ℕ) (extensions : List Extension) (states : List State) (starts : List ℕ) (extensions' : List Extension) (states' : List State) (starts' : List ℕ) : Type 0 where
+pub record Indexes (glob : Pattern) (number : ℕ) (extensions : List Extension) (states : List State) (starts : Starts) (extensions' : List Extension) (states' : List State) (starts' : Starts) : Type 0 where
   pub more : (globs : List Pattern) → length globs ≡ number → IsIndexed globs extensions
       → AreCompiled globs states starts →
       IsIndexed (globs ++ glob ∷ []) extensions' × AreCompiled (globs ++ glob ∷ []) states' starts'
-
--- the numbers of the noted, ascending
-pub record AreNoted (fitting : List Bool) (indices : List ℕ) : Type 0 where
-  pub ascending : IsStrictlyIncreasing indices
-  pub exact : (i : ℕ) → Contains indices i ↔ (get_or fitting i false ≡ true)
-
--- the first of those
-pub record AreFirstNoted (fitting : List Bool) (indices : List ℕ) : Type 0 where
-  pub ascending : IsStrictlyIncreasing indices
-  pub noted : (i : ℕ) → Contains indices i → get_or fitting i false ≡ true
-  pub first : (i j : ℕ) → Contains indices j → i < j → get_or fitting i false ≡ true → Contains indices i

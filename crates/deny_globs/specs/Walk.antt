@@ -1,5 +1,5 @@
 -- What the walk over a path promises.
-use Rattle.std.specs.Prelude.{ℕ, ◌≡◌, ◌<◌, ◌⊎◌, ◌↔◌, List, [], ◌∷◌, Bool, true, false, length, Some, Contains, slice_get, get_or}
+use Rattle.std.specs.Prelude.{ℕ, ◌≡◌, ◌⊎◌, ◌↔◌, List, [], ◌∷◌, Bool, false, Some, Contains, slice_get}
 use Rattle.deny_globs.specs.declared.state.State.{State}
 use Rattle.deny_globs.specs.declared.state.State.TheVariants.{End}
 use Rattle.deny_globs.specs.Marked.{Extends}
@@ -42,5 +42,5 @@ pub record MarksStarts (states : List State) (starts path marked : List ℕ) : T
   pub all : (number glob : ℕ) → Contains starts number → Leads states glob number path → Contains marked number
 
 -- noted are those that were, and those with the property
-pub record Notes (P : ℕ → Type 0) (old new : List Bool) : Type 0 where
-  pub each : (glob : ℕ) → glob < length old → (get_or new glob false ≡ true) ↔ ((get_or old glob false ≡ true) ⊎ P glob)
+pub record Notes (P : ℕ → Type 0) (old new : List ℕ) : Type 0 where
+  pub each : (glob : ℕ) → Contains new glob ↔ (Contains old glob ⊎ P glob)

@@ -26,15 +26,18 @@ mod compile;
 mod error;
 mod extensions;
 mod glob;
+mod literals;
 mod marked;
 mod piece;
 mod reader;
 mod reading;
 mod set;
+mod starts;
 mod state;
 mod stop;
 mod token;
 mod walk;
+mod words;
 
 pub use error::GlobError;
 pub use glob::Glob;

@@ -94,6 +94,13 @@ impl Marked {
         self.order.len()
     }
 
+    /// Whether no state is marked.
+    pub fn is_empty(&self) -> bool
+        ensures { result ≡ true → self.now.0 ≡ [] }
+    {
+        self.order.is_empty()
+    }
+
     /// The state that was marked with this number.
     pub fn at(&self, index: usize) -> usize
         requires { index < length self.now.0 }

@@ -1,17 +1,19 @@
-ghost use Rattle.std.specs.Prelude.{ℕ, List, ◌≡◌, ◌<◌, ◌≤◌, ◌+◌, ◌*◌, ◌^◌, ◌↔◌, ◌∷◌, ◌++◌, [], length, OnOk, OnErr, Contains, IfOk, if◌then◌else◌, replicate, false};
+ghost use Rattle.std.specs.Prelude.{ℕ, List, ◌≡◌, ◌<◌, ◌≤◌, ◌+◌, ◌*◌, ◌^◌, ◌↔◌, ◌∷◌, ◌++◌, [], length, OnOk, OnErr, Contains, IfOk};
 ghost use Rattle.std.specs.List.Sorted.{IsStrictlyIncreasing};
 ghost use Rattle.std.specs.Str.{chars};
 ghost use Rattle.deny_globs.specs.Compiled.{IsProgram, Grows, AddsStates};
-ghost use Rattle.deny_globs.specs.Index.{Ascend, IsIndexed, AreCompiled, NotesNamed, NotesSimple, BoundsNamed, BoundsSimple, Indexes, AreNoted, AreFirstNoted};
+ghost use Rattle.deny_globs.specs.Index.{Ascend, IsIndexed, AreCompiled, NotesNamed, NotesSimple, BoundsNamed, BoundsSimple, Indexes};
 ghost use Rattle.deny_globs.specs.Sets.{FitsAt, KeepsBound, AreFitting, AreFirstFitting};
+ghost use Rattle.deny_globs.specs.Starts.{AreStarts, KeepsStarts};
 ghost use Rattle.deny_globs.specs.Walk.{Notes};
 
 use crate::compile::{compile, push_state};
 use crate::extensions::{Extension, add_extension, find_extension, is_simple, last_extension};
 use crate::glob::{Glob, characters_of};
+use crate::starts::{Starts, add_start, starts_for};
 use crate::state::State;
-use crate::walk::{note, walk};
-use deny_lists::{List, NoMemory, Steps};
+use crate::walk::walk;
+use deny_lists::{List, NoMemory, Steps, put_in_order};
 use std::alloc::Global;
 use std::marker::{Brand, Model};
 use std::sync::ledger::{Blank, Ledger};
@@ -22,7 +24,7 @@ pub struct GlobSet {
     globs: List<Glob>,
     extensions: Vec<Extension>,
     states: Vec<State>,
-    starts: Vec<usize>,
+    starts: Starts,
 }
 
 impl Model for GlobSet {
@@ -38,7 +40,7 @@ impl Model for GlobSet {
 
     ghost view = { λ s. s.globs };
 
-    ghost invariant = { λ s. IsIndexed s.globs s.extensions.items × AreCompiled s.globs s.states.items s.starts.items };
+    ghost invariant = { λ s. IsIndexed s.globs s.extensions.items × AreCompiled s.globs s.states.items s.starts };
 }
 
 impl GlobSet {
@@ -50,7 +52,10 @@ impl GlobSet {
             globs: List::new(alloc),
             extensions: Vec::new(alloc),
             states: Vec::new(alloc),
-            starts: Vec::new(alloc),
+            starts: Starts {
+                beginnings: Vec::new(alloc),
+                endings: Vec::new(alloc),
+            },
         }
     }
 
@@ -103,7 +108,8 @@ impl GlobSet {
     }
 }
 
-/// Puts the numbers of the globs that fit into the list, which is empty.
+/// Puts the numbers of the globs that fit into the list, which is empty, and stays so without
+/// memory for all of them.
 fn find_fitting<L: Ledger>(
     set: &GlobSet,
     path: &[char],
@@ -112,11 +118,14 @@ fn find_fitting<L: Ledger>(
 ) -> Result<(), NoMemory>
     requires { indices.old.items ≡ [] }
     ensures ok { OnOk result (AreFitting set.now path.now indices.new.items) }
-    ensures err { OnErr result (AreFirstFitting set.now path.now indices.new.items) }
+    ensures err { OnErr result (indices.new.items ≡ []) }
     ensures steps { KeepsBound set.now path.now steps.old steps.new }
 {
-    let mut fitting = vec![in *indices.allocator(); false; set.globs.len()]?;
-    list_fitting(set, path, &mut fitting, indices, steps)
+    let mut fitting = List::new(*indices.allocator());
+    note_fitting(set, path, &mut fitting, steps)?;
+    put_in_order(&mut fitting)?;
+    indices.extend_from_slice(fitting.as_slice())?;
+    Ok(())
 }
 
 /// The same, where no steps are counted.
@@ -131,30 +140,26 @@ fn find_uncounted<L: Ledger>(
     requires whole { 0 < L.parts }
     requires empty { indices.old.items ≡ [] }
     ensures ok { OnOk result (AreFitting set.now path.now indices.new.items) }
-    ensures err { OnErr result (AreFirstFitting set.now path.now indices.new.items) }
+    ensures err { OnErr result (indices.new.items ≡ []) }
 {
     let mut steps: Steps<L> = Steps::new(blank);
     find_fitting(set, path, indices, &mut steps)
 }
 
-/// Puts the numbers of the globs that fit into the list, which is empty; none is noted yet.
-fn list_fitting<L: Ledger>(
+/// Notes the globs that fit, in any order.
+fn note_fitting<L: Ledger>(
     set: &GlobSet,
     path: &[char],
-    fitting: &mut [bool],
-    indices: &mut Vec<usize>,
+    fitting: &mut List<usize>,
     steps: &mut Steps<L>,
 ) -> Result<(), NoMemory>
-    requires none { fitting.old ≡ replicate (length set.now) false }
-    requires empty { indices.old.items ≡ [] }
-    ensures ok { OnOk result (AreFitting set.now path.now indices.new.items) }
-    ensures err { OnErr result (AreFirstFitting set.now path.now indices.new.items) }
+    ensures ok { OnOk result (Notes (λ i. FitsAt set.now i path.now) fitting.old fitting.new) }
     ensures steps { KeepsBound set.now path.now steps.old steps.new }
 {
-    let alloc = *indices.allocator();
-    note_simple(&set.extensions, path, fitting, steps);
-    walk(alloc, &set.states, &set.starts, path, fitting, steps)?;
-    list_noted(fitting, indices)
+    let alloc = *set.states.allocator();
+    note_simple(&set.extensions, path, fitting, steps)?;
+    let starts = starts_for(alloc, &set.starts, path)?;
+    walk(alloc, &set.states, &starts, path, fitting, steps)
 }
 
 /// Puts a glob into the index, under this number.
@@ -163,14 +168,15 @@ fn index_glob(
     number: usize,
     extensions: &mut Vec<Extension>,
     states: &mut Vec<State>,
-    starts: &mut Vec<usize>,
+    starts: &mut Starts,
 ) -> Result<(), NoMemory>
     requires ascend { Ascend extensions.old.items }
     requires program { IsProgram states.old.items }
-    ensures ok { OnOk result (Indexes glob.now number extensions.old.items states.old.items starts.old.items extensions.new.items states.new.items starts.new.items) }
+    requires starts { AreStarts starts.old }
+    ensures ok { OnOk result (Indexes glob.now number extensions.old.items states.old.items starts.old extensions.new.items states.new.items starts.new) }
     ensures extensions { OnErr result (extensions.new.items ≡ extensions.old.items) }
     ensures states { OnErr result (states.new.items ≡ states.old.items) }
-    ensures starts { OnErr result (starts.new.items ≡ starts.old.items) }
+    ensures starts { OnErr result (KeepsStarts starts.old starts.new) }
 {
     let characters = glob.characters();
     if is_simple(characters) {
@@ -184,12 +190,13 @@ fn add_states(
     glob: &Glob,
     number: usize,
     states: &mut Vec<State>,
-    starts: &mut Vec<usize>,
+    starts: &mut Starts,
 ) -> Result<(), NoMemory>
-    requires { IsProgram states.old.items }
-    ensures ok { OnOk result (AddsStates glob.now number states.old.items starts.old.items states.new.items starts.new.items) }
+    requires program { IsProgram states.old.items }
+    requires starts { AreStarts starts.old }
+    ensures ok { OnOk result (AddsStates glob.now number states.old.items starts.old states.new.items starts.new) }
     ensures states { OnErr result (states.new.items ≡ states.old.items) }
-    ensures starts { OnErr result (starts.new.items ≡ starts.old.items) }
+    ensures starts { OnErr result (KeepsStarts starts.old starts.new) }
 {
     let old = states.len();
     match push_glob(glob, number, states, starts) {
@@ -206,34 +213,35 @@ fn push_glob(
     glob: &Glob,
     number: usize,
     states: &mut Vec<State>,
-    starts: &mut Vec<usize>,
+    starts: &mut Starts,
 ) -> Result<(), NoMemory>
-    requires { IsProgram states.old.items }
-    ensures ok { OnOk result (AddsStates glob.now number states.old.items starts.old.items states.new.items starts.new.items) }
+    requires program { IsProgram states.old.items }
+    requires starts { AreStarts starts.old }
+    ensures ok { OnOk result (AddsStates glob.now number states.old.items starts.old states.new.items starts.new) }
     ensures grows { OnErr result (Grows states.old.items states.new.items) }
-    ensures starts { OnErr result (starts.new.items ≡ starts.old.items) }
+    ensures starts { OnErr result (KeepsStarts starts.old starts.new) }
 {
     let alloc = *states.allocator();
     let end = push_state(states, State::End(number))?;
-    let start = compile(alloc, states, glob.tokens(), end)?;
-    starts.push(start)?;
-    Ok(())
+    let tokens = glob.tokens();
+    let start = compile(alloc, states, tokens, end)?;
+    add_start(alloc, starts, tokens.as_slice(), start)
 }
 
 /// Notes the simple globs that fit by the path's extension.
 fn note_simple<L: Ledger>(
     extensions: &[Extension],
     path: &[char],
-    fitting: &mut [bool],
+    fitting: &mut List<usize>,
     steps: &mut Steps<L>,
-)
+) -> Result<(), NoMemory>
     requires { Ascend extensions.now }
-    ensures notes { NotesSimple extensions.now path.now fitting.old fitting.new }
-    ensures room { length fitting.new ≡ length fitting.old }
+    ensures notes { OnOk result (NotesSimple extensions.now path.now fitting.old fitting.new) }
     ensures steps { BoundsSimple extensions.now path.now steps.old steps.new }
 {
-    if let Some(place) = last_extension(path) {
-        note_named(extensions, &path[place..], fitting, steps);
+    match last_extension(path) {
+        Some(place) => note_named(extensions, &path[place..], fitting, steps),
+        None => Ok(()),
     }
 }
 
@@ -241,50 +249,31 @@ fn note_simple<L: Ledger>(
 fn note_named<L: Ledger>(
     extensions: &[Extension],
     name: &[char],
-    fitting: &mut [bool],
+    fitting: &mut List<usize>,
     steps: &mut Steps<L>,
-)
+) -> Result<(), NoMemory>
     requires { Ascend extensions.now }
-    ensures notes { NotesNamed extensions.now name.now fitting.old fitting.new }
-    ensures room { length fitting.new ≡ length fitting.old }
+    ensures notes { OnOk result (NotesNamed extensions.now name.now fitting.old fitting.new) }
     ensures steps { BoundsNamed extensions.now name.now steps.old steps.new }
 {
-    if let Ok(place) = find_extension(extensions, name, steps) {
-        note_all(extensions[place].globs.as_slice(), fitting, steps);
+    match find_extension(extensions, name, steps) {
+        Ok(place) => note_all(extensions[place].globs.as_slice(), fitting, steps),
+        Err(_place) => Ok(()),
     }
 }
 
 /// Notes these globs, with a step for each.
-fn note_all<L: Ledger>(globs: &[usize], fitting: &mut [bool], steps: &mut Steps<L>)
-    ensures notes { Notes (Contains globs.now) fitting.old fitting.new }
-    ensures room { length fitting.new ≡ length fitting.old }
-    ensures steps { steps.new ≡ steps.old + length globs.now }
+fn note_all<L: Ledger>(
+    globs: &[usize],
+    fitting: &mut List<usize>,
+    steps: &mut Steps<L>,
+) -> Result<(), NoMemory>
+    ensures notes { OnOk result (Notes (Contains globs.now) fitting.old fitting.new) }
+    ensures steps { steps.new ≤ steps.old + length globs.now }
 {
     for glob in globs {
-        note(fitting, *glob);
+        fitting.push(*glob)?;
         steps.tick();
-    }
-}
-
-/// Puts the numbers of the noted globs into the list, which is empty.
-fn list_noted(fitting: &[bool], indices: &mut Vec<usize>) -> Result<(), NoMemory>
-    requires { indices.old.items ≡ [] }
-    ensures ok { OnOk result (AreNoted fitting.now indices.new.items) }
-    ensures err { OnErr result (AreFirstNoted fitting.now indices.new.items) }
-{
-    for (index, is_fitting) in fitting.iter().enumerate() {
-        list_if(*is_fitting, index, indices)?;
-    }
-    Ok(())
-}
-
-/// Adds the number where the test holds.
-fn list_if(test: bool, index: usize, indices: &mut Vec<usize>) -> Result<(), NoMemory>
-    ensures ok { OnOk result (indices.new.items ≡ (if test then indices.old.items ++ index ∷ [] else indices.old.items)) }
-    ensures err { OnErr result (indices.new.items ≡ indices.old.items) }
-{
-    if test {
-        indices.push(index)?;
     }
     Ok(())
 }

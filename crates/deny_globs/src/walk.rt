@@ -4,12 +4,12 @@ ghost use Rattle.deny_globs.specs.Class.{in_range, class_takes};
 ghost use Rattle.deny_globs.specs.Compiled.{IsProgram};
 ghost use Rattle.deny_globs.specs.States.{end_of, SomeLeads};
 ghost use Rattle.deny_globs.specs.declared.state.State.TheVariants.{End};
-ghost use Rattle.deny_globs.specs.Walk.{first_passes, StepsOver, Passes, MarksStarts, HasEnd, Notes};
+ghost use Rattle.deny_globs.specs.Walk.{first_passes, StepsOver, Passes, HasEnd, Notes};
 
 use crate::marked::Marked;
 use crate::state::State;
 use crate::token::{CharacterRange, Class};
-use deny_lists::{NoMemory, Steps};
+use deny_lists::{List, NoMemory, Steps};
 use std::alloc::Global;
 use std::sync::ledger::Ledger;
 
@@ -158,44 +158,33 @@ fn end_of(state: &State) -> Option<usize>
     }
 }
 
-/// Notes a glob.
-pub fn note(fitting: &mut [bool], glob: usize)
-    ensures notes { Notes (λ other. other ≡ glob) fitting.old fitting.new }
-    ensures room { length fitting.new ≡ length fitting.old }
-{
-    if glob < fitting.len() {
-        fitting[glob] = true;
-    }
-}
-
 /// Notes the glob whose end the state is.
-fn note_end(state: &State, fitting: &mut [bool])
-    ensures notes { Notes (λ glob. end_of state.now ≡ Some glob) fitting.old fitting.new }
-    ensures room { length fitting.new ≡ length fitting.old }
+fn note_end(state: &State, fitting: &mut List<usize>) -> Result<(), NoMemory>
+    ensures { OnOk result (Notes (λ glob. end_of state.now ≡ Some glob) fitting.old fitting.new) }
 {
-    if let Some(glob) = end_of(state) {
-        note(fitting, glob);
+    match end_of(state) {
+        Some(glob) => fitting.push(glob),
+        None => Ok(()),
     }
 }
 
 /// The same, of the state with this number.
-fn note_end_at(states: &[State], number: usize, fitting: &mut [bool])
+fn note_end_at(states: &[State], number: usize, fitting: &mut List<usize>) -> Result<(), NoMemory>
     requires { number < length states.now }
-    ensures notes { Notes (λ glob. slice_get states.now number ≡ Some (End glob)) fitting.old fitting.new }
-    ensures room { length fitting.new ≡ length fitting.old }
+    ensures { OnOk result (Notes (λ glob. slice_get states.now number ≡ Some (End glob)) fitting.old fitting.new) }
 {
-    note_end(&states[number], fitting);
+    note_end(&states[number], fitting)
 }
 
 /// Notes the globs whose end is marked.
-fn note_ends(states: &[State], marked: &[usize], fitting: &mut [bool])
+fn note_ends(states: &[State], marked: &[usize], fitting: &mut List<usize>) -> Result<(), NoMemory>
     requires { (number : ℕ) → Contains marked.now number → number < length states.now }
-    ensures notes { Notes (HasEnd states.now marked.now) fitting.old fitting.new }
-    ensures room { length fitting.new ≡ length fitting.old }
+    ensures { OnOk result (Notes (HasEnd states.now marked.now) fitting.old fitting.new) }
 {
     for number in marked {
-        note_end_at(states, *number, fitting);
+        note_end_at(states, *number, fitting)?;
     }
+    Ok(())
 }
 
 /// Walks once over the path with all globs that start at these states, and notes those that fit.
@@ -204,24 +193,28 @@ pub fn walk<L: Ledger>(
     states: &[State],
     starts: &[usize],
     path: &[char],
-    fitting: &mut [bool],
+    fitting: &mut List<usize>,
     steps: &mut Steps<L>,
 ) -> Result<(), NoMemory>
     requires program { IsProgram states.now }
     requires within { (number : ℕ) → Contains starts.now number → number < length states.now }
     ensures notes { OnOk result (Notes (λ glob. SomeLeads states.now starts.now glob path.now) fitting.old fitting.new) }
-    ensures room { length fitting.new ≡ length fitting.old }
     ensures steps { steps.new ≤ steps.old + (length path.now + 1) * length states.now }
 {
+    if starts.is_empty() {
+        return Ok(());
+    }
     let mut now = Marked::new(alloc, states.len())?;
     let mut next = Marked::new(alloc, states.len())?;
     mark_starts(starts, &mut now, steps)?;
     for place in 0..path.len() {
+        if now.is_empty() {
+            return Ok(());
+        }
         pass(states, &path[place..], &mut now, &mut next, steps)?;
         now.clear();
         std::mem::swap(&mut now, &mut next);
     }
     pass(states, &path[path.len()..], &mut now, &mut next, steps)?;
-    note_ends(states, now.as_slice(), fitting);
-    Ok(())
+    note_ends(states, now.as_slice(), fitting)
 }

@@ -2,17 +2,16 @@ use Rattle.std.proofs.Common.{arith, refl, subst}
 use Rattle.std.specs.Prelude.{Contains}
 use Rattle.deny_globs.specs.Walk.{Notes}
 use Rattle.deny_globs.proofs.MarkedLemmas.{take_all}
-use Rattle.deny_globs.proofs.WalkLemmas.{notes_unlisted, notes_listed}
+use Rattle.deny_globs.proofs.WalkLemmas.{notes_unlisted, notes_listed, notes_one}
 use Rattle.deny_globs.proofs.set.note_all.Goals as goal
 
 pub loop-glob-init : goal.loop-glob-init
-loop-glob-init g c = record { notes = notes_unlisted c.args.fitting.now; room = refl; steps = omega arith }
+loop-glob-init g c = record { notes = notes_unlisted c.args.fitting.now; steps = omega arith }
 
 pub loop-glob-preserved : goal.loop-glob-preserved
 loop-glob-preserved g c = record {
-  notes = notes_listed c.args.globs.now c.loop-glob.invariant.room (omega arith) refl c.loop-glob.invariant.notes
-      c.note.ensures.notes;
-  room = omega (arith, c.note.ensures.room, c.loop-glob.invariant.room);
+  notes = notes_listed c.args.globs.now (omega arith) refl c.loop-glob.invariant.notes
+      (notes_one c.in_ok-push.ensures.ok);
   steps = omega (arith, c.tick.ensures, c.loop-glob.invariant.steps);
 }
 

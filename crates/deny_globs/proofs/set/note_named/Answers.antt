@@ -1,4 +1,5 @@
 use Rattle.std.proofs.Common.{arith, ap, length, subst, sym, ◌∙◌}
+use Rattle.std.proofs.lemmas.Result.{on_ok_weaker}
 use Rattle.deny_globs.specs.Index.{globs_of}
 use Rattle.std.specs.Prelude.{Contains}
 use Rattle.deny_globs.specs.Walk.{Notes}
@@ -22,9 +23,11 @@ returns-in-Ok-clause-steps g c globs hits d x covers less =
 pub returns-in-Ok-clause-notes : goal.returns-in-Ok-clause-notes
 returns-in-Ok-clause-notes g c =
     let at = named_at c.in-Ok.ensures.found c.index-extensions-place.is in
-    notes_named c.in-Ok.place c.index-extensions-place.result at.0 at.1
+    on_ok_weaker c.note_all.result
+    (λ n. notes_named c.in-Ok.place c.index-extensions-place.result at.0 at.1
     (subst (λ l. Notes (Contains l) c.args.fitting.now c.note_all.new.fitting) (c.as_slice.ensures
-    ∙ ap globs_of (sym c.index-extensions-place.is)) c.note_all.ensures.notes)
+    ∙ ap globs_of (sym c.index-extensions-place.is)) n))
+    c.note_all.ensures.notes
 
-pub returns-in_default-clause-notes : goal.returns-in_default-clause-notes
-returns-in_default-clause-notes g c = notes_gap c.in_default.ensures.absent
+pub returns-in-Err-clause-notes : goal.returns-in-Err-clause-notes
+returns-in-Err-clause-notes g c = notes_gap c.in-Err.ensures.absent

@@ -1,22 +1,25 @@
-use Rattle.std.proofs.Common.{arith, drop, length, length-drop, sym, subst, ◌∙◌, ◌-◌}
+use Rattle.std.proofs.Common.{arith, drop, length, length-drop, refl, sym, subst, ◌∙◌, ◌-◌}
+use Rattle.std.proofs.lemmas.Result.{on_ok_weaker}
 use Rattle.deny_globs.specs.Sets.{AsksFor}
 use Rattle.deny_globs.specs.Walk.{Notes}
+use Rattle.deny_globs.proofs.IndexLemmas.{none_at}
 use Rattle.deny_globs.proofs.MarkedLemmas.{take_all}
 use Rattle.deny_globs.proofs.StateLemmas.{some_inj}
-use Rattle.deny_globs.proofs.WalkLemmas.{notes_same}
+use Rattle.deny_globs.proofs.WalkLemmas.{notes_same, notes_none}
 use Rattle.deny_globs.proofs.set.note_simple.Goals as goal
 
 pub returns-in-Some-clause-notes : goal.returns-in-Some-clause-notes
-returns-in-Some-clause-notes g c globs x =
+returns-in-Some-clause-notes g c =
     let path = c.args.path.now in
     let place = c.in-Some.place in
     let same = take_all (drop place path) (length path - place) (omega (arith, length-drop place path)) in
-    notes_same (λ i. (
+    on_ok_weaker c.note_named.result
+    (λ n globs x. notes_same (λ i. (
       λ a. (drop place path, c.in-Some.ensures.found, a),
-      λ h. subst (λ n. AsksFor globs i n) (some_inj (sym h.1 ∙ c.in-Some.ensures.found)) h.2,
+      λ h. subst (λ m. AsksFor globs i m) (some_inj (sym h.1 ∙ c.in-Some.ensures.found)) h.2,
     ))
-    (subst (λ n. Notes (λ i. AsksFor globs i n) c.args.fitting.now c.note_named.new.fitting) same
-    (c.note_named.ensures.notes globs x))
+    (subst (λ m. Notes (λ i. AsksFor globs i m) c.args.fitting.now c.note_named.new.fitting) same (n globs x)))
+    c.note_named.ensures.notes
 
 pub returns-in-Some-clause-steps : goal.returns-in-Some-clause-steps
 returns-in-Some-clause-steps g c globs hits d x covers less =
@@ -25,3 +28,6 @@ returns-in-Some-clause-steps g c globs hits d x covers less =
     let same = take_all (drop place path) (length path - place) (omega (arith, length-drop place path)) in
     c.note_named.ensures.steps globs hits d x
     (λ i a. covers i (drop place path, c.in-Some.ensures.found, subst (λ n. AsksFor globs i n) same a)) less
+
+pub returns-in-None-clause-notes : goal.returns-in-None-clause-notes
+returns-in-None-clause-notes g c globs x = notes_none refl (λ i h. none_at (sym c.in-None.ensures.none ∙ h.1))

@@ -1,8 +1,9 @@
-use Rattle.std.proofs.Common.{arith, ap, sym, subst, length, drop, length-drop, ◌∙◌, ◌≡◌, ◌+◌, ◌-◌, ◌*◌}
+use Rattle.std.proofs.Common.{arith, ap, refl, sym, subst, length, drop, length-drop, ◌∙◌, ◌≡◌, ◌+◌, ◌-◌, ◌*◌}
 use Rattle.std.specs.Prelude.{Contains}
+use Rattle.std.proofs.lemmas.Result.{on_ok_weaker}
 use Rattle.deny_globs.specs.Walk.{HasEnd, Notes}
 use Rattle.deny_globs.proofs.MarkedLemmas.{take_all}
-use Rattle.deny_globs.proofs.WalkLemmas.{IsAtPlace, at_next_place, at_last_place, rest_at_end, notes_back, times}
+use Rattle.deny_globs.proofs.WalkLemmas.{IsAtPlace, at_next_place, at_last_place, rest_at_end, notes_back, notes_none, no_more, times}
 use Rattle.deny_globs.proofs.walk.walk.Goals as goal
 
 pub mark_starts-requires-clause-within : goal.mark_starts-requires-clause-within
@@ -60,6 +61,11 @@ returns-in_err-pass-2-clause-steps g c =
       times size n,
     )
 
+pub returns-then-is_empty-2-clause-notes : goal.returns-then-is_empty-2-clause-notes
+returns-then-is_empty-2-clause-notes g c =
+    notes_none refl
+    (λ glob s. no_more (c.is_empty-in-loop-place.ensures c.if-is_empty-2.true) c.loop-place.invariant.at s)
+
 pub note_ends-requires : goal.note_ends-requires
 note_ends-requires g c n h =
     omega (
@@ -71,9 +77,11 @@ note_ends-requires g c n h =
 
 pub returns-clause-notes : goal.returns-clause-notes
 returns-clause-notes g c =
-    notes_back (at_last_place c.loop-place.place (omega arith)
+    on_ok_weaker c.note_ends.result
+    (λ n. notes_back (at_last_place c.loop-place.place (omega arith)
     (take_all (drop (length c.args.path.now) c.args.path.now) (length c.args.path.now - length c.args.path.now)
     (omega (arith, length-drop (length c.args.path.now) c.args.path.now))) c.loop-place.invariant.at
     c.in_ok-pass-2.ensures.ok)
-    (subst (λ l. Notes (HasEnd c.args.states.now l) c.args.fitting.now c.note_ends.new.fitting) c.as_slice.ensures.value
-    c.note_ends.ensures.notes)
+    (subst (λ l. Notes (HasEnd c.args.states.now l) c.args.fitting.now c.note_ends.new.fitting)
+    c.as_slice.ensures.value n))
+    c.note_ends.ensures

@@ -1,0 +1,98 @@
+-- The characters that tokens begin and end with, token by token.
+use Rattle.std.proofs.Common.{◌≡◌, ℕ, zero, suc, ◌+◌, ◌<◌, List, [], ◌∷◌, ◌++◌, length, drop, get_or, reverse, sym, ap, subst, ◌∙◌, append_assoc, arith, rules}
+use Rattle.std.proofs.lemmas.List.{reverse-append}
+use Rattle.deny_globs.specs.declared.token.Token.{Token}
+use Rattle.deny_globs.specs.declared.token.Token.TheVariants.{Character}
+use Rattle.deny_globs.specs.Fits.{Fits}
+use Rattle.deny_globs.specs.Literals.{BeginsAll, EndsAll}
+use Rattle.deny_globs.proofs.FitsLemmas.{split_first, split_list, nothing_fits, character_takes}
+
+drop_suc : (tokens : List Token) (k : ℕ) {token : Token} {c : ℕ} → k < length tokens → token ≡ get_or tokens k token
+    → token ≡ Character c → drop k tokens ≡ Character c ∷ drop (suc k) tokens
+drop_suc [] k p is e = absurd (omega (arith, p))
+drop_suc (t ∷ ts) zero p is e = ap (λ x. x ∷ ts) (sym is ∙ e)
+drop_suc (t ∷ ts) (suc k) p is e = drop_suc ts k (omega (arith, p)) is e
+
+pub drop_token : (tokens : List Token) (k : ℕ) {token : Token} {c : ℕ} → k < length tokens → token ≡ get_or tokens k token
+    → token ≡ Character c → drop k tokens ≡ Character c ∷ drop (k + 1) tokens
+drop_token tokens k {token} {c} p is e = subst (λ n. drop k tokens ≡ Character c ∷ drop n tokens) one
+    (drop_suc tokens k p is e) where
+      one : suc k ≡ k + 1
+      one = omega arith
+
+-- a path that fits has the word in front, and fits what is left of the tokens behind it
+pub record IsBegunFor (word : List ℕ) (left : List Token) (path : List ℕ) : Type 0 where
+  pub rest : List ℕ
+  pub whole : path ≡ word ++ rest
+  pub fits : Fits left rest
+
+pub record IsReadTo (tokens left : List Token) (word : List ℕ) : Type 0 where
+  pub each : (path : List ℕ) → Fits tokens path → IsBegunFor word left path
+
+pub read_none : (tokens : List Token) {word : List ℕ} → word ≡ [] → IsReadTo tokens tokens word
+read_none tokens {word} e = record {
+  each = λ path f. record { rest = path; whole = ap (λ w. w ++ path) (sym e); fits = f };
+}
+
+pub read_one : {tokens left behind : List Token} {word after : List ℕ} {c : ℕ} → left ≡ Character c ∷ behind
+    → after ≡ word ++ c ∷ [] → IsReadTo tokens left word → IsReadTo tokens behind after
+read_one {tokens} {left} {behind} {word} {after} {c} e more read = record { each = one } where
+  one : (path : List ℕ) → Fits tokens path → IsBegunFor after behind path
+  one path f =
+      let old = read.each path f in
+      let s = split_first (subst (λ ts. Fits ts old.rest) e old.fits) in
+      let t = (character_takes c).taken_of_text s.front s.is_text in
+      let is : t.0 ≡ c = sym (search (rules, t.2)) in
+      let front : s.front ≡ c ∷ [] = t.1 ∙ ap (λ d. d ∷ []) is in
+      record {
+        rest = s.rest;
+        whole = old.whole ∙ ap (λ l. word ++ l) (s.whole ∙ ap (λ l. l ++ s.rest) front)
+            ∙ sym (append_assoc word (c ∷ []) s.rest) ∙ ap (λ w. w ++ s.rest) (sym more);
+        fits = s.fits;
+      }
+
+pub begins_all : {tokens left : List Token} {word : List ℕ} → IsReadTo tokens left word → BeginsAll tokens word
+begins_all read path f = let r = read.each path f in record { rest = r.rest; whole = r.whole }
+
+-- the same from the end
+
+pub record IsEndedFor (word : List ℕ) (left : List Token) (path : List ℕ) : Type 0 where
+  pub rest : List ℕ
+  pub whole : reverse path ≡ word ++ reverse rest
+  pub fits : Fits left rest
+
+pub record IsReadBackTo (tokens left : List Token) (word : List ℕ) : Type 0 where
+  pub each : (path : List ℕ) → Fits tokens path → IsEndedFor word left path
+
+pub back_none : (tokens : List Token) {word : List ℕ} → word ≡ [] → IsReadBackTo tokens tokens word
+back_none tokens {word} e = record {
+  each = λ path f. record { rest = path; whole = ap (λ w. w ++ reverse path) (sym e); fits = f };
+}
+
+pub back_one : {tokens left before : List Token} {token : Token} {word after : List ℕ} {c : ℕ}
+    → left ≡ before ++ token ∷ [] → token ≡ Character c → after ≡ word ++ c ∷ [] → IsReadBackTo tokens left word
+    → IsReadBackTo tokens before after
+back_one {tokens} {left} {before} {token} {word} {after} {c} e own more read = record { each = one } where
+  whole : left ≡ before ++ Character c ∷ []
+  whole = e ∙ ap (λ t. before ++ t ∷ []) own
+
+  one : (path : List ℕ) → Fits tokens path → IsEndedFor after before path
+  one path f =
+      let old = read.each path f in
+      let l = split_list before (Character c ∷ []) old.rest (subst (λ ts. Fits ts old.rest) whole old.fits) in
+      let s = split_first l.fits in
+      let t = (character_takes c).taken_of_text s.front s.is_text in
+      let is : t.0 ≡ c = sym (search (rules, t.2)) in
+      let front : s.front ≡ c ∷ [] = t.1 ∙ ap (λ d. d ∷ []) is in
+      let last : l.rest ≡ c ∷ [] = s.whole ∙ ap (λ x. x ++ s.rest) front ∙ ap (λ x. c ∷ x) (nothing_fits s.fits) in
+      let back : reverse old.rest ≡ c ∷ reverse l.front =
+      ap reverse (l.whole ∙ ap (λ x. l.front ++ x) last) ∙ reverse-append l.front (c ∷ []) in
+      record {
+        rest = l.front;
+        whole = old.whole ∙ ap (λ x. word ++ x) back ∙ sym (append_assoc word (c ∷ []) (reverse l.front))
+            ∙ ap (λ w. w ++ reverse l.front) (sym more);
+        fits = l.fits_first;
+      }
+
+pub ends_all : {tokens left : List Token} {word : List ℕ} → IsReadBackTo tokens left word → EndsAll tokens word
+ends_all read path f = let r = read.each path f in record { rest = reverse r.rest; whole = r.whole }

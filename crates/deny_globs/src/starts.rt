@@ -1,0 +1,48 @@
+ghost use Rattle.std.specs.Prelude.{ℕ, ◌↔◌, Contains, OnOk, OnErr, IfOk};
+ghost use Rattle.deny_globs.specs.Starts.{AreStarts, AddsStart, KeepsStarts, Starting};
+
+use crate::literals::{backward, literal_beginning, literal_ending};
+use crate::token::Token;
+use crate::words::{Node, add_word, find_words};
+use deny_lists::NoMemory;
+use std::alloc::Global;
+
+/// The states at which globs start, by what each path begins or ends with that a glob fits.
+#[derive(Drop)]
+pub struct Starts {
+    /// By the characters with which the paths begin.
+    pub beginnings: Vec<Node>,
+    /// By the characters with which the paths end, the last one first.
+    pub endings: Vec<Node>,
+}
+
+/// Puts the start of a glob with these tokens under the longer of its two words.
+pub fn add_start(
+    alloc: Global,
+    starts: &mut Starts,
+    tokens: &[Token],
+    number: usize,
+) -> Result<(), NoMemory>
+    requires { AreStarts starts.old }
+    ensures ok { OnOk result (AddsStart tokens.now number starts.old starts.new) }
+    ensures err { OnErr result (KeepsStarts starts.old starts.new) }
+{
+    let beginning = literal_beginning(alloc, tokens)?;
+    let ending = literal_ending(alloc, tokens)?;
+    if ending.len() < beginning.len() {
+        return add_word(&mut starts.beginnings, &beginning, number);
+    }
+    add_word(&mut starts.endings, &ending, number)
+}
+
+/// The states at which the globs start that can fit the path.
+pub fn starts_for(alloc: Global, starts: &Starts, path: &[char]) -> Result<Vec<usize>, NoMemory>
+    ensures { IfOk result (λ found. (number : ℕ) → Contains found.items number ↔
+        Starting starts.now path.now number) }
+{
+    let mut found = Vec::new(alloc);
+    find_words(&starts.beginnings, path, &mut found)?;
+    let back = backward(alloc, path)?;
+    find_words(&starts.endings, &back, &mut found)?;
+    Ok(found)
+}
