@@ -1,6 +1,6 @@
 //! One case: a table's bytes and the names that are looked up in it, in hex.
 
-use deny_std::{
+use deny_std_table::{
     Api, ApiReplacement, Replacement, ReplacementData, ReplacementError, ReplacementItem,
     UpgradeError,
 };

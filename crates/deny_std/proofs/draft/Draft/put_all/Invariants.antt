@@ -1,7 +1,0 @@
-use Rattle.std.proofs.Common.{take}
-use Rattle.deny_std.specs.Draft.{Writes}
-use Rattle.deny_std.proofs.draft.Draft.put_all.Given as goal
-
--- the bytes so far were written
-abbrev pub invariant-loop-byte : goal.invariant-loop-byte
-invariant-loop-byte l = Writes l.fn.self l.self (take l.byte-index l.bytes)

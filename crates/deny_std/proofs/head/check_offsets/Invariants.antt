@@ -1,7 +1,0 @@
-use Rattle.std.proofs.Common.{◌≡◌, ◌-◌}
-use Rattle.deny_std.specs.Head.{offsets}
-use Rattle.deny_std.proofs.head.check_offsets.Given as goal
-
--- what is left to test breaks where the whole breaks
-abbrev pub invariant-loop-i : goal.invariant-loop-i
-invariant-loop-i l = offsets l.bytes l.count l.i (l.count - l.i) ≡ offsets l.bytes l.count 0 l.count

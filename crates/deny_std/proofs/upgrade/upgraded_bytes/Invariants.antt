@@ -1,7 +1,0 @@
-use Rattle.deny_std.specs.Width.{width_of}
-use Rattle.deny_std.proofs.UpgradeLemmas.{CopiedSoFar, read_texts}
-use Rattle.deny_std.proofs.upgrade.upgraded_bytes.Given as goal
-
--- the entries before this one were written, and their offsets
-abbrev pub invariant-loop-i : goal.invariant-loop-i
-invariant-loop-i l = CopiedSoFar (read_texts (width_of l.width) l.bytes l.count) l.i l.head l.body

@@ -1,8 +1,0 @@
--- How many bytes the length of a text has.
-use Rattle.std.specs.Prelude.{ℕ}
-use Rattle.deny_std.specs.declared.width.Width.{Width}
-use Rattle.deny_std.specs.declared.width.Width.TheVariants.{One, Two}
-
-abbrev pub width_of : Width → ℕ
-width_of One = 1
-width_of Two = 2

@@ -1,0 +1,12 @@
+use Rattle.std.proofs.Common.{◌-◌}
+use Rattle.deny_std_table.specs.Width.{width_of}
+use Rattle.deny_std_table.specs.Region.{bounds, replacement}
+use Rattle.deny_std_table.specs.Spelling.{replacement_text, replacement_bytes}
+use Rattle.deny_std_table.proofs.CopyLemmas.{Progress}
+use Rattle.deny_std_table.proofs.upgrade.copy_replacements.Given as goal
+
+-- what is left is still to be written
+abbrev pub invariant-loop-place : goal.invariant-loop-place
+invariant-loop-place l =
+    Progress (replacement (bounds (width_of l.region.width) l.region.bytes.now l.region.stop))
+    (replacement_text l.region.bytes.now) replacement_bytes l.count l.at (l.count - l._place) l.next l.fn.draft l.draft

@@ -1,0 +1,15 @@
+pub mod Cursor
+pub mod Entries
+pub mod Head
+pub mod Item
+pub mod Layout
+pub mod Names
+pub mod Place
+pub mod Reading
+pub mod Region
+pub mod Replacement
+pub mod Spelling
+pub mod Table
+pub mod Width
+pub mod Texts
+pub mod Draft

@@ -1,0 +1,49 @@
+-- How the bytes of a table are read: each reader starts at an offset, and answers what stands there
+-- with the offset right after it, or the first break.
+use Rattle.std.specs.Prelude.{ℕ, zero, suc, ◌+◌, ◌*◌, Bool, Result, Ok, Err, List, [], ◌∷◌, slice_index, if◌then◌else◌}
+use Rattle.deny_std_table.specs.declared.error.ReplacementError.{ReplacementError}
+use Rattle.deny_std_table.specs.declared.error.ReplacementError.TheVariants.{Bad}
+use Rattle.deny_std_table.specs.declared.place.Read.{Read}
+
+infixl 10 ◌>>=◌
+-- the first break ends the reading
+abbrev pub ◌>>=◌ : {A B : Type 0} → Result A ReplacementError → (A → Result B ReplacementError)
+    → Result B ReplacementError
+Ok x >>= rest = rest x
+Err e >>= rest = Err e
+
+infixl 10 ◌>>◌
+abbrev pub ◌>>◌ : {A B : Type 0} → Result A ReplacementError → Result B ReplacementError → Result B ReplacementError
+Ok x >> rest = rest
+Err e >> rest = Err e
+
+-- the bytes break at this offset unless the test holds
+abbrev pub unless_bad : Bool → ℕ → Result (Unit {0}) ReplacementError
+unless_bad test offset = if test then Ok tt else Err (Bad offset)
+
+abbrev pub read : {A : Type 0} → A → ℕ → Read A
+read value next = record { value = value; next = next }
+
+-- the little endian number of so many bytes
+unfoldable pub number : ℕ → List ℕ → ℕ → ℕ
+number zero bytes at = 0
+number (suc width) bytes at = slice_index bytes at + 256 * number width bytes (at + 1)
+
+-- so many of a kind, one right after the other
+unfoldable pub many : {A : Type 0} → (ℕ → Result (Read A) ReplacementError) → ℕ → ℕ
+    → Result (Read (List A)) ReplacementError
+many reader zero at = Ok (read [] at)
+many reader (suc count) at = do
+  first ← reader at
+  others ← many reader count first.next
+  Ok (read (first.value ∷ others.value) others.next)
+
+-- where a reading stops, or its break
+abbrev pub next_of : {A : Type 0} → Result (Read A) ReplacementError → Result ℕ ReplacementError
+next_of (Ok given) = Ok given.next
+next_of (Err e) = Err e
+
+-- whether a reading breaks, and where
+abbrev pub done_of : {A : Type 0} → Result A ReplacementError → Result (Unit {0}) ReplacementError
+done_of (Ok given) = Ok tt
+done_of (Err e) = Err e

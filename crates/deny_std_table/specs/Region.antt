@@ -1,0 +1,109 @@
+-- An entry's bytes, from its name to its last item, in the order in which they are read. The first break ends
+-- the reading: a text breaks at its length, a missing byte at the entry's end, a number that is 0 at its place.
+use Rattle.std.specs.Prelude.{ℕ, ◌+◌, ◌==◌, ◌&&◌, nat_lt, nat_le, List, Option, Some, None, Result, Ok, Err, slice_index, if◌then◌else◌}
+use Rattle.std.specs.Str.{is_utf8}
+use Rattle.deny_std_table.specs.declared.error.ReplacementError.{ReplacementError}
+use Rattle.deny_std_table.specs.declared.error.ReplacementError.TheVariants.{Bad}
+use Rattle.deny_std_table.specs.declared.place.TextPlace.{TextPlace}
+use Rattle.deny_std_table.specs.declared.place.ApiPlace.{ApiPlace}
+use Rattle.deny_std_table.specs.declared.place.ReplacementPlace.{ReplacementPlace}
+use Rattle.deny_std_table.specs.declared.place.Counts.{Counts}
+use Rattle.deny_std_table.specs.declared.place.GroupHead.{GroupHead}
+use Rattle.deny_std_table.specs.declared.place.Read.{Read}
+use Rattle.deny_std_table.specs.Place.{contents}
+use Rattle.deny_std_table.specs.Reading.{◌>>=◌, ◌>>◌, unless_bad, read, number, many}
+
+-- The bytes of a table, the offset where the entry at hand ends, and how many bytes a text's length has.
+pub record Bounds : Type 0 where
+  pub bytes : List ℕ
+  pub width : ℕ
+  pub stop : ℕ
+
+-- what is known of a region
+abbrev pub bounds : ℕ → List ℕ → ℕ → Bounds
+bounds width bytes stop = record { bytes = bytes; width = width; stop = stop }
+
+-- a single byte; where it is missing, the entry's end is the break
+unfoldable pub byte : Bounds → ℕ → Result (Read ℕ) ReplacementError
+byte b at = if nat_lt at b.stop then Ok (read (slice_index b.bytes at) (at + 1)) else Err (Bad b.stop)
+
+-- the place of the text whose length stands at an offset
+abbrev pub text_place : Bounds → ℕ → TextPlace
+text_place b at = record { at = at + b.width; size = number b.width b.bytes at }
+
+-- a text: its length, then that many bytes of UTF-8, all inside the entry
+unfoldable pub text : Bounds → ℕ → Result (Read TextPlace) ReplacementError
+text b at =
+    let place = text_place b at in
+    let next = place.at + place.size in
+    if nat_le place.at b.stop && nat_le next b.stop && is_utf8 (contents b.bytes place)
+    then Ok (read place next) else Err (Bad at)
+
+-- an API: its name, its address
+unfoldable pub api : Bounds → ℕ → Result (Read ApiPlace) ReplacementError
+api b at = do
+  name ← text b at
+  url ← text b name.next
+  Ok (read (record { name = name.value; url = url.value }) url.next)
+
+-- an empty note is none
+abbrev pub note_of : TextPlace → Option TextPlace
+note_of place = if place.size == 0 then None else Some place
+
+-- a replacement: the API of the crate, the API of std, a note
+unfoldable pub replacement : Bounds → ℕ → Result (Read ReplacementPlace) ReplacementError
+replacement b at = do
+  krate ← api b at
+  std ← api b krate.next
+  note ← text b std.next
+  Ok (read (record { krate = krate.value; std = std.value; note = note_of note.value }) note.next)
+
+-- Replacements that are stable since one minor version.
+pub record Group : Type 0 where
+  pub minor : ℕ
+  pub replacements : List ReplacementPlace
+
+-- the head of a group: its minor version, and the number of its replacements, which is not 0
+unfoldable pub group_head : Bounds → ℕ → Result (Read GroupHead) ReplacementError
+group_head b at = do
+  minor ← byte b at
+  count ← byte b minor.next
+  unless_bad (nat_lt 0 count.value) minor.next
+  Ok (read (record { minor = minor.value; count = count.value }) count.next)
+
+-- a group: its head, and its replacements
+unfoldable pub group : Bounds → ℕ → Result (Read Group) ReplacementError
+group b at = do
+  head ← group_head b at
+  replacements ← many (replacement b) head.value.count head.next
+  Ok (read (record { minor = head.value.minor; replacements = replacements.value }) replacements.next)
+
+-- the numbers of groups, unstable and unavailable items
+unfoldable pub counts : Bounds → ℕ → Result (Read Counts) ReplacementError
+counts b at = do
+  groups ← byte b at
+  unstable ← byte b groups.next
+  unavailable ← byte b unstable.next
+  Ok (read (record { groups = groups.value; unstable = unstable.value; unavailable = unavailable.value })
+      unavailable.next)
+
+-- All that an entry says of its crate.
+pub record Items : Type 0 where
+  pub groups : List Group
+  pub unstable : List ReplacementPlace
+  pub unavailable : List ApiPlace
+
+-- so many groups, unstable and unavailable items; what follows the last one is not looked at
+unfoldable pub counted_items : Bounds → Counts → ℕ → Result (Read Items) ReplacementError
+counted_items b count at = do
+  groups ← many (group b) count.groups at
+  unstable ← many (replacement b) count.unstable groups.next
+  unavailable ← many (api b) count.unavailable unstable.next
+  Ok (read (record { groups = groups.value; unstable = unstable.value; unavailable = unavailable.value })
+      unavailable.next)
+
+-- the items, after their numbers
+unfoldable pub items : Bounds → ℕ → Result (Read Items) ReplacementError
+items b at = do
+  count ← counts b at
+  counted_items b count.value count.next

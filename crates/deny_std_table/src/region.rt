@@ -1,0 +1,197 @@
+//! One entry's bytes, and the readers of what stands in them.
+
+ghost use Rattle.std.specs.Prelude.{◌≡◌, ◌+◌, ◌≤◌, length, IfOk};
+ghost use Rattle.std.specs.Str.{is_utf8};
+ghost use Rattle.deny_std_table.specs.Place.{contents};
+ghost use Rattle.deny_std_table.specs.Reading.{next_of, many};
+ghost use Rattle.deny_std_table.specs.Width.{width_of};
+ghost use Rattle.deny_std_table.specs.Region.{bounds, byte, text, api, replacement, note_of, group_head, group, counts, counted_items, items};
+
+use crate::error::ReplacementError;
+use crate::place::{ApiPlace, Counts, GroupHead, Read, ReplacementPlace, TextPlace};
+use crate::width::Width;
+use std::str;
+
+/// The bytes of a table, how many of them the length of a text has, and the offset where the entry at hand
+/// ends: nothing past it is read.
+#[derive(Clone, Copy)]
+pub(crate) struct Region<'d> {
+    pub bytes: &'d [u8],
+    pub width: Width,
+    pub stop: usize,
+    ghost within: { stop ≤ length bytes.now },
+}
+
+impl<'d> Region<'d> {
+    #[tactic(auto, unfolding(crate::specs::Region::byte))]
+    pub fn byte(&self, at: usize) -> Result<Read<u8>, ReplacementError>
+        ensures { result ≡ byte (bounds (width_of self.now.width) self.now.bytes.now self.now.stop) at }
+    {
+        if at >= self.stop {
+            return Err(ReplacementError::Bad(self.stop));
+        }
+        Ok(Read {
+            value: self.bytes[at],
+            next: at + 1,
+        })
+    }
+
+    #[tactic(auto, unfolding(crate::specs::Region::text))]
+    pub fn text(&self, at: usize) -> Result<Read<TextPlace>, ReplacementError>
+        ensures value { result ≡ text (bounds (width_of self.now.width) self.now.bytes.now self.now.stop) at }
+        ensures inside { IfOk result (λ t. t.value.at + t.value.size ≤ length self.now.bytes.now) }
+    {
+        let length = self.width.bytes();
+        if at >= self.stop || length > self.stop - at {
+            return Err(ReplacementError::Bad(at));
+        }
+        let place = TextPlace {
+            at: at + length,
+            size: self.width.length_at(self.bytes, at),
+        };
+        if place.size > self.stop - place.at || !is_text(self.bytes, place) {
+            return Err(ReplacementError::Bad(at));
+        }
+        Ok(Read {
+            value: place,
+            next: place.at + place.size,
+        })
+    }
+
+    #[tactic(auto, unfolding(crate::specs::Region::api))]
+    pub fn api(&self, at: usize) -> Result<Read<ApiPlace>, ReplacementError>
+        ensures { result ≡ api (bounds (width_of self.now.width) self.now.bytes.now self.now.stop) at }
+    {
+        let name = self.text(at)?;
+        let url = self.text(name.next)?;
+        Ok(Read {
+            value: ApiPlace {
+                name: name.value,
+                url: url.value,
+            },
+            next: url.next,
+        })
+    }
+
+    #[tactic(auto, unfolding(crate::specs::Region::replacement))]
+    pub fn replacement(&self, at: usize) -> Result<Read<ReplacementPlace>, ReplacementError>
+        ensures { result ≡ replacement (bounds (width_of self.now.width) self.now.bytes.now self.now.stop) at }
+    {
+        let krate = self.api(at)?;
+        let std = self.api(krate.next)?;
+        let note = self.text(std.next)?;
+        Ok(Read {
+            value: ReplacementPlace {
+                krate: krate.value,
+                std: std.value,
+                note: note_of(note.value),
+            },
+            next: note.next,
+        })
+    }
+
+    #[tactic(auto, unfolding(crate::specs::Region::group_head))]
+    pub fn group_head(&self, at: usize) -> Result<Read<GroupHead>, ReplacementError>
+        ensures { result ≡ group_head (bounds (width_of self.now.width) self.now.bytes.now self.now.stop) at }
+    {
+        let minor = self.byte(at)?;
+        let count = self.byte(minor.next)?;
+        if count.value == 0 {
+            return Err(ReplacementError::Bad(minor.next));
+        }
+        Ok(Read {
+            value: GroupHead {
+                minor: minor.value,
+                count: count.value,
+            },
+            next: count.next,
+        })
+    }
+
+    #[tactic(auto, unfolding(crate::specs::Region::counts))]
+    pub fn counts(&self, at: usize) -> Result<Read<Counts>, ReplacementError>
+        ensures { result ≡ counts (bounds (width_of self.now.width) self.now.bytes.now self.now.stop) at }
+    {
+        let groups = self.byte(at)?;
+        let unstable = self.byte(groups.next)?;
+        let unavailable = self.byte(unstable.next)?;
+        Ok(Read {
+            value: Counts {
+                groups: groups.value,
+                unstable: unstable.value,
+                unavailable: unavailable.value,
+            },
+            next: unavailable.next,
+        })
+    }
+
+    /// Passes over replacements, and answers where they end.
+    pub fn skip_replacements(&self, count: u8, at: usize) -> Result<usize, ReplacementError>
+        ensures { result ≡ next_of
+            (many (replacement (bounds (width_of self.now.width) self.now.bytes.now self.now.stop)) count at) }
+    {
+        let mut next = at;
+        for _place in 0..count {
+            next = self.replacement(next)?.next;
+        }
+        Ok(next)
+    }
+
+    /// Passes over APIs, and answers where they end.
+    pub fn skip_apis(&self, count: u8, at: usize) -> Result<usize, ReplacementError>
+        ensures { result ≡ next_of
+            (many (api (bounds (width_of self.now.width) self.now.bytes.now self.now.stop)) count at) }
+    {
+        let mut next = at;
+        for _place in 0..count {
+            next = self.api(next)?.next;
+        }
+        Ok(next)
+    }
+
+    #[tactic(auto, unfolding(crate::specs::Region::group))]
+    fn skip_group(&self, at: usize) -> Result<usize, ReplacementError>
+        ensures { result ≡ next_of (group (bounds (width_of self.now.width) self.now.bytes.now self.now.stop) at) }
+    {
+        let head = self.group_head(at)?;
+        self.skip_replacements(head.value.count, head.next)
+    }
+
+    /// Passes over groups, and answers where they end.
+    pub fn skip_groups(&self, count: u8, at: usize) -> Result<usize, ReplacementError>
+        ensures { result ≡ next_of
+            (many (group (bounds (width_of self.now.width) self.now.bytes.now self.now.stop)) count at) }
+    {
+        let mut next = at;
+        for _place in 0..count {
+            next = self.skip_group(next)?;
+        }
+        Ok(next)
+    }
+
+    /// Passes over an entry's items, and answers where they end.
+    #[tactic(auto, unfolding(crate::specs::Region::items, crate::specs::Region::counted_items))]
+    pub fn skip_items(&self, at: usize) -> Result<usize, ReplacementError>
+        ensures { result ≡ next_of (items (bounds (width_of self.now.width) self.now.bytes.now self.now.stop) at) }
+    {
+        let counts = self.counts(at)?;
+        let unstable = self.skip_groups(counts.value.groups, counts.next)?;
+        let unavailable = self.skip_replacements(counts.value.unstable, unstable)?;
+        self.skip_apis(counts.value.unavailable, unavailable)
+    }
+}
+
+/// An empty note is none.
+fn note_of(place: TextPlace) -> Option<TextPlace>
+    ensures { result ≡ note_of place }
+{
+    if place.size == 0 { None } else { Some(place) }
+}
+
+/// Whether UTF-8 stands at a place.
+fn is_text(bytes: &[u8], place: TextPlace) -> bool
+    requires { place.at + place.size ≤ length bytes.now }
+    ensures { result ≡ is_utf8 (contents bytes.now place) }
+{
+    str::from_utf8(&bytes[place.at..place.at + place.size]).is_ok()
+}
