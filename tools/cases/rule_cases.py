@@ -366,11 +366,11 @@ def duplicates():
         "skip-tree = ['x@2']\nmultiple-versions-include-dev = true", "skipped-by-root x@2.0.0"
     )
     yield rule(
-        "four versions in order of precedence",
+        "two versions, one with two candidates",
         "app -> x@1.10.0, app -> x@1.9.0, app -> x@1.9.0-rc.2, app -> x@1.9.0-rc.10", "", "duplicate x"
     )
     yield rule(
-        "two groups in order of their first crates", "app -> b@10.0.0, app -> b@9.0.0, app -> a, app -> a@2.0.0", "",
+        "two groups in order of their names", "app -> b@10.0.0, app -> b@9.0.0, app -> a, app -> a@2.0.0", "",
         "duplicate a; duplicate b"
     )
     yield rule(

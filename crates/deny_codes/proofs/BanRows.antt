@@ -4,12 +4,51 @@ use Rattle.deny_base.specs.declared.code.Code.TheVariants as code
 use Rattle.deny_model.specs.Keys.{crate_key, dependent_key, no_span, unused_key}
 use Rattle.deny_model.specs.Rules.{ban_keys}
 use Rattle.deny_model.specs.Policy as policy
-use Rattle.deny_codes.proofs.Cases.{bans_on_cases, ban_at, by_two, entry_at, one_x, plain, range, words_at}
+use Rattle.deny_model.specs.Policy.{Ban}
+use Rattle.deny_codes.proofs.Cases.{bans_on_cases, ban_at, by_two, crate, dev_edge, edge, entry_at, exactly, graph}
+use Rattle.deny_codes.proofs.Cases.{one_x, plain, range, two_x, words_at}
 
 -- with the workspace's own crates exempt, a ban of one comes to nothing
 own_crate : ban_keys (record plain { deny = ban_at (codes "app") [] 16 ∷ []; allow_workspace = true }) one_x ≡ []
 unfolding bans_on_cases
 own_crate = refl
+
+-- the other crates are not exempt with them
+another_crate : ban_keys (record plain { deny = ban_at (codes "x") [] 16 ∷ []; allow_workspace = true }) one_x
+    ≡ crate_key code.Banned 1 (range 16) ∷ []
+unfolding bans_on_cases
+another_crate = refl
+
+-- a wrapper of a crate that is exempt is not told, and comes to nothing
+exempt_and_wrapped : ban_keys (record plain {
+  deny = ban_at (codes "app") (words_at (codes "x") 30 ∷ []) 16 ∷ [];
+  allow_workspace = true;
+}) (graph (crate 1 (codes "x") 1 ∷ []) (edge 0 1 ∷ dev_edge 1 0 ∷ []))
+    ≡ unused_key code.UnusedWrapper (range 30) ∷ []
+unfolding bans_on_cases
+exempt_and_wrapped = refl
+
+-- a ban without wrappers stands, also at a crate that nothing needs
+no_wrappers : ban_keys (record plain { deny = ban_at (codes "app") [] 16 ∷ [] }) one_x
+    ≡ crate_key code.Banned 0 (range 16) ∷ []
+unfolding bans_on_cases
+no_wrappers = refl
+
+-- a wrapper lifts the ban of its own entry alone
+of_its_own_entry : ban_keys (record plain {
+  deny = ban_at (codes "x") (words_at (codes "app") 30 ∷ []) 16 ∷ ban_at (codes "x") [] 40 ∷ [];
+}) one_x
+    ≡ crate_key code.Banned 1 (range 40) ∷ dependent_key code.AllowedByWrapper 1 (range 16) 0 ∷ []
+unfolding bans_on_cases
+of_its_own_entry = refl
+
+-- of two versions an entry speaks of the one that meets its requirement
+one_version : List Ban
+one_version = record (ban_at (codes "x") [] 16) { spec = exactly 2 (ban_at (codes "x") [] 16).spec } ∷ []
+
+of_one_version : ban_keys (record plain { deny = one_version }) two_x ≡ crate_key code.Banned 2 (range 16) ∷ []
+unfolding bans_on_cases one_version
+of_one_version = refl
 
 abbrev app_y_app : List policy.Words
 app_y_app = words_at (codes "app") 30 ∷ words_at (codes "y") 40 ∷ words_at (codes "app") 50 ∷ []
@@ -26,3 +65,18 @@ allow_none : ban_keys (record plain { allow = entry_at (codes "q") 18 ∷ [] }) 
     ≡ crate_key code.NotAllowed 0 no_span ∷ crate_key code.NotAllowed 1 no_span ∷ []
 unfolding bans_on_cases
 allow_none = refl
+
+-- of several entries one that names it is enough, and whom it names is told once for each
+allow_some : ban_keys (record plain {
+  allow = entry_at (codes "q") 18 ∷ entry_at (codes "x") 28 ∷ entry_at (codes "x") 38 ∷ [];
+}) one_x
+    ≡ crate_key code.Allowed 1 (range 28) ∷ crate_key code.Allowed 1 (range 38)
+    ∷ crate_key code.NotAllowed 0 no_span ∷ []
+unfolding bans_on_cases
+allow_some = refl
+
+-- with the workspace's own crates exempt, only the others are told
+allow_another : ban_keys (record plain { allow = entry_at (codes "q") 18 ∷ []; allow_workspace = true }) one_x
+    ≡ crate_key code.NotAllowed 1 no_span ∷ []
+unfolding bans_on_cases
+allow_another = refl

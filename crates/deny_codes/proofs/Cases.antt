@@ -1,8 +1,9 @@
 -- Crates, graphs and policies of which small cases are made.
-use Rattle.std.proofs.Common.{ℕ, List, [], ◌∷◌, ◌+◌, true, false, None, codes}
+use Rattle.std.proofs.Common.{ℕ, List, [], ◌∷◌, ◌+◌, ◌==◌, true, false, not, None, Some, codes}
 use Rattle.std.specs.Prelude.{⊤}
 use Rattle.std.specs.FinMap as finite
 use Rattle.semver.specs.Parse.{Parts}
+use Rattle.semver.specs.declared.Op.TheVariants.{Exact}
 use Rattle.deny_base.specs.declared.edge.DepKind.TheVariants.{Normal, Dev}
 use Rattle.deny_base.specs.declared.edge.Edge.{Edge}
 use Rattle.deny_base.specs.declared.level.LintLevel.TheVariants.{Deny}
@@ -54,13 +55,17 @@ edge parent child = record { parent = parent; child = child; kind = Normal }
 
 -- the member `app` and other crates
 unfoldable pub graph : List Crate → List Edge → Graph
-graph crates edges = record { root = []; crates = app ∷ crates; members = 0 ∷ []; edges = edges }
+graph crates edges = record { root = []; crates = app ∷ crates; members = 0 ∷ []; edges = edges; target_edges = [] }
 
 unfoldable pub range : ℕ → Span
 range start = record { start = start; end = start + 1 }
 
 unfoldable pub spec_at : List ℕ → ℕ → Spec
 spec_at name start = record { name = name; requirement = None; written = None; range = range start }
+
+-- a spec that asks for one version
+unfoldable pub exactly : ℕ → Spec → Spec
+exactly major spec = record spec { requirement = Some ((Exact, major, Some 0, Some 0, []) ∷ []) }
 
 unfoldable pub words_at : List ℕ → ℕ → policy.Words
 words_at text start = record { value = text; span = range start }
@@ -94,6 +99,10 @@ plain = record {
 unfoldable pub all_count : chains.Facts
 all_count = record { counts = λ c. true; in_tree = λ t c. false }
 
+-- the crate at the first place behind `app` does not count
+unfoldable pub not_the_first : chains.Facts
+not_the_first = record { counts = λ c. not (c.place == 1); in_tree = λ t c. false }
+
 -- `app` needs `x`
 unfoldable pub one_x : Graph
 one_x = graph (crate 1 (codes "x") 1 ∷ []) (edge 0 1 ∷ [])
@@ -105,6 +114,10 @@ by_two = graph (crate 1 (codes "x") 1 ∷ crate 2 (codes "y") 1 ∷ []) (edge 0 
 -- `app` needs two versions of `x`
 unfoldable pub two_x : Graph
 two_x = graph (crate 1 (codes "x") 1 ∷ crate 2 (codes "x") 2 ∷ []) (edge 0 1 ∷ edge 0 2 ∷ [])
+
+-- `app` needs the second version of `x`, which needs the first
+unfoldable pub chained_x : Graph
+chained_x = graph (crate 1 (codes "x") 1 ∷ crate 2 (codes "x") 2 ∷ []) (edge 0 2 ∷ edge 2 1 ∷ [])
 
 -- an edge of a development dependency
 unfoldable pub dev_edge : ℕ → ℕ → Edge
@@ -125,8 +138,8 @@ x_1_x_2 = graph (with_id (codes "x1") (crate 1 (codes "x") 1) ∷ with_id (codes
 -- ---- what a row unfolds to compute one of these
 
 unfoldable pub on_cases : ⊤
-unfolding crate_of crate app edge dev_edge graph range spec_at words_at ban_at entry_at root_of plain all_count with_id
-    one_x by_two two_x x_1_x_2
+unfolding crate_of crate app edge dev_edge graph range spec_at exactly words_at ban_at entry_at root_of plain all_count
+    not_the_first with_id one_x by_two two_x chained_x x_1_x_2
 on_cases = tt
 
 unfoldable pub bans_on_cases : ⊤

@@ -1,25 +1,34 @@
 -- Small cases of crates that stand side by side.
-use Rattle.std.proofs.Common.{◌≡◌, ◌∙◌, List, [], ◌∷◌, codes, refl, arith, subst, sym}
+use Rattle.std.proofs.Common.{◌≡◌, ◌∙◌, ◌<◌, List, [], ◌∷◌, codes, refl, arith, subst, sym, ap, length}
 use Rattle.std.specs.Prelude.{Contains}
 use Rattle.std.specs.List.Sorted.{IsStrictlySortedBy}
-use Rattle.std.specs.declared.cmp.Ordering.TheVariants.{Greater, Less}
+use Rattle.std.specs.declared.cmp.Ordering.TheVariants.{Equal, Greater, Less}
 use Rattle.deny_lists.specs.Ascending.{Lists}
-use Rattle.deny_lists.proofs.Members.{Contains-first, Contains-rest}
+use Rattle.deny_lists.proofs.Members.{Contains-by_cases, Contains-first, Contains-rest, no_member}
 use Rattle.deny_base.specs.declared.level.LintLevel.TheVariants.{Allow, Warn, Deny}
-use Rattle.deny_model.specs.Duplicates.{IsDuplicate, duplicate_level, is_denied_multiple}
-use Rattle.deny_model.specs.Graph.{Crate}
+use Rattle.deny_base.specs.declared.key.Key.{Key}
+use Rattle.deny_model.specs.Duplicates.{IsDuplicate, IsDuplicateOf, duplicate_level, is_denied_multiple}
+use Rattle.deny_model.specs.Graph.{Crate, Graph}
 use Rattle.deny_model.specs.Groups.{unmarked}
 use Rattle.deny_model.specs.Keys.{duplicate_key}
 use Rattle.deny_model.specs.Match.{matches}
 use Rattle.deny_model.specs.VersionOrder.{version_cmp}
-use Rattle.deny_codes.proofs.Cases.{skips_on_cases, all_count, app, crate, crate_of, graph, plain, range, spec_at}
-use Rattle.deny_codes.proofs.Cases.{two_x}
+use Rattle.deny_codes.proofs.Cases.{skips_on_cases, all_count, app, crate, crate_of, edge, graph, one_x, plain, range}
+use Rattle.deny_codes.proofs.Cases.{spec_at, two_x}
 
 -- an entry that denies several versions of `y` does not raise the level for `x`
 not_raised : duplicate_level (record plain { multiple_versions = Warn; deny_multiple = spec_at (codes "y") 9 ∷ [] })
     (crate 1 (codes "x") 1 ∷ []) ≡ Warn
 unfolding plain spec_at range crate crate_of duplicate_level is_denied_multiple matches
 not_raised = refl
+
+-- one that denies several versions of one of the crates does
+raised : duplicate_level (record plain {
+  multiple_versions = Warn;
+  deny_multiple = spec_at (codes "y") 9 ∷ spec_at (codes "x") 19 ∷ [];
+}) (crate 1 (codes "z") 1 ∷ crate 2 (codes "x") 2 ∷ []) ≡ Deny
+unfolding plain spec_at range crate crate_of duplicate_level is_denied_multiple matches
+raised = refl
 
 both : List Crate
 both = crate 1 (codes "x") 1 ∷ crate 2 (codes "x") 2 ∷ []
@@ -61,6 +70,38 @@ two_stand = (
   },
 )
 
+-- one alone is none
+of_one : (x : Crate) (crates : List Crate) → version_cmp x x ≡ Equal → IsStrictlySortedBy version_cmp crates
+    → ((c : Crate) → Contains crates c → c ≡ x) → length crates < 2
+unfolding IsStrictlySortedBy
+of_one x [] same up are = omega arith
+of_one x (a ∷ []) same up are = omega arith
+of_one x (a ∷ b ∷ rest) same up are =
+    let a_is = are a (Contains-first a (b ∷ rest)) in
+    let b_is = are b (Contains-rest a (b ∷ rest) b (Contains-first b rest)) in
+    absurd (cc (sym same ∙ (ap (version_cmp x) (sym b_is) ∙ ap (λ c. version_cmp c b) (sym a_is)), up.0.0))
+
+first_x : Crate
+first_x = crate 1 (codes "x") 1
+
+as_itself : version_cmp first_x first_x ≡ Equal
+unfolding first_x crate crate_of
+as_itself = refl
+
+alone : unmarked plain one_x all_count (codes "x") ≡ first_x ∷ []
+unfolding skips_on_cases first_x
+alone = refl
+
+one_stands : (key : Key) → IsDuplicateOf plain one_x all_count (codes "x") key → ⊥
+one_stands key found =
+    let are : (c : Crate) → Contains found.crates c → c ≡ first_x = λ c is. Contains-by_cases first_x [] c
+    (subst (λ (crates : List Crate). Contains crates c) alone (found.listed.sound c is))
+    (λ e. sym e) (λ none. absurd (no_member c none)) in
+    let few = of_one first_x found.crates as_itself found.listed.ascending are in
+    omega (arith, few, found.several)
+
+-- ---- the order of a duplicate's crates
+
 -- crates of a name are told by precedence, where the order of texts is another, and by id where versions tie
 by_precedence : version_cmp (crate 1 (codes "x") 9) (crate 2 (codes "x") 10) ≡ Less
 unfolding crate crate_of
@@ -69,3 +110,74 @@ by_precedence = refl
 by_id : version_cmp (crate 1 (codes "b") 1) (crate 2 (codes "a") 1) ≡ Greater
 unfolding crate crate_of
 by_id = refl
+
+by_minor : version_cmp (crate_of 1 (codes "x") (1, 9, 5, [], [])) (crate_of 2 (codes "x") (1, 10, 0, [], [])) ≡ Less
+unfolding crate_of
+by_minor = refl
+
+by_patch : version_cmp (crate_of 1 (codes "x") (1, 0, 9, [], [])) (crate_of 2 (codes "x") (1, 0, 10, [], [])) ≡ Less
+unfolding crate_of
+by_patch = refl
+
+-- of pre-releases the numbers are numbers, and a release comes behind them
+by_number : version_cmp (crate_of 1 (codes "x") (1, 0, 0, codes "rc.9", [])) (crate_of 2 (codes "x")
+    (1, 0, 0, codes "rc.10", [])) ≡ Less
+unfolding crate_of
+by_number = refl
+
+by_release : version_cmp (crate_of 1 (codes "x") (1, 0, 0, codes "rc.9", [])) (crate_of 2 (codes "x")
+    (1, 0, 0, [], [])) ≡ Less
+unfolding crate_of
+by_release = refl
+
+-- what stands behind a plus sign is no matter
+without_build : version_cmp (crate_of 1 (codes "b") (1, 0, 0, [], codes "1")) (crate_of 2 (codes "a")
+    (1, 0, 0, [], codes "2")) ≡ Greater
+unfolding crate_of
+without_build = refl
+
+-- so the crate of version 9 comes before that of version 10, which has the earlier place
+x_10_x_9 : Graph
+x_10_x_9 = graph (crate 1 (codes "x") 10 ∷ crate 2 (codes "x") 9 ∷ []) (edge 0 1 ∷ edge 0 2 ∷ [])
+
+x_10 : Crate
+x_10 = crate 1 (codes "x") 10
+
+x_9 : Crate
+x_9 = crate 2 (codes "x") 9
+
+by_place : unmarked plain x_10_x_9 all_count (codes "x") ≡ x_10 ∷ x_9 ∷ []
+unfolding skips_on_cases x_10_x_9 x_10 x_9
+by_place = refl
+
+turned : {T : Type 0} (a b c : T) → Contains (a ∷ b ∷ []) c → Contains (b ∷ a ∷ []) c
+turned a b c is = Contains-by_cases a (b ∷ []) c is
+    (λ e. subst (Contains (b ∷ a ∷ [])) e (Contains-rest b (a ∷ []) a (Contains-first a [])))
+    (λ in_rest. Contains-by_cases b [] c in_rest (λ e. subst (Contains (b ∷ a ∷ [])) e (Contains-first b (a ∷ [])))
+    (λ none. absurd (no_member c none)))
+
+nine_first : IsStrictlySortedBy version_cmp (x_9 ∷ x_10 ∷ [])
+unfolding x_9 x_10 crate crate_of IsStrictlySortedBy
+nine_first = ((refl, tt), (tt, tt))
+
+denied_too : duplicate_level plain (x_9 ∷ x_10 ∷ []) ≡ Deny
+unfolding plain x_9 x_10 crate crate_of duplicate_level is_denied_multiple
+denied_too = refl
+
+by_version : IsDuplicate plain x_10_x_9 all_count (duplicate_key (2 ∷ 1 ∷ []))
+unfolding x_10_x_9 graph x_10 x_9 crate crate_of
+by_version = (
+  x_10,
+  Contains-rest app (x_10 ∷ x_9 ∷ []) x_10 (Contains-first x_10 (x_9 ∷ [])),
+  record {
+    crates = x_9 ∷ x_10 ∷ [];
+    listed = record {
+      ascending = nine_first;
+      whole = λ c is. turned x_10 x_9 c (subst (λ (crates : List Crate). Contains crates c) by_place is);
+      sound = λ c is. subst (λ (crates : List Crate). Contains crates c) (sym by_place) (turned x_9 x_10 c is);
+    };
+    several = omega arith;
+    minded = λ e. not_allow (sym denied_too ∙ e);
+    is = refl;
+  },
+)

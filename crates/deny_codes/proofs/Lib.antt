@@ -1,13 +1,16 @@
 pub mod Agreement
 pub mod BanRows
 pub mod Cases
+pub mod CountingRows
 pub mod DuplicateRows
 pub mod Joined
 pub mod Kept
+pub mod KeyRows
 pub mod Made
 pub mod Modelled
 pub mod Parts
 pub mod RuleLaws
 pub mod SkipRows
+pub mod StdReplacementRows
 pub mod ToldRows
 pub mod Unseen

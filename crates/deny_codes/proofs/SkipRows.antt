@@ -1,17 +1,18 @@
 -- Small cases of skips, skipped trees and groups: what stands in each.
-use Rattle.std.proofs.Common.{◌≡◌, [], ◌∷◌, true, Some, None, codes, refl, arith}
+use Rattle.std.proofs.Common.{◌≡◌, ◌==◌, List, [], ◌∷◌, true, false, Some, None, codes, refl, arith}
+use Rattle.std.specs.Prelude.{◌&&◌}
 use Rattle.deny_base.specs.Edge.{kind_number}
 use Rattle.deny_base.specs.declared.code.Code.TheVariants as code
 use Rattle.deny_base.specs.declared.edge.DepKind.TheVariants.{Dev}
 use Rattle.deny_model.specs.Facts as chains
 use Rattle.deny_model.specs.Counting.{edges_without, is_of_kind}
-use Rattle.deny_model.specs.Groups.{has_name, unmarked}
+use Rattle.deny_model.specs.Groups.{has_name, reduced, unmarked}
 use Rattle.deny_model.specs.Keys.{crate_key, unused_key}
-use Rattle.deny_model.specs.Policy.{Policy}
+use Rattle.deny_model.specs.Policy.{Entry, Policy}
 use Rattle.deny_model.specs.Roots.{IsNear}
 use Rattle.deny_model.specs.Rules.{skip_keys}
-use Rattle.deny_codes.proofs.Cases.{skips_on_cases, all_count, app, crate, crate_of, dev_edge, edge, entry_at, graph}
-use Rattle.deny_codes.proofs.Cases.{one_x, plain, range, root_of}
+use Rattle.deny_codes.proofs.Cases.{skips_on_cases, all_count, app, chained_x, crate, crate_of, dev_edge, edge}
+use Rattle.deny_codes.proofs.Cases.{entry_at, exactly, graph, not_the_first, one_x, plain, range, root_of, two_x}
 
 -- `x` lies in the tree of `app`
 in_a_tree : chains.Facts
@@ -25,6 +26,59 @@ both_entries : skip_keys (record tree_of_app { skip = entry_at (codes "x") 29 �
     ≡ crate_key code.Skipped 1 (range 29) ∷ unused_key code.UnnecessarySkip (range 29) ∷ []
 unfolding skips_on_cases in_a_tree tree_of_app
 both_entries = refl
+
+stays_marked : reduced (record tree_of_app { skip = entry_at (codes "x") 29 ∷ [] }) one_x in_a_tree (codes "x")
+    ≡ crate 1 (codes "x") 1 ∷ []
+unfolding skips_on_cases in_a_tree tree_of_app
+stays_marked = refl
+
+-- a crate that does not count is not told of a tree that it lies in, nor of a skip, which comes to nothing
+not_counting : skip_keys (record tree_of_app { skip = entry_at (codes "x") 29 ∷ [] }) one_x
+    (record in_a_tree { counts = λ c. false })
+    ≡ unused_key code.UnmatchedSkip (range 29) ∷ []
+unfolding skips_on_cases in_a_tree tree_of_app
+not_counting = refl
+
+in_no_group : unmarked plain two_x not_the_first (codes "x") ≡ crate 2 (codes "x") 2 ∷ []
+unfolding skips_on_cases
+in_no_group = refl
+
+-- of two trees one that has the crate is enough, and it alone is told
+two_trees : Policy
+two_trees = record plain {
+  skip_tree = root_of (codes "app") 20 ∷ record (root_of (codes "app") 21) { number = 1 } ∷ [];
+}
+
+in_the_second : chains.Facts
+in_the_second = record { counts = λ c. true; in_tree = λ t c. (t.number == 1) && has_name (codes "x") c }
+
+one_tree_tells : skip_keys two_trees one_x in_the_second ≡ crate_key code.SkippedByRoot 1 (range 21) ∷ []
+unfolding skips_on_cases two_trees in_the_second
+one_tree_tells = refl
+
+one_tree_is_enough : unmarked two_trees one_x in_the_second (codes "x") ≡ []
+unfolding skips_on_cases two_trees in_the_second
+one_tree_is_enough = refl
+
+-- of two skips one that speaks of the crates is enough
+two_skips : unmarked (record plain { skip = entry_at (codes "q") 29 ∷ entry_at (codes "x") 33 ∷ [] }) two_x all_count
+    (codes "x") ≡ []
+unfolding skips_on_cases
+two_skips = refl
+
+-- a skip of one of two versions is needed, though it speaks of one crate alone
+first_of_x : List Entry
+first_of_x = record (entry_at (codes "x") 29) { spec = exactly 1 (entry_at (codes "x") 29).spec } ∷ []
+
+needed : skip_keys (record plain { skip = first_of_x }) two_x all_count ≡ crate_key code.Skipped 1 (range 29) ∷ []
+unfolding skips_on_cases first_of_x
+needed = refl
+
+-- and is not where the first version is there for the second one's sake alone
+needless : skip_keys (record plain { skip = first_of_x }) chained_x all_count
+    ≡ crate_key code.Skipped 1 (range 29) ∷ unused_key code.UnnecessarySkip (range 29) ∷ []
+unfolding skips_on_cases first_of_x
+needless = refl
 
 -- an entry whose crate is not there has no tree
 no_root : skip_keys (record plain { skip_tree = root_of (codes "q") 20 ∷ [] }) one_x all_count

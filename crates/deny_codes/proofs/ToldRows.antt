@@ -1,18 +1,20 @@
 -- What is told of a key of each code, and which hits entries have, in small cases.
-use Rattle.std.proofs.Common.{◌≡◌, [], ◌∷◌, Some, None, codes, refl, ◌==◌, false, not}
+use Rattle.std.proofs.Common.{◌≡◌, [], ◌∷◌, Some, None, codes, refl, true, false}
 use Rattle.std.specs.Prelude.{⊤, List}
 use Rattle.std.specs.Fmt.{digits}
 use Rattle.deny_base.specs.declared.label.Label.{Label}
+use Rattle.deny_base.specs.declared.check.Check.TheVariants.{Bans}
 use Rattle.deny_base.specs.declared.code.Code.TheVariants as code
+use Rattle.deny_base.specs.declared.code.DiagnosticCode.TheVariants as diagnostic
 use Rattle.deny_base.specs.declared.entry.EntryKind.TheVariants.{Skip, SkipRoot, Wrapper}
 use Rattle.deny_base.specs.declared.entry.Witness.TheVariants.{Krate, Parent}
+use Rattle.deny_base.specs.declared.level.LintLevel.TheVariants.{Warn}
 use Rattle.deny_base.specs.declared.level.Severity.TheVariants as severity
 use Rattle.deny_base.specs.declared.span.Kid.{Kid}
-use Rattle.deny_model.specs.Facts as chains
 use Rattle.deny_model.specs.Hits.{all_hits, hit_of, root_hit, skip_hit, wrapper_hit, wrapper_hit_at}
 use Rattle.deny_model.specs.Bans.{concerns, is_exempt, wrapper_of}
 use Rattle.deny_model.specs.Duplicates.{duplicate_level, is_denied_multiple}
-use Rattle.deny_model.specs.Graph.{dependents, leads}
+use Rattle.deny_model.specs.Graph.{Graph, dependents, leads}
 use Rattle.deny_model.specs.Keys.{crate_key, dependent_key, duplicate_key, key_of, no_span, unused_key}
 use Rattle.deny_model.specs.Match.{matches}
 use Rattle.deny_model.specs.Policy.{Policy}
@@ -26,10 +28,10 @@ use Rattle.deny_codes.specs.Duplicates.{duplicate_told}
 use Rattle.deny_codes.specs.SkippedTrees.{skipped_by_root_told, unmatched_skip_root_told}
 use Rattle.deny_codes.specs.Skips.{skipped_told, unmatched_skip_told, unnecessary_skip_told}
 use Rattle.deny_codes.specs.Telling.{plainly}
-use Rattle.deny_codes.specs.Told.{words_as}
+use Rattle.deny_codes.specs.Told.{diag_of, pack_of, pack_told, words_as}
 use Rattle.deny_codes.specs.Wrappers.{unused_wrapper_told}
-use Rattle.deny_codes.proofs.Cases.{on_cases, all_count, ban_at, by_two, crate, entry_at, plain, range, root_of}
-use Rattle.deny_codes.proofs.Cases.{two_x, words_at, x_1_x_2}
+use Rattle.deny_codes.proofs.Cases.{on_cases, all_count, ban_at, by_two, crate, edge, entry_at, exactly, graph}
+use Rattle.deny_codes.proofs.Cases.{not_the_first, plain, range, root_of, spec_at, two_x, with_id, words_at, x_1_x_2}
 
 -- a policy with an entry of each kind, on `app` and `y`, which need `x`
 busy : Policy
@@ -135,6 +137,75 @@ told_duplicate : words_as code.Duplicate (unseen_by plain two_x 3) (duplicate_ke
 unfolding told_on_cases
 told_duplicate = refl
 
+-- at the policy's own level, where no entry denies several
+told_at_its_level : words_as code.Duplicate (unseen_by (record plain { multiple_versions = Warn }) two_x 3)
+    (duplicate_key (1 ∷ 2 ∷ []))
+    ≡ record (plainly severity.Warning (codes "found 2 duplicate entries for crate 'x'") [] None) {
+      nodes = node_of (crate 1 (codes "x") 1) ∷ node_of (crate 2 (codes "x") 2) ∷ [];
+    }
+unfolding told_on_cases
+told_at_its_level = refl
+
+told_at_a_raised_level : words_as code.Duplicate
+    (unseen_by (record plain { multiple_versions = Warn; deny_multiple = spec_at (codes "x") 9 ∷ [] }) two_x 3)
+    (duplicate_key (1 ∷ 2 ∷ []))
+    ≡ record (plainly severity.Error (codes "found 2 duplicate entries for crate 'x'") [] None) {
+      nodes = node_of (crate 1 (codes "x") 1) ∷ node_of (crate 2 (codes "x") 2) ∷ [];
+    }
+unfolding told_on_cases
+told_at_a_raised_level = refl
+
+-- entries show their requirements as they are written, and their reasons
+explained : Policy
+explained = record plain {
+  allow = record (entry_at (codes "x") 18) { reason = Some (words_at (codes "a") 60) } ∷ [];
+  skip = record {
+    spec = record (exactly 1 (spec_at (codes "x") 29)) { written = Some (codes "= 1.0.0") };
+    reason = Some (words_at (codes "b") 70);
+  } ∷ [];
+  skip_tree = record (root_of (codes "app") 20) { reason = Some (words_at (codes "c") 80) } ∷ [];
+}
+
+told_with_a_requirement : words_as code.UnmatchedSkip (unseen_by explained by_two 3)
+    (unused_key code.UnmatchedSkip (range 29))
+    ≡ plainly severity.Warning (codes "skipped crate 'x = = 1.0.0' was not encountered")
+    (primary 3 (range 29) (codes "unmatched skip configuration") ∷ secondary 3 (range 70) (codes "reason") ∷ []) None
+unfolding told_on_cases explained
+told_with_a_requirement = refl
+
+allowed_for_a_reason : words_as code.Allowed (unseen_by explained by_two 3) (crate_key code.Allowed 1 (range 18))
+    ≡ plainly severity.Note (codes "crate 'x = 1.0.0' is explicitly allowed")
+    (primary 3 (range 18) (codes "allowed here") ∷ secondary 3 (range 60) (codes "reason") ∷ []) (Some x_kid)
+unfolding told_on_cases explained
+allowed_for_a_reason = refl
+
+rooted_for_a_reason : words_as code.SkippedByRoot (unseen_by explained by_two 3)
+    (crate_key code.SkippedByRoot 1 (range 20))
+    ≡ plainly severity.Note (codes "skipping crate 'x = 1.0.0' due to root skip")
+    (primary 3 (range 20) (codes "matched skip root") ∷ secondary 3 (range 80) (codes "reason") ∷ []) (Some x_kid)
+unfolding told_on_cases explained
+rooted_for_a_reason = refl
+
+-- what is handed out: the check of the code, the crate of its words, one finding
+handed_out : pack_told here (crate_key code.NotAllowed 1 no_span) ≡ record {
+  check = Bans;
+  kid = Some x_kid;
+  diags = record {
+    key = crate_key code.NotAllowed 1 no_span;
+    diag = record {
+      severity = severity.Error;
+      code = Some (diagnostic.Bans code.NotAllowed);
+      message = codes "crate 'x = 1.0.0' is not explicitly allowed";
+      labels = [];
+      notes = [];
+    };
+    graph_nodes = [];
+    with_features = false;
+  } ∷ [];
+}
+unfolding told_on_cases diag_of pack_of
+handed_out = refl
+
 -- each entry is hit once, by its first witness
 first_hits : all_hits busy by_two all_count
     ≡ hit_of Skip (range 29) (Krate x_kid) ∷ hit_of SkipRoot (range 20) (Krate (record { 0 = codes "app" }))
@@ -142,23 +213,53 @@ first_hits : all_hits busy by_two all_count
 unfolding told_on_cases
 first_hits = refl
 
--- the first version does not count
-second_alone : chains.Facts
-second_alone = record { counts = λ c. not (c.place == 1); in_tree = λ t c. false }
-
 -- of two versions the first that counts is the witness
 first_of_two : all_hits (record plain { skip = entry_at (codes "x") 29 ∷ [] }) x_1_x_2 all_count
     ≡ hit_of Skip (range 29) (Krate (record { 0 = codes "x1" })) ∷ []
-unfolding told_on_cases second_alone
+unfolding told_on_cases
 first_of_two = refl
 
-second_of_two : all_hits (record plain { skip = entry_at (codes "x") 29 ∷ [] }) x_1_x_2 second_alone
+second_of_two : all_hits (record plain { skip = entry_at (codes "x") 29 ∷ [] }) x_1_x_2 not_the_first
     ≡ hit_of Skip (range 29) (Krate (record { 0 = codes "x2" })) ∷ []
-unfolding told_on_cases second_alone
+unfolding told_on_cases
 second_of_two = refl
 
 -- a tree's root is met whether it counts or not
-root_of_two : all_hits (record plain { skip_tree = root_of (codes "x") 20 ∷ [] }) x_1_x_2 second_alone
+root_of_two : all_hits (record plain { skip_tree = root_of (codes "x") 20 ∷ [] }) x_1_x_2 not_the_first
     ≡ hit_of SkipRoot (range 20) (Krate (record { 0 = codes "x1" })) ∷ []
-unfolding told_on_cases second_alone
+unfolding told_on_cases
 root_of_two = refl
+
+-- of the crates that an entry concerns the first counts that the wrapper has a dependent of, and of its dependents
+-- the first: `app` and the second `y` need `x1`, both need `x2`
+two_y : Graph
+two_y = graph (with_id (codes "x1") (crate 1 (codes "x") 1) ∷ with_id (codes "x2") (crate 2 (codes "x") 2)
+    ∷ with_id (codes "y1") (crate 3 (codes "y") 1) ∷ with_id (codes "y2") (crate 4 (codes "y") 2) ∷ [])
+    (edge 0 1 ∷ edge 3 2 ∷ edge 4 1 ∷ edge 4 2 ∷ [])
+
+by_y : Policy
+by_y = record plain { deny = ban_at (codes "x") (words_at (codes "y") 30 ∷ words_at (codes "z") 40 ∷ []) 16 ∷ [] }
+
+first_crate_then_parent : all_hits by_y two_y all_count
+    ≡ hit_of Wrapper (range 30) (Parent (record { 0 = codes "x1" }) (record { 0 = codes "y2" })) ∷ []
+unfolding told_on_cases two_y by_y
+first_crate_then_parent = refl
+
+parent_of_one_version : all_hits (record plain {
+  deny = record (ban_at (codes "x") (words_at (codes "y") 30 ∷ []) 16) {
+    spec = exactly 2 (spec_at (codes "x") 16);
+  } ∷ [];
+}) two_y all_count
+    ≡ hit_of Wrapper (range 30) (Parent (record { 0 = codes "x2" }) (record { 0 = codes "y1" })) ∷ []
+unfolding told_on_cases two_y
+parent_of_one_version = refl
+
+-- an entry that concerns no crate hits nothing, nor does one that comes to nothing
+no_hits : all_hits (record plain {
+  deny = ban_at (codes "app") (words_at (codes "x") 30 ∷ []) 16 ∷ [];
+  allow_workspace = true;
+  skip = entry_at (codes "q") 29 ∷ [];
+  skip_tree = root_of (codes "q") 20 ∷ [];
+}) (graph (crate 1 (codes "x") 1 ∷ []) (edge 0 1 ∷ edge 1 0 ∷ [])) all_count ≡ []
+unfolding told_on_cases
+no_hits = refl

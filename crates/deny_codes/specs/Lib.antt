@@ -8,6 +8,7 @@ pub mod FirstMatch
 pub mod SkippedTrees
 pub mod Skips
 pub mod Standing
+pub mod StdReplacements
 pub mod Telling
 pub mod Told
 pub mod Wrappers

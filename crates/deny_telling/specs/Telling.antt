@@ -2,10 +2,9 @@
 use Rattle.std.specs.Prelude.{◌≡◌, ◌++◌, ℕ, List, map, take}
 use Rattle.deny_base.specs.declared.finding.Pack.{Pack}
 use Rattle.deny_base.specs.declared.key.Key.{Key}
-use Rattle.deny_model.specs.Graph.{Graph}
-use Rattle.deny_model.specs.Policy.{Policy}
-use Rattle.deny_model.specs.Told.{pack_told}
+use Rattle.deny_codes.specs.Circumstances.{Circumstances}
+use Rattle.deny_codes.specs.Told.{pack_told}
 
 -- what is told of the first of these keys was appended
-abbrev pub TellsPrefix : Policy → Graph → ℕ → List Key → List Pack → List Pack → Type 0
-TellsPrefix p g file keys old new = (n : ℕ) × (new ≡ old ++ map (pack_told p g file) (take n keys))
+abbrev pub TellsPrefix : Circumstances → List Key → List Pack → List Pack → Type 0
+TellsPrefix c keys old new = (n : ℕ) × (new ≡ old ++ map (pack_told c) (take n keys))

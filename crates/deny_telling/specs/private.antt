@@ -1,2 +1,3 @@
 pub mod ByRange
+pub mod Teller
 pub mod WrapperRanges

@@ -1,19 +1,22 @@
-//! What a report tells of each key.
+//! What a report tells of each key, code by code.
 ghost use Rattle.std.specs.Prelude.{◌≡◌, ◌++◌, IfOk, OnErr, OnOk, map};
 ghost use Rattle.deny_cfg.specs.PolicyView.{policy_view};
-ghost use Rattle.deny_model.specs.Duplicates.{duplicate_level};
-ghost use Rattle.deny_model.specs.Told.{check_told, crates_at, diag_told, kid_told, node_of, nodes_told, pack_told, severity_told};
+ghost use Rattle.deny_codes.specs.Circumstances.{unseen_by};
+ghost use Rattle.deny_codes.specs.Told.{check_told, diag_of, pack_of, pack_told, words_as, words_licensed, words_told};
 ghost use Rattle.deny_telling.specs.Telling.{TellsPrefix};
+ghost use Rattle.deny_telling.specs.private.Teller.{told_from};
 
-use crate::labels::labels_of;
-use crate::messages::message_of;
+use crate::allow_list::{allowed_told, not_allowed_told};
+use crate::bans::{allowed_by_wrapper_told, banned_told, unmatched_wrapper_told};
+use crate::duplicates::duplicate_told;
+use crate::skipped_trees::{skipped_by_root_told, unmatched_skip_root_told};
+use crate::skips::{skipped_told, unmatched_skip_told, unnecessary_skip_told};
 use crate::teller::Teller;
-use deny_base::{
-    Check, Code, Diag, Diagnostic, DiagnosticCode, GraphNode, Key, Kid, LintLevel, Pack, Section,
-    Severity,
-};
+use crate::telling::not_built;
+use crate::wrappers::unused_wrapper_told;
+use deny_base::{Check, Code, Diag, Diagnostic, DiagnosticCode, Key, LicenseCode, Pack};
 use deny_cfg::bans::cfg::ValidConfig;
-use deny_facts::krate_at;
+use deny_codes::Words;
 use deny_krates::Krates;
 use deny_lists::{List, NoMemory};
 use std::alloc::Global;
@@ -27,10 +30,10 @@ pub fn tell_all(
     keys: &[Key],
     sink: &mut List<Pack>,
 ) -> Result<(), NoMemory>
-    ensures ok { OnOk result (sink.new ≡ sink.old ++ map (pack_told
-        (policy_view cfg.now) krates.now cfg.now.file_id) keys.now) }
-    ensures prefix { OnErr result
-        (TellsPrefix (policy_view cfg.now) krates.now cfg.now.file_id keys.now sink.old sink.new) }
+    ensures ok { OnOk result (sink.new ≡ sink.old ++ map
+        (pack_told (unseen_by (policy_view cfg.now) krates.now cfg.now.file_id)) keys.now) }
+    ensures prefix { OnErr result (TellsPrefix
+        (unseen_by (policy_view cfg.now) krates.now cfg.now.file_id) keys.now sink.old sink.new) }
 {
     let teller = Teller::new(alloc, cfg, krates)?;
     add_packs(alloc, &teller, keys, sink)
@@ -42,10 +45,8 @@ fn add_packs(
     keys: &[Key],
     sink: &mut List<Pack>,
 ) -> Result<(), NoMemory>
-    ensures ok { OnOk result (sink.new ≡ sink.old ++ map (pack_told
-        (policy_view teller.now.cfg.now) teller.now.krates.now teller.now.cfg.now.file_id) keys.now) }
-    ensures prefix { OnErr result
-        (TellsPrefix (policy_view teller.now.cfg.now) teller.now.krates.now teller.now.cfg.now.file_id keys.now sink.old sink.new) }
+    ensures ok { OnOk result (sink.new ≡ sink.old ++ map (pack_told (told_from teller.now)) keys.now) }
+    ensures prefix { OnErr result (TellsPrefix (told_from teller.now) keys.now sink.old sink.new) }
 {
     for key in keys {
         sink.push(tell(alloc, teller, key)?)?;
@@ -53,131 +54,107 @@ fn add_packs(
     Ok(())
 }
 
-/// What is told of a key.
-#[tactic(auto, unfolding(deny_model::specs::Told::pack_told))]
+// What is told of a key.
 fn tell(alloc: Global, teller: &Teller<'_>, key: &Key) -> Result<Pack, NoMemory>
-    ensures { IfOk result
-        (λ pack. pack ≡ pack_told
-        (policy_view teller.now.cfg.now) teller.now.krates.now teller.now.cfg.now.file_id key.now) }
+    ensures { IfOk result (λ pack. pack ≡ pack_told (told_from teller.now) key.now) }
 {
-    let kid = kid_of(teller, key)?;
+    let words = words_told(alloc, teller, key)?;
+    pack_of(alloc, key, words)
+}
+
+#[tactic(auto, unfolding(deny_codes::specs::Told::words_licensed))]
+fn words_told(alloc: Global, teller: &Teller<'_>, key: &Key) -> Result<Words, NoMemory>
+    ensures { IfOk result (λ words. words ≡ words_told (told_from teller.now) key.now) }
+{
+    match key.code {
+        DiagnosticCode::Deprecated => Ok(not_built(alloc)),
+        DiagnosticCode::Bans(code) => words_as(alloc, teller, code, key),
+        DiagnosticCode::License(code) => match code {
+            LicenseCode::Accepted
+            | LicenseCode::Rejected
+            | LicenseCode::Unlicensed
+            | LicenseCode::ParseError
+            | LicenseCode::SkippedPrivateWorkspaceCrate
+            | LicenseCode::LicenseNotEncountered
+            | LicenseCode::LicenseExceptionNotEncountered => Ok(not_built(alloc)),
+        },
+    }
+}
+
+#[tactic(auto, unfolding(deny_codes::specs::Told::words_as))]
+fn words_as(alloc: Global, teller: &Teller<'_>, code: Code, key: &Key) -> Result<Words, NoMemory>
+    ensures { IfOk result (λ words. words ≡ words_as code (told_from teller.now) key.now) }
+{
+    match code {
+        Code::Banned => banned_told(alloc, teller, key),
+        Code::Allowed => allowed_told(alloc, teller, key),
+        Code::NotAllowed => not_allowed_told(alloc, teller, key),
+        Code::Duplicate => duplicate_told(alloc, teller, key),
+        Code::Skipped => skipped_told(alloc, teller, key),
+        Code::UnmatchedSkip => unmatched_skip_told(alloc, teller, key),
+        Code::UnnecessarySkip => unnecessary_skip_told(alloc, teller, key),
+        Code::AllowedByWrapper => allowed_by_wrapper_told(alloc, teller, key),
+        Code::UnmatchedWrapper => unmatched_wrapper_told(alloc, teller, key),
+        Code::SkippedByRoot => skipped_by_root_told(alloc, teller, key),
+        Code::UnmatchedSkipRoot => unmatched_skip_root_told(alloc, teller, key),
+        Code::UnusedWrapper => unused_wrapper_told(alloc, teller, key),
+        Code::Wildcard
+        | Code::BuildScriptNotAllowed
+        | Code::ExactFeaturesMismatch
+        | Code::FeatureNotExplicitlyAllowed
+        | Code::FeatureBanned
+        | Code::UnknownFeature
+        | Code::DefaultFeatureEnabled
+        | Code::PathBypassed
+        | Code::PathBypassedByGlob
+        | Code::ChecksumMatch
+        | Code::ChecksumMismatch
+        | Code::DeniedByExtension
+        | Code::DetectedExecutable
+        | Code::DetectedExecutableScript
+        | Code::UnableToCheckPath
+        | Code::FeaturesEnabled
+        | Code::UnmatchedBypass
+        | Code::UnmatchedPathBypass
+        | Code::UnmatchedGlob
+        | Code::WorkspaceDuplicate
+        | Code::UnresolvedWorkspaceDependency
+        | Code::UnusedWorkspaceDependency
+        | Code::ReplacedInStd
+        | Code::UnmatchedReplacementIgnore => Ok(not_built(alloc)),
+    }
+}
+
+// What is handed out for a key: its finding alone.
+#[tactic(auto, unfolding(deny_codes::specs::Told::diag_of, deny_codes::specs::Told::pack_of))]
+fn pack_of(alloc: Global, key: &Key, words: Words) -> Result<Pack, NoMemory>
+    ensures { IfOk result (λ pack. pack ≡ pack_of key.now words) }
+{
     let mut diags = List::new(alloc);
-    diags.push(diag_of(alloc, teller, key)?)?;
+    diags.push(Diag {
+        key: key.clone()?,
+        diag: Diagnostic {
+            severity: words.severity,
+            code: Some(key.code),
+            message: words.message,
+            labels: words.labels,
+            notes: words.notes,
+        },
+        graph_nodes: words.nodes,
+        with_features: words.with_features,
+    })?;
     Ok(Pack {
-        check: check_of(key.code),
-        kid,
+        check: check_told(key.code),
+        kid: words.krate,
         diags,
     })
 }
 
-#[tactic(auto, unfolding(deny_model::specs::Told::diag_told))]
-fn diag_of(alloc: Global, teller: &Teller<'_>, key: &Key) -> Result<Diag, NoMemory>
-    ensures { IfOk result
-        (λ diag. diag ≡ diag_told
-        (policy_view teller.now.cfg.now) teller.now.krates.now teller.now.cfg.now.file_id key.now) }
-{
-    let message = message_of(alloc, teller, key)?;
-    let labels = labels_of(alloc, teller, key)?;
-    let graph_nodes = nodes_of(alloc, teller, key)?;
-    Ok(Diag {
-        key: key.clone()?,
-        diag: Diagnostic {
-            severity: severity_of(teller, key),
-            code: Some(key.code),
-            message,
-            labels,
-            notes: List::new(alloc),
-        },
-        graph_nodes,
-        with_features: false,
-    })
-}
-
-/// The crate that a finding is about: one of a rule on crates, none of a group or an unused entry.
-fn kid_of(teller: &Teller<'_>, key: &Key) -> Result<Option<Kid>, NoMemory>
-    ensures { IfOk result (λ kid. kid ≡ kid_told key.now.section teller.now.krates.now key.now) }
-{
-    match key.section {
-        Section::Crates => match krate_at(teller.krates, key.place) {
-            Some(krate) => Ok(Some(krate.id.clone()?)),
-            None => Ok(None),
-        },
-        _ => Ok(None),
-    }
-}
-
-fn check_of(code: DiagnosticCode) -> Check
+fn check_told(code: DiagnosticCode) -> Check
     ensures { result ≡ check_told code }
 {
     match code {
         DiagnosticCode::Deprecated | DiagnosticCode::Bans(_) => Check::Bans,
         DiagnosticCode::License(_) => Check::Licenses,
     }
-}
-
-#[tactic(auto, unfolding(deny_model::specs::Told::severity_told))]
-fn severity_of(teller: &Teller<'_>, key: &Key) -> Severity
-    ensures { result ≡ severity_told key.now.code (policy_view teller.now.cfg.now) teller.now.krates.now key.now }
-{
-    match key.code {
-        DiagnosticCode::Bans(code) => bans_severity(teller, key, code),
-        DiagnosticCode::Deprecated | DiagnosticCode::License(_) => Severity::Warning,
-    }
-}
-
-#[tactic(auto, unfolding(deny_model::specs::Told::severity_told))]
-fn bans_severity(teller: &Teller<'_>, key: &Key, code: Code) -> Severity
-    ensures { result ≡ severity_told (DiagnosticCode.Bans code)
-        (policy_view teller.now.cfg.now) teller.now.krates.now key.now }
-{
-    match code {
-        Code::Banned | Code::NotAllowed => Severity::Error,
-        Code::Duplicate => duplicate_level(teller, key.places.as_slice()).severity(),
-        Code::Allowed | Code::Skipped | Code::AllowedByWrapper | Code::SkippedByRoot => {
-            Severity::Note
-        }
-        _ => Severity::Warning,
-    }
-}
-
-#[tactic(auto, unfolding(deny_model::specs::Duplicates::duplicate_level))]
-fn duplicate_level(teller: &Teller<'_>, places: &[u32]) -> LintLevel
-    ensures { result ≡ duplicate_level (policy_view teller.now.cfg.now) (crates_at teller.now.krates.now places.now) }
-{
-    if teller.denies_several(places) {
-        LintLevel::Deny
-    } else {
-        teller.cfg.multiple_versions
-    }
-}
-
-/// The crates that are shown with a finding, where they are not that of the finding alone.
-#[tactic(auto, unfolding(deny_model::specs::Told::nodes_told))]
-fn nodes_of(alloc: Global, teller: &Teller<'_>, key: &Key) -> Result<List<GraphNode>, NoMemory>
-    ensures { IfOk result (λ nodes. nodes ≡ nodes_told key.now.code teller.now.krates.now key.now) }
-{
-    match key.code {
-        DiagnosticCode::Bans(Code::Duplicate) => krate_nodes(alloc, teller, key.places.as_slice()),
-        _ => Ok(List::new(alloc)),
-    }
-}
-
-#[tactic(auto, unfolding(deny_model::specs::Told::crates_at))]
-fn krate_nodes(
-    alloc: Global,
-    teller: &Teller<'_>,
-    places: &[u32],
-) -> Result<List<GraphNode>, NoMemory>
-    ensures { IfOk result (λ nodes. nodes ≡ map node_of (crates_at teller.now.krates.now places.now)) }
-{
-    let mut nodes = List::new(alloc);
-    for place in places {
-        if let Some(krate) = krate_at(teller.krates, *place) {
-            nodes.push(GraphNode {
-                kid: krate.id.clone()?,
-                feature: None,
-            })?;
-        }
-    }
-    Ok(nodes)
 }

@@ -1,6 +1,6 @@
 use Rattle.std.proofs.Common.{◌≡◌, ◌++◌, drop, map, filter_map}
 use Rattle.deny_model.specs.Told.{crate_at, node_of}
-use Rattle.deny_telling.proofs.told.krate_nodes.Given as goal
+use Rattle.deny_telling.proofs.duplicates.nodes_at.Given as goal
 
 abbrev pub invariant-loop-place : goal.invariant-loop-place
 invariant-loop-place l =

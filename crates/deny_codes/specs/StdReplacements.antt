@@ -1,0 +1,245 @@
+-- Crates that the standard library replaces: their keys, the hits of the entries that pass some of them over, and what
+-- is told of each.
+use Rattle.std.specs.Prelude.{◌&&◌, ◌||◌, ◌==◌, ◌++◌, ◌∷◌, ℕ, Bool, true, false, not, nat_le, is_none, List, [], Option, Some, None, filter, filter_map, find, map, option_map, codes, if◌then◌else◌}
+use Rattle.std.specs.Fmt.{decimal}
+use Rattle.std.specs.List.{flat_map, list_any}
+use Rattle.std.specs.Option.{option_map_or, option_or}
+use Rattle.semver.specs.Parse.{Parts}
+use Rattle.deny_base.specs.Level.{severity_of}
+use Rattle.deny_base.specs.declared.code.Code.TheVariants.{ReplacedInStd, UnmatchedReplacementIgnore}
+use Rattle.deny_base.specs.declared.entry.EntryKind.TheVariants.{ReplacementIgnore}
+use Rattle.deny_base.specs.declared.entry.Hit.{Hit}
+use Rattle.deny_base.specs.declared.entry.Witness.TheVariants.{Krate}
+use Rattle.deny_base.specs.declared.key.Key.{Key}
+use Rattle.deny_base.specs.declared.key.Section.TheVariants as section
+use Rattle.deny_base.specs.declared.label.Label.{Label}
+use Rattle.deny_base.specs.declared.level.LintLevel.{LintLevel}
+use Rattle.deny_base.specs.declared.level.Severity.TheVariants as severity
+use Rattle.deny_base.specs.declared.span.Span.{Span}
+use Rattle.deny_model.specs.Crates.{is_crates_io}
+use Rattle.deny_model.specs.Graph.{Crate, Graph, dependents, kid_of}
+use Rattle.deny_model.specs.Hits.{hit_of}
+use Rattle.deny_model.specs.Keys.{key_of, no_span, unused_key}
+use Rattle.deny_model.specs.Match.{matches}
+use Rattle.deny_model.specs.Policy.{Entry}
+use Rattle.deny_model.specs.Told.{crate_name_at, label_at, of_crate, primary, spec_text}
+use Rattle.deny_model.specs.Wrappers.{same_span}
+use Rattle.deny_codes.specs.FirstMatch.{first_of, is_first}
+use Rattle.deny_codes.specs.Telling.{kid_at, plainly}
+use Rattle.deny_codes.specs.declared.words.Words.{Words}
+
+-- ---- the policy's table, and what the table of replacements says
+
+-- of some crates: none, the members of the workspace, the others, or all
+pub data Scope : Type 0 where
+  NoCrate : Scope
+  Workspace : Scope
+  Transitive : Scope
+  EachCrate : Scope
+
+-- how such crates are minded
+pub record Replacing : Type 0 where
+  -- whose direct dependencies are looked at
+  pub scope : Scope
+  pub level : LintLevel
+  -- the version of Rust of a crate that names none
+  pub rust_version : Option Parts
+  -- the crates that are passed over
+  pub ignore : List Entry
+  -- whose version of Rust does not count
+  pub ignore_rust_version : Scope
+
+-- an API: its path, and the address of what is written on it
+pub record Api : Type 0 where
+  pub name : List ℕ
+  pub url : List ℕ
+
+-- what a crate has, what the standard library has in its place, and how they differ
+pub record Replacement : Type 0 where
+  pub krate : Api
+  pub std : Api
+  pub note : Option (List ℕ)
+
+-- one that is stable since this minor version of Rust 1
+pub record Stable : Type 0 where
+  pub minor : ℕ
+  pub replacement : Replacement
+
+-- all that is said of a crate, each in the order in which it stands
+pub record Items : Type 0 where
+  pub stable : List Stable
+  pub unstable : List Replacement
+  pub unavailable : List Api
+
+-- what is said of the crate of a name, if anything
+abbrev pub Saying : Type 0
+Saying = List ℕ → Option Items
+
+-- ---- which crates are replaced
+
+unfoldable pub is_member : Graph → Crate → Bool
+is_member g c = list_any (λ place. place == c.place) g.members
+
+unfoldable pub is_in_scope : Scope → Graph → Crate → Bool
+is_in_scope NoCrate g c = false
+is_in_scope Workspace g c = is_member g c
+is_in_scope Transitive g c = not (is_member g c)
+is_in_scope EachCrate g c = true
+
+-- the version of Rust that counts for a crate: its own, or the policy's where it names none
+unfoldable pub counting_version : Replacing → Crate → Option Parts
+counting_version r c = option_or c.rust_version r.rust_version
+
+-- something is stable in the minor version of Rust
+unfoldable pub has_stable : Items → Parts → Bool
+has_stable items version = list_any (λ stable. nat_le stable.minor version.1) items.stable
+
+-- a crate may use what stands in place of another: its version of Rust is not asked for, or no version is named, or in
+-- the version that counts something is stable
+unfoldable pub satisfies : Replacing → Graph → Items → Crate → Bool
+satisfies r g items parent =
+    is_in_scope r.ignore_rust_version g parent || option_map_or (has_stable items) (counting_version r parent) true
+
+-- a dependent that is asked, and that satisfies
+unfoldable pub may_replace : Replacing → Graph → Items → Crate → Bool
+may_replace r g items parent = is_in_scope r.scope g parent && satisfies r g items parent
+
+-- a crate of crates.io of which something is said, with such a direct dependent
+unfoldable pub is_replaced : Replacing → Graph → Saying → Crate → Bool
+is_replaced r g said c =
+    is_crates_io c
+    && option_map_or (λ items. list_any (may_replace r g items) (dependents g c.place)) (said c.name) false
+
+-- ---- entries that pass crates over
+
+abbrev pub ignore_range : Entry → Span
+ignore_range e = e.spec.range
+
+abbrev pub ignores : Entry → Crate → Bool
+ignores e c = matches e.spec c
+
+-- the first entry that speaks of a crate
+unfoldable pub ignore_of : Replacing → Crate → Option Entry
+ignore_of r c = first_of ignores r.ignore c
+
+-- a crate hits the first entry that speaks of it
+unfoldable pub hits_ignore : Replacing → Graph → Saying → Entry → Crate → Bool
+hits_ignore r g said e c = is_replaced r g said c && is_first ignore_range ignores r.ignore e c
+
+unfoldable pub is_hit_ignore : Replacing → Graph → Saying → Entry → Bool
+is_hit_ignore r g said e = list_any (hits_ignore r g said e) g.crates
+
+-- ---- keys, and hits
+
+-- a replaced crate of which no entry speaks
+unfoldable pub is_told_replaced : Replacing → Graph → Saying → Crate → Bool
+is_told_replaced r g said c = is_replaced r g said c && is_none (ignore_of r c)
+
+abbrev pub replaced_key : ℕ → Key
+replaced_key place = key_of section.Std ReplacedInStd place no_span 0
+
+unfoldable pub replaced_keys : Replacing → Graph → Saying → List Key
+replaced_keys r g said = map (λ c. replaced_key c.place) (filter (is_told_replaced r g said) g.crates)
+
+-- with the scope of no crate nothing is told
+abbrev pub looks_at_none : Scope → Bool
+looks_at_none NoCrate = true
+looks_at_none Workspace = false
+looks_at_none Transitive = false
+looks_at_none EachCrate = false
+
+unfoldable pub unmatched_ignore_keys : Replacing → Graph → Saying → List Key
+unmatched_ignore_keys r g said =
+    if looks_at_none r.scope then []
+    else map (λ e. unused_key UnmatchedReplacementIgnore (ignore_range e))
+    (filter (λ e. not (is_hit_ignore r g said e)) r.ignore)
+
+-- an entry is hit by the first crate in graph order
+unfoldable pub ignore_hit : Replacing → Graph → Saying → Entry → Option Hit
+ignore_hit r g said e = option_map (λ c. hit_of ReplacementIgnore (ignore_range e) (Krate (kid_of c)))
+    (find (hits_ignore r g said e) g.crates)
+
+unfoldable pub ignore_hits : Replacing → Graph → Saying → List Hit
+ignore_hits r g said = filter_map (ignore_hit r g said) r.ignore
+
+-- ---- the note of a replaced crate
+
+abbrev pub line : List ℕ → List ℕ
+line text = text ++ codes "\n"
+
+-- the name of a crate as code writes it: with `_` for `-`
+unfoldable pub code_name : List ℕ → List ℕ
+code_name name = map (λ byte. if byte == 45 then 95 else byte) name
+
+-- a link: its sign, the words before the name of an API, and the API
+abbrev pub link : List ℕ → List ℕ → Api → List ℕ
+link sign before api = line (sign ++ (codes " [" ++ (before ++ (api.name ++ (codes "](" ++ (api.url ++ codes ")"))))))
+
+abbrev pub remark : Option (List ℕ) → List ℕ
+remark None = []
+remark (Some note) = line (codes "  " ++ note) ++ line []
+
+-- what the crate has, crossed out for what the standard library has
+unfoldable pub replacement_lines : List ℕ → Replacement → List ℕ
+replacement_lines name r =
+    line (codes "```diff")
+    ++ (link (codes "-") (code_name name ++ codes "::") r.krate
+    ++ (link (codes "+") [] r.std
+    ++ (line (codes "```") ++ (line [] ++ remark r.note))))
+
+abbrev pub version_line : ℕ → List ℕ
+version_line minor = line (codes "### 1." ++ (decimal minor ++ codes ".0"))
+
+-- of each stable one, below its minor version where that is not the last one
+unfoldable pub stable_lines : List ℕ → ℕ → List Stable → List ℕ
+stable_lines name last [] = []
+stable_lines name last (stable ∷ others) =
+    (if stable.minor == last then [] else version_line stable.minor)
+    ++ (replacement_lines name stable.replacement ++ stable_lines name stable.minor others)
+
+-- lines of several, below a heading where there are any
+abbrev pub below_heading : {A : Type 0} → List ℕ → (A → List ℕ) → List A → List ℕ
+below_heading heading lines [] = []
+below_heading heading lines (x ∷ xs) = line heading ++ flat_map lines (x ∷ xs)
+
+-- one that the standard library has not
+abbrev pub unavailable_line : List ℕ → Api → List ℕ
+unavailable_line name api =
+    line (codes "  - " ++ (name ++ (codes "::" ++ (api.name ++ (codes " - " ++ api.url)))))
+
+unfoldable pub replacement_note : List ℕ → Items → List ℕ
+replacement_note name items =
+    line (codes "## Stable")
+    ++ (stable_lines name 0 items.stable
+    ++ (below_heading (codes "## Unstable") (replacement_lines name) items.unstable
+    ++ below_heading (codes "## Unavailable") (unavailable_line name) items.unavailable))
+
+-- ---- what is told
+
+abbrev pub note_at : Graph → Saying → ℕ → List (List ℕ)
+note_at g said place = option_map_or (λ items. replacement_note (crate_name_at g place) items ∷ [])
+    (said (crate_name_at g place)) []
+
+unfoldable pub replaced_told : Replacing → Graph → Saying → Key → Words
+replaced_told r g said key = record (plainly (severity_of r.level)
+    (of_crate (codes "crate '") g key (codes "' is partially or fully replaced in std and/or core")) []
+    (kid_at g key.place)) {
+      notes = note_at g said key.place;
+    }
+
+-- the entry of a range
+abbrev pub ignore_at : Replacing → Span → Option Entry
+ignore_at r range = find (λ e. same_span (ignore_range e) range) r.ignore
+
+abbrev pub ignore_text_at : Replacing → Span → List ℕ
+ignore_text_at r range = option_map_or (λ e. spec_text e.spec) (ignore_at r range) []
+
+abbrev pub ignore_labels : ℕ → Entry → List Label
+ignore_labels file e = primary file (ignore_range e) (codes "unmatched ignore configuration")
+    ∷ label_at file (codes "ignore reason") e.reason
+
+unfoldable pub unmatched_ignore_told : Replacing → ℕ → Key → Words
+unmatched_ignore_told r file key = plainly severity.Warning
+    (codes "std replacement ignore '" ++ (ignore_text_at r key.entry ++ codes "' was not encountered"))
+    (option_map_or (ignore_labels file) (ignore_at r key.entry) [])
+    None

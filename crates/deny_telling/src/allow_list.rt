@@ -1,0 +1,33 @@
+//! What is told of the allow list.
+ghost use Rattle.std.specs.Prelude.{◌≡◌, IfOk};
+ghost use Rattle.deny_codes.specs.AllowList.{allowed_told, not_allowed_told};
+ghost use Rattle.deny_telling.specs.private.Teller.{told_from};
+
+use crate::teller::Teller;
+use crate::telling::{allow_labels_at, kid_at, of_crate, plainly};
+use deny_base::{Key, Severity};
+use deny_codes::Words;
+use deny_lists::{List, NoMemory};
+use std::alloc::Global;
+
+/// What is told of a crate that an entry allows.
+#[tactic(auto, unfolding(deny_codes::specs::AllowList::allowed_told))]
+pub fn allowed_told(alloc: Global, teller: &Teller<'_>, key: &Key) -> Result<Words, NoMemory>
+    ensures { IfOk result (λ words. let c = told_from teller.now in
+        words ≡ allowed_told c.policy c.graph c.files.policy key.now) }
+{
+    let message = of_crate(alloc, teller, "crate '", key, "' is explicitly allowed")?;
+    let labels = allow_labels_at(alloc, teller, "allowed here", key.entry)?;
+    let krate = kid_at(teller, key.place)?;
+    Ok(plainly(alloc, Severity::Note, message, labels, krate))
+}
+
+/// What is told of a crate that no entry allows.
+#[tactic(auto, unfolding(deny_codes::specs::AllowList::not_allowed_told))]
+pub fn not_allowed_told(alloc: Global, teller: &Teller<'_>, key: &Key) -> Result<Words, NoMemory>
+    ensures { IfOk result (λ words. words ≡ not_allowed_told (told_from teller.now).graph key.now) }
+{
+    let message = of_crate(alloc, teller, "crate '", key, "' is not explicitly allowed")?;
+    let krate = kid_at(teller, key.place)?;
+    Ok(plainly(alloc, Severity::Error, message, List::new(alloc), krate))
+}
