@@ -9,7 +9,7 @@ use Rattle.deny_model.specs.Policy.{Policy}
 use Rattle.deny_model.specs.Rules.{ban_keys}
 use Rattle.deny_codes.proofs.Cases.{bans_on_cases, ban_at, one_x, plain, range, words_at}
 use Rattle.deny_laws.specs.Removal.{is_taken}
-use Rattle.deny_laws.specs.Wrapping.{cut_policy}
+use Rattle.deny_laws.specs.WrapperRemoval.{without_wrappers}
 
 lone_wrapper : Policy
 lone_wrapper = record plain { deny = ban_at (codes "app") (words_at (codes "z") 45 ∷ []) 27 ∷ [] }
@@ -18,7 +18,7 @@ lifted : ban_keys lone_wrapper one_x ≡ unused_key code.UnusedWrapper (range 45
 unfolding bans_on_cases lone_wrapper
 lifted = refl
 
-banned_anew : ban_keys (cut_policy lone_wrapper (record { kind = Wrapper; range = range 45 } ∷ [])) one_x
+banned_anew : ban_keys (without_wrappers lone_wrapper (record { kind = Wrapper; range = range 45 } ∷ [])) one_x
     ≡ crate_key code.Banned 0 (range 27) ∷ []
 unfolding bans_on_cases lone_wrapper is_taken entry_kind_number
 banned_anew = refl

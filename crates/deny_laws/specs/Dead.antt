@@ -8,14 +8,14 @@ use Rattle.deny_base.specs.declared.entry.EntryKind.TheVariants.{Skip, SkipRoot,
 use Rattle.deny_base.specs.declared.entry.Hit.{Hit}
 use Rattle.deny_base.specs.declared.key.Key.{Key}
 use Rattle.deny_model.specs.Hits.{all_hits}
-use Rattle.deny_model.specs.Bans.{has_wrappers}
-use Rattle.deny_model.specs.Policy.{Ban, Policy}
+use Rattle.deny_model.specs.Policy.{Policy}
 use Rattle.deny_codes.specs.Circumstances.{Circumstances}
 use Rattle.deny_codes.specs.Codes.{unused_kind}
 use Rattle.deny_codes.specs.Facts.{Facts, AreFacts}
 use Rattle.deny_codes.specs.Standing.{Stands}
-use Rattle.deny_laws.specs.Removal.{AreGone}
-use Rattle.deny_laws.specs.Wrapping.{AreCut, cut}
+use Rattle.deny_laws.specs.Removal.{AreGone, EmptyNone, without_in}
+use Rattle.deny_laws.specs.SkipRemoval.{without_skips_in}
+use Rattle.deny_laws.specs.WrapperRemoval.{without_wrappers_in}
 
 -- the entry that a key says came to nothing
 unfoldable pub unused_entry : Key → Option EntryId
@@ -29,27 +29,37 @@ pub record IsDead (keys : List Key) (hits : List Hit) (e : EntryId) : Type 0 whe
 abbrev pub AreDead : List Key → List Hit → List EntryId → Type 0
 AreDead keys hits dead = Lists entry_cmp (IsDead keys hits) dead
 
+-- each of these is one of those
+abbrev pub AreAmong : List EntryId → List EntryId → Type 0
+AreAmong dead taken = (e : EntryId) → Contains taken e → Contains dead e
+
 -- each of these is dead, and a skip or a skipped tree
 pub record AreDeadSkips (dead taken : List EntryId) : Type 0 where
-  pub dead_each : (e : EntryId) → Contains taken e → Contains dead e
+  pub dead_each : AreAmong dead taken
   pub kind : (e : EntryId) → Contains taken e → (e.kind ≡ Skip) ⊎ (e.kind ≡ SkipRoot)
 
 -- each of these is a dead wrapper, and no entry loses its last one
 pub record AreDeadWrappers (p : Policy) (dead taken : List EntryId) : Type 0 where
-  pub dead_each : (e : EntryId) → Contains taken e → Contains dead e
+  pub dead_each : AreAmong dead taken
   pub kind : (e : EntryId) → Contains taken e → e.kind ≡ Wrapper
-  pub not_emptied : (ban : Ban) → Contains p.deny ban → has_wrappers (cut taken ban) ≡ has_wrappers ban
+  pub not_emptied : EmptyNone p taken
 
 -- ---- the laws
+
+abbrev pub DeadCanGo : Type 0
+DeadCanGo = (c : Circumstances) → (facts : Facts) → (keys : List Key) → (dead taken : List EntryId)
+    → AreFacts c facts → Lists key_cmp (Stands c facts) keys
+    → AreDead keys (all_hits c.policy c.graph facts.chains) dead
+    → AreAmong dead taken → EmptyNone c.policy taken → AreGone c (without_in c taken) facts taken keys
 
 abbrev pub DeadSkipsCanGo : Type 0
 DeadSkipsCanGo = (c : Circumstances) → (facts : Facts) → (keys : List Key) → (dead taken : List EntryId)
     → AreFacts c facts → Lists key_cmp (Stands c facts) keys
     → AreDead keys (all_hits c.policy c.graph facts.chains) dead
-    → AreDeadSkips dead taken → AreGone c facts taken keys
+    → AreDeadSkips dead taken → AreGone c (without_skips_in c taken) facts taken keys
 
 abbrev pub DeadWrappersCanGo : Type 0
 DeadWrappersCanGo = (c : Circumstances) → (facts : Facts) → (keys : List Key) → (dead taken : List EntryId)
     → AreFacts c facts → Lists key_cmp (Stands c facts) keys
     → AreDead keys (all_hits c.policy c.graph facts.chains) dead
-    → AreDeadWrappers c.policy dead taken → AreCut c facts taken keys
+    → AreDeadWrappers c.policy dead taken → AreGone c (without_wrappers_in c taken) facts taken keys

@@ -1,3 +1,5 @@
 pub mod Dead
 pub mod Removal
-pub mod Wrapping
+pub mod Renaming
+pub mod SkipRemoval
+pub mod WrapperRemoval

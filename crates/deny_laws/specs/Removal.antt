@@ -1,5 +1,5 @@
--- Entries that are taken out of a policy, and what that comes to.
-use Rattle.std.specs.Prelude.{◌≡◌, Bool, true, false, not, List, Contains, filter}
+-- Entries of any kind that are taken out of a policy, and what that comes to.
+use Rattle.std.specs.Prelude.{◌≡◌, ◌≢◌, Bool, false, not, List, Contains, filter, map}
 use Rattle.std.specs.List.{list_any}
 use Rattle.std.specs.Option.{option_map_or}
 use Rattle.std.specs.Ordering.{eq_by_cmp}
@@ -10,13 +10,13 @@ use Rattle.deny_base.specs.declared.code.DiagnosticCode.{DiagnosticCode}
 use Rattle.deny_base.specs.declared.entry.EntryId.{EntryId}
 use Rattle.deny_base.specs.declared.entry.EntryKind.{EntryKind}
 use Rattle.deny_base.specs.declared.entry.EntryKind.TheVariants.{Skip, SkipRoot, Wrapper}
+use Rattle.deny_base.specs.declared.entry.Hit.{Hit}
 use Rattle.deny_base.specs.declared.key.Key.{Key}
 use Rattle.deny_base.specs.declared.span.Span.{Span}
+use Rattle.deny_model.specs.Bans.{has_wrappers}
 use Rattle.deny_model.specs.Hits.{all_hits}
-use Rattle.deny_model.specs.Facts as chains
-use Rattle.deny_model.specs.Graph.{Graph}
-use Rattle.deny_model.specs.Policy.{Entry, Policy, Root}
-use Rattle.deny_model.specs.Skips.{has_root, is_hit_skip}
+use Rattle.deny_model.specs.Policy as policy
+use Rattle.deny_model.specs.Policy.{Ban, Entry, Policy, Root}
 use Rattle.deny_codes.specs.Circumstances.{Circumstances}
 use Rattle.deny_codes.specs.Codes.{unused_kind}
 use Rattle.deny_codes.specs.Facts.{Facts, AreFacts}
@@ -32,12 +32,19 @@ stays_skip taken s = not (is_taken taken Skip s.spec.range)
 abbrev pub stays_root : List EntryId → Root → Bool
 stays_root taken t = not (is_taken taken SkipRoot t.spec.range)
 
--- the policy without the skips and skipped trees among these
+abbrev pub stays_wrapper : List EntryId → policy.Words → Bool
+stays_wrapper taken w = not (is_taken taken Wrapper w.span)
+
+-- what bans crates, without the wrappers among these
+abbrev pub cut : List EntryId → Ban → Ban
+cut taken ban = record ban { wrappers = filter (stays_wrapper taken) ban.wrappers }
+
+-- the policy without these; all others keep their ranges and their order
 abbrev pub without : Policy → List EntryId → Policy
 without p taken = record p {
+  deny = map (cut taken) p.deny;
   skip = filter (stays_skip taken) p.skip;
-  skip_tree =
-      filter (stays_root taken) p.skip_tree;
+  skip_tree = filter (stays_root taken) p.skip_tree;
 }
 
 abbrev pub without_in : Circumstances → List EntryId → Circumstances
@@ -54,23 +61,24 @@ names taken key = names_as taken key.code key
 abbrev pub unnaming : List EntryId → List Key → List Key
 unnaming taken keys = filter (λ key. not (names taken key)) keys
 
--- what is hit stays, so that only skips and skipped trees go that nothing hits
-pub record AreUnhit (p : Policy) (g : Graph) (facts : chains.Facts) (taken : List EntryId) : Type 0 where
-  pub skips : (s : Entry) → Contains p.skip s → is_hit_skip g facts s ≡ true → stays_skip taken s ≡ true
-  pub roots : (t : Root) → Contains p.skip_tree t → has_root g t ≡ true → stays_root taken t ≡ true
-  -- and none of these is a wrapper
-  pub no_wrapper : (range : Span) → is_taken taken Wrapper range ≡ false
+-- no hit is of one of these
+abbrev pub HaveNoHit : List Hit → List EntryId → Type 0
+HaveNoHit hits taken = (e : EntryId) → Contains taken e → (h : Hit) → Contains hits h → h.entry ≢ e
 
--- without these there stands what stood, but for the keys that name them
-pub record AreGone (c : Circumstances) (facts : Facts) (taken : List EntryId) (keys : List Key) : Type 0 where
-  pub facts_hold : AreFacts (without_in c taken) facts
-  pub listed : Lists key_cmp (Stands (without_in c taken) facts) (unnaming taken keys)
+-- without these no list of wrappers is empty that was not
+abbrev pub EmptyNone : Policy → List EntryId → Type 0
+EmptyNone p taken = (ban : Ban) → Contains p.deny ban → has_wrappers (cut taken ban) ≡ has_wrappers ban
+
+-- where these are taken out there stands what stood, but for the keys that name them
+pub record AreGone (c rest : Circumstances) (facts : Facts) (taken : List EntryId) (keys : List Key) : Type 0 where
+  pub facts_hold : AreFacts rest facts
+  pub listed : Lists key_cmp (Stands rest facts) (unnaming taken keys)
   -- and the hits are the same, of the same entries
-  pub hits : all_hits (without c.policy taken) c.graph facts.chains ≡ all_hits c.policy c.graph facts.chains
+  pub hits : all_hits rest.policy rest.graph facts.chains ≡ all_hits c.policy c.graph facts.chains
 
 -- ---- the law
 
-abbrev pub SkipsCanGo : Type 0
-SkipsCanGo = (c : Circumstances) → (facts : Facts) → (taken : List EntryId) → (keys : List Key)
-    → AreFacts c facts → AreUnhit c.policy c.graph facts.chains taken
-    → Lists key_cmp (Stands c facts) keys → AreGone c facts taken keys
+abbrev pub EntriesCanGo : Type 0
+EntriesCanGo = (c : Circumstances) → (facts : Facts) → (taken : List EntryId) → (keys : List Key)
+    → AreFacts c facts → HaveNoHit (all_hits c.policy c.graph facts.chains) taken → EmptyNone c.policy taken
+    → Lists key_cmp (Stands c facts) keys → AreGone c (without_in c taken) facts taken keys

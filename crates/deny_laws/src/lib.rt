@@ -1,32 +1,56 @@
-//! Laws of the definitions: what follows where entries are taken out of a policy. Each is a function
-//! with an empty body, whose contract is the law.
+//! Laws of the definitions: what follows where entries are taken out of a policy, and where its ranges
+//! are replaced. Each is a function with an empty body, whose contract is the law.
 #![tactic(auto)]
 
-ghost use Rattle.deny_laws.specs.Dead.{DeadSkipsCanGo, DeadWrappersCanGo};
-ghost use Rattle.deny_laws.specs.Removal.{SkipsCanGo};
-ghost use Rattle.deny_laws.specs.Wrapping.{WrappersCanGo};
+ghost use Rattle.deny_laws.specs.Dead.{DeadCanGo, DeadSkipsCanGo, DeadWrappersCanGo};
+ghost use Rattle.deny_laws.specs.Removal.{EntriesCanGo};
+ghost use Rattle.deny_laws.specs.Renaming.{RangesCanBeReplaced};
+ghost use Rattle.deny_laws.specs.SkipRemoval.{SkipsCanGo};
+ghost use Rattle.deny_laws.specs.WrapperRemoval.{WrappersCanGo};
 
-/// Skips and skipped trees without a hit can go, all at once: what stood stands, but for the findings
-/// that named them as unused, and each entry that is hit is hit as before.
+/// Entries of any kind without a hit can go, all at once, where no entry loses its last wrapper: what
+/// stood stands, but for the findings that named them as unused, and each entry that is hit is hit as
+/// before.
+pub fn entries_can_go()
+    ensures { EntriesCanGo }
+{
+    deny_base::entry_order();
+}
+
+/// So can entries that a report lists as dead.
+pub fn dead_can_go()
+    ensures { DeadCanGo }
+{
+    deny_base::entry_order();
+}
+
+/// Skips and skipped trees by themselves ..
 pub fn skips_can_go()
     ensures { SkipsCanGo }
 {}
 
-/// So can wrappers without a hit, where no entry loses its last one.
+/// .. and wrappers by themselves, without a word on the order of entries.
 pub fn wrappers_can_go()
     ensures { WrappersCanGo }
 {}
 
-/// And so can skips and skipped trees that a report lists as dead.
+/// Dead skips and skipped trees by themselves ..
 pub fn dead_skips_can_go()
     ensures { DeadSkipsCanGo }
 {
     deny_base::entry_order();
 }
 
-/// As can wrappers that it lists as dead, where no entry loses its last one.
+/// .. and dead wrappers by themselves, where no entry loses its last one.
 pub fn dead_wrappers_can_go()
     ensures { DeadWrappersCanGo }
 {
     deny_base::entry_order();
 }
+
+/// Where a policy is printed anew, others stand in the place of its ranges, in whatever order: the same
+/// findings stand, each with the new range, and the same entries are hit, as long as two wrappers of one
+/// entry keep two ranges.
+pub fn ranges_can_be_replaced()
+    ensures { RangesCanBeReplaced }
+{}

@@ -3,7 +3,7 @@ use Rattle.std.proofs.Common.{◌≡◌, ◌&&◌, ◌∙◌, ◌++◌, List, No
 use Rattle.std.specs.Prelude.{Contains, filter, filter_map, option_and_then, option_map}
 use Rattle.std.specs.List.{flat_map, list_all, list_any}
 use Rattle.std.specs.Option.{option_map_or}
-use Rattle.std.proofs.lemmas.Bool.{and_from, and_parts, eq-eqb, not-true}
+use Rattle.std.proofs.lemmas.Bool.{and_from, and_parts, not-true}
 use Rattle.std.proofs.lemmas.List.Folds.{flat_map-map}
 use Rattle.std.proofs.lemmas.List.Kept.{IsStrictlySortedBy-filter}
 use Rattle.deny_lists.proofs.Agreement.{filter_map_on, filter_on, find_on, flat_map_on, found_on, list_any_on}
@@ -39,22 +39,21 @@ use Rattle.deny_model.specs.Skips.{unmatched_skip_keys, unnecessary_skip_keys}
 use Rattle.deny_codes.specs.Bans.{allowed_by_wrapper_keys, banned_keys, bears_name, unmatched_wrapper_keys}
 use Rattle.deny_codes.specs.Circumstances.{Circumstances}
 use Rattle.deny_codes.specs.Facts.{Facts, AreFacts}
+use Rattle.deny_codes.specs.FirstMatch.{first_of}
 use Rattle.deny_codes.specs.SkippedTrees.{skipped_by_root_keys}
 use Rattle.deny_codes.specs.Standing.{StandsAs, StandsBy, StandsLicensed, Stands}
 use Rattle.deny_codes.specs.Wrappers.{unused_wrapper_keys, wrapper_hits_of}
-use Rattle.deny_codes.proofs.Kept.{filter-flat_map, find_first_kept, found_member, list_all_on, fails_if_gone}
+use Rattle.deny_codes.proofs.Kept.{filter-flat_map, found_member, list_all_on, fails_if_gone}
 use Rattle.deny_codes.proofs.Kept.{filter_map_kept, find_none_on, guarded, told_kept}
-use Rattle.deny_laws.specs.Removal.{is_taken, names, names_as}
-use Rattle.deny_laws.specs.Wrapping.{AreCut, AreUnhitWrappers, cut, cut_in, cut_policy, stays_wrapper}
+use Rattle.deny_laws.specs.Removal.{AreGone, cut, is_taken, names, names_as, stays_wrapper}
+use Rattle.deny_laws.specs.WrapperRemoval.{AreUnhitWrappers, without_wrappers, without_wrappers_in}
+use Rattle.deny_laws.proofs.FirstMatch.{first_stays, is_first_stays, same_itself}
 use Rattle.deny_laws.proofs.KeyParts.{from_part, kept_part, moved}
-
-same_itself : (w : policy.Words) → same_span w.span w.span ≡ true
-same_itself w = and_from _ _ (eq-eqb w.span.start w.span.start refl) (eq-eqb w.span.end w.span.end refl)
 
 module _ (p : Policy) (g : Graph) (taken : List EntryId) (unhit : AreUnhitWrappers p g taken) where
   -- ---- at a crate that an entry concerns
 
-  concerned : (ban : Ban) (c : Crate) → concerns (cut_policy p taken) g (cut taken ban) c ≡ concerns p g ban c
+  concerned : (ban : Ban) (c : Crate) → concerns (without_wrappers p taken) g (cut taken ban) c ≡ concerns p g ban c
   unfolding concerns is_exempt
   concerned ban c = refl
 
@@ -67,16 +66,23 @@ module _ (p : Policy) (g : Graph) (taken : List EntryId) (unhit : AreUnhitWrappe
       (and_from (concerns p g ban c) (list_any (wraps ban.wrappers w) (dependents g c.place)) speaks
       (any_from (wraps ban.wrappers w) (dependents g c.place) parent is_parent
       (ap (λ (o : Option policy.Words). option_map_or (λ first. same_span first.span w.span) o false) is
-      ∙ same_itself w)))
+      ∙ same_itself w.span)))
+
+  first_stays_there : (ban : Ban) (c parent : Crate) (w : policy.Words) → Contains p.deny ban → Contains g.crates c
+      → concerns p g ban c ≡ true → Contains (dependents g c.place) parent
+      → first_of bears_name ban.wrappers parent ≡ Some w → stays_wrapper taken w ≡ true
+  unfolding wrapper_of
+  first_stays_there ban c parent w written known speaks is_parent is =
+      unhit.wrappers ban written w (found_member (λ v. bears_name v parent) ban.wrappers w is)
+      (first_is_hit ban c parent w known speaks is_parent is)
 
   wrapper_stays : (ban : Ban) (c parent : Crate) → Contains p.deny ban → Contains g.crates c → concerns p g ban c ≡ true
       → Contains (dependents g c.place) parent
       → wrapper_of (cut taken ban).wrappers parent ≡ wrapper_of ban.wrappers parent
   unfolding wrapper_of
   wrapper_stays ban c parent written known speaks is_parent =
-      find_first_kept (stays_wrapper taken) (λ w. bears_name w parent) ban.wrappers
-      (λ w is. unhit.wrappers ban written w (found_member (λ v. bears_name v parent) ban.wrappers w is)
-      (first_is_hit ban c parent w known speaks is_parent is))
+      first_stays bears_name (stays_wrapper taken) ban.wrappers parent
+      (λ w is. first_stays_there ban c parent w written known speaks is_parent is)
 
   is_wrapper_stays : (ban : Ban) (c parent : Crate) → Contains p.deny ban → Contains g.crates c
       → concerns p g ban c ≡ true → Contains (dependents g c.place) parent
@@ -90,8 +96,8 @@ module _ (p : Policy) (g : Graph) (taken : List EntryId) (unhit : AreUnhitWrappe
       → wraps (cut taken ban).wrappers w parent ≡ wraps ban.wrappers w parent
   unfolding wraps wrapper_of
   wraps_stays ban w c parent written known speaks is_parent =
-      ap (λ (o : Option policy.Words). option_map_or (λ first. same_span first.span w.span) o false)
-      (wrapper_stays ban c parent written known speaks is_parent)
+      is_first_stays (λ (v : policy.Words). v.span) bears_name (stays_wrapper taken) ban.wrappers w parent
+      (λ v is. first_stays_there ban c parent v written known speaks is_parent is)
 
   -- ---- bans
 
@@ -106,30 +112,30 @@ module _ (p : Policy) (g : Graph) (taken : List EntryId) (unhit : AreUnhitWrappe
       (λ parent is. is_wrapper_stays ban c parent written known speaks is))
 
   banned_stays : (ban : Ban) (c : Crate) → Contains p.deny ban → Contains g.crates c
-      → is_banned (cut_policy p taken) g (cut taken ban) c ≡ is_banned p g ban c
+      → is_banned (without_wrappers p taken) g (cut taken ban) c ≡ is_banned p g ban c
   unfolding is_banned
   banned_stays ban c written known =
       ap (λ b. b && not (is_lifted g (cut taken ban) c)) (concerned ban c)
       ∙ guarded (concerns p g ban c) (not (is_lifted g (cut taken ban) c)) (not (is_lifted g ban c))
       (λ speaks. ap (λ b. not b) (lifted_stays ban c written known speaks))
 
-  banned_of_stays : (ban : Ban) → Contains p.deny ban → banned_keys_of (cut_policy p taken) g (cut taken ban) ≡
+  banned_of_stays : (ban : Ban) → Contains p.deny ban → banned_keys_of (without_wrappers p taken) g (cut taken ban) ≡
       banned_keys_of p g ban
   unfolding banned_keys_of
   banned_of_stays ban written = ap (map (λ (c : Crate). crate_key code.Banned c.place ban.spec.range))
-      (filter_on (is_banned (cut_policy p taken) g (cut taken ban)) (is_banned p g ban) g.crates
+      (filter_on (is_banned (without_wrappers p taken) g (cut taken ban)) (is_banned p g ban) g.crates
       (λ c known. banned_stays ban c written known))
 
-  bans_stay : banned_keys (cut_policy p taken) g ≡ banned_keys p g
-  bans_stay = flat_map-map (banned_keys_of (cut_policy p taken) g) (cut taken) p.deny
-      ∙ flat_map_on (λ ban. banned_keys_of (cut_policy p taken) g (cut taken ban)) (banned_keys_of p g) p.deny
+  bans_stay : banned_keys (without_wrappers p taken) g ≡ banned_keys p g
+  bans_stay = flat_map-map (banned_keys_of (without_wrappers p taken) g) (cut taken) p.deny
+      ∙ flat_map_on (λ ban. banned_keys_of (without_wrappers p taken) g (cut taken ban)) (banned_keys_of p g) p.deny
       (λ ban written. banned_of_stays ban written)
 
   wrapped_stays : (ban : Ban) (c : Crate) → Contains p.deny ban
-      → is_wrapped (cut_policy p taken) g (cut taken ban) c ≡ is_wrapped p g ban c
+      → is_wrapped (without_wrappers p taken) g (cut taken ban) c ≡ is_wrapped p g ban c
   unfolding is_wrapped
   wrapped_stays ban c written =
-      ap (λ b. b && concerns (cut_policy p taken) g (cut taken ban) c) (unhit.not_emptied ban written)
+      ap (λ b. b && concerns (without_wrappers p taken) g (cut taken ban) c) (unhit.not_emptied ban written)
       ∙ ap (λ b. has_wrappers ban && b) (concerned ban c)
 
   speaks_if_wrapped : (ban : Ban) (c : Crate) → is_wrapped p g ban c ≡ true → concerns p g ban c ≡ true
@@ -153,44 +159,44 @@ module _ (p : Policy) (g : Graph) (taken : List EntryId) (unhit : AreUnhitWrappe
       (λ parent. not (is_wrapper ban.wrappers parent)) (dependents g c.place)
       (λ parent is. ap (λ b. not b) (is_wrapper_stays ban c parent written known speaks is)))
 
-  allowed_of_stays : (ban : Ban) → Contains p.deny ban → allowed_by_wrapper_keys_of (cut_policy p taken) g
+  allowed_of_stays : (ban : Ban) → Contains p.deny ban → allowed_by_wrapper_keys_of (without_wrappers p taken) g
       (cut taken ban) ≡ allowed_by_wrapper_keys_of p g ban
   unfolding allowed_by_wrapper_keys_of
   allowed_of_stays ban written =
       ap (flat_map (allowed_by_wrapper_keys_at g (cut taken ban)))
-      (filter_on (is_wrapped (cut_policy p taken) g (cut taken ban)) (is_wrapped p g ban) g.crates
+      (filter_on (is_wrapped (without_wrappers p taken) g (cut taken ban)) (is_wrapped p g ban) g.crates
       (λ c known. wrapped_stays ban c written))
       ∙ flat_map_on (allowed_by_wrapper_keys_at g (cut taken ban)) (allowed_by_wrapper_keys_at g ban)
       (filter (is_wrapped p g ban) g.crates)
       (λ c is. let kept = Contains-from_filter (is_wrapped p g ban) g.crates c is in allowed_at_stays ban c written
       kept.0 (speaks_if_wrapped ban c kept.1))
 
-  unmatched_of_stays : (ban : Ban) → Contains p.deny ban → unmatched_wrapper_keys_of (cut_policy p taken) g
+  unmatched_of_stays : (ban : Ban) → Contains p.deny ban → unmatched_wrapper_keys_of (without_wrappers p taken) g
       (cut taken ban) ≡ unmatched_wrapper_keys_of p g ban
   unfolding unmatched_wrapper_keys_of
   unmatched_of_stays ban written =
       ap (flat_map (unmatched_wrapper_keys_at g (cut taken ban)))
-      (filter_on (is_wrapped (cut_policy p taken) g (cut taken ban)) (is_wrapped p g ban) g.crates
+      (filter_on (is_wrapped (without_wrappers p taken) g (cut taken ban)) (is_wrapped p g ban) g.crates
       (λ c known. wrapped_stays ban c written))
       ∙ flat_map_on (unmatched_wrapper_keys_at g (cut taken ban)) (unmatched_wrapper_keys_at g ban)
       (filter (is_wrapped p g ban) g.crates)
       (λ c is. let kept = Contains-from_filter (is_wrapped p g ban) g.crates c is in unmatched_at_stays ban c written
       kept.0 (speaks_if_wrapped ban c kept.1))
 
-  allowed_stay : allowed_by_wrapper_keys (cut_policy p taken) g ≡ allowed_by_wrapper_keys p g
-  allowed_stay = flat_map-map (allowed_by_wrapper_keys_of (cut_policy p taken) g) (cut taken) p.deny
-      ∙ flat_map_on (λ ban. allowed_by_wrapper_keys_of (cut_policy p taken) g (cut taken ban))
+  allowed_stay : allowed_by_wrapper_keys (without_wrappers p taken) g ≡ allowed_by_wrapper_keys p g
+  allowed_stay = flat_map-map (allowed_by_wrapper_keys_of (without_wrappers p taken) g) (cut taken) p.deny
+      ∙ flat_map_on (λ ban. allowed_by_wrapper_keys_of (without_wrappers p taken) g (cut taken ban))
       (allowed_by_wrapper_keys_of p g) p.deny (λ ban written. allowed_of_stays ban written)
 
-  unmatched_stay : unmatched_wrapper_keys (cut_policy p taken) g ≡ unmatched_wrapper_keys p g
-  unmatched_stay = flat_map-map (unmatched_wrapper_keys_of (cut_policy p taken) g) (cut taken) p.deny
-      ∙ flat_map_on (λ ban. unmatched_wrapper_keys_of (cut_policy p taken) g (cut taken ban))
+  unmatched_stay : unmatched_wrapper_keys (without_wrappers p taken) g ≡ unmatched_wrapper_keys p g
+  unmatched_stay = flat_map-map (unmatched_wrapper_keys_of (without_wrappers p taken) g) (cut taken) p.deny
+      ∙ flat_map_on (λ ban. unmatched_wrapper_keys_of (without_wrappers p taken) g (cut taken ban))
       (unmatched_wrapper_keys_of p g) p.deny (λ ban written. unmatched_of_stays ban written)
 
   -- ---- wrappers
 
   hits_at_stays : (ban : Ban) (w : policy.Words) (c : Crate) → Contains p.deny ban → Contains g.crates c
-      → hits_wrapper (cut_policy p taken) g (cut taken ban) w c ≡ hits_wrapper p g ban w c
+      → hits_wrapper (without_wrappers p taken) g (cut taken ban) w c ≡ hits_wrapper p g ban w c
   unfolding hits_wrapper
   hits_at_stays ban w c written known =
       ap (λ b. b && list_any (wraps (cut taken ban).wrappers w) (dependents g c.place)) (concerned ban c)
@@ -200,29 +206,29 @@ module _ (p : Policy) (g : Graph) (taken : List EntryId) (unhit : AreUnhitWrappe
       (λ parent is. wraps_stays ban w c parent written known speaks is))
 
   is_hit_stays : (ban : Ban) (w : policy.Words) → Contains p.deny ban
-      → is_hit_wrapper (cut_policy p taken) g (cut taken ban) w ≡ is_hit_wrapper p g ban w
+      → is_hit_wrapper (without_wrappers p taken) g (cut taken ban) w ≡ is_hit_wrapper p g ban w
   unfolding is_hit_wrapper
   is_hit_stays ban w written =
-      list_any_on (hits_wrapper (cut_policy p taken) g (cut taken ban) w) (hits_wrapper p g ban w) g.crates
+      list_any_on (hits_wrapper (without_wrappers p taken) g (cut taken ban) w) (hits_wrapper p g ban w) g.crates
       (λ c known. hits_at_stays ban w c written known)
 
   unused_of_part : (ban : Ban) → Contains p.deny ban
-      → unused_wrapper_keys_of (cut_policy p taken) g (cut taken ban) ≡ filter
+      → unused_wrapper_keys_of (without_wrappers p taken) g (cut taken ban) ≡ filter
       (λ key. not (is_taken taken Wrapper key.entry)) (unused_wrapper_keys_of p g ban)
   unfolding unused_wrapper_keys_of key_of
   unused_of_part ban written =
       ap (map (λ (w : policy.Words). unused_key code.UnusedWrapper w.span))
-      (filter_on (λ w. not (is_hit_wrapper (cut_policy p taken) g (cut taken ban) w))
+      (filter_on (λ w. not (is_hit_wrapper (without_wrappers p taken) g (cut taken ban) w))
       (λ w. not (is_hit_wrapper p g ban w)) (filter (stays_wrapper taken) ban.wrappers)
       (λ w is. ap (λ b. not b) (is_hit_stays ban w written)))
       ∙ told_kept (stays_wrapper taken) (λ w. not (is_hit_wrapper p g ban w))
       (λ w. unused_key code.UnusedWrapper w.span) (λ key. not (is_taken taken Wrapper key.entry)) ban.wrappers
       (λ w. refl)
 
-  unused_part : unused_wrapper_keys (cut_policy p taken) g ≡ filter (λ key. not (is_taken taken Wrapper key.entry))
-      (unused_wrapper_keys p g)
-  unused_part = flat_map-map (unused_wrapper_keys_of (cut_policy p taken) g) (cut taken) p.deny
-      ∙ (flat_map_on (λ ban. unused_wrapper_keys_of (cut_policy p taken) g (cut taken ban))
+  unused_part : unused_wrapper_keys (without_wrappers p taken) g
+      ≡ filter (λ key. not (is_taken taken Wrapper key.entry)) (unused_wrapper_keys p g)
+  unused_part = flat_map-map (unused_wrapper_keys_of (without_wrappers p taken) g) (cut taken) p.deny
+      ∙ (flat_map_on (λ ban. unused_wrapper_keys_of (without_wrappers p taken) g (cut taken ban))
       (λ ban. filter (λ key. not (is_taken taken Wrapper key.entry)) (unused_wrapper_keys_of p g ban)) p.deny
       (λ ban written. unused_of_part ban written)
       ∙ sym (filter-flat_map (λ (key : Key). not (is_taken taken Wrapper key.entry)) (unused_wrapper_keys_of p g)
@@ -246,11 +252,11 @@ module _ (p : Policy) (g : Graph) (taken : List EntryId) (unhit : AreUnhitWrappe
       (λ parent is. wraps_stays ban w c parent written known speaks is))
 
   hit_stays : (ban : Ban) (w : policy.Words) → Contains p.deny ban
-      → wrapper_hit (cut_policy p taken) g (cut taken ban) w ≡ wrapper_hit p g ban w
+      → wrapper_hit (without_wrappers p taken) g (cut taken ban) w ≡ wrapper_hit p g ban w
   unfolding wrapper_hit
   hit_stays ban w written =
       ap (option_and_then (wrapper_hit_at g (cut taken ban) w))
-      (find_on (hits_wrapper (cut_policy p taken) g (cut taken ban) w) (hits_wrapper p g ban w) g.crates
+      (find_on (hits_wrapper (without_wrappers p taken) g (cut taken ban) w) (hits_wrapper p g ban w) g.crates
       (λ c known. hits_at_stays ban w c written known))
       ∙ found_on (wrapper_hit_at g (cut taken ban) w) (wrapper_hit_at g ban w) (hits_wrapper p g ban w) g.crates
       (λ c known hits. hit_at_stays ban w c written known (speaks_if_hit ban w c hits))
@@ -260,49 +266,49 @@ module _ (p : Policy) (g : Graph) (taken : List EntryId) (unhit : AreUnhitWrappe
   no_hit ban w none = ap (option_and_then (wrapper_hit_at g ban w))
       (find_none_on (hits_wrapper p g ban w) g.crates none)
 
-  hits_of_stay : (ban : Ban) → Contains p.deny ban → wrapper_hits_of (cut_policy p taken) g (cut taken ban) ≡
+  hits_of_stay : (ban : Ban) → Contains p.deny ban → wrapper_hits_of (without_wrappers p taken) g (cut taken ban) ≡
       wrapper_hits_of p g ban
   hits_of_stay ban written =
-      filter_map_on (wrapper_hit (cut_policy p taken) g (cut taken ban)) (wrapper_hit p g ban)
+      filter_map_on (wrapper_hit (without_wrappers p taken) g (cut taken ban)) (wrapper_hit p g ban)
       (filter (stays_wrapper taken) ban.wrappers) (λ w is. hit_stays ban w written)
       ∙ filter_map_kept (stays_wrapper taken) (wrapper_hit p g ban) ban.wrappers
       (λ w within gone. no_hit ban w (fails_if_gone (stays_wrapper taken w) (is_hit_wrapper p g ban w)
       (unhit.wrappers ban written w within) gone))
 
-  wrapper_hits_stay : flat_map (wrapper_hits_of (cut_policy p taken) g) (map (cut taken) p.deny) ≡ flat_map
+  wrapper_hits_stay : flat_map (wrapper_hits_of (without_wrappers p taken) g) (map (cut taken) p.deny) ≡ flat_map
       (wrapper_hits_of p g) p.deny
-  wrapper_hits_stay = flat_map-map (wrapper_hits_of (cut_policy p taken) g) (cut taken) p.deny
-      ∙ flat_map_on (λ ban. wrapper_hits_of (cut_policy p taken) g (cut taken ban)) (wrapper_hits_of p g) p.deny
+  wrapper_hits_stay = flat_map-map (wrapper_hits_of (without_wrappers p taken) g) (cut taken) p.deny
+      ∙ flat_map_on (λ ban. wrapper_hits_of (without_wrappers p taken) g (cut taken ban)) (wrapper_hits_of p g) p.deny
       (λ ban written. hits_of_stay ban written)
 
-  hits_stay : (f : chains.Facts) → all_hits (cut_policy p taken) g f ≡ all_hits p g f
+  hits_stay : (f : chains.Facts) → all_hits (without_wrappers p taken) g f ≡ all_hits p g f
   hits_stay f = ap (λ (hits : List Hit). filter_map (skip_hit g f) p.skip ++
       (filter_map (root_hit g) p.skip_tree ++ hits)) wrapper_hits_stay
 
 -- ---- skips, skipped trees, groups and the allow list read no wrapper
 
 module _ (p : Policy) (g : Graph) (f : chains.Facts) (taken : List EntryId) where
-  not_allowed_stay : not_allowed_keys (cut_policy p taken) g ≡ not_allowed_keys p g
+  not_allowed_stay : not_allowed_keys (without_wrappers p taken) g ≡ not_allowed_keys p g
   unfolding not_allowed_keys is_not_allowed is_exempt
   not_allowed_stay = refl
 
-  by_root_stay : skipped_by_root_keys (cut_policy p taken) g f ≡ skipped_by_root_keys p g f
+  by_root_stay : skipped_by_root_keys (without_wrappers p taken) g f ≡ skipped_by_root_keys p g f
   unfolding skipped_by_root_keys_of is_skipped_by_root is_marked
   by_root_stay = refl
 
-  unmatched_skip_stay : unmatched_skip_keys (cut_policy p taken) g f ≡ unmatched_skip_keys p g f
+  unmatched_skip_stay : unmatched_skip_keys (without_wrappers p taken) g f ≡ unmatched_skip_keys p g f
   unfolding unmatched_skip_keys
   unmatched_skip_stay = refl
 
-  unmatched_root_stay : unmatched_skip_root_keys (cut_policy p taken) g ≡ unmatched_skip_root_keys p g
+  unmatched_root_stay : unmatched_skip_root_keys (without_wrappers p taken) g ≡ unmatched_skip_root_keys p g
   unfolding unmatched_skip_root_keys
   unmatched_root_stay = refl
 
-  unnecessary_stay : unnecessary_skip_keys (cut_policy p taken) g f ≡ unnecessary_skip_keys p g f
+  unnecessary_stay : unnecessary_skip_keys (without_wrappers p taken) g f ≡ unnecessary_skip_keys p g f
   unfolding unnecessary_skip_keys is_needless reduced is_in_group may_stand is_marked is_rooted
   unnecessary_stay = refl
 
-  duplicates_there : (key : Key) → IsDuplicate p g f key → IsDuplicate (cut_policy p taken) g f key
+  duplicates_there : (key : Key) → IsDuplicate p g f key → IsDuplicate (without_wrappers p taken) g f key
   unfolding duplicate_level is_denied_multiple reduced is_in_group may_stand is_marked is_rooted
   duplicates_there key found = let d = found.2 in (
     found.0,
@@ -310,7 +316,7 @@ module _ (p : Policy) (g : Graph) (f : chains.Facts) (taken : List EntryId) wher
     record { crates = d.crates; listed = d.listed; several = d.several; minded = d.minded; is = d.is },
   )
 
-  duplicates_back : (key : Key) → IsDuplicate (cut_policy p taken) g f key → IsDuplicate p g f key
+  duplicates_back : (key : Key) → IsDuplicate (without_wrappers p taken) g f key → IsDuplicate p g f key
   unfolding duplicate_level is_denied_multiple reduced is_in_group may_stand is_marked is_rooted
   duplicates_back key found = let d = found.2 in (
     found.0,
@@ -323,84 +329,84 @@ module _ (p : Policy) (g : Graph) (f : chains.Facts) (taken : List EntryId) wher
 module _ (c : Circumstances) (facts : Facts) (taken : List EntryId) (unhit : AreUnhitWrappers c.policy c.graph taken)
     (key : Key) where
   there_as : (d : Code) → names_as taken (Bans d) key ≡ false → StandsAs d c facts key
-      → StandsAs d (cut_in c taken) facts key
+      → StandsAs d (without_wrappers_in c taken) facts key
   there_as code.Banned unnamed is = moved (banned_keys c.policy c.graph)
-      (banned_keys (cut_policy c.policy taken) c.graph) key (sym (bans_stay c.policy c.graph taken unhit)) is
+      (banned_keys (without_wrappers c.policy taken) c.graph) key (sym (bans_stay c.policy c.graph taken unhit)) is
   there_as code.AllowedByWrapper unnamed is = moved (allowed_by_wrapper_keys c.policy c.graph)
-      (allowed_by_wrapper_keys (cut_policy c.policy taken) c.graph) key
+      (allowed_by_wrapper_keys (without_wrappers c.policy taken) c.graph) key
       (sym (allowed_stay c.policy c.graph taken unhit)) is
   there_as code.UnmatchedWrapper unnamed is = moved (unmatched_wrapper_keys c.policy c.graph)
-      (unmatched_wrapper_keys (cut_policy c.policy taken) c.graph) key
+      (unmatched_wrapper_keys (without_wrappers c.policy taken) c.graph) key
       (sym (unmatched_stay c.policy c.graph taken unhit)) is
   there_as code.NotAllowed unnamed is = moved (not_allowed_keys c.policy c.graph)
-      (not_allowed_keys (cut_policy c.policy taken) c.graph) key
+      (not_allowed_keys (without_wrappers c.policy taken) c.graph) key
       (sym (not_allowed_stay c.policy c.graph facts.chains taken)) is
   there_as code.SkippedByRoot unnamed is = moved (skipped_by_root_keys c.policy c.graph facts.chains)
-      (skipped_by_root_keys (cut_policy c.policy taken) c.graph facts.chains) key
+      (skipped_by_root_keys (without_wrappers c.policy taken) c.graph facts.chains) key
       (sym (by_root_stay c.policy c.graph facts.chains taken)) is
   there_as code.UnnecessarySkip unnamed is = moved (unnecessary_skip_keys c.policy c.graph facts.chains)
-      (unnecessary_skip_keys (cut_policy c.policy taken) c.graph facts.chains) key
+      (unnecessary_skip_keys (without_wrappers c.policy taken) c.graph facts.chains) key
       (sym (unnecessary_stay c.policy c.graph facts.chains taken)) is
   there_as code.UnmatchedSkip unnamed is = moved (unmatched_skip_keys c.policy c.graph facts.chains)
-      (unmatched_skip_keys (cut_policy c.policy taken) c.graph facts.chains) key
+      (unmatched_skip_keys (without_wrappers c.policy taken) c.graph facts.chains) key
       (sym (unmatched_skip_stay c.policy c.graph facts.chains taken)) is
   there_as code.UnmatchedSkipRoot unnamed is = moved (unmatched_skip_root_keys c.policy c.graph)
-      (unmatched_skip_root_keys (cut_policy c.policy taken) c.graph) key
+      (unmatched_skip_root_keys (without_wrappers c.policy taken) c.graph) key
       (sym (unmatched_root_stay c.policy c.graph facts.chains taken)) is
   there_as code.UnusedWrapper unnamed is = kept_part (λ k. is_taken taken Wrapper k.entry)
-      (unused_wrapper_keys (cut_policy c.policy taken) c.graph) (unused_wrapper_keys c.policy c.graph) key
+      (unused_wrapper_keys (without_wrappers c.policy taken) c.graph) (unused_wrapper_keys c.policy c.graph) key
       (unused_part c.policy c.graph taken unhit) is unnamed
   there_as code.Allowed unnamed is = is
   there_as code.Skipped unnamed is = is
   there_as code.Duplicate unnamed is = duplicates_there c.policy c.graph facts.chains taken key is
   there_as _ unnamed is = absurd is
 
-  back_as : (d : Code) → StandsAs d (cut_in c taken) facts key → StandsAs d c facts key
+  back_as : (d : Code) → StandsAs d (without_wrappers_in c taken) facts key → StandsAs d c facts key
       × (names_as taken (Bans d) key ≡ false)
   back_as code.Banned is = (
-    moved (banned_keys (cut_policy c.policy taken) c.graph) (banned_keys c.policy c.graph) key
+    moved (banned_keys (without_wrappers c.policy taken) c.graph) (banned_keys c.policy c.graph) key
         (bans_stay c.policy c.graph taken unhit) is,
     refl,
   )
   back_as code.AllowedByWrapper is = (
-    moved (allowed_by_wrapper_keys (cut_policy c.policy taken) c.graph)
+    moved (allowed_by_wrapper_keys (without_wrappers c.policy taken) c.graph)
         (allowed_by_wrapper_keys c.policy c.graph) key (allowed_stay c.policy c.graph taken unhit) is,
     refl,
   )
   back_as code.UnmatchedWrapper is = (
-    moved (unmatched_wrapper_keys (cut_policy c.policy taken) c.graph)
+    moved (unmatched_wrapper_keys (without_wrappers c.policy taken) c.graph)
         (unmatched_wrapper_keys c.policy c.graph) key (unmatched_stay c.policy c.graph taken unhit) is,
     refl,
   )
   back_as code.NotAllowed is = (
-    moved (not_allowed_keys (cut_policy c.policy taken) c.graph)
+    moved (not_allowed_keys (without_wrappers c.policy taken) c.graph)
         (not_allowed_keys c.policy c.graph) key (not_allowed_stay c.policy c.graph facts.chains taken) is,
     refl,
   )
   back_as code.SkippedByRoot is = (
-    moved (skipped_by_root_keys (cut_policy c.policy taken) c.graph facts.chains)
+    moved (skipped_by_root_keys (without_wrappers c.policy taken) c.graph facts.chains)
         (skipped_by_root_keys c.policy c.graph facts.chains) key (by_root_stay c.policy c.graph facts.chains taken) is,
     refl,
   )
   back_as code.UnnecessarySkip is = (
-    moved (unnecessary_skip_keys (cut_policy c.policy taken) c.graph facts.chains)
+    moved (unnecessary_skip_keys (without_wrappers c.policy taken) c.graph facts.chains)
         (unnecessary_skip_keys c.policy c.graph facts.chains) key (unnecessary_stay c.policy c.graph facts.chains taken)
         is,
     refl,
   )
   back_as code.UnmatchedSkip is = (
-    moved (unmatched_skip_keys (cut_policy c.policy taken) c.graph facts.chains)
+    moved (unmatched_skip_keys (without_wrappers c.policy taken) c.graph facts.chains)
         (unmatched_skip_keys c.policy c.graph facts.chains) key
         (unmatched_skip_stay c.policy c.graph facts.chains taken) is,
     unhit.no_skip key.entry,
   )
   back_as code.UnmatchedSkipRoot is = (
-    moved (unmatched_skip_root_keys (cut_policy c.policy taken) c.graph)
+    moved (unmatched_skip_root_keys (without_wrappers c.policy taken) c.graph)
         (unmatched_skip_root_keys c.policy c.graph) key (unmatched_root_stay c.policy c.graph facts.chains taken) is,
     unhit.no_root key.entry,
   )
   back_as code.UnusedWrapper is = from_part (λ k. is_taken taken Wrapper k.entry)
-      (unused_wrapper_keys (cut_policy c.policy taken) c.graph) (unused_wrapper_keys c.policy c.graph) key
+      (unused_wrapper_keys (without_wrappers c.policy taken) c.graph) (unused_wrapper_keys c.policy c.graph) key
       (unused_part c.policy c.graph taken unhit) is
   back_as code.Allowed is = (is, refl)
   back_as code.Skipped is = (is, refl)
@@ -412,33 +418,33 @@ module _ (c : Circumstances) (facts : Facts) (taken : List EntryId) (unhit : Are
   licensed _ p q is = is
 
   there_by : (d : DiagnosticCode) → names_as taken d key ≡ false → StandsBy d c facts key
-      → StandsBy d (cut_in c taken) facts key
+      → StandsBy d (without_wrappers_in c taken) facts key
   there_by Deprecated unnamed is = absurd is
   there_by (Bans d) unnamed is = there_as d unnamed is
   there_by (License d) unnamed is = absurd (licensed d c.policy c.policy is)
 
-  back_by : (d : DiagnosticCode) → StandsBy d (cut_in c taken) facts key → StandsBy d c facts key
+  back_by : (d : DiagnosticCode) → StandsBy d (without_wrappers_in c taken) facts key → StandsBy d c facts key
       × (names_as taken d key ≡ false)
   back_by Deprecated is = absurd is
   back_by (Bans d) is = back_as d is
-  back_by (License d) is = absurd (licensed d (cut_policy c.policy taken) c.policy is)
+  back_by (License d) is = absurd (licensed d (without_wrappers c.policy taken) c.policy is)
 
-  there_key : names taken key ≡ false → Stands c facts key → Stands (cut_in c taken) facts key
+  there_key : names taken key ≡ false → Stands c facts key → Stands (without_wrappers_in c taken) facts key
   there_key unnamed is = there_by key.code unnamed is
 
-  back_key : Stands (cut_in c taken) facts key → Stands c facts key × (names taken key ≡ false)
+  back_key : Stands (without_wrappers_in c taken) facts key → Stands c facts key × (names taken key ≡ false)
   back_key is = back_by key.code is
 
 -- ---- all together
 
 facts_hold : (c : Circumstances) (facts : Facts) (taken : List EntryId) → AreFacts c facts
-    → AreFacts (cut_in c taken) facts
+    → AreFacts (without_wrappers_in c taken) facts
 facts_hold c facts taken are = record { chains = record { counts = are.chains.counts; in_tree = are.chains.in_tree } }
 
-pub cut_listed : (c : Circumstances) (facts : Facts) (taken : List EntryId) (keys : List Key) → AreFacts c facts
+pub wrappers_gone : (c : Circumstances) (facts : Facts) (taken : List EntryId) (keys : List Key) → AreFacts c facts
     → AreUnhitWrappers c.policy c.graph taken
-    → Lists key_cmp (Stands c facts) keys → AreCut c facts taken keys
-cut_listed c facts taken keys are unhit listed = record {
+    → Lists key_cmp (Stands c facts) keys → AreGone c (without_wrappers_in c taken) facts taken keys
+wrappers_gone c facts taken keys are unhit listed = record {
   facts_hold = facts_hold c facts taken are;
   listed = record {
     ascending = IsStrictlySortedBy-filter key_cmp (λ key. not (names taken key)) keys listed.ascending;

@@ -45,34 +45,35 @@ use Rattle.deny_codes.specs.Standing.{StandsAs, StandsBy, StandsLicensed, Stands
 use Rattle.deny_codes.specs.Wrappers.{unused_wrapper_keys, wrapper_hits_of}
 use Rattle.deny_codes.proofs.Kept.{fails_if_gone, filter_fails_on, filter_kept, filter_map_kept, filter_none_on}
 use Rattle.deny_codes.proofs.Kept.{find_none_on, flat_map_kept, guarded, list_any_kept, told_kept}
-use Rattle.deny_laws.specs.Removal.{AreGone, AreUnhit, is_taken, names, names_as, stays_root, stays_skip, unnaming}
-use Rattle.deny_laws.specs.Removal.{without, without_in}
+use Rattle.deny_laws.specs.Removal.{AreGone, is_taken, names, names_as, stays_root, stays_skip, unnaming}
+use Rattle.deny_laws.specs.SkipRemoval.{AreUnhit, without_skips, without_skips_in}
 use Rattle.deny_laws.proofs.KeyParts.{from_part, kept_part, moved}
 
 -- ---- bans and the allow list read neither
 
 module _ (p : Policy) (g : Graph) (taken : List EntryId) where
-  bans_stay : banned_keys (without p taken) g ≡ banned_keys p g
+  bans_stay : banned_keys (without_skips p taken) g ≡ banned_keys p g
   unfolding banned_keys_of is_banned concerns is_exempt
   bans_stay = refl
 
-  allowed_stay : allowed_by_wrapper_keys (without p taken) g ≡ allowed_by_wrapper_keys p g
+  allowed_stay : allowed_by_wrapper_keys (without_skips p taken) g ≡ allowed_by_wrapper_keys p g
   unfolding allowed_by_wrapper_keys_of is_wrapped concerns is_exempt
   allowed_stay = refl
 
-  unmatched_stay : unmatched_wrapper_keys (without p taken) g ≡ unmatched_wrapper_keys p g
+  unmatched_stay : unmatched_wrapper_keys (without_skips p taken) g ≡ unmatched_wrapper_keys p g
   unfolding unmatched_wrapper_keys_of is_wrapped concerns is_exempt
   unmatched_stay = refl
 
-  unused_stay : unused_wrapper_keys (without p taken) g ≡ unused_wrapper_keys p g
+  unused_stay : unused_wrapper_keys (without_skips p taken) g ≡ unused_wrapper_keys p g
   unfolding unused_wrapper_keys_of is_hit_wrapper hits_wrapper concerns is_exempt
   unused_stay = refl
 
-  not_allowed_stay : not_allowed_keys (without p taken) g ≡ not_allowed_keys p g
+  not_allowed_stay : not_allowed_keys (without_skips p taken) g ≡ not_allowed_keys p g
   unfolding not_allowed_keys is_not_allowed is_exempt
   not_allowed_stay = refl
 
-  wrapper_hits_stay : flat_map (wrapper_hits_of (without p taken) g) p.deny ≡ flat_map (wrapper_hits_of p g) p.deny
+  wrapper_hits_stay : flat_map (wrapper_hits_of (without_skips p taken) g) p.deny
+      ≡ flat_map (wrapper_hits_of p g) p.deny
   unfolding wrapper_hit hits_wrapper concerns is_exempt
   wrapper_hits_stay = refl
 
@@ -114,47 +115,49 @@ module _ (p : Policy) (g : Graph) (f : chains.Facts) (taken : List EntryId) (are
 
   -- ---- groups
 
-  marked_stays : (k : Crate) → Contains g.crates k → f.counts k ≡ true → is_marked (without p taken) k ≡ is_marked p k
+  marked_stays : (k : Crate) → Contains g.crates k → f.counts k ≡ true
+      → is_marked (without_skips p taken) k ≡ is_marked p k
   unfolding is_marked
   marked_stays k known counts = list_any_kept (stays_skip taken) (λ s. matches s.spec k) p.skip
       (λ s written speaks. unhit.skips s written (hit_by s k known counts speaks))
 
-  rooted_stays : (k : Crate) → Contains g.crates k → is_rooted (without p taken) f k ≡ is_rooted p f k
+  rooted_stays : (k : Crate) → Contains g.crates k → is_rooted (without_skips p taken) f k ≡ is_rooted p f k
   unfolding is_rooted
   rooted_stays k known = list_any_kept (stays_root taken) (λ t. f.in_tree t k) p.skip_tree
       (λ t written is. unhit.roots t written (rooted_by t k written known is))
 
-  stand_stays : (k : Crate) → Contains g.crates k → may_stand (without p taken) f k ≡ may_stand p f k
+  stand_stays : (k : Crate) → Contains g.crates k → may_stand (without_skips p taken) f k ≡ may_stand p f k
   unfolding may_stand
-  stand_stays k known = guarded (f.counts k) (is_marked (without p taken) k || not (is_rooted (without p taken) f k))
+  stand_stays k known = guarded (f.counts k)
+      (is_marked (without_skips p taken) k || not (is_rooted (without_skips p taken) f k))
       (is_marked p k || not (is_rooted p f k))
-      (λ counts. ap (λ b. b || not (is_rooted (without p taken) f k)) (marked_stays k known counts)
+      (λ counts. ap (λ b. b || not (is_rooted (without_skips p taken) f k)) (marked_stays k known counts)
       ∙ ap (λ b. is_marked p k || not b) (rooted_stays k known))
 
   in_group_stays : (name : List ℕ) (k : Crate) → Contains g.crates k
-      → is_in_group (without p taken) f name k ≡ is_in_group p f name k
+      → is_in_group (without_skips p taken) f name k ≡ is_in_group p f name k
   unfolding is_in_group
   in_group_stays name k known = ap (λ b. has_name name k && b) (stand_stays k known)
 
-  group_stays : (name : List ℕ) → group (without p taken) g f name ≡ group p g f name
-  group_stays name = filter_on (is_in_group (without p taken) f name) (is_in_group p f name) g.crates
+  group_stays : (name : List ℕ) → group (without_skips p taken) g f name ≡ group p g f name
+  group_stays name = filter_on (is_in_group (without_skips p taken) f name) (is_in_group p f name) g.crates
       (in_group_stays name)
 
-  reduced_stays : (name : List ℕ) → reduced (without p taken) g f name ≡ reduced p g f name
+  reduced_stays : (name : List ℕ) → reduced (without_skips p taken) g f name ≡ reduced p g f name
   unfolding reduced
   reduced_stays name = ap (λ (crates : List Crate). if length crates == 1 then crates else filter
       (λ c. not (is_internal g name c)) crates) (group_stays name)
 
-  unmarked_stays : (name : List ℕ) → unmarked (without p taken) g f name ≡ unmarked p g f name
+  unmarked_stays : (name : List ℕ) → unmarked (without_skips p taken) g f name ≡ unmarked p g f name
   unmarked_stays name =
-      ap (λ (crates : List Crate). filter (λ c. not (is_marked (without p taken) c)) crates) (reduced_stays name)
-      ∙ filter_on (λ c. not (is_marked (without p taken) c)) (λ c. not (is_marked p c)) (reduced p g f name)
+      ap (λ (crates : List Crate). filter (λ c. not (is_marked (without_skips p taken) c)) crates) (reduced_stays name)
+      ∙ filter_on (λ c. not (is_marked (without_skips p taken) c)) (λ c. not (is_marked p c)) (reduced p g f name)
       (λ k is. let member = Contains-from_filter (is_in_group p f name) g.crates k (reduced_in_group p g f name k is) in
       ap (λ b. not b) (marked_stays k member.0 (counts_in_group p f name k member.1)))
 
   -- ---- duplicates
 
-  duplicates_there : (key : Key) → IsDuplicate p g f key → IsDuplicate (without p taken) g f key
+  duplicates_there : (key : Key) → IsDuplicate p g f key → IsDuplicate (without_skips p taken) g f key
   unfolding duplicate_level is_denied_multiple
   duplicates_there key found =
       let d = found.2 in (
@@ -170,7 +173,7 @@ module _ (p : Policy) (g : Graph) (f : chains.Facts) (taken : List EntryId) (are
         },
       )
 
-  duplicates_back : (key : Key) → IsDuplicate (without p taken) g f key → IsDuplicate p g f key
+  duplicates_back : (key : Key) → IsDuplicate (without_skips p taken) g f key → IsDuplicate p g f key
   unfolding duplicate_level is_denied_multiple
   duplicates_back key found =
       let d = found.2 in (
@@ -196,11 +199,11 @@ module _ (p : Policy) (g : Graph) (f : chains.Facts) (taken : List EntryId) (are
   none_skipped s none = ap (map (λ (c : Crate). crate_key code.Skipped c.place s.spec.range))
       (filter_none_on (is_skipped f s) g.crates none)
 
-  skipped_stay : skipped_keys (without p taken) g f ≡ skipped_keys p g f
+  skipped_stay : skipped_keys (without_skips p taken) g f ≡ skipped_keys p g f
   skipped_stay = flat_map_kept (stays_skip taken) (skipped_keys_of g f) p.skip
       (λ s written gone. none_skipped s (not_hit s written gone))
 
-  needless_stays : (s : Entry) → is_needless (without p taken) g f s ≡ is_needless p g f s
+  needless_stays : (s : Entry) → is_needless (without_skips p taken) g f s ≡ is_needless p g f s
   unfolding is_needless
   needless_stays s = ap (λ (crates : List Crate). is_hit_skip g f s && nat_le (length crates) 1)
       (reduced_stays s.spec.name)
@@ -209,15 +212,15 @@ module _ (p : Policy) (g : Graph) (f : chains.Facts) (taken : List EntryId) (are
   unfolding is_needless
   needless_hit s is = (and_parts (is_hit_skip g f s) (nat_le (length (reduced p g f s.spec.name)) 1) is).0
 
-  unnecessary_stay : unnecessary_skip_keys (without p taken) g f ≡ unnecessary_skip_keys p g f
+  unnecessary_stay : unnecessary_skip_keys (without_skips p taken) g f ≡ unnecessary_skip_keys p g f
   unfolding unnecessary_skip_keys
   unnecessary_stay = ap (map (λ (s : Entry). unused_key code.UnnecessarySkip s.spec.range))
-      (filter_on (is_needless (without p taken) g f) (is_needless p g f) (filter (stays_skip taken) p.skip)
+      (filter_on (is_needless (without_skips p taken) g f) (is_needless p g f) (filter (stays_skip taken) p.skip)
       (λ s is. needless_stays s)
       ∙ filter_kept (stays_skip taken) (is_needless p g f) p.skip
       (λ s written is. unhit.skips s written (needless_hit s is)))
 
-  unmatched_part : unmatched_skip_keys (without p taken) g f ≡ filter (λ key. not (is_taken taken Skip key.entry))
+  unmatched_part : unmatched_skip_keys (without_skips p taken) g f ≡ filter (λ key. not (is_taken taken Skip key.entry))
       (unmatched_skip_keys p g f)
   unfolding unmatched_skip_keys key_of
   unmatched_part = told_kept (stays_skip taken) (λ s. not (is_hit_skip g f s))
@@ -242,25 +245,25 @@ module _ (p : Policy) (g : Graph) (f : chains.Facts) (taken : List EntryId) (are
       (filter_fails_on (is_skipped_by_root p f t) g.crates (λ k known. outside t k written none known))
 
   by_root_stays : (t : Root) (k : Crate) → Contains g.crates k
-      → is_skipped_by_root (without p taken) f t k ≡ is_skipped_by_root p f t k
+      → is_skipped_by_root (without_skips p taken) f t k ≡ is_skipped_by_root p f t k
   unfolding is_skipped_by_root
-  by_root_stays t k known = guarded (f.counts k) (not (is_marked (without p taken) k) && f.in_tree t k)
+  by_root_stays t k known = guarded (f.counts k) (not (is_marked (without_skips p taken) k) && f.in_tree t k)
       (not (is_marked p k) && f.in_tree t k)
       (λ counts. ap (λ b. not b && f.in_tree t k) (marked_stays k known counts))
 
-  of_root_stays : (t : Root) → skipped_by_root_keys_of (without p taken) g f t ≡ skipped_by_root_keys_of p g f t
+  of_root_stays : (t : Root) → skipped_by_root_keys_of (without_skips p taken) g f t ≡ skipped_by_root_keys_of p g f t
   unfolding skipped_by_root_keys_of
   of_root_stays t = ap (map (λ (c : Crate). crate_key code.SkippedByRoot c.place t.spec.range))
-      (filter_on (is_skipped_by_root (without p taken) f t) (is_skipped_by_root p f t) g.crates (by_root_stays t))
+      (filter_on (is_skipped_by_root (without_skips p taken) f t) (is_skipped_by_root p f t) g.crates (by_root_stays t))
 
-  by_root_stay : skipped_by_root_keys (without p taken) g f ≡ skipped_by_root_keys p g f
+  by_root_stay : skipped_by_root_keys (without_skips p taken) g f ≡ skipped_by_root_keys p g f
   by_root_stay =
-      flat_map_on (skipped_by_root_keys_of (without p taken) g f) (skipped_by_root_keys_of p g f)
+      flat_map_on (skipped_by_root_keys_of (without_skips p taken) g f) (skipped_by_root_keys_of p g f)
       (filter (stays_root taken) p.skip_tree) (λ t is. of_root_stays t)
       ∙ flat_map_kept (stays_root taken) (skipped_by_root_keys_of p g f) p.skip_tree
       (λ t written gone. none_by_root t written (not_rooted t written gone))
 
-  unmatched_root_part : unmatched_skip_root_keys (without p taken) g ≡ filter
+  unmatched_root_part : unmatched_skip_root_keys (without_skips p taken) g ≡ filter
       (λ key. not (is_taken taken SkipRoot key.entry)) (unmatched_skip_root_keys p g)
   unfolding unmatched_skip_root_keys key_of
   unmatched_root_part = told_kept (stays_root taken) (λ t. not (has_root g t))
@@ -279,16 +282,16 @@ module _ (p : Policy) (g : Graph) (f : chains.Facts) (taken : List EntryId) (are
   no_root_hit t none = ap (option_map (λ (c : Crate). hit_of SkipRoot t.spec.range (Krate (kid_of c))))
       (find_none_on (matches t.spec) g.crates none)
 
-  hits_stay : all_hits (without p taken) g f ≡ all_hits p g f
+  hits_stay : all_hits (without_skips p taken) g f ≡ all_hits p g f
   hits_stay =
       let skips = filter_map_kept (stays_skip taken) (skip_hit g f) p.skip
       (λ s written gone. no_skip_hit s (not_hit s written gone)) in
       let roots = filter_map_kept (stays_root taken) (root_hit g) p.skip_tree
       (λ t written gone. no_root_hit t (not_rooted t written gone)) in
       ap (λ (hits : List Hit). hits ++ (filter_map (root_hit g) (filter (stays_root taken) p.skip_tree) ++ flat_map
-      (wrapper_hits_of (without p taken) g) p.deny)) skips
+      (wrapper_hits_of (without_skips p taken) g) p.deny)) skips
       ∙ (ap (λ (hits : List Hit). filter_map (skip_hit g f) p.skip ++
-      (hits ++ flat_map (wrapper_hits_of (without p taken) g) p.deny)) roots
+      (hits ++ flat_map (wrapper_hits_of (without_skips p taken) g) p.deny)) roots
       ∙ ap (λ (hits : List Hit). filter_map (skip_hit g f) p.skip ++ (filter_map (root_hit g) p.skip_tree ++ hits))
       (wrapper_hits_stay p g taken))
 
@@ -298,90 +301,92 @@ module _ (c : Circumstances) (facts : Facts) (taken : List EntryId)
     (are : chains.AreFacts c.policy c.graph facts.chains)
     (unhit : AreUnhit c.policy c.graph facts.chains taken) (key : Key) where
   there_as : (d : Code) → names_as taken (Bans d) key ≡ false → StandsAs d c facts key
-      → StandsAs d (without_in c taken) facts key
-  there_as code.Banned unnamed is = moved (banned_keys c.policy c.graph) (banned_keys (without c.policy taken) c.graph)
-      key (sym (bans_stay c.policy c.graph taken)) is
+      → StandsAs d (without_skips_in c taken) facts key
+  there_as code.Banned unnamed is = moved (banned_keys c.policy c.graph)
+      (banned_keys (without_skips c.policy taken) c.graph) key (sym (bans_stay c.policy c.graph taken)) is
   there_as code.AllowedByWrapper unnamed is = moved (allowed_by_wrapper_keys c.policy c.graph)
-      (allowed_by_wrapper_keys (without c.policy taken) c.graph) key (sym (allowed_stay c.policy c.graph taken)) is
+      (allowed_by_wrapper_keys (without_skips c.policy taken) c.graph) key
+      (sym (allowed_stay c.policy c.graph taken)) is
   there_as code.UnmatchedWrapper unnamed is = moved (unmatched_wrapper_keys c.policy c.graph)
-      (unmatched_wrapper_keys (without c.policy taken) c.graph) key (sym (unmatched_stay c.policy c.graph taken)) is
+      (unmatched_wrapper_keys (without_skips c.policy taken) c.graph) key
+      (sym (unmatched_stay c.policy c.graph taken)) is
   there_as code.UnusedWrapper unnamed is = moved (unused_wrapper_keys c.policy c.graph)
-      (unused_wrapper_keys (without c.policy taken) c.graph) key (sym (unused_stay c.policy c.graph taken)) is
+      (unused_wrapper_keys (without_skips c.policy taken) c.graph) key (sym (unused_stay c.policy c.graph taken)) is
   there_as code.NotAllowed unnamed is = moved (not_allowed_keys c.policy c.graph)
-      (not_allowed_keys (without c.policy taken) c.graph) key (sym (not_allowed_stay c.policy c.graph taken)) is
+      (not_allowed_keys (without_skips c.policy taken) c.graph) key (sym (not_allowed_stay c.policy c.graph taken)) is
   there_as code.Allowed unnamed is = is
   there_as code.Skipped unnamed is = moved (skipped_keys c.policy c.graph facts.chains)
-      (skipped_keys (without c.policy taken) c.graph facts.chains) key
+      (skipped_keys (without_skips c.policy taken) c.graph facts.chains) key
       (sym (skipped_stay c.policy c.graph facts.chains taken are unhit)) is
   there_as code.SkippedByRoot unnamed is = moved (skipped_by_root_keys c.policy c.graph facts.chains)
-      (skipped_by_root_keys (without c.policy taken) c.graph facts.chains) key
+      (skipped_by_root_keys (without_skips c.policy taken) c.graph facts.chains) key
       (sym (by_root_stay c.policy c.graph facts.chains taken are unhit)) is
   there_as code.UnnecessarySkip unnamed is = moved (unnecessary_skip_keys c.policy c.graph facts.chains)
-      (unnecessary_skip_keys (without c.policy taken) c.graph facts.chains) key
+      (unnecessary_skip_keys (without_skips c.policy taken) c.graph facts.chains) key
       (sym (unnecessary_stay c.policy c.graph facts.chains taken are unhit)) is
   there_as code.UnmatchedSkip unnamed is = kept_part (λ k. is_taken taken Skip k.entry)
-      (unmatched_skip_keys (without c.policy taken) c.graph facts.chains)
+      (unmatched_skip_keys (without_skips c.policy taken) c.graph facts.chains)
       (unmatched_skip_keys c.policy c.graph facts.chains) key
       (unmatched_part c.policy c.graph facts.chains taken are unhit) is unnamed
   there_as code.UnmatchedSkipRoot unnamed is = kept_part (λ k. is_taken taken SkipRoot k.entry)
-      (unmatched_skip_root_keys (without c.policy taken) c.graph) (unmatched_skip_root_keys c.policy c.graph) key
+      (unmatched_skip_root_keys (without_skips c.policy taken) c.graph) (unmatched_skip_root_keys c.policy c.graph) key
       (unmatched_root_part c.policy c.graph facts.chains taken are unhit) is unnamed
   there_as code.Duplicate unnamed is = duplicates_there c.policy c.graph facts.chains taken are unhit key is
   there_as _ unnamed is = absurd is
 
-  back_as : (d : Code) → StandsAs d (without_in c taken) facts key → StandsAs d c facts key
+  back_as : (d : Code) → StandsAs d (without_skips_in c taken) facts key → StandsAs d c facts key
       × (names_as taken (Bans d) key ≡ false)
   back_as code.Banned is = (
-    moved (banned_keys (without c.policy taken) c.graph) (banned_keys c.policy c.graph) key
+    moved (banned_keys (without_skips c.policy taken) c.graph) (banned_keys c.policy c.graph) key
         (bans_stay c.policy c.graph taken) is,
     refl,
   )
   back_as code.AllowedByWrapper is = (
-    moved (allowed_by_wrapper_keys (without c.policy taken) c.graph)
+    moved (allowed_by_wrapper_keys (without_skips c.policy taken) c.graph)
         (allowed_by_wrapper_keys c.policy c.graph) key (allowed_stay c.policy c.graph taken) is,
     refl,
   )
   back_as code.UnmatchedWrapper is = (
-    moved (unmatched_wrapper_keys (without c.policy taken) c.graph)
+    moved (unmatched_wrapper_keys (without_skips c.policy taken) c.graph)
         (unmatched_wrapper_keys c.policy c.graph) key (unmatched_stay c.policy c.graph taken) is,
     refl,
   )
   back_as code.NotAllowed is = (
-    moved (not_allowed_keys (without c.policy taken) c.graph)
+    moved (not_allowed_keys (without_skips c.policy taken) c.graph)
         (not_allowed_keys c.policy c.graph) key (not_allowed_stay c.policy c.graph taken) is,
     refl,
   )
   back_as code.Skipped is = (
-    moved (skipped_keys (without c.policy taken) c.graph facts.chains)
+    moved (skipped_keys (without_skips c.policy taken) c.graph facts.chains)
         (skipped_keys c.policy c.graph facts.chains) key (skipped_stay c.policy c.graph facts.chains taken are unhit)
         is,
     refl,
   )
   back_as code.SkippedByRoot is = (
-    moved (skipped_by_root_keys (without c.policy taken) c.graph facts.chains)
+    moved (skipped_by_root_keys (without_skips c.policy taken) c.graph facts.chains)
         (skipped_by_root_keys c.policy c.graph facts.chains) key
         (by_root_stay c.policy c.graph facts.chains taken are unhit) is,
     refl,
   )
   back_as code.UnnecessarySkip is = (
-    moved (unnecessary_skip_keys (without c.policy taken) c.graph facts.chains)
+    moved (unnecessary_skip_keys (without_skips c.policy taken) c.graph facts.chains)
         (unnecessary_skip_keys c.policy c.graph facts.chains) key
         (unnecessary_stay c.policy c.graph facts.chains taken are unhit) is,
     refl,
   )
   back_as code.UnusedWrapper is = (
-    moved (unused_wrapper_keys (without c.policy taken) c.graph) (unused_wrapper_keys c.policy c.graph) key
+    moved (unused_wrapper_keys (without_skips c.policy taken) c.graph) (unused_wrapper_keys c.policy c.graph) key
         (unused_stay c.policy c.graph taken) is,
     unhit.no_wrapper key.entry,
   )
   back_as code.Allowed is = (is, refl)
   back_as code.Duplicate is = (duplicates_back c.policy c.graph facts.chains taken are unhit key is, refl)
   back_as code.UnmatchedSkip is = from_part (λ k. is_taken taken Skip k.entry)
-      (unmatched_skip_keys (without c.policy taken) c.graph facts.chains)
+      (unmatched_skip_keys (without_skips c.policy taken) c.graph facts.chains)
       (unmatched_skip_keys c.policy c.graph facts.chains) key
       (unmatched_part c.policy c.graph facts.chains taken are unhit) is
   back_as code.UnmatchedSkipRoot is = from_part (λ k. is_taken taken SkipRoot k.entry)
-      (unmatched_skip_root_keys (without c.policy taken) c.graph)
+      (unmatched_skip_root_keys (without_skips c.policy taken) c.graph)
       (unmatched_skip_root_keys c.policy c.graph) key (unmatched_root_part c.policy c.graph facts.chains taken are
       unhit) is
   back_as _ is = absurd is
@@ -391,27 +396,27 @@ module _ (c : Circumstances) (facts : Facts) (taken : List EntryId)
   licensed _ p q is = is
 
   there_by : (d : DiagnosticCode) → names_as taken d key ≡ false → StandsBy d c facts key
-      → StandsBy d (without_in c taken) facts key
+      → StandsBy d (without_skips_in c taken) facts key
   there_by Deprecated unnamed is = absurd is
   there_by (Bans d) unnamed is = there_as d unnamed is
   there_by (License d) unnamed is = absurd (licensed d c.policy c.policy is)
 
-  back_by : (d : DiagnosticCode) → StandsBy d (without_in c taken) facts key → StandsBy d c facts key
+  back_by : (d : DiagnosticCode) → StandsBy d (without_skips_in c taken) facts key → StandsBy d c facts key
       × (names_as taken d key ≡ false)
   back_by Deprecated is = absurd is
   back_by (Bans d) is = back_as d is
-  back_by (License d) is = absurd (licensed d (without c.policy taken) c.policy is)
+  back_by (License d) is = absurd (licensed d (without_skips c.policy taken) c.policy is)
 
-  there_key : names taken key ≡ false → Stands c facts key → Stands (without_in c taken) facts key
+  there_key : names taken key ≡ false → Stands c facts key → Stands (without_skips_in c taken) facts key
   there_key unnamed is = there_by key.code unnamed is
 
-  back_key : Stands (without_in c taken) facts key → Stands c facts key × (names taken key ≡ false)
+  back_key : Stands (without_skips_in c taken) facts key → Stands c facts key × (names taken key ≡ false)
   back_key is = back_by key.code is
 
 -- ---- all together
 
 facts_hold : (c : Circumstances) (facts : Facts) (taken : List EntryId) → AreFacts c facts
-    → AreFacts (without_in c taken) facts
+    → AreFacts (without_skips_in c taken) facts
 facts_hold c facts taken are = record {
   chains = record {
     counts = are.chains.counts;
@@ -422,7 +427,8 @@ facts_hold c facts taken are = record {
 
 listed_without : (c : Circumstances) (facts : Facts) (taken : List EntryId) (keys : List Key) → AreFacts c facts
     → AreUnhit c.policy c.graph facts.chains taken
-    → Lists key_cmp (Stands c facts) keys → Lists key_cmp (Stands (without_in c taken) facts) (unnaming taken keys)
+    → Lists key_cmp (Stands c facts) keys
+    → Lists key_cmp (Stands (without_skips_in c taken) facts) (unnaming taken keys)
 listed_without c facts taken keys are unhit listed = record {
   ascending = IsStrictlySortedBy-filter key_cmp (λ key. not (names taken key)) keys listed.ascending;
   whole = λ key is. let old = back_key c facts taken are.chains unhit key is in
@@ -431,10 +437,10 @@ listed_without c facts taken keys are unhit listed = record {
       there_key c facts taken are.chains unhit key (not-true (names taken key) kept.1) (listed.sound key kept.0);
 }
 
-pub gone : (c : Circumstances) (facts : Facts) (taken : List EntryId) (keys : List Key) → AreFacts c facts
+pub skips_gone : (c : Circumstances) (facts : Facts) (taken : List EntryId) (keys : List Key) → AreFacts c facts
     → AreUnhit c.policy c.graph facts.chains taken
-    → Lists key_cmp (Stands c facts) keys → AreGone c facts taken keys
-gone c facts taken keys are unhit listed = record {
+    → Lists key_cmp (Stands c facts) keys → AreGone c (without_skips_in c taken) facts taken keys
+skips_gone c facts taken keys are unhit listed = record {
   facts_hold = facts_hold c facts taken are;
   listed = listed_without c facts taken keys are unhit listed;
   hits = hits_stay c.policy c.graph facts.chains taken are.chains unhit;

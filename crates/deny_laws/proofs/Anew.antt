@@ -1,0 +1,90 @@
+-- What is made of lists whose elements are made anew.
+use Rattle.std.proofs.Common.{◌≡◌, ◌∙◌, ◌++◌, ◌∷◌, ◌||◌, Bool, List, None, Option, Some, [], ap, inl, inr, map}
+use Rattle.std.proofs.Common.{refl, sym}
+use Rattle.std.specs.Prelude.{Contains, filter, filter_map, option_and_then, option_map}
+use Rattle.std.specs.List.{flat_map, list_any}
+use Rattle.std.proofs.lemmas.Bool.{cases_Bool}
+use Rattle.std.proofs.lemmas.List.{map-append}
+use Rattle.deny_lists.proofs.Agreement.{AgreeOn}
+use Rattle.deny_lists.proofs.Members.{Contains-first, Contains-from_map, Contains-rest, contains_map}
+use Rattle.deny_base.specs.declared.key.Key.{Key}
+use Rattle.deny_laws.specs.Renaming.{Renaming}
+use Rattle.deny_laws.proofs.KeyParts.{moved}
+
+-- a test on those that are made anew
+pub any_anew : {X : Type 0} (u t : X → Bool) (anew : X → X) (xs : List X)
+    → ((x : X) → Contains xs x → u (anew x) ≡ t x) → list_any u (map anew xs) ≡ list_any t xs
+any_anew u t anew [] same = refl
+any_anew u t anew (x ∷ xs) same = ap (λ b. b || list_any u (map anew xs)) (same x (Contains-first x xs))
+    ∙ ap (λ b. t x || b) (any_anew u t anew xs (λ y is. same y (Contains-rest x xs y is)))
+
+-- what is told of those that pass, with what is told made anew
+pub told_alike : {X K : Type 0} (u t : X → Bool) (l k : X → K) (h : K → K) (xs : List X) → AgreeOn xs u t
+    → ((x : X) → l x ≡ h (k x)) → map l (filter u xs) ≡ map h (map k (filter t xs))
+told_alike u t l k h [] same told = refl
+told_alike u t l k h (x ∷ xs) same told =
+    let rest = told_alike u t l k h xs (λ y is. same y (Contains-rest x xs y is)) told in
+    elim (cases_Bool (t x)) as (λ _. map l (filter u (x ∷ xs)) ≡ map h (map k (filter t (x ∷ xs)))) [
+      | inl e ↦ rw (same x (Contains-first x xs), e, told x, rest) refl
+      | inr e ↦ rw (same x (Contains-first x xs), e, rest) refl
+    ]
+
+-- the same of those that are made anew
+pub told_anew : {X K : Type 0} (u t : X → Bool) (anew : X → X) (l k : X → K) (h : K → K) (xs : List X)
+    → ((x : X) → Contains xs x → u (anew x) ≡ t x) → ((x : X) → l (anew x) ≡ h (k x))
+    → map l (filter u (map anew xs)) ≡ map h (map k (filter t xs))
+told_anew u t anew l k h [] same told = refl
+told_anew u t anew l k h (x ∷ xs) same told =
+    let rest = told_anew u t anew l k h xs (λ y is. same y (Contains-rest x xs y is)) told in
+    elim (cases_Bool (t x)) as (λ _. map l (filter u (map anew (x ∷ xs))) ≡ map h (map k (filter t (x ∷ xs)))) [
+      | inl e ↦ rw (same x (Contains-first x xs), e, told x, rest) refl
+      | inr e ↦ rw (same x (Contains-first x xs), e, rest) refl
+    ]
+
+pub flat_map_alike : {X K : Type 0} (f' f : X → List K) (h : K → K) (xs : List X)
+    → ((x : X) → Contains xs x → f' x ≡ map h (f x)) → flat_map f' xs ≡ map h (flat_map f xs)
+flat_map_alike f' f h [] same = refl
+flat_map_alike f' f h (x ∷ xs) same = ap (λ ys. ys ++ flat_map f' xs) (same x (Contains-first x xs))
+    ∙ (ap (λ ys. map h (f x) ++ ys) (flat_map_alike f' f h xs (λ y is. same y (Contains-rest x xs y is)))
+    ∙ sym (map-append h (f x) (flat_map f xs)))
+
+pub flat_map_anew : {X K : Type 0} (f' f : X → List K) (anew : X → X) (h : K → K) (xs : List X)
+    → ((x : X) → Contains xs x → f' (anew x) ≡ map h (f x)) → flat_map f' (map anew xs) ≡ map h (flat_map f xs)
+flat_map_anew f' f anew h [] same = refl
+flat_map_anew f' f anew h (x ∷ xs) same = ap (λ ys. ys ++ flat_map f' (map anew xs)) (same x (Contains-first x xs))
+    ∙ (ap (λ ys. map h (f x) ++ ys) (flat_map_anew f' f anew h xs (λ y is. same y (Contains-rest x xs y is)))
+    ∙ sym (map-append h (f x) (flat_map f xs)))
+
+pub filter_map_anew : {X K : Type 0} (f' f : X → Option K) (anew : X → X) (h : K → K) (xs : List X)
+    → ((x : X) → Contains xs x → f' (anew x) ≡ option_map h (f x))
+    → filter_map f' (map anew xs) ≡ map h (filter_map f xs)
+filter_map_anew f' f anew h [] same = refl
+filter_map_anew {X} {K} f' f anew h (x ∷ xs) same =
+    by_first (filter_map_anew f' f anew h xs (λ y is. same y (Contains-rest x xs y is)))
+    (f x) (same x (Contains-first x xs)) refl
+  where
+    by_first : filter_map f' (map anew xs) ≡ map h (filter_map f xs) → (o : Option K) → f' (anew x) ≡ option_map h o
+        → f x ≡ o → filter_map f' (map anew (x ∷ xs)) ≡ map h (filter_map f (x ∷ xs))
+    by_first rest None made is = rw (made, is, rest) refl
+    by_first rest (Some k) made is = rw (made, is, rest) refl
+
+pub and_then_anew : {X K : Type 0} (f' f : X → Option K) (h : K → K) (o : Option X)
+    → ((x : X) → f' x ≡ option_map h (f x)) → option_and_then f' o ≡ option_map h (option_and_then f o)
+and_then_anew f' f h None same = refl
+and_then_anew f' f h (Some x) same = same x
+
+-- ---- keys of another range
+
+abbrev pub ranged : Renaming → Key → Key
+ranged r key = record key { entry = r.range key.entry }
+
+pub keys_there : (r : Renaming) (xs ys : List Key) (key : Key) → ys ≡ map (ranged r) xs → Contains xs key
+    → Contains ys (ranged r key)
+keys_there r xs ys key same is = moved (map (ranged r) xs) ys (ranged r key) (sym same)
+    (contains_map (ranged r) xs key is)
+
+pub keys_back : (r : Renaming) (xs ys : List Key) (key : Key) → ys ≡ map (ranged r) xs → Contains ys key
+    → (old : Key) × Contains xs old × (key ≡ ranged r old)
+keys_back r xs ys key same is =
+    let from = Contains-from_map (ranged r) xs key (moved ys (map (ranged r) xs) key same is) in
+    (from.from, from.member, sym from.is)

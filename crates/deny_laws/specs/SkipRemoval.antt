@@ -1,0 +1,40 @@
+-- Skips and skipped trees that are taken out of a policy, and no entry of another kind.
+use Rattle.std.specs.Prelude.{◌≡◌, true, false, List, Contains, filter}
+use Rattle.deny_lists.specs.Ascending.{Lists}
+use Rattle.deny_base.specs.KeyOrder.{key_cmp}
+use Rattle.deny_base.specs.declared.entry.EntryId.{EntryId}
+use Rattle.deny_base.specs.declared.entry.EntryKind.TheVariants.{Wrapper}
+use Rattle.deny_base.specs.declared.key.Key.{Key}
+use Rattle.deny_base.specs.declared.span.Span.{Span}
+use Rattle.deny_model.specs.Facts as chains
+use Rattle.deny_model.specs.Graph.{Graph}
+use Rattle.deny_model.specs.Policy.{Entry, Policy, Root}
+use Rattle.deny_model.specs.Skips.{has_root, is_hit_skip}
+use Rattle.deny_codes.specs.Circumstances.{Circumstances}
+use Rattle.deny_codes.specs.Facts.{Facts, AreFacts}
+use Rattle.deny_codes.specs.Standing.{Stands}
+use Rattle.deny_laws.specs.Removal.{AreGone, is_taken, stays_root, stays_skip}
+
+-- the policy without the skips and skipped trees among these
+abbrev pub without_skips : Policy → List EntryId → Policy
+without_skips p taken = record p {
+  skip = filter (stays_skip taken) p.skip;
+  skip_tree = filter (stays_root taken) p.skip_tree;
+}
+
+abbrev pub without_skips_in : Circumstances → List EntryId → Circumstances
+without_skips_in c taken = record c { policy = without_skips c.policy taken }
+
+-- what is hit stays, so that only skips and skipped trees go that nothing hits
+pub record AreUnhit (p : Policy) (g : Graph) (facts : chains.Facts) (taken : List EntryId) : Type 0 where
+  pub skips : (s : Entry) → Contains p.skip s → is_hit_skip g facts s ≡ true → stays_skip taken s ≡ true
+  pub roots : (t : Root) → Contains p.skip_tree t → has_root g t ≡ true → stays_root taken t ≡ true
+  -- and none of these is a wrapper
+  pub no_wrapper : (range : Span) → is_taken taken Wrapper range ≡ false
+
+-- ---- the law
+
+abbrev pub SkipsCanGo : Type 0
+SkipsCanGo = (c : Circumstances) → (facts : Facts) → (taken : List EntryId) → (keys : List Key)
+    → AreFacts c facts → AreUnhit c.policy c.graph facts.chains taken
+    → Lists key_cmp (Stands c facts) keys → AreGone c (without_skips_in c taken) facts taken keys
