@@ -1,9 +1,10 @@
 -- What follows from the causes of a run's outcomes.
-use Rattle.std.proofs.Common.{◌∙◌, ◌≡◌, ◌≢◌, ℕ, Bool, true, false, List, Option, ap, refl, sym, subst, rules, arith, if◌then◌else◌}
+use Rattle.std.proofs.Common.{◌∙◌, ◌≡◌, ◌≢◌, ℕ, Bool, true, false, List, Option, Some, ap, refl, sym, subst, rules, arith, if◌then◌else◌}
 use Rattle.std.specs.List.{list_any}
+use Rattle.std.specs.Prelude.{IfSome}
 use Rattle.deny_outside.specs.Count.{Rose}
 use Rattle.deny_outside.specs.Read.{IsWhole}
-use Rattle.deny_outside.specs.Disk.{Disk, bytes_at}
+use Rattle.deny_outside.specs.Disk.{Disk, Files, bytes_at}
 use Rattle.deny_base.specs.declared.check.Which.{Which}
 use Rattle.deny_base.specs.declared.check.Which.TheVariants.{Policy, Metadata, Replacements}
 use Rattle.deny_gate.specs.Gating.{AreOneCause, HasGraph, HasPolicy, IsReportOf, IsCause}
@@ -13,11 +14,12 @@ use Rattle.deny_gate.specs.Headline.{IsHeadlineOf}
 use Rattle.deny_gate.specs.Report.{has_error}
 use Rattle.deny_gate.specs.declared.report.Report.{Report}
 use Rattle.deny_gate.specs.declared.report.Verdict.TheVariants.{Pass, Fail}
-use Rattle.deny_cli.specs.Causes.{IsShort, IsFirstLong, AreTextsAt, AreTold, IsReportOn, IsStopOn, IsRefusedRun, IsValidRun, IsHeadlineOn, IsReadable, IsTextOfClashes, ComesBy, StopsAt, path_of}
-use Rattle.deny_cli.specs.Outcome.{AreOneStop, IfDone, IfReported, IsDoneOrMemory, IsStopOrMemory, bits_of, status_of}
+use Rattle.deny_cli.specs.Causes.{Texts, texts_at, texts_of, IsShort, IsFirstLong, AreTextsOf, AreTold, IsReportOn, IsStopOn, IsLongOn, IsReadFault, IsRefusedRun, IsValidRun, IsHeadlineOn, IsReadable, IsTextOfClashes, ComesBy, StopsAt}
+use Rattle.deny_cli.specs.Outcome.{AreOneStop, IfDone, IfReported, IsUsage, IsDoneOrMemory, IsStopOrMemory, bits_of, status_of}
 use Rattle.deny_cli.specs.Outputs.{LeavesOut}
 use Rattle.deny_cli.specs.Stops.{IsTextOf}
-use Rattle.deny_cli.specs.Words.{IsCheck}
+use Rattle.deny_cli.specs.Words.{Command, Asks, IsAccepted, path_of}
+use Rattle.deny_cli.proofs.WordsLemmas.{one_command}
 use Rattle.deny_cli.specs.declared.outcome.Outcome.{Outcome}
 use Rattle.deny_cli.specs.declared.outcome.Outcome.TheVariants.{Done, Usage, Read, Long, Gate, Write, Memory}
 
@@ -26,25 +28,23 @@ abbrev pub IsNotWritten : Outcome → Type 0
 IsNotWritten (Write report) = ⊥
 IsNotWritten outcome = Unit {0}
 
--- ---- of two texts
+-- ---- of texts
 
 -- short texts are not long
-not_long : (policy metadata : List ℕ) (which : Which) → IsShort policy → IsShort metadata
-    → IsFirstLong policy metadata which → ⊥
-not_long policy metadata Policy short also is = omega arith
-not_long policy metadata Metadata short also is = omega (arith, is.1)
-not_long policy metadata Replacements short also is = is
+not_long : (texts : Texts) (which : Which) → IsShort texts.policy → IsShort texts.metadata → IsFirstLong texts which → ⊥
+not_long texts Policy short also is = omega (arith, is)
+not_long texts Metadata short also is = omega (arith, is.1)
+not_long texts Replacements short also is = is
 
 -- at most one text is the first that is long
-one_long : (policy metadata : List ℕ) (found which : Which) → IsFirstLong policy metadata found
-    → IsFirstLong policy metadata which → found ≡ which
-one_long policy metadata Policy Policy h k = refl
-one_long policy metadata Policy Metadata h k = absurd (omega (arith, k.0))
-one_long policy metadata Policy Replacements h k = absurd k
-one_long policy metadata Metadata Policy h k = absurd (omega (arith, h.0))
-one_long policy metadata Metadata Metadata h k = refl
-one_long policy metadata Metadata Replacements h k = absurd k
-one_long policy metadata Replacements which h k = absurd h
+one_long : (texts : Texts) (found which : Which) → IsFirstLong texts found → IsFirstLong texts which → found ≡ which
+one_long texts Policy Policy h k = refl
+one_long texts Policy Metadata h k = absurd (omega (arith, h, k.0))
+one_long texts Policy Replacements h k = absurd k
+one_long texts Metadata Policy h k = absurd (omega (arith, h.0, k))
+one_long texts Metadata Metadata h k = refl
+one_long texts Metadata Replacements h k = absurd k
+one_long texts Replacements which h k = absurd h
 
 -- what is known of the gate's answers
 pub record AnswerLaws : Type 0 where
@@ -55,45 +55,49 @@ pub record AnswerLaws : Type 0 where
 
 -- texts that have a report are a policy and metadata without fault
 has_policy : (policy metadata : List ℕ) (report : Report) → IsReportOf policy metadata report → HasPolicy policy
-has_policy policy metadata report of = record { said = of.said; is_said = of.is_said }
+has_policy policy metadata report of = record { said = of.by.said; is_said = of.by.is_said }
 
 has_graph : (policy metadata : List ℕ) (report : Report) → IsReportOf policy metadata report → HasGraph metadata
-has_graph policy metadata report of = record { read = of.is_graph.read; is_read = of.is_graph.is_read }
+has_graph policy metadata report of = record { read = of.by.is_graph.read; is_read = of.by.is_graph.is_read }
 
 -- ---- of a run
 
--- the texts of a run are those that stand at its paths
-record AreTheirs (old : Disk) (words : List (List ℕ)) (named : AreTold old words) (policy metadata : List ℕ) : Type 0 where
-  policy_is : policy ≡ bytes_at named.files (path_of words Policy)
-  metadata_is : metadata ≡ bytes_at named.files (path_of words Metadata)
+-- where the disk tells its files, a text that was read is the one that stands there
+read_there : (old : Disk) (files : Files) (path text : List ℕ) → old.files ≡ Some files → IsWhole old path text
+    → text ≡ bytes_at files path
+read_there old files path text told whole =
+    subst (λ (f : Option Files). IfSome f (λ files. text ≡ bytes_at files path)) told whole
 
-are_theirs : (old : Disk) (words : List (List ℕ)) (named : AreTold old words)
-    (policy_path metadata_path policy metadata : List ℕ) → IsCheck words policy_path metadata_path
-    → AreTextsAt old policy_path metadata_path policy metadata → AreTheirs old words named policy metadata
-are_theirs old words named policy_path metadata_path policy metadata accepted texts = record {
-  policy_is = grind (arith, named.told, accepted.are, texts.policy_read);
-  metadata_is = grind (arith, named.told, accepted.are, texts.metadata_read);
-}
+-- so the texts of a run are those
+same_texts : (old : Disk) (words : List (List ℕ)) (named : AreTold old words) (command : Command) (texts : Texts)
+    → Asks words command → AreTextsOf old command texts → texts ≡ texts_of named
+same_texts old words named command texts asks read =
+    let one = one_command words command named.command asks named.asks in
+    let policy : texts.policy ≡ (texts_of named).policy =
+    read_there old named.files (path_of command Policy) texts.policy named.told read.policy_read
+    ∙ ap (λ (c : Command). bytes_at named.files (path_of c Policy)) one in
+    let metadata : texts.metadata ≡ (texts_of named).metadata =
+    read_there old named.files (path_of command Metadata) texts.metadata named.told read.metadata_read
+    ∙ ap (λ (c : Command). bytes_at named.files (path_of c Metadata)) one in
+    λ i. record { policy = policy i; metadata = metadata i }
 
 module _ (laws : AnswerLaws) (old new : Disk) (words : List (List ℕ)) where
+  -- texts that have a report stop no run
   not_both : (stop : Outcome) (report : Report) → IsRefusedRun old words stop → IsReportOn old words report → ⊥
   not_both (Long which) report is on =
-      let read = on.read in
-      let theirs = are_theirs old words is.named on.policy_path on.metadata_path read.policy read.metadata on.accepted
-      read.texts in
-      not_long (bytes_at is.named.files (path_of words Policy)) (bytes_at is.named.files (path_of words Metadata)) which
-      (subst (λ text. IsShort text) theirs.policy_is read.texts.policy_short)
-      (subst (λ text. IsShort text) theirs.metadata_is read.texts.metadata_short) is.refused
+      let at = on.is_theirs in
+      let texts : Texts = record { policy = at.policy; metadata = at.metadata } in
+      let same = same_texts old words is.named on.command texts on.asks at.read in
+      not_long texts which at.read.policy_short at.read.metadata_short
+      (subst (λ (t : Texts). IsFirstLong t which) (sym same) is.refused)
   not_both (Gate error) report is on =
-      let read = on.read in
-      let theirs = are_theirs old words is.named on.policy_path on.metadata_path read.policy read.metadata on.accepted
-      read.texts in
-      laws.valid read.policy read.metadata error is.refused.0
-      (has_policy read.policy read.metadata report read.is_theirs)
-      (has_graph read.policy read.metadata report read.is_theirs)
-      (subst (λ text. IsCause text read.metadata error) (sym theirs.policy_is)
-      (subst (λ text. IsCause (bytes_at is.named.files (path_of words Policy)) text error) (sym theirs.metadata_is)
-      is.refused.3))
+      let at = on.is_theirs in
+      let texts : Texts = record { policy = at.policy; metadata = at.metadata } in
+      let same = same_texts old words is.named on.command texts on.asks at.read in
+      laws.valid at.policy at.metadata error is.refused.0
+      (has_policy at.policy at.metadata report at.is_theirs)
+      (has_graph at.policy at.metadata report at.is_theirs)
+      (subst (λ (t : Texts). IsCause t.policy t.metadata error) (sym same) is.refused.3)
   not_both (Done other) report is on = is.refused
   not_both (Usage at) report is on = is.refused
   not_both (Read which) report is on = is.refused
@@ -104,38 +108,48 @@ module _ (laws : AnswerLaws) (old new : Disk) (words : List (List ℕ)) where
   same_gate : (stop : Outcome) (error : GateError) → IsRefusedRun old words stop → IsStopOn old words error
       → error ≢ gate.Memory → AreOneStop stop (Gate error)
   same_gate (Long which) error is on other =
-      let read = on.read in
-      let theirs = are_theirs old words is.named on.policy_path on.metadata_path on.policy read.metadata on.accepted
-      read.texts in
-      absurd (not_long (bytes_at is.named.files (path_of words Policy))
-      (bytes_at is.named.files (path_of words Metadata)) which
-      (subst (λ text. IsShort text) theirs.policy_is read.texts.policy_short)
-      (subst (λ text. IsShort text) theirs.metadata_is read.texts.metadata_short) is.refused)
+      let at = on.is_theirs in
+      let texts : Texts = record { policy = on.policy; metadata = at.metadata } in
+      let same = same_texts old words is.named on.command texts on.asks at.read in
+      absurd (not_long texts which at.read.policy_short at.read.metadata_short
+      (subst (λ (t : Texts). IsFirstLong t which) (sym same) is.refused))
   same_gate (Gate wanted) error is on other =
-      let read = on.read in
-      let theirs = are_theirs old words is.named on.policy_path on.metadata_path on.policy read.metadata on.accepted
-      read.texts in
-      laws.cause on.policy read.metadata wanted error is.refused.0 other
-      (subst (λ text. IsCause text read.metadata wanted) (sym theirs.policy_is)
-      (subst (λ text. IsCause (bytes_at is.named.files (path_of words Policy)) text wanted) (sym theirs.metadata_is)
-      is.refused.3)) read.is_theirs
+      let at = on.is_theirs in
+      let texts : Texts = record { policy = on.policy; metadata = at.metadata } in
+      let same = same_texts old words is.named on.command texts on.asks at.read in
+      laws.cause on.policy at.metadata wanted error is.refused.0 other
+      (subst (λ (t : Texts). IsCause t.policy t.metadata wanted) (sym same) is.refused.3) at.is_theirs
   same_gate (Done other) error is on differs = absurd is.refused
   same_gate (Usage at) error is on differs = absurd is.refused
   same_gate (Read which) error is on differs = absurd is.refused
   same_gate (Write other) error is on differs = absurd is.refused
   same_gate Memory error is on differs = absurd is.refused
 
+  -- where the disk tells its files, a long text is the first of those that stand there
+  long_there : (named : AreTold old words) (which : Which) → IsLongOn old new words which
+      → IsFirstLong (texts_of named) which
+  long_there named which on =
+      subst (λ (c : Command). IsFirstLong (texts_at named.files c) which)
+      (one_command words on.command named.command on.asks named.asks)
+      (subst (λ (f : Option Files). IfSome f (λ files. IsFirstLong (texts_at files on.command) which)) named.told
+      on.is_theirs.first)
+
   -- a long text is that of the run
   same_long : (stop : Outcome) (found : Which) → (is : IsRefusedRun old words stop)
-      → IsFirstLong (bytes_at is.named.files (path_of words Policy)) (bytes_at is.named.files (path_of words Metadata))
-      found → AreOneStop stop (Long found)
-  same_long (Long which) found is first = ap Long (one_long _ _ found which first is.refused)
-  same_long (Gate wanted) found is first = absurd (not_long _ _ found is.refused.1 is.refused.2 first)
+      → IsFirstLong (texts_of is.named) found → AreOneStop stop (Long found)
+  same_long (Long which) found is first = ap Long (one_long (texts_of is.named) found which first is.refused)
+  same_long (Gate wanted) found is first =
+      absurd (not_long (texts_of is.named) found is.refused.1 is.refused.2 first)
   same_long (Done other) found is first = absurd is.refused
   same_long (Usage at) found is first = absurd is.refused
   same_long (Read which) found is first = absurd is.refused
   same_long (Write other) found is first = absurd is.refused
   same_long Memory found is first = absurd is.refused
+
+  -- a reading that was asked for and failed
+  not_readable : (which : Which) → IsReadable old new words → IsReadFault old new words which → ⊥
+  not_readable which readable on = readable on.command on.asks which on.is_theirs.asked_for
+      on.is_theirs.failed.faults_at
 
   stop_or_memory : (stop : Outcome) (error : GateError) → (error ≢ gate.Memory → AreOneStop stop (Gate error))
       → IsStopOrMemory stop (Gate error)
@@ -148,26 +162,22 @@ module _ (laws : AnswerLaws) (old new : Disk) (words : List (List ℕ)) where
   pub is_refused : (stop outcome : Outcome) → IsRefusedRun old words stop → IsReadable old new words
       → ComesBy old new words outcome → IsStopOrMemory stop outcome
   is_refused stop (Done report) is readable comes = absurd (not_both stop report is comes)
-  is_refused stop (Usage at) is readable comes = absurd (comes.refused is.named.accepted)
-  is_refused stop (Read Policy) is readable comes = absurd (readable.policy comes.1.faults_at)
-  is_refused stop (Read Metadata) is readable comes = absurd (readable.metadata comes.1.faults_at)
-  is_refused stop (Read Replacements) is readable comes = absurd comes
-  is_refused stop (Long Policy) is readable comes = same_long stop Policy is (rw is.named.told at comes.1.1)
-  is_refused stop (Long Metadata) is readable comes = same_long stop Metadata is (rw is.named.told at comes.1.1)
-  is_refused stop (Long Replacements) is readable comes = absurd comes.1
+  is_refused stop (Usage at) is readable comes = absurd (comes.refused (is.named.command, is.named.asks))
+  is_refused stop (Read which) is readable comes = absurd (not_readable which readable comes)
+  is_refused stop (Long which) is readable comes = same_long stop which is (long_there is.named which comes)
   is_refused stop (Gate error) is readable comes = stop_or_memory stop error (same_gate stop error is comes)
   is_refused stop (Write report) is readable comes = absurd (not_both stop report is comes)
-  is_refused stop Memory is readable comes = search rules
+  is_refused stop Memory is readable comes = tt
 
   -- valid texts are refused by nothing but want of memory
   not_valid : (error : GateError) → IsValidRun old words → IsStopOn old words error → error ≢ gate.Memory → ⊥
   not_valid error is on other =
-      let read = on.read in
-      let theirs = are_theirs old words is.named on.policy_path on.metadata_path on.policy read.metadata on.accepted
-      read.texts in
-      laws.valid on.policy read.metadata error other
-      (subst (λ text. HasPolicy text) (sym theirs.policy_is) is.policy)
-      (subst (λ text. HasGraph text) (sym theirs.metadata_is) is.metadata) read.is_theirs
+      let at = on.is_theirs in
+      let texts : Texts = record { policy = on.policy; metadata = at.metadata } in
+      let same = same_texts old words is.named on.command texts on.asks at.read in
+      laws.valid on.policy at.metadata error other
+      (subst (λ (t : Texts). HasPolicy t.policy) (sym same) is.policy)
+      (subst (λ (t : Texts). HasGraph t.metadata) (sym same) is.metadata) at.is_theirs
 
   done_or_memory : (error : GateError) → (error ≢ gate.Memory → ⊥) → IsDoneOrMemory (Gate error)
   done_or_memory (gate.Config faults) no_other = absurd (no_other (λ e. absurd (cc e)))
@@ -179,17 +189,10 @@ module _ (laws : AnswerLaws) (old new : Disk) (words : List (List ℕ)) where
   pub completes : (outcome : Outcome) → IsValidRun old words → IsReadable old new words → IsNotWritten outcome
       → ComesBy old new words outcome → IsDoneOrMemory outcome
   completes (Done report) is readable written comes = tt
-  completes (Usage at) is readable written comes = absurd (comes.refused is.named.accepted)
-  completes (Read Policy) is readable written comes = absurd (readable.policy comes.1.faults_at)
-  completes (Read Metadata) is readable written comes = absurd (readable.metadata comes.1.faults_at)
-  completes (Read Replacements) is readable written comes = absurd comes
-  completes (Long Policy) is readable written comes = absurd
-      (not_long (bytes_at is.named.files (path_of words Policy)) (bytes_at is.named.files (path_of words Metadata))
-      Policy is.policy_short is.metadata_short (rw is.named.told at comes.1.1))
-  completes (Long Metadata) is readable written comes = absurd
-      (not_long (bytes_at is.named.files (path_of words Policy)) (bytes_at is.named.files (path_of words Metadata))
-      Metadata is.policy_short is.metadata_short (rw is.named.told at comes.1.1))
-  completes (Long Replacements) is readable written comes = absurd comes.1
+  completes (Usage at) is readable written comes = absurd (comes.refused (is.named.command, is.named.asks))
+  completes (Read which) is readable written comes = absurd (not_readable which readable comes)
+  completes (Long which) is readable written comes = absurd
+      (not_long (texts_of is.named) which is.policy_short is.metadata_short (long_there is.named which comes))
   completes (Gate error) is readable written comes = done_or_memory error (not_valid error is comes)
   completes (Write report) is readable written comes = absurd written
   completes Memory is readable written comes = tt
@@ -207,37 +210,32 @@ not_written written faults old new (Long which) left quiet = tt
 not_written written faults old new (Gate error) left quiet = tt
 not_written written faults old new Memory left quiet = tt
 
-policy_path_is : (words : List (List ℕ)) (policy metadata : List ℕ) → IsCheck words policy metadata
-    → path_of words Policy ≡ policy
-policy_path_is words policy metadata accepted = ap (λ (ws : List (List ℕ)). path_of ws Policy) accepted.are
-
 -- clashes are those of the text that was read
-pub text_of_clashes : (old new : Disk) (words : List (List ℕ)) (policy_path metadata_path text : List ℕ)
-    (outcome : Outcome)
-    → IsCheck words policy_path metadata_path → StopsAt old new policy_path metadata_path outcome text
-    → IsTextOfClashes old words outcome text
-text_of_clashes old new words policy_path metadata_path text (Gate (gate.Invalid told)) accepted stops = (
-  subst (λ (path : List ℕ). IsWhole old path text) (sym (policy_path_is words policy_path metadata_path accepted))
-      stops.texts.policy_read,
-  stops.texts.policy_short,
-  stops.is_theirs,
-  stops.labelled,
-)
-text_of_clashes old new words policy_path metadata_path text (Gate (gate.Config faults)) accepted stops = tt
-text_of_clashes old new words policy_path metadata_path text (Gate (gate.NotBuilt which)) accepted stops = tt
-text_of_clashes old new words policy_path metadata_path text (Gate (gate.Metadata f)) accepted stops = tt
-text_of_clashes old new words policy_path metadata_path text (Gate gate.Memory) accepted stops = tt
-text_of_clashes old new words policy_path metadata_path text (Done report) accepted stops = tt
-text_of_clashes old new words policy_path metadata_path text (Usage at) accepted stops = tt
-text_of_clashes old new words policy_path metadata_path text (Read which) accepted stops = tt
-text_of_clashes old new words policy_path metadata_path text (Long which) accepted stops = tt
-text_of_clashes old new words policy_path metadata_path text (Write report) accepted stops = tt
-text_of_clashes old new words policy_path metadata_path text Memory accepted stops = tt
+pub text_of_clashes : (old new : Disk) (words : List (List ℕ)) (command : Command) (text : List ℕ) (outcome : Outcome)
+    → Asks words command → StopsAt old new command outcome text → IsTextOfClashes old words outcome text
+text_of_clashes old new words command text (Gate (gate.Invalid told)) asks stops = record {
+  command = command;
+  asks = asks;
+  read = stops.read.policy_read;
+  short = stops.read.policy_short;
+  tells = stops.is_theirs;
+  labelled = stops.labelled;
+}
+text_of_clashes old new words command text (Gate (gate.Config faults)) asks stops = tt
+text_of_clashes old new words command text (Gate (gate.NotBuilt which)) asks stops = tt
+text_of_clashes old new words command text (Gate (gate.Metadata f)) asks stops = tt
+text_of_clashes old new words command text (Gate gate.Memory) asks stops = tt
+text_of_clashes old new words command text (Done report) asks stops = tt
+text_of_clashes old new words command text (Usage at) asks stops = tt
+text_of_clashes old new words command text (Read which) asks stops = tt
+text_of_clashes old new words command text (Long which) asks stops = tt
+text_of_clashes old new words command text (Write report) asks stops = tt
+text_of_clashes old new words command text Memory asks stops = tt
 
 pub is_text : (old : Disk) (words : List (List ℕ)) (policy text : List ℕ) (outcome : Outcome) → text ≡ policy
     → IsTextOfClashes old words outcome policy → IsTextOf outcome text
 is_text old words policy text (Gate (gate.Invalid told)) same is = subst
-    (λ (t : List ℕ). IsTextOf (Gate (gate.Invalid told)) t) (sym same) (is.2.says.utf8, is.1)
+    (λ (t : List ℕ). IsTextOf (Gate (gate.Invalid told)) t) (sym same) (is.tells.says.utf8, is.short)
 is_text old words policy text (Gate (gate.Config faults)) same is = tt
 is_text old words policy text (Gate (gate.NotBuilt which)) same is = tt
 is_text old words policy text (Gate (gate.Metadata f)) same is = tt
@@ -249,6 +247,17 @@ is_text old words policy text (Long which) same is = tt
 is_text old words policy text (Write report) same is = tt
 is_text old words policy text Memory same is = tt
 
+-- words that are not accepted end a run so
+pub refused_words : (old new : Disk) (words : List (List ℕ)) (outcome : Outcome) → ComesBy old new words outcome
+    → (¬ IsAccepted words) → IsUsage outcome
+refused_words old new words (Done report) comes refused = absurd (refused (comes.command, comes.asks))
+refused_words old new words (Usage at) comes refused = tt
+refused_words old new words (Read which) comes refused = absurd (refused (comes.command, comes.asks))
+refused_words old new words (Long which) comes refused = absurd (refused (comes.command, comes.asks))
+refused_words old new words (Gate error) comes refused = absurd (refused (comes.command, comes.asks))
+refused_words old new words (Write report) comes refused = absurd (refused (comes.command, comes.asks))
+refused_words old new words Memory comes refused = absurd (refused comes)
+
 -- ---- the headline
 
 of_report : ((policy metadata : List ℕ) → (report : Report) → IsReportOf policy metadata report
@@ -256,15 +265,14 @@ of_report : ((policy metadata : List ℕ) → (report : Report) → IsReportOf p
     → (old : Disk) (words : List (List ℕ)) (report : Report) → IsReportOn old words report
     → IsHeadlineOn old words report
 of_report law old words report on =
-    let read = on.read in
+    let at = on.is_theirs in
     record {
-      policy_path = on.policy_path;
-      metadata_path = on.metadata_path;
-      accepted = on.accepted;
-      policy = read.policy;
-      metadata = read.metadata;
-      texts = read.texts;
-      headline = law read.policy read.metadata report read.is_theirs;
+      command = on.command;
+      asks = on.asks;
+      policy = at.policy;
+      metadata = at.metadata;
+      read = at.read;
+      headline = law at.policy at.metadata report at.is_theirs;
     }
 
 pub headline_on : ((policy metadata : List ℕ) → (report : Report) → IsReportOf policy metadata report

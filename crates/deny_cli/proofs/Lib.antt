@@ -3,3 +3,4 @@ pub mod FloatLemmas
 pub mod QuoteLemmas
 pub mod Rows
 pub mod WordsLemmas
+pub mod WordsRows

@@ -1,48 +1,82 @@
--- Where lists of words break off.
-use Rattle.std.proofs.Common.{◌≡◌, ◌≢◌, ℕ, ◌+◌, ◌<◌, ◌≤◌, ◌++◌, false, IsTrue, List, [], ◌∷◌, length, take, drop, codes, refl, sym, subst, true≢false, arith}
-use Rattle.std.specs.Prelude.{◌==◌}
-use Rattle.std.proofs.Common.{ap, append_assoc, ◌∙◌, take-take}
-use Rattle.std.proofs.lemmas.List.{take-append-drop}
-use Rattle.deny_cli.specs.Words.{names_file, IsAccepted, GoesOn, IsUsageAt}
+-- Where lists of words break off, by the form that they fill.
+use Rattle.std.proofs.Common.{◌≡◌, ℕ, ◌+◌, ◌<◌, ◌≤◌, ◌++◌, ◌∙◌, IsTrue, List, [], ◌∷◌, Option, Some, None, length, take, drop, codes, ap, append_assoc, refl, sym, subst, take-take, arith}
+use Rattle.std.specs.Prelude.{String, option_and_then, slice_index_or, string_bytes}
+use Rattle.std.specs.declared.alloc.Global.{Global}
+use Rattle.std.proofs.Common.{add-one}
+use Rattle.std.proofs.Math.Seq.{take-suc}
+use Rattle.std.proofs.lemmas.List.{map-append, take-append-drop, take-map, take_all}
+use Rattle.std.proofs.lemmas.Option.{none-some}
+use Rattle.deny_cli.specs.Words.{AskedSoFar, Command, Form, nothing, checking, names_file, step, filled, command_of, asked_by, Asks, IsAccepted, GoesOn, IsUsageAt, texts}
 
--- ---- what an accepted list is, word by word
+-- ---- each form can be filled
 
 abbrev pub a_path : List ℕ
 a_path = 97 ∷ []
 
-pub a_path_is : IsTrue (names_file a_path)
-unfolding names_file
-a_path_is = refl
+-- with these words behind it, a form is that of a command
+pub record IsFillable (form : Form) : Type 0 where
+  pub rest : List (List ℕ)
+  pub command : Command
+  pub fills : option_and_then command_of (filled (Some form) rest) ≡ Some command
 
-pub goes_on_0 : GoesOn []
-goes_on_0 = (
-  codes "check" ∷ a_path ∷ a_path ∷ [],
-  (a_path, a_path, record { are = refl; policy_is_path = a_path_is; metadata_is_path = a_path_is }),
-)
+fillable_check : (policy metadata : Option (List ℕ))
+    → IsFillable (checking (record { policy = policy; metadata = metadata }))
+unfolding step names_file
+fillable_check None None = record { rest = a_path ∷ a_path ∷ []; command = _; fills = refl }
+fillable_check None (Some metadata) = record { rest = a_path ∷ []; command = _; fills = refl }
+fillable_check (Some policy) None = record { rest = a_path ∷ []; command = _; fills = refl }
+fillable_check (Some policy) (Some metadata) = record { rest = []; command = _; fills = refl }
 
-pub goes_on_1 : GoesOn (codes "check" ∷ [])
-goes_on_1 = (
-  a_path ∷ a_path ∷ [],
-  (a_path, a_path, record { are = refl; policy_is_path = a_path_is; metadata_is_path = a_path_is }),
-)
+pub fillable : (form : Form) → IsFillable form
+unfolding step names_file
+fillable nothing = record { rest = codes "check" ∷ a_path ∷ a_path ∷ []; command = _; fills = refl }
+fillable (checking asked) = fillable_check asked.policy asked.metadata
 
-pub goes_on_2 : (p : List ℕ) → IsTrue (names_file p) → GoesOn (codes "check" ∷ p ∷ [])
-goes_on_2 p h = (a_path ∷ [], (p, a_path, record { are = refl; policy_is_path = h; metadata_is_path = a_path_is }))
+-- ---- words one after another
 
-pub goes_on_3 : (p m : List ℕ) → IsTrue (names_file p) → IsTrue (names_file m) → GoesOn (codes "check" ∷ p ∷ m ∷ [])
-goes_on_3 p m h k = ([], (p, m, record { are = refl; policy_is_path = h; metadata_is_path = k }))
+pub filled_none : (words : List (List ℕ)) → filled None words ≡ None
+filled_none [] = refl
+filled_none (word ∷ words) = filled_none words
 
-pub not_check : (w : List ℕ) (ws : List (List ℕ)) → w ≢ codes "check" → ¬ GoesOn (w ∷ ws)
-not_check w ws differs g = grind (arith, differs, g.1.2.are)
+pub filled_append : (form : Option Form) (xs ys : List (List ℕ))
+    → filled form (xs ++ ys) ≡ filled (filled form xs) ys
+filled_append form [] ys = refl
+filled_append form (x ∷ xs) ys = filled_append (option_and_then (λ before. step before x) form) xs ys
 
-pub not_policy : (w p : List ℕ) (ws : List (List ℕ)) → names_file p ≡ false → ¬ GoesOn (w ∷ p ∷ ws)
-not_policy w p ws h g = grind (arith, h, g.1.2.are, g.1.2.policy_is_path)
+-- words that fill a form go on
+pub goes_on : (words : List (List ℕ)) (form : Form) → filled (Some nothing) words ≡ Some form → GoesOn words
+unfolding asked_by
+goes_on words form is =
+    let more = fillable form in (
+      more.rest,
+      (
+        more.command,
+        ap (option_and_then command_of) (filled_append (Some nothing) words more.rest
+            ∙ ap (λ (f : Option Form). filled f more.rest) is)
+            ∙ more.fills,
+      ),
+    )
 
-pub not_metadata : (w p m : List ℕ) (ws : List (List ℕ)) → names_file m ≡ false → ¬ GoesOn (w ∷ p ∷ m ∷ ws)
-not_metadata w p m ws h g = grind (arith, h, g.1.2.are, g.1.2.metadata_is_path)
+-- words that fill none do not
+pub breaks_off : (words : List (List ℕ)) → filled (Some nothing) words ≡ None → ¬ GoesOn words
+unfolding asked_by
+breaks_off words is on =
+    let none : filled (Some nothing) (words ++ on.0) ≡ None = filled_append (Some nothing) words on.0
+    ∙ (ap (λ (f : Option Form). filled f on.0) is ∙ filled_none on.0) in
+    none-some on.1.0 (sym (ap (option_and_then command_of) none) ∙ on.1.1)
 
-pub too_many : (w p m x : List ℕ) (ws : List (List ℕ)) → ¬ GoesOn (w ∷ p ∷ m ∷ x ∷ ws)
-too_many w p m x ws g = grind (arith, g.1.2.are)
+pub filled_more : (words : List (List ℕ)) (form : Form) (word : List ℕ) → filled (Some nothing) words ≡ Some form
+    → filled (Some nothing) (words ++ word ∷ []) ≡ step form word
+filled_more words form word is = filled_append (Some nothing) words (word ∷ [])
+    ∙ ap (λ (f : Option Form). filled f (word ∷ [])) is
+
+-- the words up to one, and that one
+pub texts_more : (words : List (String Global)) (at : ℕ) (word : String Global) → at < length words
+    → word ≡ slice_index_or words at word
+    → take (at + 1) (texts words) ≡ take at (texts words) ++ string_bytes word ∷ []
+texts_more words at word inside is =
+    rw (take-map string_bytes (at + 1) words, take-map string_bytes at words, add-one, take-suc words at word inside, ← is)
+    (map-append string_bytes (take at words) (word ∷ []))
 
 -- ---- from there to the place of a usage
 
@@ -51,60 +85,40 @@ goes_on_anywhere words n accepted =
     let P : List (List ℕ) → Type 0 = λ ws. IsAccepted ws in
     (drop n words, subst P (sym (take-append-drop n words)) accepted)
 
-pub usage_here : (words : List (List ℕ)) (at : ℕ) → at < length words → GoesOn (take at words)
-    → (¬ GoesOn (take (at + 1) words)) → IsUsageAt words at
-usage_here words at in_words before here = record {
-  refused = λ accepted. here (goes_on_anywhere words (at + 1) accepted);
-  within = omega (arith, in_words);
-  before = before;
-  here = λ _. here;
-}
+-- a word that may not stand where it does
+pub usage_here : (words : List (List ℕ)) (at : ℕ) (form : Form) (word : List ℕ) → at < length words
+    → filled (Some nothing) (take at words) ≡ Some form → take (at + 1) words ≡ take at words ++ word ∷ []
+    → step form word ≡ None → IsUsageAt words at
+usage_here words at form word inside is next stops =
+    let none : filled (Some nothing) (take (at + 1) words) ≡ None = ap (filled (Some nothing)) next
+    ∙ (filled_more (take at words) form word is ∙ stops) in
+    let ends = breaks_off (take (at + 1) words) none in
+    record {
+      refused = λ accepted. ends (goes_on_anywhere words (at + 1) accepted);
+      within = omega (arith, inside);
+      before = goes_on (take at words) form is;
+      here = λ _. ends;
+    }
 
-pub usage_0_none : IsUsageAt [] 0
-usage_0_none = record {
-  refused = λ a. grind (arith, a.2.are);
+-- words that end too early
+pub usage_at_end : (words : List (List ℕ)) (form : Form) → filled (Some nothing) words ≡ Some form
+    → command_of form ≡ None → IsUsageAt words (length words)
+unfolding asked_by
+usage_at_end words form is missing = record {
+  refused = λ accepted. none-some accepted.0
+      (sym (ap (option_and_then command_of) is ∙ missing) ∙ accepted.1);
   within = omega arith;
-  before = goes_on_0;
-  here = λ h. absurd
-      (omega (arith, h));
+  before = subst (λ (ws : List (List ℕ)). GoesOn ws) (sym (take_all (length words) words (omega arith)))
+      (goes_on words form is);
+  here = λ more. absurd (omega (arith, more));
 }
 
-pub usage_0 : (w : List ℕ) (ws : List (List ℕ)) → w ≢ codes "check" → IsUsageAt (w ∷ ws) 0
-usage_0 w ws differs = usage_here (w ∷ ws) 0 (omega arith) goes_on_0 (not_check w [] differs)
+pub asks_by : (words : List (List ℕ)) (form : Form) (command : Command) → filled (Some nothing) words ≡ Some form
+    → command_of form ≡ Some command → Asks words command
+unfolding asked_by
+asks_by words form command is full = ap (option_and_then command_of) is ∙ full
 
-pub usage_1_none : IsUsageAt (codes "check" ∷ []) 1
-usage_1_none = record {
-  refused = λ a. grind (arith, a.2.are);
-  within = omega arith;
-  before = goes_on_1;
-  here = λ h. absurd
-      (omega (arith, h));
-}
-
-pub usage_1 : (p : List ℕ) (ws : List (List ℕ)) → names_file p ≡ false → IsUsageAt (codes "check" ∷ p ∷ ws) 1
-usage_1 p ws h = usage_here (codes "check" ∷ p ∷ ws) 1 (omega arith) goes_on_1 (not_policy (codes "check") p [] h)
-
-pub usage_2_none : (p : List ℕ) → IsTrue (names_file p) → IsUsageAt (codes "check" ∷ p ∷ []) 2
-usage_2_none p h = record {
-  refused = λ a. grind (arith, a.2.are);
-  within = omega arith;
-  before = goes_on_2 p h;
-  here = λ k. absurd
-      (omega (arith, k));
-}
-
-pub usage_2 : (p m : List ℕ) (ws : List (List ℕ)) → IsTrue (names_file p) → names_file m ≡ false
-    → IsUsageAt (codes "check" ∷ p ∷ m ∷ ws) 2
-usage_2 p m ws h k = usage_here (codes "check" ∷ p ∷ m ∷ ws) 2 (omega arith) (goes_on_2 p h)
-    (not_metadata (codes "check") p m [] k)
-
-pub usage_3 : (p m : List ℕ) (ws : List (List ℕ)) → (length ws == 0) ≡ false → IsTrue (names_file p)
-    → IsTrue (names_file m) → IsUsageAt (codes "check" ∷ p ∷ m ∷ ws) 3
-usage_3 p m [] more h k = absurd (true≢false more)
-usage_3 p m (x ∷ ws) more h k = usage_here (codes "check" ∷ p ∷ m ∷ x ∷ ws) 3 (omega arith) (goes_on_3 p m h k)
-    (too_many (codes "check") p m x [])
-
--- ---- there is one such place
+-- ---- there is one such place, and one command
 
 -- fewer words go on wherever more do
 pub goes_on_before : (words : List (List ℕ)) (m n : ℕ) → m ≤ n → GoesOn (take n words) → GoesOn (take m words)
@@ -121,3 +135,6 @@ not_later words i j one other later =
 
 pub one_usage : (words : List (List ℕ)) (i j : ℕ) → IsUsageAt words i → IsUsageAt words j → i ≡ j
 one_usage words i j one other = grind (arith, not_later words i j one other, not_later words j i other one)
+
+pub one_command : (words : List (List ℕ)) (a b : Command) → Asks words a → Asks words b → a ≡ b
+one_command words a b this that = let both : Some a ≡ Some b = sym this ∙ that in cc both

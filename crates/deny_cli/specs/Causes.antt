@@ -1,10 +1,11 @@
 -- When each outcome of a run comes. `old` is the disk as the run begins, `new` as it ends.
-use Rattle.std.specs.Prelude.{◌≡◌, ◌≢◌, ℕ, ◌<◌, ◌≤◌, ◌^◌, List, [], length, Some, IfSome, slice_get, unwrap_or, ⊤}
+use Rattle.std.specs.Prelude.{◌≡◌, ◌≢◌, ℕ, ◌<◌, ◌≤◌, ◌^◌, List, length, Some, IfSome, ⊤}
 use Rattle.deny_outside.specs.Count.{Rose, RoseBy}
 use Rattle.deny_outside.specs.Disk.{Disk, Files, FailedAt, bytes_at}
 use Rattle.deny_outside.specs.Read.{IsWhole}
 use Rattle.deny_base.specs.declared.check.Which.{Which}
 use Rattle.deny_base.specs.declared.check.Which.TheVariants.{Policy, Metadata, Replacements}
+use Rattle.deny_base.specs.declared.finding.Diagnostic.{Diagnostic}
 use Rattle.deny_outside.specs.declared.disk.Call.TheVariants as call
 use Rattle.deny_outside.specs.declared.read.ReadEnd.{ReadEnd}
 use Rattle.deny_outside.specs.declared.read.ReadEnd.TheVariants as end
@@ -16,7 +17,7 @@ use Rattle.deny_gate.specs.Report.{policy_id}
 use Rattle.deny_gate.specs.declared.report.GateError.{GateError}
 use Rattle.deny_gate.specs.declared.report.GateError.TheVariants as gate
 use Rattle.deny_gate.specs.declared.report.Report.{Report}
-use Rattle.deny_cli.specs.Words.{IsAccepted, IsCheck, IsUsageAt}
+use Rattle.deny_cli.specs.Words.{Command, path_of, Asks, IsAccepted, IsUsageAt}
 use Rattle.deny_cli.specs.declared.outcome.Outcome.{Outcome}
 use Rattle.deny_cli.specs.declared.outcome.Outcome.TheVariants.{Done, Usage, Read, Long, Gate, Write, Memory}
 
@@ -29,105 +30,128 @@ IsLong text = 2 ^ 28 ≤ length text
 abbrev pub IsShort : List ℕ → Type 0
 IsShort text = length text < 2 ^ 28
 
--- this text is the first of the two that is long
-abbrev pub IsFirstLong : List ℕ → List ℕ → Which → Type 0
-IsFirstLong policy metadata Policy = IsLong policy
-IsFirstLong policy metadata Metadata = IsShort policy × IsLong metadata
-IsFirstLong policy metadata Replacements = ⊥
-
--- the texts at two paths, which were read to their ends; where the disk tells its files, those that
--- stand there
-pub record AreTextsAt (old : Disk) (policy_path metadata_path policy metadata : List ℕ) : Type 0 where
-  pub policy_read : IsWhole old policy_path policy
-  pub metadata_read : IsWhole old metadata_path metadata
-  pub policy_short : IsShort policy
-  pub metadata_short : IsShort metadata
-
--- the report is the one of the texts at two paths
-pub record IsReportAt (old : Disk) (policy_path metadata_path : List ℕ) (report : Report) : Type 0 where
+pub record Texts : Type 0 where
   pub policy : List ℕ
   pub metadata : List ℕ
-  pub texts : AreTextsAt old policy_path metadata_path policy metadata
+
+-- those that stand at the paths of a command
+abbrev pub texts_at : Files → Command → Texts
+texts_at files command = record {
+  policy = bytes_at files (path_of command Policy);
+  metadata = bytes_at files (path_of command Metadata);
+}
+
+-- this text is the first that is long
+abbrev pub IsFirstLong : Texts → Which → Type 0
+IsFirstLong texts Policy = IsLong texts.policy
+IsFirstLong texts Metadata = IsShort texts.policy × IsLong texts.metadata
+IsFirstLong texts Replacements = ⊥
+
+-- ---- the texts of a command
+
+-- a text is asked for once each text before it was read to its end, and is short: where the disk tells its
+-- files, those that stand there are
+abbrev pub IsAskedFor : Disk → Command → Which → Type 0
+IsAskedFor old command Policy = ⊤
+IsAskedFor old command Metadata = IfSome old.files (λ files. IsShort (texts_at files command).policy)
+IsAskedFor old command Replacements = ⊥
+
+-- all were read to their ends; where the disk tells its files, they are those that stand there
+pub record AreTextsOf (old : Disk) (command : Command) (texts : Texts) : Type 0 where
+  pub policy_read : IsWhole old (path_of command Policy) texts.policy
+  pub metadata_read : IsWhole old (path_of command Metadata) texts.metadata
+  pub policy_short : IsShort texts.policy
+  pub metadata_short : IsShort texts.metadata
+
+-- the report is the one of the texts of a command
+pub record IsReportAt (old : Disk) (command : Command) (report : Report) : Type 0 where
+  pub policy : List ℕ
+  pub metadata : List ℕ
+  pub read : AreTextsOf old command (record { policy = policy; metadata = metadata })
   pub is_theirs : IsReportOf policy metadata report
 
--- the gate gives no report on the texts at two paths, of which this is the policy, by its own cause;
--- the labels of clashes lie in the policy
-pub record IsStopAt (old : Disk) (policy_path metadata_path policy : List ℕ) (error : GateError) : Type 0 where
+-- the gate gives no report on the texts of a command, of which this is the policy, by its own cause; the
+-- labels of clashes lie in the policy
+pub record IsStopAt (old : Disk) (command : Command) (policy : List ℕ) (error : GateError) : Type 0 where
   pub metadata : List ℕ
-  pub texts : AreTextsAt old policy_path metadata_path policy metadata
+  pub read : AreTextsOf old command (record { policy = policy; metadata = metadata })
   pub is_theirs : IsCause policy metadata error
   pub labelled : IsLabelledCause policy error
 
--- the bytes of a long text were given, and where the disk tells its files, this is the first of
--- those at the two paths that is long
-abbrev pub IsLongAt : Disk → Disk → List ℕ → List ℕ → Which → Type 0
-IsLongAt old new policy metadata Replacements = ⊥
-IsLongAt old new policy metadata which =
-    RoseBy (2 ^ 28) old.given new.given
-    × IfSome old.files (λ files. IsFirstLong (bytes_at files policy) (bytes_at files metadata) which)
+-- the text was asked for, and reading it failed
+pub record IsFaultAt (old new : Disk) (command : Command) (which : Which) : Type 0 where
+  pub asked_for : IsAskedFor old command which
+  pub failed : FailedAt old new call.Read (path_of command which)
 
--- ---- the texts that words name
+-- the bytes of a long text were given, and where the disk tells its files, this is the first of the
+-- command's that is long
+pub record IsLongAt (old new : Disk) (command : Command) (which : Which) : Type 0 where
+  pub asked_for : IsAskedFor old command which
+  pub given : RoseBy (2 ^ 28) old.given new.given
+  pub first : IfSome old.files (λ files. IsFirstLong (texts_at files command) which)
+
+-- ---- the texts that words ask for
 
 pub record IsReportOn (old : Disk) (words : List (List ℕ)) (report : Report) : Type 0 where
-  pub policy_path : List ℕ
-  pub metadata_path : List ℕ
-  pub accepted : IsCheck words policy_path metadata_path
-  pub read : IsReportAt old policy_path metadata_path report
+  pub command : Command
+  pub asks : Asks words command
+  pub is_theirs : IsReportAt old command report
 
 pub record IsStopOn (old : Disk) (words : List (List ℕ)) (error : GateError) : Type 0 where
-  pub policy_path : List ℕ
-  pub metadata_path : List ℕ
-  pub accepted : IsCheck words policy_path metadata_path
+  pub command : Command
+  pub asks : Asks words command
   pub policy : List ℕ
-  pub read : IsStopAt old policy_path metadata_path policy error
+  pub is_theirs : IsStopAt old command policy error
 
--- the path of a text, in words that are accepted
-abbrev pub path_of : List (List ℕ) → Which → List ℕ
-path_of words Policy = unwrap_or (slice_get words 1) []
-path_of words Metadata = unwrap_or (slice_get words 2) []
-path_of words Replacements = []
+pub record IsReadFault (old new : Disk) (words : List (List ℕ)) (which : Which) : Type 0 where
+  pub command : Command
+  pub asks : Asks words command
+  pub is_theirs : IsFaultAt old new command which
 
--- this text was asked for, and reading it failed
-abbrev pub IsReadFault : Disk → Disk → List (List ℕ) → Which → Type 0
-IsReadFault old new words Policy = IsAccepted words × FailedAt old new call.Read (path_of words Policy)
-IsReadFault old new words Metadata = IsAccepted words × FailedAt old new call.Read (path_of words Metadata)
-IsReadFault old new words Replacements = ⊥
+pub record IsLongOn (old new : Disk) (words : List (List ℕ)) (which : Which) : Type 0 where
+  pub command : Command
+  pub asks : Asks words command
+  pub is_theirs : IsLongAt old new command which
 
-abbrev pub IsLongOn : Disk → Disk → List (List ℕ) → Which → Type 0
-IsLongOn old new words which = IsAccepted words × IsLongAt old new (path_of words Policy) (path_of words Metadata) which
-
--- the words are accepted, and name texts on a disk that tells its files
+-- the words ask for a command, and the disk tells its files, so that it names the command's texts
 pub record AreTold (old : Disk) (words : List (List ℕ)) : Type 0 where
-  pub accepted : IsAccepted words
+  pub command : Command
+  pub asks : Asks words command
   pub files : Files
   pub told : old.files ≡ Some files
+
+-- by a disk that tells its files
+abbrev pub texts_of : {old : Disk} {words : List (List ℕ)} → AreTold old words → Texts
+texts_of named = texts_at named.files named.command
 
 -- the texts that the words name are short, the policy is one whose rules are there, and the metadata has a graph
 pub record IsValidRun (old : Disk) (words : List (List ℕ)) : Type 0 where
   pub named : AreTold old words
-  pub policy_short : IsShort (bytes_at named.files (path_of words Policy))
-  pub metadata_short : IsShort (bytes_at named.files (path_of words Metadata))
-  pub policy : HasPolicy (bytes_at named.files (path_of words Policy))
-  pub metadata : HasGraph (bytes_at named.files (path_of words Metadata))
+  pub policy_short : IsShort (texts_of named).policy
+  pub metadata_short : IsShort (texts_of named).metadata
+  pub policy : HasPolicy (texts_of named).policy
+  pub metadata : HasGraph (texts_of named).metadata
 
--- two texts stop a run so: one is long, or both are short and the gate refuses them
-abbrev pub AreRefused : List ℕ → List ℕ → Outcome → Type 0
-AreRefused policy metadata (Long which) = IsFirstLong policy metadata which
-AreRefused policy metadata (Gate error) = (error ≢ gate.Memory) × IsShort policy × IsShort metadata
-    × IsCause policy metadata error
-AreRefused policy metadata _ = ⊥
+-- texts stop a run so: one is long, or all are short and the gate refuses them
+abbrev pub AreRefused : Texts → Outcome → Type 0
+AreRefused texts (Done report) = ⊥
+AreRefused texts (Usage at) = ⊥
+AreRefused texts (Read which) = ⊥
+AreRefused texts (Long which) = IsFirstLong texts which
+AreRefused texts (Gate error) = (error ≢ gate.Memory) × IsShort texts.policy × IsShort texts.metadata
+    × IsCause texts.policy texts.metadata error
+AreRefused texts (Write report) = ⊥
+AreRefused texts Memory = ⊥
 
 -- the texts that the words name stop a run so
 pub record IsRefusedRun (old : Disk) (words : List (List ℕ)) (stop : Outcome) : Type 0 where
   pub named : AreTold old words
-  pub refused : AreRefused (bytes_at named.files (path_of words Policy)) (bytes_at named.files (path_of words Metadata))
-      stop
+  pub refused : AreRefused (texts_of named) stop
 
--- no reading of either text failed
-pub record IsReadable (old new : Disk) (words : List (List ℕ)) : Type 0 where
-  pub policy : ¬ Rose (old.faults_at call.Read (path_of words Policy)) (new.faults_at call.Read (path_of words Policy))
-  pub metadata : ¬ Rose (old.faults_at call.Read (path_of words Metadata))
-      (new.faults_at call.Read (path_of words Metadata))
+-- no reading of a text that is asked for failed
+abbrev pub IsReadable : Disk → Disk → List (List ℕ) → Type 0
+IsReadable old new words = (command : Command) → Asks words command → (which : Which) → IsAskedFor old command which
+    → ¬ Rose (old.faults_at call.Read (path_of command which)) (new.faults_at call.Read (path_of command which))
 
 -- when each outcome comes. Want of memory alone is free, once the words are accepted. That `Write`
 -- comes only where the output failed stands with what a run leaves there.
@@ -140,30 +164,50 @@ ComesBy old new words (Gate error) = IsStopOn old words error
 ComesBy old new words (Write report) = IsReportOn old words report
 ComesBy old new words Memory = IsAccepted words
 
--- the headline, of the report on the texts at the paths that the words name
+-- the headline, of the report on the texts that the words ask for
 pub record IsHeadlineOn (old : Disk) (words : List (List ℕ)) (report : Report) : Type 0 where
-  pub policy_path : List ℕ
-  pub metadata_path : List ℕ
-  pub accepted : IsCheck words policy_path metadata_path
+  pub command : Command
+  pub asks : Asks words command
   pub policy : List ℕ
   pub metadata : List ℕ
-  pub texts : AreTextsAt old policy_path metadata_path policy metadata
+  pub read : AreTextsOf old command (record { policy = policy; metadata = metadata })
   pub headline : IsHeadlineOf policy metadata report
 
--- where entries of the policy clash, this is its text, as it was read, and the labels lie in it
+-- this is the text of the policy that the words ask for, as it was read, its entries clash so, and the
+-- labels lie in it
+pub record ClashesIn (old : Disk) (words : List (List ℕ)) (told : List Diagnostic) (policy : List ℕ) : Type 0 where
+  pub command : Command
+  pub asks : Asks words command
+  pub read : IsWhole old (path_of command Policy) policy
+  pub short : IsShort policy
+  pub tells : TellsClashes policy policy_id told
+  pub labelled : AreLabelledClashes policy told
+
+-- where entries of the policy clash, this is its text
 abbrev pub IsTextOfClashes : Disk → List (List ℕ) → Outcome → List ℕ → Type 0
-IsTextOfClashes old words (Gate (gate.Invalid told)) policy =
-    IsWhole old (path_of words Policy) policy × IsShort policy × TellsClashes policy policy_id told
-    × AreLabelledClashes policy told
-IsTextOfClashes old words outcome policy = ⊤
+IsTextOfClashes old words (Done report) policy = ⊤
+IsTextOfClashes old words (Usage at) policy = ⊤
+IsTextOfClashes old words (Read which) policy = ⊤
+IsTextOfClashes old words (Long which) policy = ⊤
+IsTextOfClashes old words (Gate (gate.Config faults)) policy = ⊤
+IsTextOfClashes old words (Gate (gate.Invalid told)) policy = ClashesIn old words told policy
+IsTextOfClashes old words (Gate (gate.NotBuilt which)) policy = ⊤
+IsTextOfClashes old words (Gate (gate.Metadata fault)) policy = ⊤
+IsTextOfClashes old words (Gate gate.Memory) policy = ⊤
+IsTextOfClashes old words (Write report) policy = ⊤
+IsTextOfClashes old words Memory policy = ⊤
+
+-- ---- for private clauses
 
 -- the same of a run that stopped before its output was made, which is neither done nor written
 abbrev pub StopsBy : Disk → Disk → List (List ℕ) → Outcome → Type 0
 StopsBy old new words (Done report) = ⊥
+StopsBy old new words (Usage at) = IsUsageAt words at
+StopsBy old new words (Read which) = IsReadFault old new words which
+StopsBy old new words (Long which) = IsLongOn old new words which
+StopsBy old new words (Gate error) = IsStopOn old words error
 StopsBy old new words (Write report) = ⊥
-StopsBy old new words outcome = ComesBy old new words outcome
-
--- ---- for private clauses
+StopsBy old new words Memory = IsAccepted words
 
 -- how a text that was not read to its end stops a run
 abbrev pub end_stop : Which → ReadEnd → Outcome
@@ -172,15 +216,21 @@ end_stop which end.Long = Long which
 end_stop which end.Memory = Memory
 
 -- the gate stops a run so
-abbrev pub IsGateStop : List ℕ → List ℕ → Outcome → Type 0
-IsGateStop policy metadata (Gate error) = IsCause policy metadata error × IsLabelledCause policy error
-IsGateStop policy metadata _ = ⊥
+abbrev pub IsGateStop : Texts → Outcome → Type 0
+IsGateStop texts (Done report) = ⊥
+IsGateStop texts (Usage at) = ⊥
+IsGateStop texts (Read which) = ⊥
+IsGateStop texts (Long which) = ⊥
+IsGateStop texts (Gate error) = IsCause texts.policy texts.metadata error × IsLabelledCause texts.policy error
+IsGateStop texts (Write report) = ⊥
+IsGateStop texts Memory = ⊥
 
--- why a run over these paths stopped before its output was made; this is the policy's text, where it was read
-abbrev pub StopsAt : Disk → Disk → List ℕ → List ℕ → Outcome → List ℕ → Type 0
-StopsAt old new policy metadata (Read Policy) text = FailedAt old new call.Read policy
-StopsAt old new policy metadata (Read Metadata) text = FailedAt old new call.Read metadata
-StopsAt old new policy metadata (Long which) text = IsLongAt old new policy metadata which
-StopsAt old new policy metadata (Gate error) text = IsStopAt old policy metadata text error
-StopsAt old new policy metadata Memory text = ⊤
-StopsAt old new policy metadata _ text = ⊥
+-- why a run on a command stopped before its output was made; this is the policy's text, where it was read
+abbrev pub StopsAt : Disk → Disk → Command → Outcome → List ℕ → Type 0
+StopsAt old new command (Done report) text = ⊥
+StopsAt old new command (Usage at) text = ⊥
+StopsAt old new command (Read which) text = IsFaultAt old new command which
+StopsAt old new command (Long which) text = IsLongAt old new command which
+StopsAt old new command (Gate error) text = IsStopAt old command text error
+StopsAt old new command (Write report) text = ⊥
+StopsAt old new command Memory text = ⊤

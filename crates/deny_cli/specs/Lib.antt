@@ -1,4 +1,5 @@
 pub mod Causes
+pub mod Commands
 pub mod Diagnostics
 pub mod Lines
 pub mod Outcome

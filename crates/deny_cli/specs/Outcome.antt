@@ -1,6 +1,7 @@
 -- What a run ends with, by cases.
 use Rattle.std.specs.Prelude.{◌≡◌, ℕ, ⊤}
 use Rattle.deny_gate.specs.Gating.{AreOneCause}
+use Rattle.deny_gate.specs.declared.report.GateError.{GateError}
 use Rattle.deny_gate.specs.declared.report.GateError.TheVariants as gate
 use Rattle.deny_gate.specs.declared.report.Report.{Report}
 use Rattle.deny_gate.specs.declared.report.Verdict.{Verdict}
@@ -10,35 +11,79 @@ use Rattle.deny_cli.specs.declared.outcome.Outcome.TheVariants.{Done, Usage, Rea
 
 abbrev pub IfDone : Outcome → (Report → Type 0) → Type 0
 IfDone (Done report) P = P report
-IfDone _ P = ⊤
+IfDone (Usage at) P = ⊤
+IfDone (Read which) P = ⊤
+IfDone (Long which) P = ⊤
+IfDone (Gate error) P = ⊤
+IfDone (Write report) P = ⊤
+IfDone Memory P = ⊤
 
 -- of a report that was made, whether the output took its lines or not
 abbrev pub IfReported : Outcome → (Report → Type 0) → Type 0
 IfReported (Done report) P = P report
+IfReported (Usage at) P = ⊤
+IfReported (Read which) P = ⊤
+IfReported (Long which) P = ⊤
+IfReported (Gate error) P = ⊤
 IfReported (Write report) P = P report
-IfReported _ P = ⊤
+IfReported Memory P = ⊤
 
 abbrev pub IsUsage : Outcome → Type 0
+IsUsage (Done report) = ⊥
 IsUsage (Usage at) = ⊤
-IsUsage _ = ⊥
+IsUsage (Read which) = ⊥
+IsUsage (Long which) = ⊥
+IsUsage (Gate error) = ⊥
+IsUsage (Write report) = ⊥
+IsUsage Memory = ⊥
 
 -- done, or short of memory
 abbrev pub IsDoneOrMemory : Outcome → Type 0
 IsDoneOrMemory (Done report) = ⊤
+IsDoneOrMemory (Usage at) = ⊥
+IsDoneOrMemory (Read which) = ⊥
+IsDoneOrMemory (Long which) = ⊥
+IsDoneOrMemory (Gate (gate.Config faults)) = ⊥
+IsDoneOrMemory (Gate (gate.Invalid told)) = ⊥
+IsDoneOrMemory (Gate (gate.NotBuilt which)) = ⊥
+IsDoneOrMemory (Gate (gate.Metadata fault)) = ⊥
 IsDoneOrMemory (Gate gate.Memory) = ⊤
+IsDoneOrMemory (Write report) = ⊥
 IsDoneOrMemory Memory = ⊤
-IsDoneOrMemory _ = ⊥
+
+-- the gate stops the run by this cause
+abbrev pub IsGateBy : GateError → Outcome → Type 0
+IsGateBy wanted (Done report) = ⊥
+IsGateBy wanted (Usage at) = ⊥
+IsGateBy wanted (Read which) = ⊥
+IsGateBy wanted (Long which) = ⊥
+IsGateBy wanted (Gate found) = AreOneCause wanted found
+IsGateBy wanted (Write report) = ⊥
+IsGateBy wanted Memory = ⊥
 
 -- two stops are one; of two that the gate gives their causes are
 abbrev pub AreOneStop : Outcome → Outcome → Type 0
-AreOneStop (Gate wanted) (Gate found) = AreOneCause wanted found
-AreOneStop stop outcome = outcome ≡ stop
+AreOneStop (Done report) outcome = outcome ≡ Done report
+AreOneStop (Usage at) outcome = outcome ≡ Usage at
+AreOneStop (Read which) outcome = outcome ≡ Read which
+AreOneStop (Long which) outcome = outcome ≡ Long which
+AreOneStop (Gate wanted) outcome = IsGateBy wanted outcome
+AreOneStop (Write report) outcome = outcome ≡ Write report
+AreOneStop Memory outcome = outcome ≡ Memory
 
 -- this stop, or short of memory
 abbrev pub IsStopOrMemory : Outcome → Outcome → Type 0
+IsStopOrMemory stop (Done report) = AreOneStop stop (Done report)
+IsStopOrMemory stop (Usage at) = AreOneStop stop (Usage at)
+IsStopOrMemory stop (Read which) = AreOneStop stop (Read which)
+IsStopOrMemory stop (Long which) = AreOneStop stop (Long which)
+IsStopOrMemory stop (Gate (gate.Config faults)) = AreOneStop stop (Gate (gate.Config faults))
+IsStopOrMemory stop (Gate (gate.Invalid told)) = AreOneStop stop (Gate (gate.Invalid told))
+IsStopOrMemory stop (Gate (gate.NotBuilt which)) = AreOneStop stop (Gate (gate.NotBuilt which))
+IsStopOrMemory stop (Gate (gate.Metadata fault)) = AreOneStop stop (Gate (gate.Metadata fault))
 IsStopOrMemory stop (Gate gate.Memory) = ⊤
+IsStopOrMemory stop (Write report) = AreOneStop stop (Write report)
 IsStopOrMemory stop Memory = ⊤
-IsStopOrMemory stop outcome = AreOneStop stop outcome
 
 abbrev pub bits_of : Verdict → ℕ
 bits_of Pass = 0

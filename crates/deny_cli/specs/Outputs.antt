@@ -7,7 +7,7 @@ use Rattle.deny_gate.specs.declared.report.Report.{Report}
 use Rattle.deny_cli.specs.Lines.{lines}
 use Rattle.deny_cli.specs.Stops.{stop_line, memory_line}
 use Rattle.deny_cli.specs.declared.outcome.Outcome.{Outcome}
-use Rattle.deny_cli.specs.declared.outcome.Outcome.TheVariants.{Done, Write, Memory}
+use Rattle.deny_cli.specs.declared.outcome.Outcome.TheVariants.{Done, Usage, Read, Long, Gate, Write, Memory}
 
 -- the output failed, and took only the first of the bytes, maybe none
 abbrev pub FailsWriting : {W : Type 0} → (W → Option (List ℕ)) → (W → ℕ) → W → W → List ℕ → Type 0
@@ -17,20 +17,33 @@ FailsWriting written faults old new bytes =
 -- the standard output: the lines of the report, or nothing
 abbrev pub LeavesOut : {W : Type 0} → (W → Option (List ℕ)) → (W → ℕ) → W → W → Outcome → Type 0
 LeavesOut written faults old new (Done report) = Appends (written old) (written new) (lines report)
+LeavesOut written faults old new (Usage at) = new ≡ old
+LeavesOut written faults old new (Read which) = new ≡ old
+LeavesOut written faults old new (Long which) = new ≡ old
+LeavesOut written faults old new (Gate error) = new ≡ old
 LeavesOut written faults old new (Write report) = FailsWriting written faults old new (lines report)
-LeavesOut written faults old new _ = new ≡ old
+LeavesOut written faults old new Memory = new ≡ old
 
 -- this one line, or what a failing output took of it
 abbrev pub PutsLine : {W : Type 0} → (W → Option (List ℕ)) → (W → ℕ) → W → W → List ℕ → Type 0
 PutsLine written faults old new line =
     Appends (written old) (written new) line ⊎ FailsWriting written faults old new line
 
--- the standard error: nothing, or one line that tells the stop; the labels of clashes lie in this
--- text of the policy. Want of memory in the making of that line puts the line of memory in its place.
+-- one line that tells the stop; the labels of clashes lie in this text of the policy. Want of memory
+-- in the making of that line puts the line of memory in its place.
+abbrev pub TellsStop : {W : Type 0} → (W → Option (List ℕ)) → (W → ℕ) → W → W → Outcome → List ℕ → Type 0
+TellsStop written faults old new outcome policy =
+    PutsLine written faults old new (stop_line policy outcome) ⊎ PutsLine written faults old new memory_line
+
+-- the standard error: nothing, or the line of the stop
 abbrev pub LeavesErr : {W : Type 0} → (W → Option (List ℕ)) → (W → ℕ) → W → W → Outcome → List ℕ → Type 0
 LeavesErr written faults old new (Done report) policy = new ≡ old
-LeavesErr written faults old new outcome policy =
-    PutsLine written faults old new (stop_line policy outcome) ⊎ PutsLine written faults old new memory_line
+LeavesErr written faults old new (Usage at) policy = TellsStop written faults old new (Usage at) policy
+LeavesErr written faults old new (Read which) policy = TellsStop written faults old new (Read which) policy
+LeavesErr written faults old new (Long which) policy = TellsStop written faults old new (Long which) policy
+LeavesErr written faults old new (Gate error) policy = TellsStop written faults old new (Gate error) policy
+LeavesErr written faults old new (Write report) policy = TellsStop written faults old new (Write report) policy
+LeavesErr written faults old new Memory policy = TellsStop written faults old new Memory policy
 
 -- ---- for a private clause
 
@@ -38,7 +51,10 @@ LeavesErr written faults old new outcome policy =
 abbrev pub WritesReport : {W : Type 0} → (W → Option (List ℕ)) → (W → ℕ) → W → W → Report → Outcome → Type 0
 WritesReport written faults old new report (Done told) = (told ≡ report)
     × Appends (written old) (written new) (lines report)
+WritesReport written faults old new report (Usage at) = ⊥
+WritesReport written faults old new report (Read which) = ⊥
+WritesReport written faults old new report (Long which) = ⊥
+WritesReport written faults old new report (Gate error) = ⊥
 WritesReport written faults old new report (Write told) = (told ≡ report)
     × FailsWriting written faults old new (lines report)
 WritesReport written faults old new report Memory = new ≡ old
-WritesReport written faults old new report _ = ⊥

@@ -117,5 +117,14 @@ memory_line = line (tells (codes "stop") (stop_word (codes "memory")))
 
 -- where entries of the policy clash, these bytes are a text, and not long
 abbrev pub IsTextOf : Outcome → List ℕ → Type 0
+IsTextOf (Done report) policy = ⊤
+IsTextOf (Usage at) policy = ⊤
+IsTextOf (Read which) policy = ⊤
+IsTextOf (Long which) policy = ⊤
+IsTextOf (Gate (gate.Config faults)) policy = ⊤
 IsTextOf (Gate (gate.Invalid told)) policy = IsUtf8 policy × length policy < 2 ^ 28
-IsTextOf outcome policy = ⊤
+IsTextOf (Gate (gate.NotBuilt which)) policy = ⊤
+IsTextOf (Gate (gate.Metadata fault)) policy = ⊤
+IsTextOf (Gate gate.Memory) policy = ⊤
+IsTextOf (Write report) policy = ⊤
+IsTextOf Memory policy = ⊤

@@ -1,6 +1,9 @@
--- The words of a run: which lists are accepted, and where the others break off.
-use Rattle.std.specs.Prelude.{◌≡◌, ℕ, ◌+◌, ◌<◌, ◌≤◌, ◌==◌, Bool, false, not, IsTrue, List, [], ◌∷◌, ◌++◌, length, take, map, codes, String, string_bytes}
+-- The words of a run: what they ask for, which lists are accepted, and where the others break off.
+use Rattle.std.specs.Prelude.{◌≡◌, ℕ, ◌+◌, ◌<◌, ◌≤◌, ◌==◌, Bool, false, not, List, [], ◌∷◌, ◌++◌, Option, Some, None, option_map, option_and_then, length, take, map, codes, String, string_bytes, if◌then◌else◌}
 use Rattle.std.specs.declared.alloc.Global.{Global}
+use Rattle.deny_base.specs.declared.check.Which.{Which}
+use Rattle.deny_base.specs.declared.check.Which.TheVariants.{Policy, Metadata, Replacements}
+use Rattle.deny_model.specs.Text.{same_text}
 
 -- the words as texts
 abbrev pub texts : List (String Global) → List (List ℕ)
@@ -11,14 +14,74 @@ unfoldable pub names_file : List ℕ → Bool
 names_file [] = false
 names_file (byte ∷ bytes) = not (byte == 45)
 
--- the words are `check`, the policy's path and the metadata's path
-pub record IsCheck (words : List (List ℕ)) (policy metadata : List ℕ) : Type 0 where
-  pub are : words ≡ codes "check" ∷ policy ∷ metadata ∷ []
-  pub policy_is_path : IsTrue (names_file policy)
-  pub metadata_is_path : IsTrue (names_file metadata)
+-- ---- what words ask for
+
+-- what a check looks at: the paths of its texts
+pub record Asked : Type 0 where
+  pub policy : List ℕ
+  pub metadata : List ℕ
+
+pub data Command : Type 0 where
+  check : Asked → Command
+
+-- the path of a text; none of a text that the command does not read
+abbrev pub path_of : Command → Which → List ℕ
+path_of (check asked) Policy = asked.policy
+path_of (check asked) Metadata = asked.metadata
+path_of (check asked) Replacements = []
+
+-- ---- the same as far as words were read
+
+pub record AskedSoFar : Type 0 where
+  pub policy : Option (List ℕ)
+  pub metadata : Option (List ℕ)
+
+pub data Form : Type 0 where
+  nothing : Form
+  checking : AskedSoFar → Form
+
+-- a check that asks for nothing yet
+abbrev pub begun : AskedSoFar
+begun = record { policy = None; metadata = None }
+
+-- a path is that of the first text that has none
+abbrev pub path_added : Option (List ℕ) → Option (List ℕ) → List ℕ → Option AskedSoFar
+path_added None metadata path = Some (record { policy = Some path; metadata = metadata })
+path_added (Some policy) None path = Some (record { policy = Some policy; metadata = Some path })
+path_added (Some policy) (Some metadata) path = None
+
+-- what a word adds; none where it may not stand here
+unfoldable pub step : Form → List ℕ → Option Form
+step nothing word = if same_text word (codes "check") then Some (checking begun) else None
+step (checking asked) word =
+    if names_file word then option_map checking (path_added asked.policy asked.metadata word) else None
+
+abbrev pub filled : Option Form → List (List ℕ) → Option Form
+filled form [] = form
+filled form (word ∷ words) = filled (option_and_then (λ before. step before word) form) words
+
+-- a check whose texts have paths
+abbrev pub check_of : Option (List ℕ) → Option (List ℕ) → Option Command
+check_of None metadata = None
+check_of (Some policy) None = None
+check_of (Some policy) (Some metadata) = Some (check (record { policy = policy; metadata = metadata }))
+
+-- none where something is missing
+abbrev pub command_of : Form → Option Command
+command_of nothing = None
+command_of (checking asked) = check_of asked.policy asked.metadata
+
+-- ---- which words are accepted
+
+-- the words ask for this
+unfoldable pub asked_by : List (List ℕ) → Option Command
+asked_by words = option_and_then command_of (filled (Some nothing) words)
+
+abbrev pub Asks : List (List ℕ) → Command → Type 0
+Asks words command = asked_by words ≡ Some command
 
 abbrev pub IsAccepted : List (List ℕ) → Type 0
-IsAccepted words = (policy : List ℕ) × (metadata : List ℕ) × IsCheck words policy metadata
+IsAccepted words = (command : Command) × Asks words command
 
 -- an accepted list begins with these words
 abbrev pub GoesOn : List (List ℕ) → Type 0

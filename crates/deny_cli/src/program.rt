@@ -5,7 +5,8 @@ ghost use Rattle.deny_outside.specs.Disk.{IsLater};
 ghost use Rattle.deny_gate.specs.Gating.{IsReportOf};
 ghost use Rattle.deny_gate.specs.Labels.{AreLabelled};
 ghost use Rattle.deny_gate.specs.Report.{has_error};
-ghost use Rattle.deny_cli.specs.Causes.{ComesBy, StopsBy, StopsAt, IsHeadlineOn, IsReportAt, IsReportOn, IsValidRun, IsRefusedRun, IsReadable, IsGateStop, IsTextOfClashes, end_stop};
+ghost use Rattle.deny_cli.specs.Causes.{Texts, ComesBy, StopsBy, StopsAt, IsHeadlineOn, IsReportAt, IsReportOn, IsValidRun, IsRefusedRun, IsReadable, IsGateStop, IsTextOfClashes, end_stop};
+ghost use Rattle.deny_cli.specs.Commands.{command_view};
 ghost use Rattle.deny_cli.specs.Outcome.{IfDone, IfReported, IsUsage, IsDoneOrMemory, IsStopOrMemory, status_of};
 ghost use Rattle.deny_cli.specs.declared.outcome.Outcome.{Outcome};
 ghost use Rattle.deny_cli.specs.Stops.{IsTextOf};
@@ -15,7 +16,7 @@ ghost use Rattle.deny_cli.specs.Words.{texts, IsAccepted};
 use crate::lines::lines;
 use crate::outcome::{Ended, Outcome};
 use crate::stops::{memory_line, stop_line};
-use crate::words::{Paths, read_words};
+use crate::words::{Command, read_words};
 use deny_base::Which;
 use deny_gate::{Inputs, Report, gate};
 use deny_lists::NoMemory;
@@ -57,7 +58,8 @@ fn report_of<D: PackageFiles>(alloc: Global, inputs: Inputs, disk: &mut D) -> Re
     requires metadata { length inputs.metadata.items < 2 ^ 28 }
     ensures report { IfOk result (IsReportOf inputs.policy.items inputs.metadata.items) }
     ensures labels { IfOk result (λ report. AreLabelled report.files report.findings) }
-    ensures stop { IfErr result (λ ending. IsGateStop inputs.policy.items inputs.metadata.items ending.outcome) }
+    ensures stop { IfErr result (λ ending. IsGateStop
+        (record { policy = inputs.policy.items; metadata = inputs.metadata.items }) ending.outcome) }
     ensures policy { IfErr result (λ ending. ending.policy.items ≡ inputs.policy.items) }
     ensures later { IsLater (D.seen disk.old) (D.seen disk.new) }
 {
@@ -70,31 +72,31 @@ fn report_of<D: PackageFiles>(alloc: Global, inputs: Inputs, disk: &mut D) -> Re
     }
 }
 
-/// The report on the texts at these paths, or why there is none.
+/// The report on the texts of a command, or why there is none. A text is read once those before it are.
 fn report_at<D: PackageFiles>(
     alloc: Global,
-    paths: Paths<'_>,
+    command: Command<'_>,
     disk: &mut D,
 ) -> Result<Report, Ending>
-    ensures report { IfOk result
-        (IsReportAt (D.seen disk.old) paths.entry.policy.now paths.entry.metadata.now) }
+    ensures report { IfOk result (IsReportAt (D.seen disk.old) (command_view command.entry)) }
     ensures labels { IfOk result (λ report. AreLabelled report.files report.findings) }
     ensures stop { IfErr result (λ ending. StopsAt (D.seen disk.old) (D.seen disk.new)
-        paths.entry.policy.now paths.entry.metadata.now ending.outcome ending.policy.items) }
+        (command_view command.entry) ending.outcome ending.policy.items) }
     ensures later { IsLater (D.seen disk.old) (D.seen disk.new) }
 {
-    let policy = match read_whole(alloc, disk, paths.policy) {
+    let Command::Check(asked) = command;
+    let policy = match read_whole(alloc, disk, asked.policy) {
         Ok(policy) => policy,
         Err(end) => return Err(ends_by(alloc, end_stop(Which::Policy, end))),
     };
-    let metadata = match read_whole(alloc, disk, paths.metadata) {
+    let metadata = match read_whole(alloc, disk, asked.metadata) {
         Ok(metadata) => metadata,
         Err(end) => return Err(ends_by(alloc, end_stop(Which::Metadata, end))),
     };
     report_of(alloc, Inputs { policy, metadata }, disk)
 }
 
-/// The report on the texts that the words name, or why there is none.
+/// The report on what the words ask for, or why there is none.
 fn report_on<D: PackageFiles>(
     alloc: Global,
     words: &[String],
@@ -109,7 +111,7 @@ fn report_on<D: PackageFiles>(
     ensures later { IsLater (D.seen disk.old) (D.seen disk.new) }
 {
     match read_words(words) {
-        Ok(paths) => report_at(alloc, paths, disk),
+        Ok(command) => report_at(alloc, command, disk),
         Err(at) => Err(ends_by(alloc, Outcome::Usage(at))),
     }
 }
@@ -186,12 +188,13 @@ pub fn run<D: PackageFiles, W: Out, E: Out>(
     // Words that are not accepted always end so.
     ensures usage { (¬ IsAccepted (texts words.now)) → IsUsage result.outcome }
     // Accepted words, a policy whose rules are there and metadata without fault end with a report,
-    // where nothing outside fails.
+    // where no reading of a text that is asked for fails, nor the output.
     ensures completes { IsValidRun (D.seen disk.old) (texts words.now)
         → IsReadable (D.seen disk.old) (D.seen disk.new) (texts words.now)
         → (¬ Rose (W.faults out.old) (W.faults out.new))
         → IsDoneOrMemory result.outcome }
-    // Texts that are too long or that the gate refuses end so, where reading does not fail.
+    // Texts that are too long or that the gate refuses end so, where no reading of a text that is
+    // asked for fails: behind a long policy none is.
     ensures refuses { (stop : Outcome)
         → IsRefusedRun (D.seen disk.old) (texts words.now) stop
         → IsReadable (D.seen disk.old) (D.seen disk.new) (texts words.now)

@@ -1,11 +1,32 @@
-ghost use Rattle.std.specs.Prelude.{◌≡◌, ◌↔◌, IsTrue, MatchResult, codes};
-ghost use Rattle.deny_cli.specs.Words.{names_file, texts, IsCheck, IsUsageAt};
+ghost use Rattle.std.specs.Prelude.{◌≡◌, ◌↔◌, IsTrue, MatchResult, codes, option_map};
+ghost use Rattle.deny_cli.specs.Commands.{command_view, form_view, so_far_view};
+ghost use Rattle.deny_cli.specs.Words.{names_file, texts, Asks, IsUsageAt, command_of, path_added, step};
 
-/// The paths that accepted words name.
+/// What a check looks at: the paths of its texts.
 #[derive(Debug, Clone, Copy)]
-pub struct Paths<'a> {
+pub struct Asked<'a> {
     pub policy: &'a str,
     pub metadata: &'a str,
+}
+
+/// What accepted words ask for.
+#[derive(Debug, Clone, Copy)]
+pub enum Command<'a> {
+    Check(Asked<'a>),
+}
+
+/// The same as far as words were read.
+#[derive(Debug, Clone, Copy)]
+struct AskedSoFar<'a> {
+    policy: Option<&'a str>,
+    metadata: Option<&'a str>,
+}
+
+/// A command that is filled word by word.
+#[derive(Debug, Clone, Copy)]
+enum Form<'a> {
+    Nothing,
+    Checking(AskedSoFar<'a>),
 }
 
 /// Whether a word can name a file: it is not empty, and does not begin with a dash.
@@ -19,47 +40,74 @@ fn names_file(word: &str) -> bool
     }
 }
 
-/// Whether a word asks for a check.
-fn is_check(word: &str) -> bool
-    ensures { IsTrue result ↔ (word.now ≡ codes "check") }
+/// A check that asks for one text more; none where each has its path.
+fn with_path<'a>(asked: AskedSoFar<'a>, path: &'a str) -> Option<AskedSoFar<'a>>
+    ensures { option_map so_far_view result
+        ≡ path_added (so_far_view asked.entry).policy (so_far_view asked.entry).metadata path.now }
 {
-    word == "check"
+    match (asked.policy, asked.metadata) {
+        (None, metadata) => Some(AskedSoFar {
+            policy: Some(path),
+            metadata,
+        }),
+        (policy, None) => Some(AskedSoFar {
+            policy,
+            metadata: Some(path),
+        }),
+        (Some(_), Some(_)) => None,
+    }
 }
 
-/// Whether the words are accepted, up to the place from which on they are not.
+/// What a word adds; none where it may not stand here.
+#[tactic(auto, unfolding(crate::specs::Words::step))]
+fn step<'a>(form: Form<'a>, word: &'a str) -> Option<Form<'a>>
+    ensures { option_map form_view result ≡ step (form_view form.entry) word.now }
+{
+    match form {
+        Form::Nothing if word == "check" => Some(Form::Checking(AskedSoFar {
+            policy: None,
+            metadata: None,
+        })),
+        Form::Checking(asked) if names_file(word) => {
+            Some(Form::Checking(with_path(asked, word)?))
+        }
+        Form::Nothing | Form::Checking(_) => None,
+    }
+}
+
+/// The command of a form; none where something is missing.
+fn command_of(form: Form<'_>) -> Option<Command<'_>>
+    ensures { option_map command_view result ≡ command_of (form_view form.entry) }
+{
+    match form {
+        Form::Nothing => None,
+        Form::Checking(asked) => Some(Command::Check(Asked {
+            policy: asked.policy?,
+            metadata: asked.metadata?,
+        })),
+    }
+}
+
+/// What the words ask for, up to the place from which on they are not accepted.
 ///
 /// # Errors
 ///
 /// The number of the first word at which no accepted list goes on, or how many words there are
 /// where they end too early.
-pub fn read_words(words: &[String]) -> Result<Paths<'_>, usize>
+pub fn read_words(words: &[String]) -> Result<Command<'_>, usize>
     ensures { MatchResult result
-        (λ paths. IsCheck (texts words.now) paths.policy.now paths.metadata.now)
+        (λ command. Asks (texts words.now) (command_view command))
         (λ at. IsUsageAt (texts words.now) at) }
 {
-    let Some((check, words)) = words.split_first() else {
-        return Err(0);
-    };
-    if !is_check(check.as_str()) {
-        return Err(0);
+    let mut form = Form::Nothing;
+    for (at, word) in words.iter().enumerate() {
+        match step(form, word.as_str()) {
+            Some(next) => form = next,
+            None => return Err(at),
+        }
     }
-    let Some((policy, words)) = words.split_first() else {
-        return Err(1);
-    };
-    if !names_file(policy.as_str()) {
-        return Err(1);
+    match command_of(form) {
+        Some(command) => Ok(command),
+        None => Err(words.len()),
     }
-    let Some((metadata, words)) = words.split_first() else {
-        return Err(2);
-    };
-    if !names_file(metadata.as_str()) {
-        return Err(2);
-    }
-    if !words.is_empty() {
-        return Err(3);
-    }
-    Ok(Paths {
-        policy: policy.as_str(),
-        metadata: metadata.as_str(),
-    })
 }

@@ -24,12 +24,15 @@ report_by : (policy metadata : List ℕ) (said : Policy) (report : Report) → I
     → IsReportOn (policy_view said.bans) metadata report → report.files ≡ policy_file policy ∷ []
     → IsReportOf policy metadata report
 report_by policy metadata said report built on files = record {
-  said = said;
-  is_said = built;
-  graph = on.graph;
-  is_graph = on.is_graph;
-  is_report = on.is_report;
-  files = files;
+  view = on.seen.view;
+  by = record {
+    said = said;
+    is_said = built;
+    graph = on.graph;
+    is_graph = on.is_graph;
+    is_report = on.seen.is_report;
+    files = files;
+  };
 }
 
 -- the texts that the inputs hold are those that were read

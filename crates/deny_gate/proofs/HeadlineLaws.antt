@@ -22,33 +22,34 @@ use Rattle.deny_model.specs.Told.{check_told, diag_told, severity_told}
 use Rattle.deny_lists.proofs.Agreement.{list_any_on}
 use Rattle.deny_gate.specs.Gating.{IsReportOf}
 use Rattle.deny_gate.specs.Headline.{IsHeadlineOf, IsViolation, KeepsHeadline, is_crate_error, is_crate_rule}
-use Rattle.deny_gate.specs.Report.{IsReport, fails_as, finding_told, has_error, is_error, same_check, verdict_by, verdict_of}
+use Rattle.deny_gate.specs.Report.{fails_as, has_error, is_error, same_check, verdict_by, verdict_of}
 use Rattle.deny_gate.specs.declared.report.Finding.{Finding}
 use Rattle.deny_gate.specs.declared.report.Report.{Report}
 use Rattle.deny_gate.specs.declared.report.Verdict.TheVariants.{Pass, Fail}
 use Rattle.deny_gate.proofs.Placed.{ArePlaced, are_placed}
 use Rattle.deny_gate.proofs.Violations.{error_is, violation_error, violation_from, violation_stands}
+use Rattle.deny_gate.proofs.Modelled.{IsModelled, finding_modelled, modelled}
 
 -- ---- the violations
 
-key_told : (p : Policy) (g : Graph) (key : Key) → (finding_told p g key).diag.key ≡ key
-unfolding finding_told diag_told
+key_told : (p : Policy) (g : Graph) (key : Key) → (finding_modelled p g key).diag.key ≡ key
+unfolding finding_modelled diag_told
 key_told p g key = refl
 
 abbrev is_error_key : Policy → Graph → Key → Bool
-is_error_key p g key = is_crate_error (finding_told p g key)
+is_error_key p g key = is_crate_error (finding_modelled p g key)
 
 -- the keys of the crate-rule errors, among those of all findings
 kept_keys : (p : Policy) (g : Graph) (keys : List Key)
-    → map (λ (f : Finding). f.diag.key) (filter is_crate_error (map (finding_told p g) keys))
+    → map (λ (f : Finding). f.diag.key) (filter is_crate_error (map (finding_modelled p g) keys))
     ≡ filter (is_error_key p g) keys
 kept_keys p g [] = refl
 kept_keys p g (key ∷ keys) =
-    let told = finding_told p g key in
-    let others = filter is_crate_error (map (finding_told p g) keys) in
+    let told = finding_modelled p g key in
+    let others = filter is_crate_error (map (finding_modelled p g) keys) in
     let rest : map (λ (f : Finding). f.diag.key) others ≡ filter (is_error_key p g) keys = kept_keys p g keys in
     elim (cases_Bool (is_crate_error told))
-    as (λ _. map (λ (f : Finding). f.diag.key) (filter is_crate_error (map (finding_told p g) (key ∷ keys)))
+    as (λ _. map (λ (f : Finding). f.diag.key) (filter is_crate_error (map (finding_modelled p g) (key ∷ keys)))
     ≡ filter (is_error_key p g) (key ∷ keys)) [
       | inl e ↦
           ap (map (λ (f : Finding). f.diag.key)) (cond-true (is_crate_error told) (told ∷ others) others e)
@@ -86,13 +87,13 @@ error_code (Bans code.AllowedByWrapper) p g key error = absurd (false≢true err
 error_code (Bans code.SkippedByRoot) p g key error = absurd (false≢true error)
 error_code _ p g key error = absurd (false≢true error)
 
-error_told : (p : Policy) (g : Graph) (key : Key) → has_error (finding_told p g key) ≡ true
+error_told : (p : Policy) (g : Graph) (key : Key) → has_error (finding_modelled p g key) ≡ true
     → is_error (severity_told key.code p g key) ≡ true
-unfolding has_error finding_told diag_told
+unfolding has_error finding_modelled diag_told
 error_told p g key error = error
 
-crate_error : (p : Policy) (g : Graph) (key : Key) → has_error (finding_told p g key) ≡ true
-    → is_crate_error (finding_told p g key) ≡ true
+crate_error : (p : Policy) (g : Graph) (key : Key) → has_error (finding_modelled p g key) ≡ true
+    → is_crate_error (finding_modelled p g key) ≡ true
 crate_error p g key error =
     let grave = error_told p g key error in
     error_is p g key ∙ and_from (is_error (severity_told key.code p g key)) (is_crate_rule (Some key.code)) grave
@@ -105,9 +106,9 @@ rule_check Deprecated rule = refl
 rule_check (Bans c) rule = refl
 rule_check (License c) rule = absurd (false≢true rule)
 
-check_of : (p : Policy) (g : Graph) (key : Key) → has_error (finding_told p g key) ≡ true
-    → (finding_told p g key).check ≡ check.Bans
-unfolding finding_told
+check_of : (p : Policy) (g : Graph) (key : Key) → has_error (finding_modelled p g key) ≡ true
+    → (finding_modelled p g key).check ≡ check.Bans
+unfolding finding_modelled
 check_of p g key error = rule_check key.code (error_code key.code p g key (error_told p g key error))
 
 and_same : (a b : Bool) → (a ≡ true → b ≡ true) → (a && b) ≡ a
@@ -120,23 +121,23 @@ and_none false b so = refl
 
 module _ (p : Policy) (g : Graph) (keys : List Key) where
   abbrev findings : List Finding
-  findings = map (finding_told p g) keys
+  findings = map (finding_modelled p g) keys
 
   bans_fail : (f : Finding) → Contains findings f → fails_as check.Bans f ≡ has_error f
   unfolding fails_as
   bans_fail f is =
-      let of = from_contains_map (finding_told p g) keys f is in
-      let at : fails_as check.Bans (finding_told p g of.0) ≡ has_error (finding_told p g of.0) =
-      and_same (has_error (finding_told p g of.0)) (same_check (finding_told p g of.0).check check.Bans)
+      let of = from_contains_map (finding_modelled p g) keys f is in
+      let at : fails_as check.Bans (finding_modelled p g of.0) ≡ has_error (finding_modelled p g of.0) =
+      and_same (has_error (finding_modelled p g of.0)) (same_check (finding_modelled p g of.0).check check.Bans)
       (λ error. ap (λ (c : Check). same_check c check.Bans) (check_of p g of.0 error)) in
       subst (λ (f : Finding). fails_as check.Bans f ≡ has_error f) of.2 at
 
   licenses_pass : (f : Finding) → Contains findings f → fails_as check.Licenses f ≡ false
   unfolding fails_as
   licenses_pass f is =
-      let of = from_contains_map (finding_told p g) keys f is in
-      let at : fails_as check.Licenses (finding_told p g of.0) ≡ false =
-      and_none (has_error (finding_told p g of.0)) (same_check (finding_told p g of.0).check check.Licenses)
+      let of = from_contains_map (finding_modelled p g) keys f is in
+      let at : fails_as check.Licenses (finding_modelled p g of.0) ≡ false =
+      and_none (has_error (finding_modelled p g of.0)) (same_check (finding_modelled p g of.0).check check.Licenses)
       (λ error. ap (λ (c : Check). same_check c check.Licenses) (check_of p g of.0 error)) in
       subst (λ (f : Finding). fails_as check.Licenses f ≡ false) of.2 at
 
@@ -158,12 +159,12 @@ module _ (p : Policy) (g : Graph) (keys : List Key) where
 
   no_other_error : (f : Finding) → Contains findings f → has_error f ≡ true → is_crate_error f ≡ true
   no_other_error f is =
-      let of = from_contains_map (finding_told p g) keys f is in
+      let of = from_contains_map (finding_modelled p g) keys f is in
       subst (λ (f : Finding). has_error f ≡ true → is_crate_error f ≡ true) of.2 (crate_error p g of.0)
 
 -- ---- together
 
-keeps : (p : Policy) (g : Graph) (report : Report) → ArePlaced g g.crates → (is : IsReport p g report)
+keeps : (p : Policy) (g : Graph) (report : Report) → ArePlaced g g.crates → (is : IsModelled p g report)
     → KeepsHeadline p g is.listed.facts report
 keeps p g report placed is =
     let facts = is.listed.facts in
@@ -178,16 +179,22 @@ keeps p g report placed is =
       fails = is.verdict ∙ subst
           (λ (fs : List Finding). verdict_of fs ≡ (if list_any has_error fs then Fail 2 else Pass)) (sym is.told)
           (fails_by_errors p g is.keys);
+      bits = is.verdict;
     }
 
 pub headline_of : (policy metadata : List ℕ) (report : Report) → IsReportOf policy metadata report
     → IsHeadlineOf policy metadata report
-headline_of policy metadata report of = record {
-  said = of.said;
-  is_said = of.is_said;
-  graph = of.graph;
-  is_graph = of.is_graph;
-  facts = of.is_report.listed.facts;
-  true_facts = of.is_report.listed.true_facts;
-  keeps = keeps (policy_view of.said.bans) of.graph report (are_placed metadata of.graph of.is_graph) of.is_report;
-}
+headline_of policy metadata report of =
+    let by = of.by in
+    let is = modelled (policy_view by.said.bans) by.graph of.view report by.is_report in
+    let kept = keeps (policy_view by.said.bans) by.graph report (are_placed metadata by.graph by.is_graph) is in
+    record {
+      said = by.said;
+      is_said = by.is_said;
+      graph = by.graph;
+      is_graph = by.is_graph;
+      facts = is.listed.facts;
+      true_facts = is.listed.true_facts;
+      keeps = kept;
+      others = λ f at error. inl (kept.no_other f at error);
+    }

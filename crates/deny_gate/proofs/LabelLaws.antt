@@ -25,10 +25,11 @@ use Rattle.deny_model.specs.Told.{ban_labels, crate_at, diag_told, entry_labels,
 use Rattle.deny_model.specs.Wrappers.{same_span}
 use Rattle.deny_toml.specs.Ranges.{IsRange}
 use Rattle.deny_gate.specs.Labels.{AreLabelled, ArePlaced, IsPlaced, range_of, ranges_of}
-use Rattle.deny_gate.specs.Report.{IsReport, finding_told, policy_id}
+use Rattle.deny_gate.specs.Report.{policy_id}
 use Rattle.deny_gate.specs.declared.report.Finding.{Finding}
 use Rattle.deny_gate.specs.declared.report.Report.{Report}
 use Rattle.deny_gate.proofs.Standing.{IsKnown, of_ban, of_unlisted, of_several, of_entry, known, ban_known, allow_known, skip_known, tree_known, ban_name, ban_wrapper, ban_reason, ban_instead, entry_name, entry_reason, root_name, root_reason}
+use Rattle.deny_gate.proofs.Modelled.{IsModelled, finding_modelled}
 
 -- a label marks a range of the policy, in this file
 pub record IsOf (p : Policy) (file : ℕ) (label : Label) : Type 0 where
@@ -180,8 +181,8 @@ module _ (p : Policy) (file : ℕ) where
     labels_of facts key (of_entry k c is of_other range) = at_code key (Bans c) is (of_code c key range)
 
 told_labels : (p : Policy) (g : Graph) (key : Key)
-    → (finding_told p g key).diag.diag.labels ≡ labels_told key.code p g policy_id key
-unfolding finding_told diag_told
+    → (finding_modelled p g key).diag.diag.labels ≡ labels_told key.code p g policy_id key
+unfolding finding_modelled diag_told
 told_labels p g key = refl
 
 placed_in : (p : Policy) (text : List ℕ) → All (IsRange text) (ranges_of p) → (label : Label) → IsOf p policy_id label
@@ -196,21 +197,21 @@ placed_in p text ranges label of = record {
 are_labelled : (p : Policy) (g : Graph) (facts : Facts) (text : List ℕ) (keys : List Key)
     → All (IsRange text) (ranges_of p)
     → ((key : Key) → Contains keys key → Stands p g facts key)
-    → AreLabelled (policy_file text ∷ []) (map (finding_told p g) keys)
+    → AreLabelled (policy_file text ∷ []) (map (finding_modelled p g) keys)
 are_labelled p g facts text [] ranges stand = All-nil
     (λ (f : Finding). ArePlaced (policy_file text ∷ []) f.diag.diag.labels)
 are_labelled p g facts text (key ∷ keys) ranges stand =
     let labels = labels_of p policy_id g facts key (known p g facts key (stand key (Contains-first key keys))) in
     let placed = All-weaker (IsOf p policy_id) (IsPlaced (policy_file text ∷ [])) (placed_in p text ranges)
     (labels_told key.code p g policy_id key) labels in
-    All-cons (λ (f : Finding). ArePlaced (policy_file text ∷ []) f.diag.diag.labels) (finding_told p g key)
-    (map (finding_told p g) keys)
+    All-cons (λ (f : Finding). ArePlaced (policy_file text ∷ []) f.diag.diag.labels) (finding_modelled p g key)
+    (map (finding_modelled p g) keys)
     (subst (λ (ls : List Label). ArePlaced (policy_file text ∷ []) ls) (sym (told_labels p g key)) placed)
     (are_labelled p g facts text keys ranges (λ k is. stand k (Contains-rest key keys k is)))
 
 -- so those of a report do
 pub report_labelled : (p : Policy) (g : Graph) (text : List ℕ) (report : Report) → All (IsRange text) (ranges_of p)
-    → IsReport p g report → report.files ≡ policy_file text ∷ []
+    → IsModelled p g report → report.files ≡ policy_file text ∷ []
     → AreLabelled report.files report.findings
 report_labelled p g text report ranges is files =
     subst (λ (fs : List File). AreLabelled fs report.findings) (sym files)

@@ -5,6 +5,7 @@ pub mod Covered
 pub mod FindingLaws
 pub mod HeadlineLaws
 pub mod LabelLaws
+pub mod Modelled
 pub mod OneGraph
 pub mod OneReport
 pub mod Placed

@@ -9,11 +9,13 @@ use Rattle.deny_lists.proofs.Sorted.{one_list}
 use Rattle.deny_base.proofs.EdgeEqual.{edge_cmp-total}
 use Rattle.deny_krates.specs.Listed.{AreCratesAt, IsCrateAt, crate_at}
 use Rattle.deny_krates.specs.Packages.{rank_of}
-use Rattle.deny_krates.specs.Read.{IsEdge, IsGraph, IsGraphOf, IsMember}
+use Rattle.deny_krates.specs.Read.{IsEdge, IsGraph, IsGraphOf, IsMember, IsTargetEdge}
 use Rattle.deny_krates.specs.document.Document.{Document}
 use Rattle.deny_krates.specs.document.Package.{Package}
 use Rattle.deny_krates.proofs.OrderLemmas.{rank_cmp-total}
+use Rattle.deny_model.proofs.TargetEdgeLemmas.{target_edge_cmp-total}
 use Rattle.deny_model.specs.Graph.{Crate, Graph}
+use Rattle.deny_model.specs.TargetEdge.{target_edge_cmp}
 
 one_crate : (doc : Document) (place : ℕ) (p : Package) (c d : Crate) → IsCrateAt doc place p c → IsCrateAt doc place p d
     → c ≡ d
@@ -47,7 +49,17 @@ of_document doc g h this that =
     let edges : g.edges ≡ h.edges =
     one_list edge_cmp-total g.edges h.edges
     (subst (λ (ps : List Package). Lists edge_cmp (IsEdge doc ps) g.edges) packages this.edges) that.edges in
-    λ i. record { root = root i; crates = crates i; members = members i; edges = edges i }
+    let target_edges : g.target_edges ≡ h.target_edges =
+    one_list target_edge_cmp-total g.target_edges h.target_edges
+    (subst (λ (ps : List Package). Lists target_edge_cmp (IsTargetEdge doc ps) g.target_edges) packages
+    this.target_edges) that.target_edges in
+    λ i. record {
+      root = root i;
+      crates = crates i;
+      members = members i;
+      edges = edges i;
+      target_edges = target_edges i;
+    }
 
 pub one_graph : (bytes : List ℕ) (g h : Graph) → IsGraphOf bytes g → IsGraphOf bytes h → g ≡ h
 one_graph bytes g h this that =

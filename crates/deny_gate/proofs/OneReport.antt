@@ -18,10 +18,12 @@ use Rattle.deny_model.specs.Rules.{AreKeys}
 use Rattle.deny_dup_edges.specs.DupEdges.{AreEdgesOf, IsSetOf, IsSimplest, ShowsEach, Simplest, is_of_duplicate}
 use Rattle.deny_dup_edges.specs.declared.dup_edges.DupEdges.{DupEdges}
 use Rattle.deny_dup_edges.specs.declared.dup_edges.DupSet.{DupSet}
-use Rattle.deny_gate.specs.Gating.{IsReportOf}
-use Rattle.deny_gate.specs.Report.{IsReport, finding_told, policy_id, verdict_of}
+use Rattle.deny_codes.specs.Circumstances.{View}
+use Rattle.deny_gate.specs.Gating.{IsReportBy}
+use Rattle.deny_gate.specs.Report.{policy_id, verdict_of}
 use Rattle.deny_gate.specs.declared.report.Report.{Report}
 use Rattle.deny_gate.proofs.OneGraph.{one_graph}
+use Rattle.deny_gate.proofs.Modelled.{IsModelled, finding_modelled, modelled}
 
 -- what determines each of its items determines the list
 one_zip : {A B : Type 0} (R : A → B → Type 0) → ((x : A) (y z : B) → R x y → R x z → y ≡ z)
@@ -82,10 +84,10 @@ one_shown p g key s t this that =
 -- ---- the report
 
 module _ (one_keys : (p : Policy) → (g : Graph) → (xs ys : List Key) → AreKeys p g xs → AreKeys p g ys → xs ≡ ys) where
-  of_graph : (p : Policy) (g : Graph) (a b : Report) → IsReport p g a → IsReport p g b → a.files ≡ b.files → a ≡ b
+  of_graph : (p : Policy) (g : Graph) (a b : Report) → IsModelled p g a → IsModelled p g b → a.files ≡ b.files → a ≡ b
   of_graph p g a b this that files =
       let keys : this.keys ≡ that.keys = one_keys p g this.keys that.keys this.listed that.listed in
-      let findings : a.findings ≡ b.findings = this.told ∙ (ap (map (finding_told p g)) keys ∙ sym that.told) in
+      let findings : a.findings ≡ b.findings = this.told ∙ (ap (map (finding_modelled p g)) keys ∙ sym that.told) in
       let dup_edges : a.dup_edges ≡ b.dup_edges =
       one_zip (AreEdgesOf p g) (one_shown p g) (filter is_of_duplicate that.keys) a.dup_edges b.dup_edges
       (subst (λ (ks : List Key). ShowsEach p g (filter is_of_duplicate ks) a.dup_edges) keys this.shown) that.shown in
@@ -94,13 +96,15 @@ module _ (one_keys : (p : Policy) → (g : Graph) → (xs ys : List Key) → Are
 
   pub one_report : ((text : List ℕ) → (file : ℕ) → (a b : cfg.Policy) → IsPolicyOf text file a → IsPolicyOf text file b
       → (policy_view a.bans ≡ policy_view b.bans) × (a.not_built ≡ b.not_built))
-      → (policy metadata : List ℕ) (a b : Report) → IsReportOf policy metadata a → IsReportOf policy metadata b → a ≡ b
-  one_report one_policy policy metadata a b this that =
+      → (policy metadata : List ℕ) (these those : View) (a b : Report) → IsReportBy policy metadata these a
+      → IsReportBy policy metadata those b → a ≡ b
+  one_report one_policy policy metadata these those a b this that =
       let views : policy_view this.said.bans
       ≡ policy_view that.said.bans = (one_policy policy policy_id this.said that.said this.is_said.is_policy
       that.is_said.is_policy).0 in
       let graphs : this.graph ≡ that.graph = one_graph metadata this.graph that.graph this.is_graph that.is_graph in
       of_graph (policy_view that.said.bans) that.graph a b
-      (subst (λ (p : Policy). IsReport p that.graph a) views
-      (subst (λ (g : Graph). IsReport (policy_view this.said.bans) g a) graphs this.is_report))
-      that.is_report (this.files ∙ sym that.files)
+      (subst (λ (p : Policy). IsModelled p that.graph a) views
+      (subst (λ (g : Graph). IsModelled (policy_view this.said.bans) g a) graphs
+      (modelled (policy_view this.said.bans) this.graph these a this.is_report)))
+      (modelled (policy_view that.said.bans) that.graph those b that.is_report) (this.files ∙ sym that.files)

@@ -24,6 +24,7 @@ use Rattle.deny_gate.specs.Labels.{AreLabelled, ban_ranges, entry_ranges, range_
 use Rattle.deny_gate.specs.declared.report.GateError.{GateError}
 use Rattle.deny_gate.specs.declared.report.Report.{Report}
 use Rattle.deny_gate.proofs.LabelLaws.{report_labelled}
+use Rattle.deny_gate.proofs.Modelled.{modelled}
 
 module _ (text : List ℕ) where
   words_lie : (words : List Words) → Lie text (word_ranges words) → Lie text (map (λ (w : Words). w.span) words)
@@ -148,6 +149,6 @@ module _ (text : List ℕ) where
       → IfOk result (IsReportOn (policy_view said.bans) metadata) → IfOk result (λ report. report.files ≡ files)
       → IfOk result (λ report. AreLabelled report.files report.findings)
   labels_then metadata said files (Ok report) labels first on in_files =
-      report_labelled (policy_view said.bans) on.graph text report (policy_ranges said.bans labels.placed) on.is_report
-      (in_files ∙ first)
+      report_labelled (policy_view said.bans) on.graph text report (policy_ranges said.bans labels.placed)
+      (modelled (policy_view said.bans) on.graph on.seen.view report on.seen.is_report) (in_files ∙ first)
   labels_then metadata said files (Err error) labels first on in_files = tt

@@ -24,17 +24,18 @@ use Rattle.deny_model.specs.Told.{crates_at, diag_told, severity_told}
 use Rattle.deny_model.specs.Wrappers.{unused_wrapper_keys_of}
 use Rattle.std.proofs.lemmas.List.Elements.{Contains-append_left, Contains-append_right}
 use Rattle.deny_gate.specs.Headline.{AreSeveral, IsBan, IsDeniedMultiple, IsUnlisted, IsViolation, is_ban, is_unlisted, are_several, is_crate_error, is_crate_rule}
-use Rattle.deny_gate.specs.Report.{finding_told, has_error, is_error}
+use Rattle.deny_gate.specs.Report.{has_error, is_error}
 use Rattle.deny_gate.proofs.Covered.{exempt_is, is_exempt_test, is_lifted_test, lifted_is, some_are, some_test}
 use Rattle.deny_gate.proofs.Placed.{ArePlaced, at_places}
 use Rattle.deny_gate.proofs.Standing.{IsKnown, of_ban, of_unlisted, of_several, of_entry, code_in, code_of_duplicate, known}
+use Rattle.deny_gate.proofs.Modelled.{finding_modelled}
 
 -- whether the finding of a code is a crate-rule error
 abbrev pub error_at : DiagnosticCode → Policy → Graph → Key → Bool
 error_at c p g key = is_error (severity_told c p g key) && is_crate_rule (Some c)
 
-pub error_is : (p : Policy) (g : Graph) (key : Key) → is_crate_error (finding_told p g key) ≡ error_at key.code p g key
-unfolding is_crate_error has_error finding_told diag_told
+pub error_is : (p : Policy) (g : Graph) (key : Key) → is_crate_error (finding_modelled p g key) ≡ error_at key.code p g key
+unfolding is_crate_error has_error finding_modelled diag_told
 error_is p g key = refl
 
 -- ---- bans
@@ -231,7 +232,7 @@ module _ (p : Policy) (g : Graph) (facts : Facts) (placed : ArePlaced g g.crates
       (ap (λ (d : DiagnosticCode). is_crate_rule (Some d)) (sym is)
       ∙ (and_parts (is_error (severity_told key.code p g key)) (is_crate_rule (Some key.code)) error).1))
 
-  pub violation_from : (key : Key) → Stands p g facts key → is_crate_error (finding_told p g key) ≡ true
+  pub violation_from : (key : Key) → Stands p g facts key → is_crate_error (finding_modelled p g key) ≡ true
       → IsViolation p g facts key
   violation_from key stands error = of_kind key (known p g facts key stands) (sym (error_is p g key) ∙ error)
 
@@ -256,7 +257,7 @@ module _ (p : Policy) (g : Graph) (facts : Facts) (placed : ArePlaced g g.crates
   unfolding severity_told
   unlisted_error key = refl
 
-  pub violation_error : (key : Key) → IsViolation p g facts key → is_crate_error (finding_told p g key) ≡ true
+  pub violation_error : (key : Key) → IsViolation p g facts key → is_crate_error (finding_modelled p g key) ≡ true
   violation_error key (is_ban k is) =
       let same : key.code ≡ Bans code.Banned = ap (λ (j : Key). j.code) is.is
       ∙ code_in _ code.Banned is.krate.place is.ban.spec.range 0 in

@@ -12,7 +12,8 @@ use Rattle.deny_krates.specs.fault.MetadataFault.{MetadataFault}
 use Rattle.deny_krates.specs.fault.MetadataFault.TheVariants as fault
 use Rattle.deny_model.specs.Graph.{Graph}
 use Rattle.deny_model.specs.Policy as model
-use Rattle.deny_model.specs.Rules.{AreKeys}
+use Rattle.deny_codes.specs.Circumstances.{Circumstances, View, seen_by}
+use Rattle.deny_codes.specs.Standing.{AreKeys}
 use Rattle.deny_dup_edges.specs.DupEdges.{ShowsEach, is_of_duplicate}
 use Rattle.deny_dup_edges.specs.declared.dup_edges.DupEdges.{DupEdges}
 use Rattle.deny_toml.specs.Faults.{fault_at}
@@ -28,15 +29,20 @@ pub record IsBuilt (text : List ℕ) (policy : Policy) : Type 0 where
   pub is_policy : IsPolicyOf text policy_id policy
   pub is_built : policy.not_built ≡ false
 
--- the policy is one whose rules are there, the metadata has a graph, and this is the report of the one on the other. Its one
--- file is the policy's text.
-pub record IsReportOf (policy metadata : List ℕ) (report : Report) : Type 0 where
+-- the policy is one whose rules are there, the metadata has a graph, and this is the report of the one on the other,
+-- by this view of files. Its one file is the policy's text.
+pub record IsReportBy (policy metadata : List ℕ) (view : View) (report : Report) : Type 0 where
   pub said : Policy
   pub is_said : IsBuilt policy said
   pub graph : Graph
   pub is_graph : IsGraphOf metadata graph
-  pub is_report : IsReport (policy_view said.bans) graph report
+  pub is_report : IsReport (seen_by (policy_view said.bans) graph policy_id view) report
   pub files : report.files ≡ policy_file policy ∷ []
+
+-- by some view: no file but the two texts is read yet
+pub record IsReportOf (policy metadata : List ℕ) (report : Report) : Type 0 where
+  pub view : View
+  pub by : IsReportBy policy metadata view report
 
 -- the text is a policy whose rules are there
 pub record HasPolicy (policy : List ℕ) : Type 0 where
@@ -71,14 +77,19 @@ IsPolicyCause policy (Metadata f) = ⊥
 IsPolicyCause policy Memory = Unit {0}
 
 abbrev pub IsMetadataCause : List ℕ → GateError → Type 0
+IsMetadataCause metadata (Config faults) = ⊥
+IsMetadataCause metadata (Invalid told) = ⊥
+IsMetadataCause metadata (NotBuilt text) = ⊥
 IsMetadataCause metadata (Metadata f) = IsFirstFault metadata f
 IsMetadataCause metadata Memory = Unit {0}
-IsMetadataCause metadata _ = ⊥
 
 -- when an answer that is no report may come: the policy is looked at first
 abbrev pub IsCause : List ℕ → List ℕ → GateError → Type 0
+IsCause policy metadata (Config faults) = ListsFaults policy faults
+IsCause policy metadata (Invalid told) = TellsClashes policy policy_id told
+IsCause policy metadata (NotBuilt text) = IsPolicyCause policy (NotBuilt text)
 IsCause policy metadata (Metadata f) = HasPolicy policy × IsFirstFault metadata f
-IsCause policy metadata error = IsPolicyCause policy error
+IsCause policy metadata Memory = Unit {0}
 
 -- a text outside the grammar of TOML; where in the text it is so is free
 pub record IsOutsideGrammar (error : GateError) : Type 0 where
@@ -91,15 +102,25 @@ AreOneCause a b = (a ≡ b) ⊎ (IsOutsideGrammar a × IsOutsideGrammar b)
 
 -- ---- for private clauses
 
+-- the report of a policy on a graph, by some view of files
+pub record IsReportSeen (p : model.Policy) (g : Graph) (report : Report) : Type 0 where
+  pub view : View
+  pub is_report : IsReport (seen_by p g policy_id view) report
+
 -- the metadata has a graph, and this is the report of a policy on it
 pub record IsReportOn (p : model.Policy) (metadata : List ℕ) (report : Report) : Type 0 where
   pub graph : Graph
   pub is_graph : IsGraphOf metadata graph
-  pub is_report : IsReport p graph report
+  pub seen : IsReportSeen p graph report
 
 -- what stands is told and shown so
-pub record IsTold (p : model.Policy) (g : Graph) (findings : List Finding) (shown : List DupEdges) : Type 0 where
+pub record IsTold (c : Circumstances) (findings : List Finding) (shown : List DupEdges) : Type 0 where
   pub keys : List Key
-  pub listed : AreKeys p g keys
-  pub told : findings ≡ map (finding_told p g) keys
-  pub each : ShowsEach p g (filter is_of_duplicate keys) shown
+  pub listed : AreKeys c keys
+  pub told : findings ≡ map (finding_told c) keys
+  pub each : ShowsEach c.policy c.graph (filter is_of_duplicate keys) shown
+
+-- by some view of files
+pub record IsToldOn (p : model.Policy) (g : Graph) (findings : List Finding) (shown : List DupEdges) : Type 0 where
+  pub view : View
+  pub is_told : IsTold (seen_by p g policy_id view) findings shown

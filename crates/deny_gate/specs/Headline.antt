@@ -1,15 +1,20 @@
 -- The headline: the crate-rule errors of a report are exactly the uncovered violations at level deny, nothing else is an
 -- error, and a report fails exactly where an error stands.
-use Rattle.std.specs.Prelude.{◌≡◌, ◌≢◌, ◌⊎◌, ◌≤◌, ◌&&◌, ℕ, Bool, true, false, IsTrue, List, [], length, map, filter, Contains, Option, Some, if◌then◌else◌}
+use Rattle.std.specs.Prelude.{◌≡◌, ◌≢◌, ◌⊎◌, ◌≤◌, ◌&&◌, ◌||◌, ◌==◌, ℕ, Bool, true, false, not, IsTrue, List, [], length, map, filter, Contains, Option, None, Some, codes, is_some, if◌then◌else◌}
 use Rattle.std.specs.List.{list_any}
+use Rattle.std.specs.Option.{option_map_or}
 use Rattle.deny_lists.specs.Ascending.{Lists}
 use Rattle.deny_base.specs.KeyOrder.{key_cmp}
+use Rattle.deny_base.specs.declared.code.Code.{Code}
+use Rattle.deny_base.specs.declared.code.Code.TheVariants as code
 use Rattle.deny_base.specs.declared.code.Code.TheVariants.{Banned, NotAllowed, Duplicate}
 use Rattle.deny_base.specs.declared.code.DiagnosticCode.{DiagnosticCode}
-use Rattle.deny_base.specs.declared.code.DiagnosticCode.TheVariants.{Bans}
+use Rattle.deny_base.specs.declared.code.DiagnosticCode.TheVariants.{Deprecated, Bans, License}
 use Rattle.deny_base.specs.declared.edge.Edge.{Edge}
 use Rattle.deny_base.specs.declared.key.Key.{Key}
 use Rattle.deny_base.specs.declared.level.LintLevel.TheVariants.{Deny}
+use Rattle.deny_base.specs.declared.license_code.LicenseCode.{LicenseCode}
+use Rattle.deny_base.specs.declared.license_code.LicenseCode.TheVariants as license
 use Rattle.deny_cfg.specs.PolicyView.{policy_view}
 use Rattle.deny_cfg.specs.declared.policy.Policy as cfg
 use Rattle.deny_krates.specs.Read.{IsGraphOf}
@@ -20,8 +25,11 @@ use Rattle.deny_model.specs.Keys.{crate_key, duplicate_key, no_span}
 use Rattle.deny_model.specs.Match.{matches}
 use Rattle.deny_model.specs.Policy.{Ban, Entry, Policy, Spec, Words}
 use Rattle.deny_model.specs.VersionOrder.{version_cmp}
+use Rattle.deny_toml.specs.Calls.{array_in, below_name}
+use Rattle.deny_toml.specs.Parser.{IsTreeOf}
+use Rattle.deny_toml.specs.declared.value.Value.{Value}
 use Rattle.deny_gate.specs.Gating.{IsBuilt}
-use Rattle.deny_gate.specs.Report.{has_error}
+use Rattle.deny_gate.specs.Report.{has_error, verdict_of}
 use Rattle.deny_gate.specs.declared.report.Finding.{Finding}
 use Rattle.deny_gate.specs.declared.report.Report.{Report}
 use Rattle.deny_gate.specs.declared.report.Verdict.TheVariants.{Pass, Fail}
@@ -108,6 +116,89 @@ is_crate_rule _ = false
 unfoldable pub is_crate_error : Finding → Bool
 is_crate_error f = has_error f && is_crate_rule f.diag.diag.code
 
+-- ---- what a text writes
+
+-- a table has this key
+abbrev pub has_key : List ℕ → Value → Bool
+has_key name table = is_some (below_name name table)
+
+-- a value is an array with an element
+abbrev pub has_element : Value → Bool
+has_element v = option_map_or (λ elements. not (length elements == 0)) (array_in v) false
+
+-- the array of this key has one
+abbrev pub has_entry : List ℕ → Value → Bool
+has_entry name table = option_map_or has_element (below_name name table) false
+
+-- the table `bans` writes the rule that can tell errors by this code; the crate rules are written by what they speak of
+unfoldable pub bans_write : Code → Value → Bool
+bans_write code.Banned bans = false
+bans_write code.Allowed bans = false
+bans_write code.NotAllowed bans = false
+bans_write code.Duplicate bans = false
+bans_write code.Skipped bans = false
+bans_write code.Wildcard bans = has_key (codes "wildcards") bans
+bans_write code.UnmatchedSkip bans = false
+bans_write code.UnnecessarySkip bans = false
+bans_write code.AllowedByWrapper bans = false
+bans_write code.UnmatchedWrapper bans = false
+bans_write code.SkippedByRoot bans = false
+bans_write code.UnmatchedSkipRoot bans = false
+bans_write code.BuildScriptNotAllowed bans =
+    option_map_or (has_key (codes "allow-build-scripts")) (below_name (codes "build") bans)
+    (has_key (codes "allow-build-scripts") bans)
+bans_write code.ExactFeaturesMismatch bans = has_entry (codes "features") bans
+bans_write code.FeatureNotExplicitlyAllowed bans = has_entry (codes "features") bans
+bans_write code.FeatureBanned bans = has_entry (codes "features") bans
+bans_write code.UnknownFeature bans = false
+bans_write code.DefaultFeatureEnabled bans =
+    has_key (codes "workspace-default-features") bans || has_key (codes "external-default-features") bans
+bans_write code.PathBypassed bans = false
+bans_write code.PathBypassedByGlob bans = false
+bans_write code.ChecksumMatch bans = false
+bans_write code.ChecksumMismatch bans = has_key (codes "build") bans
+bans_write code.DeniedByExtension bans = has_key (codes "build") bans
+bans_write code.DetectedExecutable bans = has_key (codes "build") bans
+bans_write code.DetectedExecutableScript bans = has_key (codes "build") bans
+bans_write code.UnableToCheckPath bans = has_key (codes "build") bans
+bans_write code.FeaturesEnabled bans = false
+bans_write code.UnmatchedBypass bans = false
+bans_write code.UnmatchedPathBypass bans = false
+bans_write code.UnmatchedGlob bans = false
+bans_write code.UnusedWrapper bans = false
+bans_write code.WorkspaceDuplicate bans = has_key (codes "workspace-dependencies") bans
+bans_write code.UnresolvedWorkspaceDependency bans = false
+bans_write code.UnusedWorkspaceDependency bans = has_key (codes "workspace-dependencies") bans
+bans_write code.ReplacedInStd bans = has_key (codes "std-replacements") bans
+bans_write code.UnmatchedReplacementIgnore bans = false
+
+unfoldable pub licenses_write : LicenseCode → Value → Bool
+licenses_write license.Accepted tree = false
+licenses_write license.Rejected tree = has_key (codes "licenses") tree
+licenses_write license.Unlicensed tree = has_key (codes "licenses") tree
+licenses_write license.ParseError tree = has_key (codes "licenses") tree
+licenses_write license.SkippedPrivateWorkspaceCrate tree = false
+licenses_write license.LicenseNotEncountered tree = has_key (codes "licenses") tree
+licenses_write license.LicenseExceptionNotEncountered tree = false
+
+abbrev pub writes : DiagnosticCode → Value → Bool
+writes Deprecated tree = false
+writes (Bans code) tree = option_map_or (bans_write code) (below_name (codes "bans") tree) false
+writes (License code) tree = licenses_write code tree
+
+-- the text writes the rule of a code
+pub record WritesRule (text : List ℕ) (code : DiagnosticCode) : Type 0 where
+  pub tree : Value
+  pub is_tree : IsTreeOf text tree
+  pub written : IsTrue (writes code tree)
+
+-- and that of a finding; one without a code has none
+abbrev pub WritesRuleOf : List ℕ → Option DiagnosticCode → Type 0
+WritesRuleOf text None = ⊥
+WritesRuleOf text (Some code) = WritesRule text code
+
+-- ---- together
+
 pub record KeepsHeadline (p : Policy) (g : Graph) (facts : Facts) (report : Report) : Type 0 where
   -- the keys of the crate-rule errors are those of the violations, ascending, each once
   pub violations : Lists key_cmp (IsViolation p g facts) (map (λ f. f.diag.key) (filter is_crate_error report.findings))
@@ -115,6 +206,8 @@ pub record KeepsHeadline (p : Policy) (g : Graph) (facts : Facts) (report : Repo
   pub no_other : (f : Finding) → Contains report.findings f → IsTrue (has_error f) → IsTrue (is_crate_error f)
   -- the report fails exactly where a finding is an error
   pub fails : report.verdict ≡ (if list_any has_error report.findings then Fail 2 else Pass)
+  -- by check: 2 where the bans check has an error, 4 where the licence check has one, or their sum
+  pub bits : report.verdict ≡ verdict_of report.findings
 
 -- of the policy and the graph of two texts, by true facts
 pub record IsHeadlineOf (policy metadata : List ℕ) (report : Report) : Type 0 where
@@ -125,3 +218,6 @@ pub record IsHeadlineOf (policy metadata : List ℕ) (report : Report) : Type 0 
   pub facts : Facts
   pub true_facts : AreFacts (policy_view said.bans) graph facts
   pub keeps : KeepsHeadline (policy_view said.bans) graph facts report
+  -- another rule's error comes only where the policy's text writes that rule
+  pub others : (f : Finding) → Contains report.findings f → IsTrue (has_error f)
+      → IsTrue (is_crate_error f) ⊎ WritesRuleOf policy f.diag.diag.code

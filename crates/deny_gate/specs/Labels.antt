@@ -10,7 +10,7 @@ use Rattle.deny_model.specs.Policy.{Ban, Entry, Policy, Root, Words}
 use Rattle.deny_toml.specs.Ranges.{IsRange}
 use Rattle.deny_gate.specs.declared.report.Finding.{Finding}
 use Rattle.deny_gate.specs.declared.report.GateError.{GateError}
-use Rattle.deny_gate.specs.declared.report.GateError.TheVariants.{Invalid}
+use Rattle.deny_gate.specs.declared.report.GateError.TheVariants.{Config, Invalid, NotBuilt, Metadata, Memory}
 
 -- a label marks a range of its file, on character boundaries
 pub record IsPlaced (files : List File) (label : Label) : Type 0 where
@@ -30,8 +30,11 @@ abbrev pub AreLabelledClashes : List ℕ → List Diagnostic → Type 0
 AreLabelledClashes text told = All (λ d. ArePlaced (policy_file text ∷ []) d.labels) told
 
 abbrev pub IsLabelledCause : List ℕ → GateError → Type 0
+IsLabelledCause text (Config faults) = Unit {0}
 IsLabelledCause text (Invalid told) = AreLabelledClashes text told
-IsLabelledCause text _ = Unit {0}
+IsLabelledCause text (NotBuilt which) = Unit {0}
+IsLabelledCause text (Metadata f) = Unit {0}
+IsLabelledCause text Memory = Unit {0}
 
 -- ---- the ranges of a policy that labels mark: each entry's name, and what it names besides
 

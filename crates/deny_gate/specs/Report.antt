@@ -1,4 +1,4 @@
--- The report on a policy and a graph: one finding for each key that stands, what is shown of duplicates, and the verdict.
+-- The report in circumstances: one finding for each key that stands, what is shown of duplicates, and the verdict.
 use Rattle.std.specs.Prelude.{◌≡◌, ◌&&◌, ℕ, Bool, true, false, List, Option, map, filter}
 use Rattle.std.specs.List.{list_any}
 use Rattle.deny_base.specs.declared.check.Check.{Check}
@@ -9,10 +9,9 @@ use Rattle.deny_base.specs.declared.key.Key.{Key}
 use Rattle.deny_base.specs.declared.level.Severity.{Severity}
 use Rattle.deny_base.specs.declared.level.Severity.TheVariants.{Bug, Error, Warning, Note, Help}
 use Rattle.deny_base.specs.declared.span.Kid.{Kid}
-use Rattle.deny_model.specs.Graph.{Graph}
-use Rattle.deny_model.specs.Policy.{Policy}
-use Rattle.deny_model.specs.Rules.{AreKeys}
-use Rattle.deny_model.specs.Told.{check_told, kid_told, diag_told}
+use Rattle.deny_codes.specs.Circumstances.{Circumstances}
+use Rattle.deny_codes.specs.Standing.{AreKeys}
+use Rattle.deny_codes.specs.Told.{check_told, diag_told, words_told}
 use Rattle.deny_dup_edges.specs.DupEdges.{ShowsEach, is_of_duplicate}
 use Rattle.deny_gate.specs.declared.report.Finding.{Finding}
 use Rattle.deny_gate.specs.declared.report.Report.{Report}
@@ -24,11 +23,11 @@ abbrev pub policy_id : ℕ
 policy_id = 0
 
 -- the finding of a key
-unfoldable pub finding_told : Policy → Graph → Key → Finding
-finding_told p g key = record {
+unfoldable pub finding_told : Circumstances → Key → Finding
+finding_told c key = record {
   check = check_told key.code;
-  kid = kid_told key.section g key;
-  diag = diag_told p g policy_id key;
+  kid = (words_told c key).krate;
+  diag = diag_told c key;
 }
 
 abbrev pub finding_of : Check → Option Kid → Diag → Finding
@@ -69,12 +68,12 @@ verdict_by true true = Fail 6
 abbrev pub verdict_of : List Finding → Verdict
 verdict_of findings = verdict_by (list_any (fails_as Bans) findings) (list_any (fails_as Licenses) findings)
 
-pub record IsReport (p : Policy) (g : Graph) (report : Report) : Type 0 where
+pub record IsReport (c : Circumstances) (report : Report) : Type 0 where
   -- what stands, ascending, each once
   pub keys : List Key
-  pub listed : AreKeys p g keys
+  pub listed : AreKeys c keys
   -- the report tells each of them, in this order, and nothing else
-  pub told : report.findings ≡ map (finding_told p g) keys
+  pub told : report.findings ≡ map (finding_told c) keys
   -- and shows what leads to each duplicate
-  pub shown : ShowsEach p g (filter is_of_duplicate keys) report.dup_edges
+  pub shown : ShowsEach c.policy c.graph (filter is_of_duplicate keys) report.dup_edges
   pub verdict : report.verdict ≡ verdict_of report.findings

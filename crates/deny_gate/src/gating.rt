@@ -3,10 +3,10 @@ ghost use Rattle.deny_cfg.specs.LabelRanges.{AreLabels, word_labels};
 ghost use Rattle.deny_cfg.specs.PolicyText.{policy_file};
 ghost use Rattle.deny_cfg.specs.PolicyView.{policy_view};
 ghost use Rattle.deny_krates.specs.Read.{IsGraphOf};
-ghost use Rattle.deny_gate.specs.Gating.{IsBuilt, IsReportOf, IsCause, IsPolicyCause, IsMetadataCause, IsReportOn, IsTold};
+ghost use Rattle.deny_outside.specs.Disk.{IsLater};
+ghost use Rattle.deny_gate.specs.Gating.{IsBuilt, IsReportOf, IsCause, IsPolicyCause, IsMetadataCause, IsReportOn, IsReportSeen, IsToldOn};
 ghost use Rattle.deny_gate.specs.Headline.{IsHeadlineOf};
 ghost use Rattle.deny_gate.specs.Labels.{AreLabelled, IsLabelledCause};
-ghost use Rattle.deny_gate.specs.Report.{IsReport};
 
 use crate::findings::{findings_in, verdict_of};
 use crate::report::{Finding, GateError, Inputs, Report};
@@ -61,9 +61,11 @@ fn told<D: PackageFiles>(
     disk: &mut D,
 ) -> Result<(List<Finding>, List<DupEdges>), NoMemory>
     requires { cfg.now.file_id ≡ 0 }
-    ensures told { IfOk result (λ told. IsTold (policy_view cfg.now) krates.now told.0 told.1) }
+    ensures told { IfOk result (λ told. IsToldOn (policy_view cfg.now) krates.now told.0 told.1) }
     ensures untouched { disk.new ≡ disk.old }
+    ensures later { IsLater (D.seen disk.old) (D.seen disk.new) }
 {
+    deny_codes::bans_alone();
     let mut packs = List::new(alloc);
     let end = bans::check(alloc, &CheckCtx { cfg, krates }, disk, &mut packs)?;
     let findings = findings_in(alloc, packs)?;
@@ -71,6 +73,7 @@ fn told<D: PackageFiles>(
 }
 
 /// The report of a configuration on a graph.
+#[tactic(auto, using(crate::proofs::FindingLaws::seen_report))]
 fn report_on<D: PackageFiles>(
     alloc: Global,
     files: Files,
@@ -79,9 +82,10 @@ fn report_on<D: PackageFiles>(
     disk: &mut D,
 ) -> Result<Report, NoMemory>
     requires { cfg.now.file_id ≡ 0 }
-    ensures report { IfOk result (IsReport (policy_view cfg.now) krates.now) }
+    ensures report { IfOk result (IsReportSeen (policy_view cfg.now) krates.now) }
     ensures files { IfOk result (λ report. report.files ≡ files) }
     ensures untouched { disk.new ≡ disk.old }
+    ensures later { IsLater (D.seen disk.old) (D.seen disk.new) }
 {
     let (findings, dup_edges) = told(alloc, cfg, krates, disk)?;
     let verdict = verdict_of(findings.as_slice());
@@ -107,6 +111,7 @@ fn report_of<D: PackageFiles>(
     ensures files { IfOk result (λ report. report.files ≡ files) }
     ensures cause { IfErr result (IsMetadataCause metadata.now) }
     ensures untouched { disk.new ≡ disk.old }
+    ensures later { IsLater (D.seen disk.old) (D.seen disk.new) }
 {
     let krates = read_graph(alloc, metadata)?;
     Ok(report_on(alloc, files, cfg, &krates, disk)?)
@@ -132,6 +137,7 @@ pub fn gate<D: PackageFiles>(
     ensures labels { IfOk result (λ report. AreLabelled report.files report.findings) }
     ensures clash_labels { IfErr result (IsLabelledCause inputs.now.policy.items) }
     ensures untouched { disk.new ≡ disk.old }
+    ensures later { IsLater (D.seen disk.old) (D.seen disk.new) }
 {
     let mut files = Files::new(alloc);
     let policy = built_policy(alloc, inputs.policy.as_slice(), &mut files)?;

@@ -1,6 +1,7 @@
 //! What follows from the words of the gate's contract.
 ghost use Rattle.std.specs.Prelude.{◌≡◌, ◌≢◌, ℕ, List};
-ghost use Rattle.deny_gate.specs.Gating.{AreOneCause, HasGraph, HasPolicy, IsCause, IsReportOf};
+ghost use Rattle.deny_codes.specs.Circumstances.{View};
+ghost use Rattle.deny_gate.specs.Gating.{AreOneCause, HasGraph, HasPolicy, IsCause, IsReportBy, IsReportOf};
 ghost use Rattle.deny_gate.specs.Headline.{IsHeadlineOf};
 ghost use Rattle.deny_gate.specs.declared.report.GateError.{GateError};
 ghost use Rattle.deny_gate.specs.declared.report.GateError.TheVariants as gate;
@@ -18,9 +19,13 @@ pub fn one_answer()
     deny_cfg::one_refusal();
 }
 
-/// Two texts have one report, to each edge that is shown, whatever else the disk holds.
+/// Two texts and one view of files have one report, to each edge that is shown; as long as no rule that
+/// asks for files is there, by whatever view.
 pub fn one_report()
-    ensures { (policy metadata : List ℕ) → (a b : Report) → IsReportOf policy metadata a → IsReportOf policy metadata b → a ≡ b }
+    ensures by_view { (policy metadata : List ℕ) → (view : View) → (a b : Report)
+        → IsReportBy policy metadata view a → IsReportBy policy metadata view b → a ≡ b }
+    ensures unseen { (policy metadata : List ℕ) → (a b : Report)
+        → IsReportOf policy metadata a → IsReportOf policy metadata b → a ≡ b }
 {
     deny_model::one_report();
     deny_cfg::one_policy();

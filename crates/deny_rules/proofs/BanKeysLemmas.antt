@@ -1,5 +1,5 @@
 -- What stands of each entry that bans crates, rule by rule.
-use Rattle.std.proofs.Common.{◌≡◌, ◌++◌, List, Contains, subst, inl, inr, append_assoc}
+use Rattle.std.proofs.Common.{◌≡◌, ◌++◌, ◌∷◌, [], List, Contains, subst, inl, inr, append-nil, append_assoc}
 use Rattle.std.specs.List.{flat_map}
 use Rattle.std.proofs.lemmas.List.Elements.{Contains-append_cases, Contains-append_left, Contains-append_right}
 use Rattle.deny_lists.specs.Ascending.{Adds}
@@ -7,9 +7,9 @@ use Rattle.deny_base.specs.declared.key.Key.{Key}
 use Rattle.deny_model.specs.Bans.{allowed_by_wrapper_keys_of, allowed_keys_of, banned_keys_of, not_allowed_keys, unmatched_wrapper_keys_of}
 use Rattle.deny_model.specs.Graph.{Graph}
 use Rattle.deny_model.specs.Policy.{Ban, Policy}
-use Rattle.deny_model.specs.Rules.{ban_keys}
 use Rattle.deny_model.specs.Wrappers.{unused_wrapper_keys_of}
 use Rattle.deny_rules.specs.private.Banned.{keys_of_ban}
+use Rattle.deny_rules.specs.private.OwnRules.{ban_rules, keys_of_rules}
 use Rattle.deny_lists.proofs.Adding.{adds_both, adds_list, adds_same}
 use Rattle.deny_lists.proofs.Members.{Contains-flat_map, Contains-from_flat_map}
 
@@ -69,14 +69,15 @@ module _ {X Y : Type 0} (a b c d : X → List Y) (xs : List X) where
       (after (flat_map b xs) (flat_map c xs ++ flat_map d xs) (flat_map (λ x. c x ++ d x) xs) y
       (together c d xs y) rest)) is)
 
-regroup : {Y : Type 0} (a b c d e f : List Y) → (a ++ (b ++ (c ++ d))) ++ (e ++ f) ≡ a ++ (b ++ (c ++ (d ++ (e ++ f))))
-regroup a b c d e f = simp append_assoc
+regroup : {Y : Type 0} (a b c d e f : List Y)
+    → (a ++ (b ++ (c ++ d))) ++ (e ++ f) ≡ flat_map (λ (xs : List Y). xs) (a ∷ (b ∷ (c ∷ (d ∷ (e ∷ (f ∷ []))))))
+regroup a b c d e f = simp (append_assoc, append-nil)
 
 pub all_ban_keys : (p : Policy) (g : Graph) (bans : List Ban) (old mid new : List Key) → bans ≡ p.deny
     → Adds (Contains (flat_map (keys_of_ban p g) bans)) old mid
     → new ≡ mid ++ (flat_map (allowed_keys_of g) p.allow ++ not_allowed_keys p g)
-    → Adds (Contains (ban_keys p g)) old new
-unfolding keys_of_ban ban_keys
+    → Adds (Contains (keys_of_rules (ban_rules p g))) old new
+unfolding keys_of_ban
 all_ban_keys p g bans old mid new are banned allowed =
     let rs = flat_map (banned_keys_of p g) p.deny in
     let bs = flat_map (allowed_by_wrapper_keys_of p g) p.deny in

@@ -6,4 +6,5 @@ pub mod SkipLemmas
 pub mod BannedLemmas
 pub mod AllowedLemmas
 pub mod BanKeysLemmas
+pub mod OwnRuleLemmas
 pub mod HitLemmas

@@ -1,7 +1,7 @@
 -- Crates and their marks, as skips and skipped trees look at them.
-use Rattle.std.proofs.Common.{◌≡◌, ◌++◌, ℕ, List, [], Bool, true, false, not, filter, length, map, refl, sym, ap, ◌∙◌, append_assoc}
+use Rattle.std.proofs.Common.{◌≡◌, ◌++◌, ◌∷◌, ℕ, List, [], Bool, true, false, not, filter, length, map, refl, sym, ap, ◌∙◌, append-nil, append_assoc}
 use Rattle.std.specs.Prelude.{◌&&◌, nat_lt, slice_index_or}
-use Rattle.std.specs.List.{list_any, range_with_len}
+use Rattle.std.specs.List.{flat_map, list_any, range_with_len}
 use Rattle.std.proofs.Math.Bool.{and_comm}
 use Rattle.std.proofs.lemmas.List.{length-map}
 use Rattle.std.proofs.lemmas.List.Elements.{filter_agree}
@@ -42,8 +42,8 @@ and_false false b = refl
 -- what five calls added, one after another
 pub joined : {X : Type 0} (old one two three four five a b c d e : List X) → one ≡ old ++ a → two ≡ one ++ b
     → three ≡ two ++ c → four ≡ three ++ d → five ≡ four ++ e
-    → five ≡ old ++ (a ++ (b ++ (c ++ (d ++ e))))
-joined old one two three four five a b c d e p q r s t = rw (t, s, r, q, p) (simp append_assoc)
+    → five ≡ old ++ flat_map (λ (xs : List X). xs) (a ∷ (b ∷ (c ∷ (d ∷ (e ∷ [])))))
+joined old one two three four five a b c d e p q r s t = rw (t, s, r, q, p) (simp (append_assoc, append-nil))
 
 -- an empty tree skips no crate
 pub no-tree : (p : Policy) (g : Graph) (marks : Marks) (t : Root) → slice_index_or marks.trees t.number [] ≡ []

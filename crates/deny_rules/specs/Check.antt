@@ -1,37 +1,44 @@
 -- What the bans check hands out.
-use Rattle.std.specs.Prelude.{◌≡◌, ◌++◌, ◌⊎◌, ℕ, List, filter, map}
+use Rattle.std.specs.Prelude.{◌≡◌, ◌++◌, ◌⊎◌, List, filter, map}
 use Rattle.deny_base.specs.declared.finding.Pack.{Pack}
 use Rattle.deny_base.specs.declared.key.Key.{Key}
 use Rattle.deny_cfg.specs.PolicyView.{policy_view}
 use Rattle.deny_cfg.specs.declared.bans.cfg.valid.ValidConfig.{ValidConfig}
 use Rattle.deny_model.specs.Graph.{Graph}
 use Rattle.deny_model.specs.Hits.{all_hits}
-use Rattle.deny_model.specs.Policy.{Policy}
-use Rattle.deny_model.specs.Rules.{AreKeys}
-use Rattle.deny_model.specs.Told.{pack_told}
+use Rattle.deny_codes.specs.Circumstances.{Circumstances, View, seen_by}
+use Rattle.deny_codes.specs.Codes.{is_of_bans}
+use Rattle.deny_codes.specs.Standing.{AreOwnKeys}
+use Rattle.deny_codes.specs.Told.{pack_told}
 use Rattle.deny_dup_edges.specs.DupEdges.{ShowsEach, is_of_duplicate}
 use Rattle.deny_telling.specs.Telling.{TellsPrefix}
 use Rattle.deny_rules.specs.declared.check.BansEnd.{BansEnd}
 
--- what stands of a policy on a graph is told, each once under its key, in the order of the keys; each
--- entry that is hit has its hit, and each duplicate its edges
-pub record IsChecked (p : Policy) (g : Graph) (file : ℕ) (old new : List Pack) (end : BansEnd) : Type 0 where
+-- what stands in the sections of the bans check is told, each once under its key, in the order of the keys;
+-- each entry that is hit has its hit, and each duplicate its edges
+pub record IsChecked (c : Circumstances) (old new : List Pack) (end : BansEnd) : Type 0 where
   pub keys : List Key
-  pub listed : AreKeys p g keys
-  pub told : new ≡ old ++ map (pack_told p g file) keys
-  pub hits : end.hits ≡ all_hits p g listed.facts
-  pub dup_edges : ShowsEach p g (filter is_of_duplicate keys) end.dup_edges
+  pub listed : AreOwnKeys is_of_bans c keys
+  pub told : new ≡ old ++ map (pack_told c) keys
+  pub hits : end.hits ≡ all_hits c.policy c.graph listed.facts.chains
+  pub dup_edges : ShowsEach c.policy c.graph (filter is_of_duplicate keys) end.dup_edges
 
--- the same of a configuration
-abbrev pub IsCheckOf : ValidConfig → Graph → List Pack → List Pack → BansEnd → Type 0
-IsCheckOf cfg g old new end = IsChecked (policy_view cfg) g cfg.file_id old new end
+-- the same of a configuration, by what was seen of files
+pub record IsCheckOf (cfg : ValidConfig) (g : Graph) (old new : List Pack) (end : BansEnd) : Type 0 where
+  pub view : View
+  pub checked : IsChecked (seen_by (policy_view cfg) g cfg.file_id view) old new end
 
--- a prefix of what stands was told
-pub record IsPrefixTold (p : Policy) (g : Graph) (file : ℕ) (old new : List Pack) : Type 0 where
+-- a prefix of what stands in the sections of the bans check was told
+pub record IsPrefixTold (c : Circumstances) (old new : List Pack) : Type 0 where
   pub keys : List Key
-  pub listed : AreKeys p g keys
-  pub told : TellsPrefix p g file keys old new
+  pub listed : AreOwnKeys is_of_bans c keys
+  pub told : TellsPrefix c keys old new
+
+-- the same of a configuration, by what was seen of files
+pub record IsPrefixOf (cfg : ValidConfig) (g : Graph) (old new : List Pack) : Type 0 where
+  pub view : View
+  pub prefix : IsPrefixTold (seen_by (policy_view cfg) g cfg.file_id view) old new
 
 -- nothing was told, or a prefix of what stands by a configuration
 abbrev pub TellsPrefixOf : ValidConfig → Graph → List Pack → List Pack → Type 0
-TellsPrefixOf cfg g old new = (new ≡ old) ⊎ IsPrefixTold (policy_view cfg) g cfg.file_id old new
+TellsPrefixOf cfg g old new = (new ≡ old) ⊎ IsPrefixOf cfg g old new

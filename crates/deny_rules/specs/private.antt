@@ -1,5 +1,6 @@
 pub mod Allowed
 pub mod Banned
 pub mod Duplicates
+pub mod OwnRules
 pub mod Skipping
 pub mod WrappedEdges

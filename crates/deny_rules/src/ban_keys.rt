@@ -2,7 +2,7 @@
 ghost use Rattle.std.specs.Prelude.{Contains, OnOk};
 ghost use Rattle.deny_lists.specs.Ascending.{Adds};
 ghost use Rattle.deny_cfg.specs.PolicyView.{policy_view};
-ghost use Rattle.deny_model.specs.Rules.{ban_keys};
+ghost use Rattle.deny_rules.specs.private.OwnRules.{ban_rules, keys_of_rules};
 
 use crate::allowed::add_allowed_keys;
 use crate::banned::add_banned_keys;
@@ -20,7 +20,7 @@ pub fn add_ban_keys(
     krates: &Krates,
     keys: &mut List<Key>,
 ) -> Result<(), NoMemory>
-    ensures { OnOk result (Adds (Contains (ban_keys (policy_view cfg.now) krates.now)) keys.old keys.new) }
+    ensures { OnOk result (Adds (Contains (keys_of_rules (ban_rules (policy_view cfg.now) krates.now))) keys.old keys.new) }
 {
     let exempt = exempt_marks(alloc, cfg, krates)?;
     add_banned_keys(alloc, cfg, krates, exempt.as_slice(), keys)?;

@@ -1,11 +1,12 @@
 //! The bans check.
 ghost use Rattle.std.specs.Prelude.{◌≡◌, IfOk, OnErr};
-ghost use Rattle.deny_lists.specs.Ascending.{Lists};
-ghost use Rattle.deny_base.specs.KeyOrder.{key_cmp};
 ghost use Rattle.deny_cfg.specs.PolicyView.{policy_view};
-ghost use Rattle.deny_model.specs.Rules.{Stands};
-ghost use Rattle.deny_rules.specs.Check.{IsCheckOf, TellsPrefixOf};
+ghost use Rattle.deny_outside.specs.Disk.{IsLater};
+ghost use Rattle.deny_codes.specs.Circumstances.{unseen_by};
+ghost use Rattle.deny_codes.specs.Codes.{is_of_bans};
+ghost use Rattle.deny_codes.specs.Standing.{ListsOwn};
 ghost use Rattle.deny_facts.specs.Marks.{facts_of};
+ghost use Rattle.deny_rules.specs.Check.{IsCheckOf, TellsPrefixOf};
 
 use crate::ban_keys::add_ban_keys;
 use crate::duplicates::add_duplicate_keys;
@@ -44,7 +45,8 @@ fn keys_of(
     krates: &Krates,
     marks: &Marks,
 ) -> Result<List<Key>, NoMemory>
-    ensures { IfOk result (λ keys. Lists key_cmp (Stands (policy_view cfg.now) krates.now (facts_of marks.now)) keys) }
+    ensures { IfOk result (ListsOwn is_of_bans (unseen_by (policy_view cfg.now) krates.now cfg.now.file_id)
+        (record { chains = facts_of marks.now })) }
 {
     key_order();
     let mut keys = List::new(alloc);
@@ -68,6 +70,7 @@ pub fn check<D: PackageFiles>(
     ensures checked { IfOk result (IsCheckOf ctx.now.cfg.now ctx.now.krates.now sink.old sink.new) }
     ensures prefix { OnErr result (TellsPrefixOf ctx.now.cfg.now ctx.now.krates.now sink.old sink.new) }
     ensures untouched { disk.new ≡ disk.old }
+    ensures later { IsLater (D.seen disk.old) (D.seen disk.new) }
 {
     let marks = marks_of(alloc, ctx.cfg, ctx.krates)?;
     let keys = keys_of(alloc, ctx.cfg, ctx.krates, &marks)?;

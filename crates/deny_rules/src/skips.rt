@@ -8,10 +8,10 @@ ghost use Rattle.deny_cfg.specs.SpecView.{spec_view};
 ghost use Rattle.deny_model.specs.Groups.{is_marked};
 ghost use Rattle.deny_model.specs.Keys.{unused_key};
 ghost use Rattle.deny_model.specs.Match.{matches};
-ghost use Rattle.deny_model.specs.Rules.{skip_keys};
 ghost use Rattle.deny_model.specs.Skips.{is_skipped, skipped_keys_of, skipped_by_root_keys_of, is_hit_skip, is_needless, has_root};
 ghost use Rattle.deny_facts.specs.Groups.{AreGroups};
 ghost use Rattle.deny_facts.specs.Marks.{facts_of};
+ghost use Rattle.deny_rules.specs.private.OwnRules.{keys_of_rules, skip_rules};
 ghost use Rattle.deny_rules.specs.private.Skipping.{is_left_out};
 
 use crate::crate_keys::{add_crate_keys, unused_key};
@@ -24,7 +24,6 @@ use deny_lists::{List, NoMemory};
 use std::alloc::Global;
 
 /// Adds the keys of what stands of skips and skipped trees.
-#[tactic(auto, unfolding(deny_model::specs::Rules::skip_keys))]
 pub fn add_skip_keys(
     alloc: Global,
     cfg: &ValidConfig,
@@ -32,8 +31,8 @@ pub fn add_skip_keys(
     marks: &Marks,
     keys: &mut List<Key>,
 ) -> Result<(), NoMemory>
-    ensures { OnOk result (Adds (Contains (skip_keys (policy_view cfg.now) krates.now
-        (facts_of marks.now))) keys.old keys.new) }
+    ensures { OnOk result (Adds (Contains (keys_of_rules (skip_rules (policy_view cfg.now) krates.now
+        (facts_of marks.now)))) keys.old keys.new) }
 {
     let groups = groups_of(alloc, cfg, krates, marks)?;
     let skips = cfg.skipped.as_slice();

@@ -1,13 +1,17 @@
 use Rattle.std.proofs.Common.{subst, List, ℕ}
 use Rattle.deny_cli.specs.Outputs.{LeavesErr}
 use Rattle.deny_cli.specs.Words.{texts}
-use Rattle.deny_cli.proofs.CausesLemmas.{AnswerLaws, completes, headline_on, is_refused, is_text, not_written, status_by}
+use Rattle.deny_cli.proofs.CausesLemmas.{AnswerLaws, completes, headline_on, is_refused, is_text, not_written, refused_words, status_by}
 use Rattle.deny_cli.proofs.program.run.Goals as goal
 
 pub tell-requires : goal.tell-requires
 tell-requires g c =
     is_text (g.D.PackageFiles.seen c.args.disk.now) (texts c.args.words.now) _ _ c.ending_of-ending.result.outcome
     c.as_slice.ensures.value c.ending_of-ending.ensures.policy
+
+pub returns-clause-usage : goal.returns-clause-usage
+returns-clause-usage g c refused = refused_words _ _ _ c.ending_of-ending.result.outcome
+    c.ending_of-ending.ensures.cause refused
 
 pub returns-clause-completes : goal.returns-clause-completes
 returns-clause-completes g c valid readable quiet =

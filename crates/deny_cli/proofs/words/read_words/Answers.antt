@@ -1,70 +1,55 @@
-use Rattle.std.proofs.Common.{◌∙◌, sym, ap, true≢false}
-use Rattle.std.specs.Prelude.{◌==◌}
-use Rattle.std.proofs.lemmas.List.{nil_from_length, length-map}
-use Rattle.deny_cli.specs.Words.{names_file}
-use Rattle.deny_cli.proofs.WordsLemmas.{usage_0_none, usage_0, usage_1_none, usage_1, usage_2_none, usage_2, usage_3}
+use Rattle.std.proofs.Common.{◌≡◌, ◌∙◌, ℕ, Option, Some, None, List, ap, sym, subst, take, arith}
+use Rattle.std.specs.Prelude.{length, option_map, string_bytes}
+use Rattle.std.proofs.lemmas.List.{length-map, take_all}
+use Rattle.deny_cli.specs.Commands.{command_view, form_view}
+use Rattle.deny_cli.specs.Words.{IsUsageAt, command_of, filled, nothing, step, texts}
+use Rattle.deny_cli.specs.declared.words.Command.{Command}
+use Rattle.deny_cli.specs.declared.words.Form.{Form}
+use Rattle.deny_cli.proofs.WordsLemmas.{asks_by, filled_more, texts_more, usage_at_end, usage_here}
 use Rattle.deny_cli.proofs.words.read_words.Goals as goal
 
-pub returns-in_default : goal.returns-in_default
-returns-in_default c =
-    rw (nil_from_length _ c.in_default.ensures.cases) usage_0_none
+pub returns-in-None : goal.returns-in-None
+returns-in-None c =
+    let words = c.args.words.now in
+    let at = c.loop-at.at in
+    let form = form_view c.loop-at.form in
+    let word = c.index-words-at.result in
+    let inside = c.loop-at-test.true in
+    usage_here (texts words) at form (string_bytes word)
+    (omega (arith, inside, length-map words string_bytes)) c.loop-at.invariant
+    (texts_more words at word (omega (arith, inside)) c.index-words-at.is)
+    (ap (step form) (sym c.as_str.ensures.value)
+    ∙ (sym c.step.ensures ∙ ap (λ (next : Option Form). option_map form_view next) c.in-None.is))
 
-pub returns-then-not-is_check : goal.returns-then-not-is_check
-returns-then-not-is_check c =
-    rw c.in-Some.ensures.cases.0
-    (usage_0 _ _ (λ e. true≢false (sym (c.is_check.ensures.1 (c.as_str.ensures.value ∙ e)) ∙ c.if-not-is_check.true)))
+pub loop-at-preserved : goal.loop-at-preserved
+loop-at-preserved c =
+    let words = c.args.words.now in
+    let at = c.loop-at.at in
+    let form = form_view c.loop-at.form in
+    let word = c.index-words-at.result in
+    ap (filled (Some nothing)) (texts_more words at word (omega (arith, c.loop-at-test.true)) c.index-words-at.is)
+    ∙ (filled_more (take at (texts words)) form (string_bytes word) c.loop-at.invariant
+    ∙ (ap (step form) (sym c.as_str.ensures.value)
+    ∙ (sym c.step.ensures ∙ ap (λ (next : Option Form). option_map form_view next) c.in-Some.is)))
 
-pub returns-in_default-split_first : goal.returns-in_default-split_first
-returns-in_default-split_first c =
-    rw (
-      c.in-Some.ensures.cases.0,
-      nil_from_length _ c.in_default-split_first.ensures.cases,
-      sym c.as_str.ensures.value
-          ∙ c.is_check.ensures.0 c.if-not-is_check.false,
-    )
-    usage_1_none
+pub returns-in-Some-command_of : goal.returns-in-Some-command_of
+returns-in-Some-command_of c =
+    let words = texts c.args.words.now in
+    let form = form_view c.loop-at.form in
+    let all = take_all c.loop-at.at words
+    (omega (arith, c.loop-at-test.false, length-map c.args.words.now string_bytes)) in
+    asks_by words form (command_view c.in-Some-command_of.command)
+    (ap (filled (Some nothing)) (sym all) ∙ c.loop-at.invariant)
+    (sym c.command_of.ensures
+    ∙ ap (λ (command : Option Command). option_map command_view command) c.in-Some-command_of.is)
 
-pub returns-then-not-names_file : goal.returns-then-not-names_file
-returns-then-not-names_file c =
-    rw (
-      c.in-Some.ensures.cases.0,
-      c.in-Some-split_first.ensures.cases.0,
-      sym c.as_str.ensures.value
-          ∙ c.is_check.ensures.0 c.if-not-is_check.false,
-    )
-    (usage_1 _ _ (sym (ap names_file c.as_str-2.ensures.value) ∙ sym c.names_file.ensures ∙ c.if-not-names_file.true))
-
-pub returns-in_default-split_first-2 : goal.returns-in_default-split_first-2
-returns-in_default-split_first-2 c =
-    rw (
-      c.in-Some.ensures.cases.0,
-      c.in-Some-split_first.ensures.cases.0,
-      nil_from_length _ c.in_default-split_first-2.ensures.cases,
-      sym c.as_str.ensures.value
-          ∙ c.is_check.ensures.0 c.if-not-is_check.false,
-    )
-    (usage_2_none _ (sym (ap names_file c.as_str-2.ensures.value) ∙ sym c.names_file.ensures
-    ∙ c.if-not-names_file.false))
-
-pub returns-then-not-names_file-2 : goal.returns-then-not-names_file-2
-returns-then-not-names_file-2 c =
-    rw (
-      c.in-Some.ensures.cases.0,
-      c.in-Some-split_first.ensures.cases.0,
-      c.in-Some-split_first-2.ensures.cases.0,
-      sym c.as_str.ensures.value ∙ c.is_check.ensures.0 c.if-not-is_check.false,
-    )
-    (usage_2 _ _ _ (sym (ap names_file c.as_str-2.ensures.value) ∙ sym c.names_file.ensures ∙ c.if-not-names_file.false)
-    (sym (ap names_file c.as_str-3.ensures.value) ∙ sym c.names_file-2.ensures ∙ c.if-not-names_file-2.true))
-
-pub returns-then-not-is_empty : goal.returns-then-not-is_empty
-returns-then-not-is_empty c =
-    rw (
-      c.in-Some.ensures.cases.0,
-      c.in-Some-split_first.ensures.cases.0,
-      c.in-Some-split_first-2.ensures.cases.0,
-      sym c.as_str.ensures.value ∙ c.is_check.ensures.0 c.if-not-is_check.false,
-    )
-    (usage_3 _ _ _ (ap (λ n. n == 0) (length-map _ _) ∙ sym c.is_empty.ensures ∙ c.if-not-is_empty.true)
-    (sym (ap names_file c.as_str-2.ensures.value) ∙ sym c.names_file.ensures ∙ c.if-not-names_file.false)
-    (sym (ap names_file c.as_str-3.ensures.value) ∙ sym c.names_file-2.ensures ∙ c.if-not-names_file-2.false))
+pub returns-in-None-command_of : goal.returns-in-None-command_of
+returns-in-None-command_of c =
+    let words = texts c.args.words.now in
+    let form = form_view c.loop-at.form in
+    let all = take_all c.loop-at.at words
+    (omega (arith, c.loop-at-test.false, length-map c.args.words.now string_bytes)) in
+    subst (λ (n : ℕ). IsUsageAt words n) (length-map c.args.words.now string_bytes)
+    (usage_at_end words form (ap (filled (Some nothing)) (sym all) ∙ c.loop-at.invariant)
+    (sym c.command_of.ensures
+    ∙ ap (λ (command : Option Command). option_map command_view command) c.in-None-command_of.is))

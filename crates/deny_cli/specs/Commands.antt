@@ -1,0 +1,29 @@
+-- What contracts see of the commands that words are read to.
+use Rattle.std.specs.Prelude.{ℕ, List, Option, option_map}
+use Rattle.std.specs.Borrow.{Bor}
+use Rattle.deny_cli.specs.Words as word
+use Rattle.deny_cli.specs.declared.words.Asked.{Asked}
+use Rattle.deny_cli.specs.declared.words.AskedSoFar.{AskedSoFar}
+use Rattle.deny_cli.specs.declared.words.Command.{Command}
+use Rattle.deny_cli.specs.declared.words.Command.TheVariants.{Check}
+use Rattle.deny_cli.specs.declared.words.Form.{Form}
+use Rattle.deny_cli.specs.declared.words.Form.TheVariants.{Nothing, Checking}
+
+abbrev pub text_view : Bor (List ℕ) → List ℕ
+text_view text = text.now
+
+abbrev pub asked_view : Asked → word.Asked
+asked_view asked = record { policy = asked.policy.now; metadata = asked.metadata.now }
+
+abbrev pub command_view : Command → word.Command
+command_view (Check asked) = word.check (asked_view asked)
+
+abbrev pub so_far_view : AskedSoFar → word.AskedSoFar
+so_far_view asked = record {
+  policy = option_map text_view asked.policy;
+  metadata = option_map text_view asked.metadata;
+}
+
+abbrev pub form_view : Form → word.Form
+form_view Nothing = word.nothing
+form_view (Checking asked) = word.checking (so_far_view asked)
