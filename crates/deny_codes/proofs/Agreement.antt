@@ -1,16 +1,48 @@
--- Facts that are true in the same circumstances tell the same, so what stands by them is the same: the model says it
--- of its rules, and the tables hold what these say.
+-- Facts that are true in the same circumstances tell the same, so what stands by them is the same, code by code.
+use Rattle.std.proofs.Common.{◌≡◌, List, subst}
+use Rattle.std.specs.Prelude.{Contains}
+use Rattle.deny_base.specs.declared.code.Code.{Code}
+use Rattle.deny_base.specs.declared.code.Code.TheVariants as code
+use Rattle.deny_base.specs.declared.code.DiagnosticCode.{DiagnosticCode}
+use Rattle.deny_base.specs.declared.code.DiagnosticCode.TheVariants.{Deprecated, Bans, License}
 use Rattle.deny_base.specs.declared.key.Key.{Key}
-use Rattle.deny_model.proofs.Agreement as model
+use Rattle.deny_lists.proofs.Agreement.{flat_map_on}
+use Rattle.deny_model.proofs.Agreement.{TwoFacts, duplicates_alike, rooted_keys_alike, skipped_keys_alike}
+use Rattle.deny_model.proofs.Agreement.{unmatched_alike, unnecessary_alike}
+use Rattle.deny_model.specs.Skips.{skipped_by_root_keys_of, skipped_keys_of}
 use Rattle.deny_codes.specs.Circumstances.{Circumstances}
 use Rattle.deny_codes.specs.Facts.{Facts, AreFacts}
-use Rattle.deny_codes.specs.Standing.{Stands}
-use Rattle.deny_codes.proofs.RuleLaws.{by_rule, rules}
+use Rattle.deny_codes.specs.Standing.{Stands, StandsAs, StandsBy}
+
+key_alike : (xs ys : List Key) (key : Key) → xs ≡ ys → Contains xs key → Contains ys key
+key_alike xs ys key same is = subst (λ (keys : List Key). Contains keys key) same is
+
+module _ (c : Circumstances) (these those : Facts) where
+  abbrev Both : Type 0
+  Both = TwoFacts c.policy c.graph these.chains those.chains
+
+  -- the last line is that of the codes that ask nothing of facts
+  as_alike : (d : Code) (key : Key) → Both → StandsAs d c these key → StandsAs d c those key
+  as_alike code.Duplicate key both is = duplicates_alike c.policy c.graph these.chains those.chains key both is
+  as_alike code.Skipped key both is = key_alike _ _ key
+      (flat_map_on (skipped_keys_of c.graph these.chains) (skipped_keys_of c.graph those.chains) c.policy.skip
+      (skipped_keys_alike c.policy c.graph these.chains those.chains both)) is
+  as_alike code.SkippedByRoot key both is = key_alike _ _ key
+      (flat_map_on (skipped_by_root_keys_of c.policy c.graph these.chains)
+      (skipped_by_root_keys_of c.policy c.graph those.chains) c.policy.skip_tree
+      (rooted_keys_alike c.policy c.graph these.chains those.chains both)) is
+  as_alike code.UnmatchedSkip key both is = key_alike _ _ key
+      (unmatched_alike c.policy c.graph these.chains those.chains both) is
+  as_alike code.UnnecessarySkip key both is = key_alike _ _ key
+      (unnecessary_alike c.policy c.graph these.chains those.chains both) is
+  as_alike _ key both is = is
+
+  by_alike : (d : DiagnosticCode) (key : Key) → Both → StandsBy d c these key → StandsBy d c those key
+  by_alike Deprecated key both is = is
+  by_alike (Bans d) key both is = as_alike d key both is
+  by_alike (License d) key both is = is
 
 pub stands_alike : (c : Circumstances) (these those : Facts) (key : Key) → AreFacts c these → AreFacts c those
     → Stands c these key → Stands c those key
 stands_alike c these those key left right is =
-    let both : model.TwoFacts c.policy c.graph these.chains those.chains =
-    record { left = left.chains; right = right.chains } in
-    let alike = model.stands_alike c.policy c.graph these.chains those.chains key both (by_rule c these key is) in
-    ((rules c those key).0 alike).1
+    by_alike c these those key.code key (record { left = left.chains; right = right.chains }) is

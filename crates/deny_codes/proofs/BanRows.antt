@@ -2,11 +2,29 @@
 use Rattle.std.proofs.Common.{◌≡◌, List, [], ◌∷◌, true, codes, refl}
 use Rattle.deny_base.specs.declared.code.Code.TheVariants as code
 use Rattle.deny_model.specs.Keys.{crate_key, dependent_key, no_span, unused_key}
-use Rattle.deny_model.specs.Rules.{ban_keys}
 use Rattle.deny_model.specs.Policy as policy
 use Rattle.deny_model.specs.Policy.{Ban}
-use Rattle.deny_codes.proofs.Cases.{bans_on_cases, ban_at, by_two, crate, dev_edge, edge, entry_at, exactly, graph}
+use Rattle.deny_codes.proofs.Cases.{bans_on_cases, ban_at, ban_keys, by_two, crate, dev_edge, edge, entry_at, exactly, graph}
 use Rattle.deny_codes.proofs.Cases.{one_x, plain, range, two_x, words_at}
+
+-- a ban by name stands at the entry's range, and two entries that match are two bans
+two_bans : ban_keys (record plain { deny = ban_at (codes "x") [] 16 ∷ ban_at (codes "x") [] 21 ∷ [] }) one_x
+    ≡ crate_key code.Banned 1 (range 16) ∷ crate_key code.Banned 1 (range 21) ∷ []
+unfolding bans_on_cases
+two_bans = refl
+
+-- `app` and `y` need `x`, and only `app` is a wrapper of it: the ban stands, and each dependent is told
+one_wrapper : ban_keys (record plain { deny = ban_at (codes "x") (words_at (codes "app") 30 ∷ []) 16 ∷ [] }) by_two
+    ≡ crate_key code.Banned 1 (range 16) ∷ dependent_key code.AllowedByWrapper 1 (range 16) 0 ∷ dependent_key
+    code.UnmatchedWrapper 1 (range 16) 2 ∷ []
+unfolding bans_on_cases
+one_wrapper = refl
+
+-- a crate without dependents is lifted by any wrapper, which is then unused
+no_dependents : ban_keys (record plain { deny = ban_at (codes "app") (words_at (codes "z") 45 ∷ []) 27 ∷ [] }) one_x
+    ≡ unused_key code.UnusedWrapper (range 45) ∷ []
+unfolding bans_on_cases
+no_dependents = refl
 
 -- with the workspace's own crates exempt, a ban of one comes to nothing
 own_crate : ban_keys (record plain { deny = ban_at (codes "app") [] 16 ∷ []; allow_workspace = true }) one_x ≡ []
@@ -59,6 +77,12 @@ both_wrappers : ban_keys (record plain { deny = ban_at (codes "x") app_y_app 16 
     ∷ unused_key code.UnusedWrapper (range 50) ∷ []
 unfolding bans_on_cases
 both_wrappers = refl
+
+-- an allow list that names `x` says nothing against the workspace's own crate, which is exempt
+allow_x : ban_keys (record plain { allow = entry_at (codes "x") 18 ∷ []; allow_workspace = true }) one_x
+    ≡ crate_key code.Allowed 1 (range 18) ∷ []
+unfolding bans_on_cases
+allow_x = refl
 
 -- an allow list that does not name `x` tells it, and the workspace's own crate too where it is not exempt
 allow_none : ban_keys (record plain { allow = entry_at (codes "q") 18 ∷ [] }) one_x

@@ -1,11 +1,12 @@
 -- Crates, graphs and policies of which small cases are made.
-use Rattle.std.proofs.Common.{ℕ, List, [], ◌∷◌, ◌+◌, ◌==◌, true, false, not, None, Some, codes}
+use Rattle.std.proofs.Common.{ℕ, List, [], ◌∷◌, ◌+◌, ◌++◌, ◌==◌, true, false, not, None, Some, codes}
 use Rattle.std.specs.Prelude.{⊤}
 use Rattle.std.specs.FinMap as finite
 use Rattle.semver.specs.Parse.{Parts}
 use Rattle.semver.specs.declared.Op.TheVariants.{Exact}
 use Rattle.deny_base.specs.declared.edge.DepKind.TheVariants.{Normal, Dev}
 use Rattle.deny_base.specs.declared.edge.Edge.{Edge}
+use Rattle.deny_base.specs.declared.key.Key.{Key}
 use Rattle.deny_base.specs.declared.level.LintLevel.TheVariants.{Deny}
 use Rattle.deny_base.specs.declared.span.Span.{Span}
 use Rattle.deny_model.specs.Facts as chains
@@ -19,11 +20,15 @@ use Rattle.deny_model.specs.Bans.{unmatched_wrapper_keys_of, wrapper_of}
 use Rattle.deny_model.specs.Groups.{has_name, is_in_group, is_internal, is_marked, is_rooted, may_stand, reduced}
 use Rattle.deny_model.specs.Keys.{duplicate_key, key_of}
 use Rattle.deny_model.specs.Match.{matches}
-use Rattle.deny_model.specs.Rules.{ban_keys, skip_keys}
 use Rattle.deny_model.specs.Skips.{has_root, is_hit_skip, is_needless, is_skipped, is_skipped_by_root}
 use Rattle.deny_model.specs.Skips.{skipped_by_root_keys_of, skipped_keys_of, unmatched_skip_keys}
 use Rattle.deny_model.specs.Skips.{unmatched_skip_root_keys, unnecessary_skip_keys}
 use Rattle.deny_model.specs.Wrappers.{hits_wrapper, is_hit_wrapper, unused_wrapper_keys_of, wraps}
+use Rattle.deny_codes.specs.AllowList.{allowed_keys}
+use Rattle.deny_codes.specs.Bans.{allowed_by_wrapper_keys, banned_keys, unmatched_wrapper_keys}
+use Rattle.deny_codes.specs.SkippedTrees.{skipped_by_root_keys}
+use Rattle.deny_codes.specs.Skips.{skipped_keys}
+use Rattle.deny_codes.specs.Wrappers.{unused_wrapper_keys}
 
 -- a crate of this workspace, of which the rules here read no more
 unfoldable pub crate_of : ℕ → List ℕ → Parts → Crate
@@ -93,6 +98,10 @@ plain = record {
   allow_workspace = false;
   skip = [];
   skip_tree = [];
+  features = [];
+  workspace_default = None;
+  external_default = None;
+  replacing = None;
 }
 
 -- all crates count, and none lies in a tree
@@ -135,6 +144,23 @@ unfoldable pub x_1_x_2 : Graph
 x_1_x_2 = graph (with_id (codes "x1") (crate 1 (codes "x") 1) ∷ with_id (codes "x2") (crate 2 (codes "x") 2) ∷ [])
     (edge 0 1 ∷ edge 0 2 ∷ [])
 
+-- ---- what stands of several rules, one after another
+
+abbrev pub ban_keys : Policy → Graph → List Key
+ban_keys p g = banned_keys p g
+    ++ (allowed_by_wrapper_keys p g
+    ++ (unmatched_wrapper_keys p g
+    ++ (unused_wrapper_keys p g
+    ++ (allowed_keys p g
+    ++ not_allowed_keys p g))))
+
+abbrev pub skip_keys : Policy → Graph → chains.Facts → List Key
+skip_keys p g facts = skipped_keys p g facts
+    ++ (skipped_by_root_keys p g facts
+    ++ (unmatched_skip_keys p g facts
+    ++ (unnecessary_skip_keys p g facts
+    ++ unmatched_skip_root_keys p g)))
+
 -- ---- what a row unfolds to compute one of these
 
 unfoldable pub on_cases : ⊤
@@ -143,14 +169,14 @@ unfolding crate_of crate app edge dev_edge graph range spec_at exactly words_at 
 on_cases = tt
 
 unfoldable pub bans_on_cases : ⊤
-unfolding on_cases ban_keys banned_keys_of is_banned concerns is_exempt is_lifted has_wrappers matches key_of
+unfolding on_cases banned_keys_of is_banned concerns is_exempt is_lifted has_wrappers matches key_of
     allowed_keys_of is_not_allowed not_allowed_keys allowed_by_wrapper_keys_of allowed_by_wrapper_keys_at
     unmatched_wrapper_keys_of unmatched_wrapper_keys_at is_wrapped is_wrapper wrapper_of unused_wrapper_keys_of
     is_hit_wrapper hits_wrapper wraps dependents leads
 bans_on_cases = tt
 
 unfoldable pub skips_on_cases : ⊤
-unfolding on_cases skip_keys skipped_keys_of skipped_by_root_keys_of unmatched_skip_keys unnecessary_skip_keys
+unfolding on_cases skipped_keys_of skipped_by_root_keys_of unmatched_skip_keys unnecessary_skip_keys
     unmatched_skip_root_keys is_skipped is_skipped_by_root is_hit_skip is_needless has_root key_of duplicate_key
     has_name is_in_group may_stand is_marked is_rooted is_internal reduced dependents leads matches
 skips_on_cases = tt

@@ -3,13 +3,14 @@ pub mod BanRows
 pub mod Cases
 pub mod CountingRows
 pub mod DuplicateRows
+pub mod FeatureRows
 pub mod Joined
 pub mod Kept
 pub mod KeyRows
 pub mod Made
-pub mod Modelled
 pub mod Parts
-pub mod RuleLaws
+pub mod Sections
+pub mod SayingRows
 pub mod SkipRows
 pub mod StdReplacementRows
 pub mod ToldRows

@@ -1,8 +1,9 @@
 -- Keys bear the code of their rule, and stand in its section.
-use Rattle.std.proofs.Common.{◌≡◌, ℕ, List, map, not, refl, subst, sym}
+use Rattle.std.proofs.Common.{◌≡◌, ℕ, List, [], None, Option, Some, map, not, refl, subst, sym}
 use Rattle.std.specs.Prelude.{Contains, filter}
 use Rattle.std.specs.List.{flat_map}
-use Rattle.deny_lists.proofs.Members.{Contains-from_flat_map, from_contains_map}
+use Rattle.std.specs.Option.{option_map_or}
+use Rattle.deny_lists.proofs.Members.{Contains-from_flat_map, from_contains_map, no_member}
 use Rattle.deny_base.specs.declared.code.Code.{Code}
 use Rattle.deny_base.specs.declared.code.Code.TheVariants as code
 use Rattle.deny_base.specs.declared.code.DiagnosticCode.TheVariants.{Bans}
@@ -19,7 +20,7 @@ use Rattle.deny_model.specs.Graph.{Crate, Graph, dependents}
 use Rattle.deny_model.specs.Keys.{crate_key, dependent_key, duplicate_key, key_of, no_span, unused_key}
 use Rattle.deny_model.specs.Match.{matches}
 use Rattle.deny_model.specs.Policy as policy
-use Rattle.deny_model.specs.Policy.{Ban, Entry, Policy, Root}
+use Rattle.deny_model.specs.Policy.{Ban, Entry, Policy, Replacing, Root}
 use Rattle.deny_model.specs.Skips.{has_root, is_skipped_by_root, skipped_by_root_keys_of, unmatched_skip_root_keys}
 use Rattle.deny_model.specs.Skips.{is_hit_skip, is_needless, is_skipped, skipped_keys_of, unmatched_skip_keys}
 use Rattle.deny_model.specs.Skips.{unnecessary_skip_keys}
@@ -28,6 +29,11 @@ use Rattle.deny_codes.specs.AllowList.{allowed_keys}
 use Rattle.deny_codes.specs.Bans.{allowed_by_wrapper_keys, banned_keys, unmatched_wrapper_keys}
 use Rattle.deny_codes.specs.SkippedTrees.{skipped_by_root_keys}
 use Rattle.deny_codes.specs.Skips.{skipped_keys}
+use Rattle.deny_codes.specs.Circumstances.{Circumstances}
+use Rattle.deny_codes.specs.Saying.{Saying, said_by}
+use Rattle.deny_codes.specs.StdReplacements.{ignore_range, is_told_replaced, is_unmatched_ignore}
+use Rattle.deny_codes.specs.StdReplacements.{replaced_key, replaced_keys, replaced_keys_in, unmatched_ignore_keys}
+use Rattle.deny_codes.specs.StdReplacements.{unmatched_ignore_keys_in}
 use Rattle.deny_codes.specs.Wrappers.{unused_wrapper_keys}
 
 pub record Made (s : Section) (d : Code) (key : Key) : Type 0 where
@@ -196,3 +202,39 @@ pub duplicate_made : (p : Policy) (g : Graph) (facts : chains.Facts) (key : Key)
 duplicate_made p g facts key found =
     subst (Made section.Groups code.Duplicate) (sym found.2.is)
     (duplicate_key_made (map (λ (c : Crate). c.place) found.2.crates))
+
+-- ---- what the standard library replaces
+
+replaced_of : (r : Replacing) (g : Graph) (said : Saying) (key : Key) → Contains (replaced_keys r g said) key
+    → Made section.Std code.ReplacedInStd key
+unfolding replaced_keys
+replaced_of r g said key is = made_map section.Std code.ReplacedInStd (λ (c : Crate). replaced_key c.place)
+    (filter (is_told_replaced r g said) g.crates) key
+    (λ c. made_key section.Std code.ReplacedInStd c.place no_span 0) is
+
+ignore_unmatched : (r : Replacing) (g : Graph) (said : Saying) (key : Key)
+    → Contains (unmatched_ignore_keys r g said) key → Made section.Unused code.UnmatchedReplacementIgnore key
+unfolding unmatched_ignore_keys
+ignore_unmatched r g said key is = made_map section.Unused code.UnmatchedReplacementIgnore
+    (λ (e : Entry). unused_key code.UnmatchedReplacementIgnore (ignore_range e))
+    (filter (is_unmatched_ignore r g said) r.ignore) key
+    (λ e. made_key section.Unused code.UnmatchedReplacementIgnore 0 (ignore_range e) 0) is
+
+pub replaced_made : (c : Circumstances) (key : Key) → Contains (replaced_keys_in c) key
+    → Made section.Std code.ReplacedInStd key
+replaced_made c key is = by c.policy.replacing is
+  where
+    by : (o : Option Replacing) → Contains (option_map_or (λ r. replaced_keys r c.graph (said_by c.table)) o []) key
+        → Made section.Std code.ReplacedInStd key
+    by None is = absurd (no_member key is)
+    by (Some r) is = replaced_of r c.graph (said_by c.table) key is
+
+pub unmatched_ignore_made : (c : Circumstances) (key : Key) → Contains (unmatched_ignore_keys_in c) key
+    → Made section.Unused code.UnmatchedReplacementIgnore key
+unmatched_ignore_made c key is = by c.policy.replacing is
+  where
+    by : (o : Option Replacing)
+        → Contains (option_map_or (λ r. unmatched_ignore_keys r c.graph (said_by c.table)) o []) key
+        → Made section.Unused code.UnmatchedReplacementIgnore key
+    by None is = absurd (no_member key is)
+    by (Some r) is = ignore_unmatched r c.graph (said_by c.table) key is

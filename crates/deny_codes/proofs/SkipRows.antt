@@ -10,9 +10,9 @@ use Rattle.deny_model.specs.Groups.{has_name, reduced, unmarked}
 use Rattle.deny_model.specs.Keys.{crate_key, unused_key}
 use Rattle.deny_model.specs.Policy.{Entry, Policy}
 use Rattle.deny_model.specs.Roots.{IsNear}
-use Rattle.deny_model.specs.Rules.{skip_keys}
 use Rattle.deny_codes.proofs.Cases.{skips_on_cases, all_count, app, chained_x, crate, crate_of, dev_edge, edge}
-use Rattle.deny_codes.proofs.Cases.{entry_at, exactly, graph, not_the_first, one_x, plain, range, root_of, two_x}
+use Rattle.deny_codes.proofs.Cases.{entry_at, exactly, graph, not_the_first, one_x, plain, range, root_of, skip_keys}
+use Rattle.deny_codes.proofs.Cases.{two_x}
 
 -- `x` lies in the tree of `app`
 in_a_tree : chains.Facts
@@ -20,6 +20,37 @@ in_a_tree = record { counts = λ c. true; in_tree = λ t c. has_name (codes "x")
 
 tree_of_app : Policy
 tree_of_app = record plain { skip_tree = root_of (codes "app") 20 ∷ [] }
+
+-- a crate of a skipped tree is told, and leaves the group
+rooted : skip_keys tree_of_app one_x in_a_tree ≡ crate_key code.SkippedByRoot 1 (range 20) ∷ []
+unfolding skips_on_cases in_a_tree tree_of_app
+rooted = refl
+
+none_in_the_group : unmarked tree_of_app one_x in_a_tree (codes "x") ≡ []
+unfolding skips_on_cases in_a_tree tree_of_app
+none_in_the_group = refl
+
+-- a skip tells both versions that it speaks of, keeps them from standing side by side, and is needed
+both_skipped : skip_keys (record plain { skip = entry_at (codes "x") 29 ∷ [] }) two_x all_count
+    ≡ crate_key code.Skipped 1 (range 29) ∷ crate_key code.Skipped 2 (range 29) ∷ []
+unfolding skips_on_cases
+both_skipped = refl
+
+none_stand : unmarked (record plain { skip = entry_at (codes "x") 29 ∷ [] }) two_x all_count (codes "x") ≡ []
+unfolding skips_on_cases
+none_stand = refl
+
+-- a skip of a crate with one version is needless, one that no crate matches is unmatched
+one_skipped : skip_keys (record plain { skip = entry_at (codes "x") 29 ∷ entry_at (codes "q") 33 ∷ [] }) one_x all_count
+    ≡ crate_key code.Skipped 1 (range 29) ∷ unused_key code.UnmatchedSkip (range 33)
+    ∷ unused_key code.UnnecessarySkip (range 29) ∷ []
+unfolding skips_on_cases
+one_skipped = refl
+
+-- of two versions the first is there for the second one's sake alone: it leaves the group
+one_version : unmarked plain chained_x all_count (codes "x") ≡ crate 2 (codes "x") 2 ∷ []
+unfolding skips_on_cases
+one_version = refl
 
 -- a crate of a skipped tree that a skip speaks of is told as skipped alone, and stays in the group, marked
 both_entries : skip_keys (record tree_of_app { skip = entry_at (codes "x") 29 ∷ [] }) one_x in_a_tree

@@ -8,23 +8,27 @@ use Rattle.deny_base.specs.declared.entry.EntryKind.TheVariants.{ReplacementIgno
 use Rattle.deny_base.specs.declared.entry.Witness.TheVariants.{Krate}
 use Rattle.deny_base.specs.declared.level.LintLevel.TheVariants.{Deny}
 use Rattle.deny_base.specs.declared.level.Severity.TheVariants as severity
+use Rattle.deny_std_table.specs.Spelling.{ReplacementText}
 use Rattle.deny_model.specs.Graph.{Crate, CratesIo, Graph, Registry, dependents, leads}
 use Rattle.deny_model.specs.Hits.{hit_of}
 use Rattle.deny_model.specs.Keys.{key_of, unused_key}
 use Rattle.deny_model.specs.Match.{matches}
+use Rattle.deny_model.specs.Policy.{EachCrate, NoCrate, Replacing, Transitive, Workspace}
 use Rattle.deny_model.specs.Text.{same_text}
 use Rattle.deny_model.specs.Told.{primary, secondary, spec_text}
-use Rattle.deny_codes.specs.StdReplacements.{EachCrate, Items, NoCrate, Replacement, Replacing, Saying, Transitive, Workspace}
+use Rattle.deny_codes.specs.Saying.{Items, Saying}
 use Rattle.deny_codes.specs.StdReplacements.{code_name, counting_version, has_stable, hits_ignore, ignore_hit, ignore_hits}
-use Rattle.deny_codes.specs.StdReplacements.{ignore_of, is_hit_ignore, is_in_scope, is_member, is_replaced, is_told_replaced}
+use Rattle.deny_codes.specs.StdReplacements.{ignore_of, is_hit_ignore, is_in_scope, is_replaced, is_told_replaced}
+use Rattle.deny_codes.specs.StdReplacements.{is_unmatched_ignore}
 use Rattle.deny_codes.specs.StdReplacements.{may_replace, replaced_key, replaced_keys, replaced_told, replacement_lines}
 use Rattle.deny_codes.specs.StdReplacements.{replacement_note, satisfies, stable_lines, unmatched_ignore_keys}
 use Rattle.deny_codes.specs.StdReplacements.{unmatched_ignore_told}
+use Rattle.deny_codes.specs.Members.{is_member}
 use Rattle.deny_codes.specs.Telling.{plainly}
 use Rattle.deny_codes.proofs.Cases.{app, crate, edge, entry_at, graph, on_cases, range, words_at}
 
 -- the policy's table where it is written and empty
-unfoldable plainly_replacing : Replacing
+unfoldable pub plainly_replacing : Replacing
 plainly_replacing = record {
   scope = Workspace;
   level = Deny;
@@ -34,47 +38,47 @@ plainly_replacing = record {
 }
 
 -- what `x` has as `f` is `g` of the standard library
-unfoldable f_by_g : Replacement
+unfoldable pub f_by_g : ReplacementText
 f_by_g = record {
   krate = record { name = codes "f"; url = [] };
   std = record { name = codes "g"; url = [] };
   note = None;
 }
 
-unfoldable since : ℕ → Items
+unfoldable pub since : ℕ → Items
 since minor = record { stable = record { minor = minor; replacement = f_by_g } ∷ []; unstable = []; unavailable = [] }
 
 -- of one name alone something is said
-unfoldable of_name : List ℕ → Items → Saying
+unfoldable pub of_name : List ℕ → Items → Saying
 of_name named items name = if same_text name named then Some items else None
 
 -- of `x`: one item, which is stable since 1.70
-unfoldable of_x : Saying
+unfoldable pub of_x : Saying
 of_x = of_name (codes "x") (since 70)
 
-unfoldable from_crates_io : Crate → Crate
+unfoldable pub from_crates_io : Crate → Crate
 from_crates_io c = record c { source = Some (CratesIo false) }
 
-unfoldable x : Crate
+unfoldable pub x : Crate
 x = from_crates_io (crate 1 (codes "x") 1)
 
-unfoldable rust : ℕ → Parts
+unfoldable pub rust : ℕ → Parts
 rust minor = (1, minor, 0, [], [])
 
 -- `app` needs `x`, and names no version of Rust
-unfoldable one : Graph
+unfoldable pub one : Graph
 one = graph (x ∷ []) (edge 0 1 ∷ [])
 
 -- `app` needs `x`, and names a version of Rust
-unfoldable one_with : ℕ → Graph
+unfoldable pub one_with : ℕ → Graph
 one_with minor = record one { crates = record app { rust_version = Some (rust minor) } ∷ x ∷ [] }
 
 -- `app` needs `y`, which needs `x`
-unfoldable through_y : Graph
+unfoldable pub through_y : Graph
 through_y = graph (x ∷ from_crates_io (crate 2 (codes "y") 1) ∷ []) (edge 0 2 ∷ edge 2 1 ∷ [])
 
 -- the member `app` and `y`, which is none, need `x`; each names a version of Rust, or none
-unfoldable by_both : Option Parts → Option Parts → Graph
+unfoldable pub by_both : Option Parts → Option Parts → Graph
 by_both of_app of_y = record through_y {
   crates = record app { rust_version = of_app } ∷ x
       ∷ record (from_crates_io (crate 2 (codes "y") 1)) { rust_version = of_y } ∷ [];
@@ -82,10 +86,10 @@ by_both of_app of_y = record through_y {
 }
 
 -- what a row unfolds
-unfoldable replacing_on_cases : ⊤
+unfoldable pub replacing_on_cases : ⊤
 unfolding on_cases plainly_replacing f_by_g since of_name of_x from_crates_io x rust one one_with through_y by_both
     key_of matches dependents leads digits spec_text is_member is_in_scope counting_version has_stable satisfies
-    may_replace is_replaced ignore_of hits_ignore is_hit_ignore is_told_replaced replaced_keys unmatched_ignore_keys
+    may_replace is_replaced ignore_of hits_ignore is_hit_ignore is_told_replaced replaced_keys is_unmatched_ignore unmatched_ignore_keys
     ignore_hit ignore_hits code_name replacement_lines stable_lines replacement_note replaced_told unmatched_ignore_told
 replacing_on_cases = tt
 
@@ -204,7 +208,7 @@ nothing_said = refl
 
 -- ---- entries that pass crates over
 
-unfoldable two_ignores : Replacing
+unfoldable pub two_ignores : Replacing
 two_ignores = record plainly_replacing { ignore = entry_at (codes "x") 29 ∷ entry_at (codes "x") 39 ∷ [] }
 
 passed_over : replaced_keys two_ignores one of_x ≡ []
@@ -283,7 +287,7 @@ since_0 : replacement_note (codes "x") (since 0) ≡ codes "## Stable\n```diff\n
 unfolding replacing_on_cases
 since_0 = refl
 
-unfoldable with_all : Items
+unfoldable pub with_all : Items
 with_all = record {
   stable = [];
   unstable = record f_by_g { note = Some (codes "slower") } ∷ [];

@@ -18,7 +18,7 @@ pub record FileNumbers : Type 0 where
 pub record Circumstances : Type 0 where
   pub policy : Policy
   pub graph : Graph
-  -- the bytes of the table of replacements
+  -- the bytes of the table of replacements; none where there is no table
   pub table : List ℕ
   pub view : View
   -- the folder that paths are shown from
@@ -35,7 +35,7 @@ nothing_seen = record { manifest = λ c. None }
 abbrev pub policy_alone : ℕ → FileNumbers
 policy_alone file = record { policy = file; lock = None; workspace = None; manifest = λ c. None; globs = None }
 
--- a policy, whose text has this number, a graph and a view
+-- a policy, whose text has this number, a graph and a view, without a table
 abbrev pub seen_by : Policy → Graph → ℕ → View → Circumstances
 seen_by p g file view = record {
   policy = p;
@@ -49,6 +49,10 @@ seen_by p g file view = record {
 
 abbrev pub unseen_by : Policy → Graph → ℕ → Circumstances
 unseen_by p g file = seen_by p g file nothing_seen
+
+-- the same with the bytes of a table of replacements
+abbrev pub tabled : Circumstances → List ℕ → Circumstances
+tabled c table = record c { table = table }
 
 -- the same by another view
 abbrev pub viewed : Circumstances → View → Circumstances

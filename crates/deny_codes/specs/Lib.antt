@@ -4,7 +4,11 @@ pub mod Circumstances
 pub mod Codes
 pub mod Duplicates
 pub mod Facts
+pub mod Features
 pub mod FirstMatch
+pub mod Hits
+pub mod Members
+pub mod Saying
 pub mod SkippedTrees
 pub mod Skips
 pub mod Standing

@@ -21,6 +21,7 @@ use Rattle.deny_codes.specs.Circumstances.{Circumstances}
 use Rattle.deny_codes.specs.Facts.{Facts, AreFacts}
 use Rattle.deny_codes.specs.SkippedTrees.{skipped_by_root_keys}
 use Rattle.deny_codes.specs.Skips.{skipped_keys}
+use Rattle.deny_codes.specs.StdReplacements.{replaced_keys_in, unmatched_ignore_keys_in}
 use Rattle.deny_codes.specs.Wrappers.{unused_wrapper_keys}
 
 -- a code whose rule is not there yet has no key that stands
@@ -59,8 +60,8 @@ StandsAs code.UnusedWrapper c facts key = Contains (unused_wrapper_keys c.policy
 StandsAs code.WorkspaceDuplicate c facts key = ⊥
 StandsAs code.UnresolvedWorkspaceDependency c facts key = ⊥
 StandsAs code.UnusedWorkspaceDependency c facts key = ⊥
-StandsAs code.ReplacedInStd c facts key = ⊥
-StandsAs code.UnmatchedReplacementIgnore c facts key = ⊥
+StandsAs code.ReplacedInStd c facts key = Contains (replaced_keys_in c) key
+StandsAs code.UnmatchedReplacementIgnore c facts key = Contains (unmatched_ignore_keys_in c) key
 
 -- the licence check asks no file and no chain
 abbrev pub StandsLicensed : LicenseCode → Policy → Graph → Key → Type 0

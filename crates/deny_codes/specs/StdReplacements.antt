@@ -1,10 +1,11 @@
--- Crates that the standard library replaces: their keys, the hits of the entries that pass some of them over, and what
--- is told of each.
+-- Crates that the standard library replaces, by a policy's table and what a table of replacements says: their keys,
+-- the hits of the entries that pass some of them over, and what is told of each.
 use Rattle.std.specs.Prelude.{◌&&◌, ◌||◌, ◌==◌, ◌++◌, ◌∷◌, ℕ, Bool, true, false, not, nat_le, is_none, List, [], Option, Some, None, filter, filter_map, find, map, option_map, codes, if◌then◌else◌}
 use Rattle.std.specs.Fmt.{decimal}
 use Rattle.std.specs.List.{flat_map, list_any}
 use Rattle.std.specs.Option.{option_map_or, option_or}
 use Rattle.semver.specs.Parse.{Parts}
+use Rattle.deny_std_table.specs.Spelling.{ApiText, ReplacementText}
 use Rattle.deny_base.specs.Level.{severity_of}
 use Rattle.deny_base.specs.declared.code.Code.TheVariants.{ReplacedInStd, UnmatchedReplacementIgnore}
 use Rattle.deny_base.specs.declared.entry.EntryKind.TheVariants.{ReplacementIgnore}
@@ -13,7 +14,6 @@ use Rattle.deny_base.specs.declared.entry.Witness.TheVariants.{Krate}
 use Rattle.deny_base.specs.declared.key.Key.{Key}
 use Rattle.deny_base.specs.declared.key.Section.TheVariants as section
 use Rattle.deny_base.specs.declared.label.Label.{Label}
-use Rattle.deny_base.specs.declared.level.LintLevel.{LintLevel}
 use Rattle.deny_base.specs.declared.level.Severity.TheVariants as severity
 use Rattle.deny_base.specs.declared.span.Span.{Span}
 use Rattle.deny_model.specs.Crates.{is_crates_io}
@@ -21,64 +21,17 @@ use Rattle.deny_model.specs.Graph.{Crate, Graph, dependents, kid_of}
 use Rattle.deny_model.specs.Hits.{hit_of}
 use Rattle.deny_model.specs.Keys.{key_of, no_span, unused_key}
 use Rattle.deny_model.specs.Match.{matches}
-use Rattle.deny_model.specs.Policy.{Entry}
+use Rattle.deny_model.specs.Policy.{Entry, Policy, Replacing, Scope, NoCrate, Workspace, Transitive, EachCrate}
 use Rattle.deny_model.specs.Told.{crate_name_at, label_at, of_crate, primary, spec_text}
 use Rattle.deny_model.specs.Wrappers.{same_span}
+use Rattle.deny_codes.specs.Circumstances.{Circumstances}
 use Rattle.deny_codes.specs.FirstMatch.{first_of, is_first}
-use Rattle.deny_codes.specs.Telling.{kid_at, plainly}
+use Rattle.deny_codes.specs.Members.{is_member}
+use Rattle.deny_codes.specs.Saying.{Items, Saying, Stable, said_by}
+use Rattle.deny_codes.specs.Telling.{kid_at, not_built, plainly}
 use Rattle.deny_codes.specs.declared.words.Words.{Words}
 
--- ---- the policy's table, and what the table of replacements says
-
--- of some crates: none, the members of the workspace, the others, or all
-pub data Scope : Type 0 where
-  NoCrate : Scope
-  Workspace : Scope
-  Transitive : Scope
-  EachCrate : Scope
-
--- how such crates are minded
-pub record Replacing : Type 0 where
-  -- whose direct dependencies are looked at
-  pub scope : Scope
-  pub level : LintLevel
-  -- the version of Rust of a crate that names none
-  pub rust_version : Option Parts
-  -- the crates that are passed over
-  pub ignore : List Entry
-  -- whose version of Rust does not count
-  pub ignore_rust_version : Scope
-
--- an API: its path, and the address of what is written on it
-pub record Api : Type 0 where
-  pub name : List ℕ
-  pub url : List ℕ
-
--- what a crate has, what the standard library has in its place, and how they differ
-pub record Replacement : Type 0 where
-  pub krate : Api
-  pub std : Api
-  pub note : Option (List ℕ)
-
--- one that is stable since this minor version of Rust 1
-pub record Stable : Type 0 where
-  pub minor : ℕ
-  pub replacement : Replacement
-
--- all that is said of a crate, each in the order in which it stands
-pub record Items : Type 0 where
-  pub stable : List Stable
-  pub unstable : List Replacement
-  pub unavailable : List Api
-
--- what is said of the crate of a name, if anything
-abbrev pub Saying : Type 0
-Saying = List ℕ → Option Items
-
 -- ---- which crates are replaced
-
-unfoldable pub is_member : Graph → Crate → Bool
-is_member g c = list_any (λ place. place == c.place) g.members
 
 unfoldable pub is_in_scope : Scope → Graph → Crate → Bool
 is_in_scope NoCrate g c = false
@@ -148,11 +101,16 @@ looks_at_none Workspace = false
 looks_at_none Transitive = false
 looks_at_none EachCrate = false
 
+-- a policy minds replaced crates, and looks at some
+abbrev pub asks_for_table : Policy → Bool
+asks_for_table p = option_map_or (λ r. not (looks_at_none r.scope)) p.replacing false
+
+unfoldable pub is_unmatched_ignore : Replacing → Graph → Saying → Entry → Bool
+is_unmatched_ignore r g said e = not (looks_at_none r.scope) && not (is_hit_ignore r g said e)
+
 unfoldable pub unmatched_ignore_keys : Replacing → Graph → Saying → List Key
-unmatched_ignore_keys r g said =
-    if looks_at_none r.scope then []
-    else map (λ e. unused_key UnmatchedReplacementIgnore (ignore_range e))
-    (filter (λ e. not (is_hit_ignore r g said e)) r.ignore)
+unmatched_ignore_keys r g said = map (λ e. unused_key UnmatchedReplacementIgnore (ignore_range e))
+    (filter (is_unmatched_ignore r g said) r.ignore)
 
 -- an entry is hit by the first crate in graph order
 unfoldable pub ignore_hit : Replacing → Graph → Saying → Entry → Option Hit
@@ -172,7 +130,7 @@ unfoldable pub code_name : List ℕ → List ℕ
 code_name name = map (λ byte. if byte == 45 then 95 else byte) name
 
 -- a link: its sign, the words before the name of an API, and the API
-abbrev pub link : List ℕ → List ℕ → Api → List ℕ
+abbrev pub link : List ℕ → List ℕ → ApiText → List ℕ
 link sign before api = line (sign ++ (codes " [" ++ (before ++ (api.name ++ (codes "](" ++ (api.url ++ codes ")"))))))
 
 abbrev pub remark : Option (List ℕ) → List ℕ
@@ -180,7 +138,7 @@ remark None = []
 remark (Some note) = line (codes "  " ++ note) ++ line []
 
 -- what the crate has, crossed out for what the standard library has
-unfoldable pub replacement_lines : List ℕ → Replacement → List ℕ
+unfoldable pub replacement_lines : List ℕ → ReplacementText → List ℕ
 replacement_lines name r =
     line (codes "```diff")
     ++ (link (codes "-") (code_name name ++ codes "::") r.krate
@@ -203,7 +161,7 @@ below_heading heading lines [] = []
 below_heading heading lines (x ∷ xs) = line heading ++ flat_map lines (x ∷ xs)
 
 -- one that the standard library has not
-abbrev pub unavailable_line : List ℕ → Api → List ℕ
+abbrev pub unavailable_line : List ℕ → ApiText → List ℕ
 unavailable_line name api =
     line (codes "  - " ++ (name ++ (codes "::" ++ (api.name ++ (codes " - " ++ api.url)))))
 
@@ -243,3 +201,22 @@ unmatched_ignore_told r file key = plainly severity.Warning
     (codes "std replacement ignore '" ++ (ignore_text_at r key.entry ++ codes "' was not encountered"))
     (option_map_or (ignore_labels file) (ignore_at r key.entry) [])
     None
+
+-- ---- of a policy that may mind them, and the bytes of a table
+
+abbrev pub replaced_keys_in : Circumstances → List Key
+replaced_keys_in c = option_map_or (λ r. replaced_keys r c.graph (said_by c.table)) c.policy.replacing []
+
+abbrev pub unmatched_ignore_keys_in : Circumstances → List Key
+unmatched_ignore_keys_in c = option_map_or (λ r. unmatched_ignore_keys r c.graph (said_by c.table)) c.policy.replacing
+    []
+
+abbrev pub ignore_hits_in : Circumstances → List Hit
+ignore_hits_in c = option_map_or (λ r. ignore_hits r c.graph (said_by c.table)) c.policy.replacing []
+
+abbrev pub replaced_told_in : Circumstances → Key → Words
+replaced_told_in c key = option_map_or (λ r. replaced_told r c.graph (said_by c.table) key) c.policy.replacing not_built
+
+abbrev pub unmatched_ignore_told_in : Circumstances → Key → Words
+unmatched_ignore_told_in c key = option_map_or (λ r. unmatched_ignore_told r c.files.policy key) c.policy.replacing
+    not_built

@@ -19,6 +19,7 @@ use Rattle.deny_codes.specs.Circumstances.{Circumstances}
 use Rattle.deny_codes.specs.Duplicates.{duplicate_told}
 use Rattle.deny_codes.specs.SkippedTrees.{skipped_by_root_told, unmatched_skip_root_told}
 use Rattle.deny_codes.specs.Skips.{skipped_told, unmatched_skip_told, unnecessary_skip_told}
+use Rattle.deny_codes.specs.StdReplacements.{replaced_told_in, unmatched_ignore_told_in}
 use Rattle.deny_codes.specs.Telling.{not_built}
 use Rattle.deny_codes.specs.Wrappers.{unused_wrapper_told}
 use Rattle.deny_codes.specs.declared.words.Words.{Words}
@@ -58,8 +59,8 @@ words_as code.UnusedWrapper c key = unused_wrapper_told c.files.policy key
 words_as code.WorkspaceDuplicate c key = not_built
 words_as code.UnresolvedWorkspaceDependency c key = not_built
 words_as code.UnusedWorkspaceDependency c key = not_built
-words_as code.ReplacedInStd c key = not_built
-words_as code.UnmatchedReplacementIgnore c key = not_built
+words_as code.ReplacedInStd c key = replaced_told_in c key
+words_as code.UnmatchedReplacementIgnore c key = unmatched_ignore_told_in c key
 
 unfoldable pub words_licensed : LicenseCode → Policy → Graph → Key → Words
 words_licensed license.Accepted p g key = not_built

@@ -1,4 +1,4 @@
-ghost use Rattle.std.specs.Prelude.{◌≡◌, ◌↔◌, ◌++◌, Bool, IsTrue, List};
+ghost use Rattle.std.specs.Prelude.{◌≡◌, ◌++◌, Bool, IsTrue, List};
 ghost use Rattle.deny_lists.specs.Ascending.{Lists};
 ghost use Rattle.deny_base.specs.KeyOrder.{key_cmp};
 ghost use Rattle.deny_base.specs.declared.key.Key.{Key};
@@ -6,8 +6,6 @@ ghost use Rattle.deny_base.specs.declared.key.Section.{Section};
 ghost use Rattle.deny_model.specs.Bans.{wrapper_of};
 ghost use Rattle.deny_model.specs.Graph.{Crate};
 ghost use Rattle.deny_model.specs.Policy as policy;
-ghost use Rattle.deny_model.specs.Rules as model;
-ghost use Rattle.deny_model.specs.Told as told;
 ghost use Rattle.deny_model.specs.Wrappers.{wraps};
 ghost use Rattle.deny_codes.specs.Bans.{bears_name};
 ghost use Rattle.deny_codes.specs.Circumstances.{Circumstances, View, viewed};
@@ -15,7 +13,7 @@ ghost use Rattle.deny_codes.specs.Codes.{asks_no_file, is_of_bans, is_of_license
 ghost use Rattle.deny_codes.specs.Facts.{Facts};
 ghost use Rattle.deny_codes.specs.FirstMatch.{first_of, is_first};
 ghost use Rattle.deny_codes.specs.Standing.{AreKeys, AreOwnKeys, ListsOwn, Stands, StandsIn};
-ghost use Rattle.deny_codes.specs.Told.{diag_told, pack_told, words_told};
+ghost use Rattle.deny_codes.specs.Told.{words_told};
 
 /// Circumstances have one report: no two lists of keys are both theirs.
 pub fn one_report()
@@ -54,35 +52,11 @@ pub fn joined_keys()
         → Lists key_cmp (Stands c facts) (xs ++ ys) }
 {}
 
-/// What stands in the sections of the bans check is what stands by the crate rules.
-pub fn crate_rules()
-    ensures { (c : Circumstances) → (facts : Facts) → (key : Key)
-        → model.Stands c.policy c.graph facts.chains key ↔ StandsIn is_of_bans c facts key }
-{}
-
 /// As long as no rule of the licence check is there, what stands in the sections of the bans check is
 /// all that stands.
 pub fn bans_alone()
     ensures { (c : Circumstances) → (facts : Facts) → (keys : List Key)
         → ListsOwn is_of_bans c facts keys → Lists key_cmp (Stands c facts) keys }
-{}
-
-/// So a report's keys are those that the model gives its policy and graph.
-pub fn as_modelled()
-    ensures { (c : Circumstances) → (keys : List Key) → model.AreKeys c.policy c.graph keys ↔ AreKeys c keys }
-{}
-
-/// And each key is told as the model tells it: its finding, whichever key it is ..
-pub fn told_as_modelled()
-    ensures { (c : Circumstances) → (key : Key)
-        → diag_told c key ≡ told.diag_told c.policy c.graph c.files.policy key }
-{}
-
-/// .. and what is handed out for it, where it stands: the table says by code which crate it is about,
-/// and the model by section.
-pub fn packed_as_modelled()
-    ensures { (c : Circumstances) → (facts : Facts) → (key : Key) → Stands c facts key
-        → pack_told c key ≡ told.pack_told c.policy c.graph c.files.policy key }
 {}
 
 /// The wrapper of a crate's name is the first that bears it, and a wrapper wraps where it is that one.

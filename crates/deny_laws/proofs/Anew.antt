@@ -1,14 +1,19 @@
 -- What is made of lists whose elements are made anew.
 use Rattle.std.proofs.Common.{◌≡◌, ◌∙◌, ◌++◌, ◌∷◌, ◌||◌, Bool, List, None, Option, Some, [], ap, inl, inr, map}
 use Rattle.std.proofs.Common.{refl, sym}
-use Rattle.std.specs.Prelude.{Contains, filter, filter_map, option_and_then, option_map}
+use Rattle.std.specs.Prelude.{Contains, filter, filter_map, is_none, option_and_then, option_map}
 use Rattle.std.specs.List.{flat_map, list_any}
 use Rattle.std.proofs.lemmas.Bool.{cases_Bool}
 use Rattle.std.proofs.lemmas.List.{map-append}
 use Rattle.deny_lists.proofs.Agreement.{AgreeOn}
 use Rattle.deny_lists.proofs.Members.{Contains-first, Contains-from_map, Contains-rest, contains_map}
+use Rattle.deny_base.specs.declared.entry.EntryKind.{EntryKind}
+use Rattle.deny_base.specs.declared.entry.Witness.TheVariants.{Krate}
 use Rattle.deny_base.specs.declared.key.Key.{Key}
-use Rattle.deny_laws.specs.Renaming.{Renaming}
+use Rattle.deny_base.specs.declared.span.Span.{Span}
+use Rattle.deny_model.specs.Graph.{Crate, kid_of}
+use Rattle.deny_model.specs.Hits.{hit_of}
+use Rattle.deny_laws.specs.Renaming.{Renaming, renamed_hit}
 use Rattle.deny_laws.proofs.KeyParts.{moved}
 
 -- a test on those that are made anew
@@ -73,7 +78,18 @@ pub and_then_anew : {X K : Type 0} (f' f : X → Option K) (h : K → K) (o : Op
 and_then_anew f' f h None same = refl
 and_then_anew f' f h (Some x) same = same x
 
--- ---- keys of another range
+pub none_anew : {X : Type 0} (f : X → X) (o : Option X) → is_none (option_map f o) ≡ is_none o
+none_anew f None = refl
+none_anew f (Some x) = refl
+
+-- ---- keys and hits of another range
+
+-- of an entry that a crate hits
+pub crate_hit_anew : (r : Renaming) (kind : EntryKind) (range : Span) (o : Option Crate)
+    → option_map (λ c. hit_of kind (r.range range) (Krate (kid_of c))) o
+    ≡ option_map (renamed_hit r) (option_map (λ c. hit_of kind range (Krate (kid_of c))) o)
+crate_hit_anew r kind range None = refl
+crate_hit_anew r kind range (Some c) = refl
 
 abbrev pub ranged : Renaming → Key → Key
 ranged r key = record key { entry = r.range key.entry }

@@ -26,13 +26,9 @@ use Rattle.deny_codes.specs.Wrappers.{unused_wrapper_keys, wrapper_hits_of}
 use Rattle.deny_codes.proofs.Kept.{list_all_on}
 use Rattle.deny_laws.specs.Renaming.{KeepsApart, Renaming, renamed, renamed_ban, renamed_entry, renamed_hit}
 use Rattle.deny_laws.specs.Renaming.{renamed_words}
-use Rattle.deny_laws.proofs.Anew.{and_then_anew, any_anew, filter_map_anew, flat_map_alike, flat_map_anew, ranged}
-use Rattle.deny_laws.proofs.Anew.{told_alike, told_anew}
+use Rattle.deny_laws.proofs.Anew.{and_then_anew, any_anew, filter_map_anew, flat_map_alike, flat_map_anew}
+use Rattle.deny_laws.proofs.Anew.{none_anew, ranged, told_alike, told_anew}
 use Rattle.deny_laws.proofs.FirstMatch.{first_anew, is_first_renamed}
-
-none_anew : {X : Type 0} (f : X → X) (o : Option X) → not (is_none (option_map f o)) ≡ not (is_none o)
-none_anew f None = refl
-none_anew f (Some x) = refl
 
 parent_hit_anew : (r : Renaming) (range : Span) (c : Crate) (o : Option Crate)
     → option_map (λ parent. hit_of Wrapper (r.range range) (Parent (kid_of c) (kid_of parent))) o
@@ -53,7 +49,7 @@ module _ (r : Renaming) (p : Policy) (g : Graph) where
   wrapped_by ban parent =
       ap (λ (o : Option policy.Words). not (is_none o))
       (first_anew bears_name (renamed_words r) ban.wrappers parent (λ w is. refl))
-      ∙ none_anew (renamed_words r) (first_of bears_name ban.wrappers parent)
+      ∙ ap (λ b. not b) (none_anew (renamed_words r) (first_of bears_name ban.wrappers parent))
 
   wrappers_there : (ban : Ban) → has_wrappers (renamed_ban r ban) ≡ has_wrappers ban
   unfolding has_wrappers
@@ -169,7 +165,7 @@ module _ (r : Renaming) (p : Policy) (g : Graph) (apart : KeepsApart r p) where
       → wraps (map (renamed_words r) ban.wrappers) (renamed_words r w) parent ≡ wraps ban.wrappers w parent
   unfolding wraps wrapper_of
   wraps_same ban w parent written within = is_first_renamed (λ (v : policy.Words). v.span) bears_name (renamed_words r)
-      ban.wrappers w parent (λ v is. refl) (λ v is same. apart ban written v w is within same)
+      ban.wrappers w parent (λ v is. refl) (λ v is same. apart.wrappers ban written v w is within same)
       (λ v same. ap r.range same)
 
   hits_same : (ban : Ban) (w : policy.Words) (c : Crate) → Contains p.deny ban → Contains ban.wrappers w

@@ -2,6 +2,9 @@ pub mod Anew
 pub mod BanRenaming
 pub mod DeadLemmas
 pub mod FirstMatch
+pub mod IgnoreCases
+pub mod IgnoreRemoval
+pub mod IgnoreRenaming
 pub mod KeyParts
 pub mod PremiseRows
 pub mod Removal

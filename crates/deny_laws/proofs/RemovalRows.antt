@@ -8,11 +8,12 @@ use Rattle.deny_base.specs.declared.entry.EntryKind.TheVariants.{Skip, Wrapper}
 use Rattle.deny_model.specs.Hits.{all_hits, wrapper_hit}
 use Rattle.deny_model.specs.Keys.{crate_key, unused_key}
 use Rattle.deny_model.specs.Policy.{Policy}
-use Rattle.deny_model.specs.Rules.{ban_keys, skip_keys}
-use Rattle.deny_codes.proofs.Cases.{all_count, bans_on_cases, ban_at, entry_at, one_x, plain, range, skips_on_cases}
-use Rattle.deny_codes.proofs.Cases.{words_at}
+use Rattle.deny_codes.proofs.Cases.{all_count, ban_at, ban_keys, bans_on_cases, entry_at, one_x, plain, range}
+use Rattle.deny_codes.proofs.Cases.{skip_keys, skips_on_cases, words_at}
 use Rattle.deny_laws.specs.Dead.{unused_entry}
 use Rattle.deny_laws.specs.Removal.{is_taken, unnaming, without}
+use Rattle.deny_laws.proofs.IgnoreCases.{hit_by_x, hits_by, ignore, ignores_on_cases, replaced_by, two_ignores}
+use Rattle.deny_laws.proofs.IgnoreCases.{unmatched_by}
 
 abbrev wrapper : EntryId
 wrapper = record { kind = Wrapper; range = range 50 }
@@ -69,3 +70,40 @@ others_told : unnaming (skip ∷ []) (skip_keys two_skips one_x all_count) ≡ c
     ∷ unused_key code.UnnecessarySkip (range 20) ∷ []
 unfolding skips_on_cases two_skips is_taken entry_kind_number
 others_told = refl
+
+-- ---- of two ignores of one replaced crate the second is dead
+
+second_unmatched : unmatched_by two_ignores ≡ unused_key code.UnmatchedReplacementIgnore (range 39) ∷ []
+unfolding ignores_on_cases
+second_unmatched = refl
+
+dead_ignore : filter_map unused_entry (unmatched_by two_ignores) ≡ ignore (range 39) ∷ []
+unfolding ignores_on_cases unused_entry
+dead_ignore = refl
+
+first_hit : hits_by two_ignores ≡ hit_by_x (range 29) ∷ []
+unfolding ignores_on_cases
+first_hit = refl
+
+-- without it nothing is unmatched, the first is hit as before, and the crate is passed over still
+none_unmatched : unmatched_by (without two_ignores (ignore (range 39) ∷ [])) ≡ []
+unfolding ignores_on_cases is_taken entry_kind_number
+none_unmatched = refl
+
+none_told : unnaming (ignore (range 39) ∷ []) (unmatched_by two_ignores) ≡ []
+unfolding ignores_on_cases is_taken entry_kind_number
+none_told = refl
+
+first_hit_still : hits_by (without two_ignores (ignore (range 39) ∷ [])) ≡ hit_by_x (range 29) ∷ []
+unfolding ignores_on_cases is_taken entry_kind_number
+first_hit_still = refl
+
+passed_over : replaced_by (without two_ignores (ignore (range 39) ∷ [])) ≡ []
+unfolding ignores_on_cases is_taken entry_kind_number
+passed_over = refl
+
+-- a skip of the same range is another entry
+other_kind : unmatched_by (without two_ignores (record { kind = Skip; range = range 39 } ∷ []))
+    ≡ unused_key code.UnmatchedReplacementIgnore (range 39) ∷ []
+unfolding ignores_on_cases is_taken entry_kind_number
+other_kind = refl

@@ -19,14 +19,17 @@ use Rattle.deny_codes.specs.AllowList.{allowed_keys}
 use Rattle.deny_codes.specs.Bans.{allowed_by_wrapper_keys, banned_keys, unmatched_wrapper_keys}
 use Rattle.deny_codes.specs.Circumstances.{Circumstances}
 use Rattle.deny_codes.specs.Facts.{Facts, AreFacts}
+use Rattle.deny_codes.specs.Hits.{hits_in}
 use Rattle.deny_codes.specs.SkippedTrees.{skipped_by_root_keys}
 use Rattle.deny_codes.specs.Skips.{skipped_keys}
 use Rattle.deny_codes.specs.Standing.{StandsAs, StandsBy, StandsLicensed, Stands}
+use Rattle.deny_codes.specs.StdReplacements.{ignore_hits_in, replaced_keys_in, unmatched_ignore_keys_in}
 use Rattle.deny_codes.specs.Wrappers.{unused_wrapper_keys, wrapper_hits_of}
 use Rattle.deny_laws.specs.Renaming.{AreRenamed, KeepsApart, Renaming, renamed, renamed_as, renamed_ban}
 use Rattle.deny_laws.specs.Renaming.{renamed_hit, renamed_in, renamed_key, renamed_root}
 use Rattle.deny_laws.proofs.Anew.{keys_back, keys_there}
 use Rattle.deny_laws.proofs.BanRenaming as bans
+use Rattle.deny_laws.proofs.IgnoreRenaming as ignores
 use Rattle.deny_laws.proofs.KeyParts.{moved}
 use Rattle.deny_laws.proofs.SkipRenaming as skips
 
@@ -62,6 +65,10 @@ module _ (r : Renaming) (c : Circumstances) (these those : Facts) (are : AreFact
       (skips.unmatched_root_anew r c.policy c.graph these.chains those.chains are.chains are_new.chains) is
   there_as code.Duplicate is = skips.duplicates_there r c.policy c.graph these.chains those.chains are.chains
       are_new.chains key is
+  there_as code.ReplacedInStd is = moved (replaced_keys_in c) (replaced_keys_in (renamed_in r c)) key
+      (sym (ignores.replaced_in_stay r c)) is
+  there_as code.UnmatchedReplacementIgnore is = keys_there r (unmatched_ignore_keys_in c)
+      (unmatched_ignore_keys_in (renamed_in r c)) key (ignores.unmatched_in_anew r c apart) is
   there_as _ is = absurd is
 
   back_as : (d : Code) → StandsAs d (renamed_in r c) those key
@@ -102,6 +109,13 @@ module _ (r : Renaming) (c : Circumstances) (these those : Facts) (are : AreFact
     skips.duplicates_back r c.policy c.graph these.chains those.chains are.chains are_new.chains key is,
     refl,
   )
+  back_as code.ReplacedInStd is = (
+    key,
+    moved (replaced_keys_in (renamed_in r c)) (replaced_keys_in c) key (ignores.replaced_in_stay r c) is,
+    refl,
+  )
+  back_as code.UnmatchedReplacementIgnore is = keys_back r (unmatched_ignore_keys_in c)
+      (unmatched_ignore_keys_in (renamed_in r c)) key (ignores.unmatched_in_anew r c apart) is
   back_as _ is = absurd is
 
   licensed : (d : LicenseCode) (p : Policy) (k : Key) → StandsLicensed d p c.graph k → ⊥
@@ -132,9 +146,9 @@ module _ (r : Renaming) (c : Circumstances) (these those : Facts) (are : AreFact
 
 module _ (r : Renaming) (c : Circumstances) (these those : Facts) (are : AreFacts c these)
     (are_new : AreFacts (renamed_in r c) those) (apart : KeepsApart r c.policy) where
-  hits_anew : all_hits (renamed r c.policy) c.graph those.chains ≡ map (renamed_hit r)
+  crate_hits_anew : all_hits (renamed r c.policy) c.graph those.chains ≡ map (renamed_hit r)
       (all_hits c.policy c.graph these.chains)
-  hits_anew =
+  crate_hits_anew =
       let p = c.policy in
       let of_skips = filter_map (skip_hit c.graph these.chains) p.skip in
       let of_roots = filter_map (root_hit c.graph) p.skip_tree in
@@ -150,6 +164,13 @@ module _ (r : Renaming) (c : Circumstances) (these those : Facts) (are : AreFact
       ∙ (ap (λ (hits : List Hit). map (renamed_hit r) of_skips ++ hits)
       (sym (map-append (renamed_hit r) of_roots of_wrappers))
       ∙ sym (map-append (renamed_hit r) of_skips (of_roots ++ of_wrappers)))))
+
+  hits_anew : hits_in (renamed_in r c) those ≡ map (renamed_hit r) (hits_in c these)
+  hits_anew =
+      ap (λ (hits : List Hit). hits ++ ignore_hits_in (renamed_in r c)) crate_hits_anew
+      ∙ (ap (λ (hits : List Hit). map (renamed_hit r) (all_hits c.policy c.graph these.chains) ++ hits)
+      (ignores.ignore_hits_anew r c apart)
+      ∙ sym (map-append (renamed_hit r) (all_hits c.policy c.graph these.chains) (ignore_hits_in c)))
 
   pub all_renamed : AreRenamed r c these those
   all_renamed = record {

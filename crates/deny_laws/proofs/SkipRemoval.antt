@@ -42,6 +42,7 @@ use Rattle.deny_codes.specs.Facts.{Facts, AreFacts}
 use Rattle.deny_codes.specs.SkippedTrees.{skipped_by_root_keys}
 use Rattle.deny_codes.specs.Skips.{skipped_keys}
 use Rattle.deny_codes.specs.Standing.{StandsAs, StandsBy, StandsLicensed, Stands}
+use Rattle.deny_codes.specs.StdReplacements.{ignore_hits_in}
 use Rattle.deny_codes.specs.Wrappers.{unused_wrapper_keys, wrapper_hits_of}
 use Rattle.deny_codes.proofs.Kept.{fails_if_gone, filter_fails_on, filter_kept, filter_map_kept, filter_none_on}
 use Rattle.deny_codes.proofs.Kept.{find_none_on, flat_map_kept, guarded, list_any_kept, told_kept}
@@ -332,6 +333,8 @@ module _ (c : Circumstances) (facts : Facts) (taken : List EntryId)
       (unmatched_skip_root_keys (without_skips c.policy taken) c.graph) (unmatched_skip_root_keys c.policy c.graph) key
       (unmatched_root_part c.policy c.graph facts.chains taken are unhit) is unnamed
   there_as code.Duplicate unnamed is = duplicates_there c.policy c.graph facts.chains taken are unhit key is
+  there_as code.ReplacedInStd unnamed is = is
+  there_as code.UnmatchedReplacementIgnore unnamed is = is
   there_as _ unnamed is = absurd is
 
   back_as : (d : Code) → StandsAs d (without_skips_in c taken) facts key → StandsAs d c facts key
@@ -381,6 +384,8 @@ module _ (c : Circumstances) (facts : Facts) (taken : List EntryId)
   )
   back_as code.Allowed is = (is, refl)
   back_as code.Duplicate is = (duplicates_back c.policy c.graph facts.chains taken are unhit key is, refl)
+  back_as code.ReplacedInStd is = (is, refl)
+  back_as code.UnmatchedReplacementIgnore is = (is, unhit.no_ignore key.entry)
   back_as code.UnmatchedSkip is = from_part (λ k. is_taken taken Skip k.entry)
       (unmatched_skip_keys (without_skips c.policy taken) c.graph facts.chains)
       (unmatched_skip_keys c.policy c.graph facts.chains) key
@@ -443,5 +448,6 @@ pub skips_gone : (c : Circumstances) (facts : Facts) (taken : List EntryId) (key
 skips_gone c facts taken keys are unhit listed = record {
   facts_hold = facts_hold c facts taken are;
   listed = listed_without c facts taken keys are unhit listed;
-  hits = hits_stay c.policy c.graph facts.chains taken are.chains unhit;
+  hits = ap (λ (hits : List Hit). hits ++ ignore_hits_in c)
+      (hits_stay c.policy c.graph facts.chains taken are.chains unhit);
 }

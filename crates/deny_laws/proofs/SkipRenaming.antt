@@ -1,18 +1,16 @@
 -- What stands of skips, skipped trees and groups where ranges of the policy are replaced.
-use Rattle.std.proofs.Common.{◌≡◌, ◌≢◌, ◌==◌, ◌&&◌, ◌||◌, ◌∙◌, ℕ, Bool, List, None, Option, Some, ap, length, map, not}
+use Rattle.std.proofs.Common.{◌≡◌, ◌≢◌, ◌==◌, ◌&&◌, ◌||◌, ◌∙◌, ℕ, Bool, List, ap, length, map, not}
 use Rattle.std.proofs.Common.{refl, subst, sym}
 use Rattle.std.specs.Prelude.{Contains, filter, filter_map, if◌then◌else◌, nat_le, option_map}
 use Rattle.deny_lists.proofs.Agreement.{filter_on, find_on, list_any_on, same_test}
 use Rattle.deny_lists.proofs.Members.{contains_map}
 use Rattle.deny_lists.specs.Ascending.{Lists}
 use Rattle.deny_base.specs.declared.code.Code.TheVariants as code
-use Rattle.deny_base.specs.declared.entry.EntryKind.{EntryKind}
 use Rattle.deny_base.specs.declared.entry.EntryKind.TheVariants.{Skip, SkipRoot}
 use Rattle.deny_base.specs.declared.entry.Witness.TheVariants.{Krate}
 use Rattle.deny_base.specs.declared.key.Key.{Key}
 use Rattle.deny_base.specs.declared.level.LintLevel.{LintLevel}
 use Rattle.deny_base.specs.declared.level.LintLevel.TheVariants.{Allow, Deny}
-use Rattle.deny_base.specs.declared.span.Span.{Span}
 use Rattle.deny_model.specs.Hits.{hit_of, root_hit, skip_hit}
 use Rattle.deny_model.specs.Facts as chains
 use Rattle.deny_model.specs.Duplicates.{IsDuplicate, duplicate_level, is_denied_multiple}
@@ -30,13 +28,8 @@ use Rattle.deny_model.specs.VersionOrder.{version_cmp}
 use Rattle.deny_codes.specs.SkippedTrees.{skipped_by_root_keys}
 use Rattle.deny_codes.specs.Skips.{skipped_keys}
 use Rattle.deny_laws.specs.Renaming.{Renaming, renamed, renamed_entry, renamed_hit, renamed_root, renamed_spec}
-use Rattle.deny_laws.proofs.Anew.{any_anew, filter_map_anew, flat_map_anew, ranged, told_alike, told_anew}
-
-hit_anew : (r : Renaming) (kind : EntryKind) (range : Span) (o : Option Crate)
-    → option_map (λ c. hit_of kind (r.range range) (Krate (kid_of c))) o
-    ≡ option_map (renamed_hit r) (option_map (λ c. hit_of kind range (Krate (kid_of c))) o)
-hit_anew r kind range None = refl
-hit_anew r kind range (Some c) = refl
+use Rattle.deny_laws.proofs.Anew.{any_anew, crate_hit_anew, filter_map_anew, flat_map_anew, ranged, told_alike}
+use Rattle.deny_laws.proofs.Anew.{told_anew}
 
 tree_there : (r : Renaming) (g : Graph) (t : Root) (k : Crate) → IsInTree g (renamed_root r t) k → IsInTree g t k
 unfolding matches
@@ -199,7 +192,7 @@ module _ (r : Renaming) (p : Policy) (g : Graph) (these those : chains.Facts) (a
   skip_hit_anew s =
       ap (option_map (λ (c : Crate). hit_of Skip (r.range s.spec.range) (Krate (kid_of c))))
       (find_on (is_skipped those (renamed_entry r s)) (is_skipped these s) g.crates (λ k known. skips_same s k known))
-      ∙ hit_anew r Skip s.spec.range _
+      ∙ crate_hit_anew r Skip s.spec.range _
 
   pub skip_hits_anew : filter_map (skip_hit g those) (map (renamed_entry r) p.skip)
       ≡ map (renamed_hit r) (filter_map (skip_hit g these) p.skip)
@@ -240,7 +233,7 @@ module _ (r : Renaming) (p : Policy) (g : Graph) (these those : chains.Facts) (a
 
   root_hit_anew : (t : Root) → root_hit g (renamed_root r t) ≡ option_map (renamed_hit r) (root_hit g t)
   unfolding root_hit matches
-  root_hit_anew t = hit_anew r SkipRoot t.spec.range _
+  root_hit_anew t = crate_hit_anew r SkipRoot t.spec.range _
 
   pub root_hits_anew : filter_map (root_hit g) (map (renamed_root r) p.skip_tree)
       ≡ map (renamed_hit r) (filter_map (root_hit g) p.skip_tree)

@@ -1,8 +1,9 @@
 -- What is hit has a hit, so that it stays where what goes has none.
-use Rattle.std.proofs.Common.{◌≡◌, ◌++◌, ◌∙◌, List, None, Option, Some, ap, not, refl, sym, true}
+use Rattle.std.proofs.Common.{◌≡◌, ◌++◌, ◌∙◌, List, None, Option, Some, [], ap, not, refl, subst, sym, true}
 use Rattle.std.specs.Prelude.{Contains, filter_map, find, is_some, option_and_then, option_map}
 use Rattle.std.specs.List.{flat_map, list_any}
 use Rattle.std.specs.FinMap.{IsAntisymmetric}
+use Rattle.std.specs.Option.{option_map_or}
 use Rattle.std.proofs.lemmas.Bool.{and_parts}
 use Rattle.std.proofs.lemmas.List.Elements.{Contains-append_left, Contains-append_right}
 use Rattle.deny_lists.proofs.Filters.{find-any}
@@ -10,7 +11,7 @@ use Rattle.deny_lists.proofs.Members.{Contains-filter_map, Contains-flat_map}
 use Rattle.deny_base.specs.Entry.{entry_cmp}
 use Rattle.deny_base.specs.declared.entry.EntryId.{EntryId}
 use Rattle.deny_base.specs.declared.entry.EntryKind.{EntryKind}
-use Rattle.deny_base.specs.declared.entry.EntryKind.TheVariants.{Skip, SkipRoot, Wrapper}
+use Rattle.deny_base.specs.declared.entry.EntryKind.TheVariants.{ReplacementIgnore, Skip, SkipRoot, Wrapper}
 use Rattle.deny_base.specs.declared.entry.Hit.{Hit}
 use Rattle.deny_base.specs.declared.entry.Witness.TheVariants.{Krate, Parent}
 use Rattle.deny_base.specs.declared.span.Span.{Span}
@@ -20,12 +21,18 @@ use Rattle.deny_model.specs.Facts as chains
 use Rattle.deny_model.specs.Graph.{Crate, Graph, dependents, kid_of}
 use Rattle.deny_model.specs.Match.{matches}
 use Rattle.deny_model.specs.Policy as policy
-use Rattle.deny_model.specs.Policy.{Ban, Entry, Policy, Root}
+use Rattle.deny_model.specs.Policy.{Ban, Entry, Policy, Replacing, Root}
 use Rattle.deny_model.specs.Skips.{has_root, is_hit_skip, is_skipped}
 use Rattle.deny_model.specs.Wrappers.{hits_wrapper, is_hit_wrapper, wraps}
+use Rattle.deny_codes.specs.Circumstances.{Circumstances}
+use Rattle.deny_codes.specs.Facts.{Facts}
+use Rattle.deny_codes.specs.Hits.{hits_in}
+use Rattle.deny_codes.specs.Saying.{Saying, said_by}
+use Rattle.deny_codes.specs.StdReplacements.{hits_ignore, ignore_hit, ignore_hits, ignore_hits_in, ignore_range}
+use Rattle.deny_codes.specs.StdReplacements.{is_hit_ignore}
 use Rattle.deny_codes.specs.Wrappers.{wrapper_hits_of}
 use Rattle.deny_codes.proofs.Kept.{found_passes}
-use Rattle.deny_laws.specs.Removal.{HaveNoHit, stays_root, stays_skip, stays_wrapper}
+use Rattle.deny_laws.specs.Removal.{HaveNoHit, is_taken, stays_ignore, stays_root, stays_skip, stays_wrapper}
 use Rattle.deny_laws.proofs.Taken.{entry, not_taken}
 
 -- the hit of an entry that is hit
@@ -51,6 +58,14 @@ hit_of_root : (g : Graph) (t : Root) → has_root g t ≡ true → HasHit (root_
 unfolding has_root root_hit
 hit_of_root g t is = by_found SkipRoot t.spec.range (find (matches t.spec) g.crates)
     (sym (find-any (matches t.spec) g.crates) ∙ is)
+
+-- ---- ignores: by a replaced crate
+
+hit_of_ignore : (s : Replacing) (g : Graph) (said : Saying) (e : Entry) → is_hit_ignore s g said e ≡ true
+    → HasHit (ignore_hit s g said e) (entry ReplacementIgnore (ignore_range e))
+unfolding is_hit_ignore ignore_hit
+hit_of_ignore s g said e is = by_found ReplacementIgnore (ignore_range e) (find (hits_ignore s g said e) g.crates)
+    (sym (find-any (hits_ignore s g said e) g.crates) ∙ is)
 
 -- ---- wrappers: by a crate and a dependent
 
@@ -85,29 +100,56 @@ hit_of_wrapper p g ban w is = by_crate p g ban w (find (hits_wrapper p g ban w) 
 
 -- ---- what is hit stays
 
-module _ (exact : IsAntisymmetric entry_cmp) (p : Policy) (g : Graph) (f : chains.Facts) (taken : List EntryId)
-    (none : HaveNoHit (all_hits p g f) taken) where
-  pub skip_stays : (s : Entry) → Contains p.skip s → is_hit_skip g f s ≡ true → stays_skip taken s ≡ true
-  skip_stays s written hit = let of = hit_of_skip g f s hit in
-      ap (λ b. not b) (not_taken exact taken Skip s.spec.range (λ is. none (entry Skip s.spec.range) is of.hit
-      (Contains-append_left (filter_map (skip_hit g f) p.skip)
-      (filter_map (root_hit g) p.skip_tree ++ flat_map (wrapper_hits_of p g) p.deny) of.hit
-      (Contains-filter_map (skip_hit g f) p.skip s of.hit written of.gives)) of.is))
+module _ (exact : IsAntisymmetric entry_cmp) (c : Circumstances) (facts : Facts) (taken : List EntryId)
+    (none : HaveNoHit (hits_in c facts) taken) where
+  stays_if_hit : (kind : EntryKind) (range : Span) (h : Hit) → Contains (hits_in c facts) h
+      → h.entry ≡ entry kind range → not (is_taken taken kind range) ≡ true
+  stays_if_hit kind range h hit is = ap (λ b. not b)
+      (not_taken exact taken kind range (λ gone. none (entry kind range) gone h hit is))
 
-  pub root_stays : (t : Root) → Contains p.skip_tree t → has_root g t ≡ true → stays_root taken t ≡ true
-  root_stays t written hit = let of = hit_of_root g t hit in
-      ap (λ b. not b) (not_taken exact taken SkipRoot t.spec.range (λ is. none (entry SkipRoot t.spec.range) is of.hit
-      (Contains-append_right (filter_map (skip_hit g f) p.skip)
-      (filter_map (root_hit g) p.skip_tree ++ flat_map (wrapper_hits_of p g) p.deny) of.hit
-      (Contains-append_left (filter_map (root_hit g) p.skip_tree) (flat_map (wrapper_hits_of p g) p.deny) of.hit
-      (Contains-filter_map (root_hit g) p.skip_tree t of.hit written of.gives))) of.is))
+  -- the hits of the crate rules are among all hits
+  of_crates : (h : Hit) → Contains (all_hits c.policy c.graph facts.chains) h → Contains (hits_in c facts) h
+  of_crates h hit = Contains-append_left (all_hits c.policy c.graph facts.chains) (ignore_hits_in c) h hit
 
-  pub wrapper_stays : (ban : Ban) → Contains p.deny ban → (w : policy.Words) → Contains ban.wrappers w
-      → is_hit_wrapper p g ban w ≡ true → stays_wrapper taken w ≡ true
-  wrapper_stays ban written w within hit = let of = hit_of_wrapper p g ban w hit in
-      ap (λ b. not b) (not_taken exact taken Wrapper w.span (λ is. none (entry Wrapper w.span) is of.hit
-      (Contains-append_right (filter_map (skip_hit g f) p.skip)
-      (filter_map (root_hit g) p.skip_tree ++ flat_map (wrapper_hits_of p g) p.deny) of.hit
-      (Contains-append_right (filter_map (root_hit g) p.skip_tree) (flat_map (wrapper_hits_of p g) p.deny) of.hit
-      (Contains-flat_map (wrapper_hits_of p g) p.deny ban of.hit written
-      (Contains-filter_map (wrapper_hit p g ban) ban.wrappers w of.hit within of.gives)))) of.is))
+  abbrev of_skips : List Hit
+  of_skips = filter_map (skip_hit c.graph facts.chains) c.policy.skip
+
+  abbrev of_roots : List Hit
+  of_roots = filter_map (root_hit c.graph) c.policy.skip_tree
+
+  abbrev of_wrappers : List Hit
+  of_wrappers = flat_map (wrapper_hits_of c.policy c.graph) c.policy.deny
+
+  pub skip_stays : (s : Entry) → Contains c.policy.skip s → is_hit_skip c.graph facts.chains s ≡ true
+      → stays_skip taken s ≡ true
+  skip_stays s written hit = let of = hit_of_skip c.graph facts.chains s hit in
+      stays_if_hit Skip s.spec.range of.hit
+      (of_crates of.hit (Contains-append_left of_skips (of_roots ++ of_wrappers) of.hit
+      (Contains-filter_map (skip_hit c.graph facts.chains) c.policy.skip s of.hit written of.gives))) of.is
+
+  pub root_stays : (t : Root) → Contains c.policy.skip_tree t → has_root c.graph t ≡ true
+      → stays_root taken t ≡ true
+  root_stays t written hit = let of = hit_of_root c.graph t hit in
+      stays_if_hit SkipRoot t.spec.range of.hit
+      (of_crates of.hit (Contains-append_right of_skips (of_roots ++ of_wrappers) of.hit
+      (Contains-append_left of_roots of_wrappers of.hit
+      (Contains-filter_map (root_hit c.graph) c.policy.skip_tree t of.hit written of.gives)))) of.is
+
+  pub wrapper_stays : (ban : Ban) → Contains c.policy.deny ban → (w : policy.Words) → Contains ban.wrappers w
+      → is_hit_wrapper c.policy c.graph ban w ≡ true → stays_wrapper taken w ≡ true
+  wrapper_stays ban written w within hit = let of = hit_of_wrapper c.policy c.graph ban w hit in
+      stays_if_hit Wrapper w.span of.hit
+      (of_crates of.hit (Contains-append_right of_skips (of_roots ++ of_wrappers) of.hit
+      (Contains-append_right of_roots of_wrappers of.hit
+      (Contains-flat_map (wrapper_hits_of c.policy c.graph) c.policy.deny ban of.hit written
+      (Contains-filter_map (wrapper_hit c.policy c.graph ban) ban.wrappers w of.hit within of.gives))))) of.is
+
+  pub ignore_stays : (s : Replacing) → c.policy.replacing ≡ Some s → (e : Entry) → Contains s.ignore e
+      → is_hit_ignore s c.graph (said_by c.table) e ≡ true → stays_ignore taken e ≡ true
+  unfolding ignore_hits
+  ignore_stays s minded e written hit = let of = hit_of_ignore s c.graph (said_by c.table) e hit in
+      stays_if_hit ReplacementIgnore (ignore_range e) of.hit
+      (Contains-append_right (all_hits c.policy c.graph facts.chains) (ignore_hits_in c) of.hit
+      (subst (λ (hits : List Hit). Contains hits of.hit)
+      (sym (ap (λ (o : Option Replacing). option_map_or (λ r. ignore_hits r c.graph (said_by c.table)) o []) minded))
+      (Contains-filter_map (ignore_hit s c.graph (said_by c.table)) s.ignore e of.hit written of.gives))) of.is

@@ -42,6 +42,7 @@ use Rattle.deny_codes.specs.Facts.{Facts, AreFacts}
 use Rattle.deny_codes.specs.FirstMatch.{first_of}
 use Rattle.deny_codes.specs.SkippedTrees.{skipped_by_root_keys}
 use Rattle.deny_codes.specs.Standing.{StandsAs, StandsBy, StandsLicensed, Stands}
+use Rattle.deny_codes.specs.StdReplacements.{ignore_hits_in}
 use Rattle.deny_codes.specs.Wrappers.{unused_wrapper_keys, wrapper_hits_of}
 use Rattle.deny_codes.proofs.Kept.{filter-flat_map, found_member, list_all_on, fails_if_gone}
 use Rattle.deny_codes.proofs.Kept.{filter_map_kept, find_none_on, guarded, told_kept}
@@ -359,6 +360,8 @@ module _ (c : Circumstances) (facts : Facts) (taken : List EntryId) (unhit : Are
   there_as code.Allowed unnamed is = is
   there_as code.Skipped unnamed is = is
   there_as code.Duplicate unnamed is = duplicates_there c.policy c.graph facts.chains taken key is
+  there_as code.ReplacedInStd unnamed is = is
+  there_as code.UnmatchedReplacementIgnore unnamed is = is
   there_as _ unnamed is = absurd is
 
   back_as : (d : Code) → StandsAs d (without_wrappers_in c taken) facts key → StandsAs d c facts key
@@ -411,6 +414,8 @@ module _ (c : Circumstances) (facts : Facts) (taken : List EntryId) (unhit : Are
   back_as code.Allowed is = (is, refl)
   back_as code.Skipped is = (is, refl)
   back_as code.Duplicate is = (duplicates_back c.policy c.graph facts.chains taken key is, refl)
+  back_as code.ReplacedInStd is = (is, refl)
+  back_as code.UnmatchedReplacementIgnore is = (is, unhit.no_ignore key.entry)
   back_as _ is = absurd is
 
   licensed : (d : LicenseCode) (p q : Policy) → StandsLicensed d p c.graph key → ⊥
@@ -453,5 +458,6 @@ wrappers_gone c facts taken keys are unhit listed = record {
     sound = λ key is. let kept = Contains-from_filter (λ k. not (names taken k)) keys key is in
         there_key c facts taken unhit key (not-true (names taken key) kept.1) (listed.sound key kept.0);
   };
-  hits = hits_stay c.policy c.graph taken unhit facts.chains;
+  hits = ap (λ (hits : List Hit). hits ++ ignore_hits_in c)
+      (hits_stay c.policy c.graph taken unhit facts.chains);
 }

@@ -4,15 +4,16 @@ use Rattle.deny_lists.specs.Ascending.{Lists}
 use Rattle.deny_base.specs.Entry.{entry_cmp}
 use Rattle.deny_base.specs.KeyOrder.{key_cmp}
 use Rattle.deny_base.specs.declared.entry.EntryId.{EntryId}
-use Rattle.deny_base.specs.declared.entry.EntryKind.TheVariants.{Skip, SkipRoot, Wrapper}
+use Rattle.deny_base.specs.declared.entry.EntryKind.TheVariants.{ReplacementIgnore, Skip, SkipRoot, Wrapper}
 use Rattle.deny_base.specs.declared.entry.Hit.{Hit}
 use Rattle.deny_base.specs.declared.key.Key.{Key}
-use Rattle.deny_model.specs.Hits.{all_hits}
 use Rattle.deny_model.specs.Policy.{Policy}
 use Rattle.deny_codes.specs.Circumstances.{Circumstances}
 use Rattle.deny_codes.specs.Codes.{unused_kind}
 use Rattle.deny_codes.specs.Facts.{Facts, AreFacts}
+use Rattle.deny_codes.specs.Hits.{hits_in}
 use Rattle.deny_codes.specs.Standing.{Stands}
+use Rattle.deny_laws.specs.IgnoreRemoval.{without_ignores_in}
 use Rattle.deny_laws.specs.Removal.{AreGone, EmptyNone, without_in}
 use Rattle.deny_laws.specs.SkipRemoval.{without_skips_in}
 use Rattle.deny_laws.specs.WrapperRemoval.{without_wrappers_in}
@@ -44,22 +45,33 @@ pub record AreDeadWrappers (p : Policy) (dead taken : List EntryId) : Type 0 whe
   pub kind : (e : EntryId) → Contains taken e → e.kind ≡ Wrapper
   pub not_emptied : EmptyNone p taken
 
+-- each of these is dead, and an ignore
+pub record AreDeadIgnores (dead taken : List EntryId) : Type 0 where
+  pub dead_each : AreAmong dead taken
+  pub kind : (e : EntryId) → Contains taken e → e.kind ≡ ReplacementIgnore
+
 -- ---- the laws
 
 abbrev pub DeadCanGo : Type 0
 DeadCanGo = (c : Circumstances) → (facts : Facts) → (keys : List Key) → (dead taken : List EntryId)
     → AreFacts c facts → Lists key_cmp (Stands c facts) keys
-    → AreDead keys (all_hits c.policy c.graph facts.chains) dead
+    → AreDead keys (hits_in c facts) dead
     → AreAmong dead taken → EmptyNone c.policy taken → AreGone c (without_in c taken) facts taken keys
 
 abbrev pub DeadSkipsCanGo : Type 0
 DeadSkipsCanGo = (c : Circumstances) → (facts : Facts) → (keys : List Key) → (dead taken : List EntryId)
     → AreFacts c facts → Lists key_cmp (Stands c facts) keys
-    → AreDead keys (all_hits c.policy c.graph facts.chains) dead
+    → AreDead keys (hits_in c facts) dead
     → AreDeadSkips dead taken → AreGone c (without_skips_in c taken) facts taken keys
 
 abbrev pub DeadWrappersCanGo : Type 0
 DeadWrappersCanGo = (c : Circumstances) → (facts : Facts) → (keys : List Key) → (dead taken : List EntryId)
     → AreFacts c facts → Lists key_cmp (Stands c facts) keys
-    → AreDead keys (all_hits c.policy c.graph facts.chains) dead
+    → AreDead keys (hits_in c facts) dead
     → AreDeadWrappers c.policy dead taken → AreGone c (without_wrappers_in c taken) facts taken keys
+
+abbrev pub DeadIgnoresCanGo : Type 0
+DeadIgnoresCanGo = (c : Circumstances) → (facts : Facts) → (keys : List Key) → (dead taken : List EntryId)
+    → AreFacts c facts → Lists key_cmp (Stands c facts) keys
+    → AreDead keys (hits_in c facts) dead
+    → AreDeadIgnores dead taken → AreGone c (without_ignores_in c taken) facts taken keys

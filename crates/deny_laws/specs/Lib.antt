@@ -1,4 +1,5 @@
 pub mod Dead
+pub mod IgnoreRemoval
 pub mod Removal
 pub mod Renaming
 pub mod SkipRemoval

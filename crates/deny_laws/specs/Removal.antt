@@ -1,5 +1,5 @@
 -- Entries of any kind that are taken out of a policy, and what that comes to.
-use Rattle.std.specs.Prelude.{◌≡◌, ◌≢◌, Bool, false, not, List, Contains, filter, map}
+use Rattle.std.specs.Prelude.{◌≡◌, ◌≢◌, Bool, false, not, List, Contains, filter, map, option_map}
 use Rattle.std.specs.List.{list_any}
 use Rattle.std.specs.Option.{option_map_or}
 use Rattle.std.specs.Ordering.{eq_by_cmp}
@@ -9,18 +9,19 @@ use Rattle.deny_base.specs.KeyOrder.{key_cmp}
 use Rattle.deny_base.specs.declared.code.DiagnosticCode.{DiagnosticCode}
 use Rattle.deny_base.specs.declared.entry.EntryId.{EntryId}
 use Rattle.deny_base.specs.declared.entry.EntryKind.{EntryKind}
-use Rattle.deny_base.specs.declared.entry.EntryKind.TheVariants.{Skip, SkipRoot, Wrapper}
+use Rattle.deny_base.specs.declared.entry.EntryKind.TheVariants.{ReplacementIgnore, Skip, SkipRoot, Wrapper}
 use Rattle.deny_base.specs.declared.entry.Hit.{Hit}
 use Rattle.deny_base.specs.declared.key.Key.{Key}
 use Rattle.deny_base.specs.declared.span.Span.{Span}
 use Rattle.deny_model.specs.Bans.{has_wrappers}
-use Rattle.deny_model.specs.Hits.{all_hits}
 use Rattle.deny_model.specs.Policy as policy
-use Rattle.deny_model.specs.Policy.{Ban, Entry, Policy, Root}
+use Rattle.deny_model.specs.Policy.{Ban, Entry, Policy, Replacing, Root}
 use Rattle.deny_codes.specs.Circumstances.{Circumstances}
 use Rattle.deny_codes.specs.Codes.{unused_kind}
 use Rattle.deny_codes.specs.Facts.{Facts, AreFacts}
+use Rattle.deny_codes.specs.Hits.{hits_in}
 use Rattle.deny_codes.specs.Standing.{Stands}
+use Rattle.deny_codes.specs.StdReplacements.{ignore_range}
 
 -- the entry of a kind and a range is one of these
 unfoldable pub is_taken : List EntryId → EntryKind → Span → Bool
@@ -35,9 +36,16 @@ stays_root taken t = not (is_taken taken SkipRoot t.spec.range)
 abbrev pub stays_wrapper : List EntryId → policy.Words → Bool
 stays_wrapper taken w = not (is_taken taken Wrapper w.span)
 
+abbrev pub stays_ignore : List EntryId → Entry → Bool
+stays_ignore taken e = not (is_taken taken ReplacementIgnore (ignore_range e))
+
 -- what bans crates, without the wrappers among these
 abbrev pub cut : List EntryId → Ban → Ban
 cut taken ban = record ban { wrappers = filter (stays_wrapper taken) ban.wrappers }
+
+-- how replaced crates are minded, without the ignores among these
+abbrev pub cut_replacing : List EntryId → Replacing → Replacing
+cut_replacing taken s = record s { ignore = filter (stays_ignore taken) s.ignore }
 
 -- the policy without these; all others keep their ranges and their order
 abbrev pub without : Policy → List EntryId → Policy
@@ -45,6 +53,7 @@ without p taken = record p {
   deny = map (cut taken) p.deny;
   skip = filter (stays_skip taken) p.skip;
   skip_tree = filter (stays_root taken) p.skip_tree;
+  replacing = option_map (cut_replacing taken) p.replacing;
 }
 
 abbrev pub without_in : Circumstances → List EntryId → Circumstances
@@ -74,11 +83,11 @@ pub record AreGone (c rest : Circumstances) (facts : Facts) (taken : List EntryI
   pub facts_hold : AreFacts rest facts
   pub listed : Lists key_cmp (Stands rest facts) (unnaming taken keys)
   -- and the hits are the same, of the same entries
-  pub hits : all_hits rest.policy rest.graph facts.chains ≡ all_hits c.policy c.graph facts.chains
+  pub hits : hits_in rest facts ≡ hits_in c facts
 
 -- ---- the law
 
 abbrev pub EntriesCanGo : Type 0
 EntriesCanGo = (c : Circumstances) → (facts : Facts) → (taken : List EntryId) → (keys : List Key)
-    → AreFacts c facts → HaveNoHit (all_hits c.policy c.graph facts.chains) taken → EmptyNone c.policy taken
+    → AreFacts c facts → HaveNoHit (hits_in c facts) taken → EmptyNone c.policy taken
     → Lists key_cmp (Stands c facts) keys → AreGone c (without_in c taken) facts taken keys

@@ -1,17 +1,20 @@
 -- Ranges of a policy in whose place others stand, as where its text is printed anew, and what that comes to.
-use Rattle.std.specs.Prelude.{◌≡◌, ℕ, Contains, if◌then◌else◌, map, option_map}
+use Rattle.std.specs.Prelude.{◌≡◌, ℕ, Contains, Some, if◌then◌else◌, map, option_map}
 use Rattle.deny_base.specs.declared.code.DiagnosticCode.{DiagnosticCode}
 use Rattle.deny_base.specs.declared.entry.EntryId.{EntryId}
 use Rattle.deny_base.specs.declared.entry.Hit.{Hit}
 use Rattle.deny_base.specs.declared.key.Key.{Key}
+use Rattle.deny_base.specs.declared.level.LintLevel.{LintLevel}
 use Rattle.deny_base.specs.declared.span.Span.{Span}
-use Rattle.deny_model.specs.Hits.{all_hits}
+use Rattle.deny_base.specs.declared.span.Spanned.{Spanned}
 use Rattle.deny_model.specs.Policy as policy
-use Rattle.deny_model.specs.Policy.{Ban, Entry, Policy, Root, Spec}
+use Rattle.deny_model.specs.Policy.{Ban, Entry, FeatureEntry, Policy, Replacing, Root, Spec}
 use Rattle.deny_codes.specs.Circumstances.{Circumstances}
 use Rattle.deny_codes.specs.Codes.{has_entry}
 use Rattle.deny_codes.specs.Facts.{Facts, AreFacts}
+use Rattle.deny_codes.specs.Hits.{hits_in}
 use Rattle.deny_codes.specs.Standing.{Stands}
+use Rattle.deny_codes.specs.StdReplacements.{ignore_range}
 
 -- what stands in the place of each range, and of the number of a skipped tree, which reading anew changes too
 pub record Renaming : Type 0 where
@@ -43,6 +46,21 @@ renamed_root r t = record {
   reason = option_map (renamed_words r) t.reason;
 }
 
+-- the lists, their words and the answer whether they are exact have ranges, each of its own
+abbrev pub renamed_feature : Renaming → FeatureEntry → FeatureEntry
+renamed_feature r f = record {
+  spec = renamed_spec r f.spec;
+  allow = record { value = map (renamed_words r) f.allow.value; span = r.range f.allow.span };
+  deny = map (renamed_words r) f.deny;
+  exact = record f.exact { span = r.range f.exact.span };
+}
+
+abbrev pub renamed_level : Renaming → Spanned LintLevel → Spanned LintLevel
+renamed_level r level = record level { span = r.range level.span }
+
+abbrev pub renamed_replacing : Renaming → Replacing → Replacing
+renamed_replacing r s = record s { ignore = map (renamed_entry r) s.ignore }
+
 -- the same policy, each of whose ranges is another
 abbrev pub renamed : Renaming → Policy → Policy
 renamed r p = record p {
@@ -51,6 +69,10 @@ renamed r p = record p {
   allow = map (renamed_entry r) p.allow;
   skip = map (renamed_entry r) p.skip;
   skip_tree = map (renamed_root r) p.skip_tree;
+  features = map (renamed_feature r) p.features;
+  workspace_default = option_map (renamed_level r) p.workspace_default;
+  external_default = option_map (renamed_level r) p.external_default;
+  replacing = option_map (renamed_replacing r) p.replacing;
 }
 
 abbrev pub renamed_in : Renaming → Circumstances → Circumstances
@@ -69,19 +91,21 @@ renamed_id r e = record e { range = r.range e.range }
 abbrev pub renamed_hit : Renaming → Hit → Hit
 renamed_hit r h = record h { entry = renamed_id r h.entry }
 
--- two ranges of wrappers of one entry stay two
-abbrev pub KeepsApart : Renaming → Policy → Type 0
-KeepsApart r p = (ban : Ban) → Contains p.deny ban
-    → (v w : policy.Words) → Contains ban.wrappers v → Contains ban.wrappers w
-    → r.range v.span ≡ r.range w.span → v.span ≡ w.span
+-- two ranges of wrappers of one entry stay two, and so do two of ignores
+pub record KeepsApart (r : Renaming) (p : Policy) : Type 0 where
+  pub wrappers : (ban : Ban) → Contains p.deny ban
+      → (v w : policy.Words) → Contains ban.wrappers v → Contains ban.wrappers w
+      → r.range v.span ≡ r.range w.span → v.span ≡ w.span
+  pub ignores : (s : Replacing) → p.replacing ≡ Some s
+      → (d e : Entry) → Contains s.ignore d → Contains s.ignore e
+      → r.range (ignore_range d) ≡ r.range (ignore_range e) → ignore_range d ≡ ignore_range e
 
 -- each finding that stood stands with the new range, and no other; and the hits are those of the same entries
 pub record AreRenamed (r : Renaming) (c : Circumstances) (these those : Facts) : Type 0 where
   pub whole : (key : Key) → Stands c these key → Stands (renamed_in r c) those (renamed_key r key)
   pub sound : (key : Key) → Stands (renamed_in r c) those key
       → (old : Key) × Stands c these old × (key ≡ renamed_key r old)
-  pub hits : all_hits (renamed r c.policy) c.graph those.chains ≡ map (renamed_hit r)
-      (all_hits c.policy c.graph these.chains)
+  pub hits : hits_in (renamed_in r c) those ≡ map (renamed_hit r) (hits_in c these)
 
 -- ---- the law
 

@@ -3,7 +3,7 @@ use Rattle.std.specs.Prelude.{◌≡◌, true, false, List, Contains, filter}
 use Rattle.deny_lists.specs.Ascending.{Lists}
 use Rattle.deny_base.specs.KeyOrder.{key_cmp}
 use Rattle.deny_base.specs.declared.entry.EntryId.{EntryId}
-use Rattle.deny_base.specs.declared.entry.EntryKind.TheVariants.{Wrapper}
+use Rattle.deny_base.specs.declared.entry.EntryKind.TheVariants.{ReplacementIgnore, Wrapper}
 use Rattle.deny_base.specs.declared.key.Key.{Key}
 use Rattle.deny_base.specs.declared.span.Span.{Span}
 use Rattle.deny_model.specs.Facts as chains
@@ -29,8 +29,9 @@ without_skips_in c taken = record c { policy = without_skips c.policy taken }
 pub record AreUnhit (p : Policy) (g : Graph) (facts : chains.Facts) (taken : List EntryId) : Type 0 where
   pub skips : (s : Entry) → Contains p.skip s → is_hit_skip g facts s ≡ true → stays_skip taken s ≡ true
   pub roots : (t : Root) → Contains p.skip_tree t → has_root g t ≡ true → stays_root taken t ≡ true
-  -- and none of these is a wrapper
+  -- and none of these is a wrapper or an ignore
   pub no_wrapper : (range : Span) → is_taken taken Wrapper range ≡ false
+  pub no_ignore : (range : Span) → is_taken taken ReplacementIgnore range ≡ false
 
 -- ---- the law
 

@@ -3,7 +3,7 @@ use Rattle.std.specs.Prelude.{◌≡◌, true, false, List, Contains, map}
 use Rattle.deny_lists.specs.Ascending.{Lists}
 use Rattle.deny_base.specs.KeyOrder.{key_cmp}
 use Rattle.deny_base.specs.declared.entry.EntryId.{EntryId}
-use Rattle.deny_base.specs.declared.entry.EntryKind.TheVariants.{Skip, SkipRoot}
+use Rattle.deny_base.specs.declared.entry.EntryKind.TheVariants.{ReplacementIgnore, Skip, SkipRoot}
 use Rattle.deny_base.specs.declared.key.Key.{Key}
 use Rattle.deny_base.specs.declared.span.Span.{Span}
 use Rattle.deny_model.specs.Graph.{Graph}
@@ -22,13 +22,14 @@ without_wrappers p taken = record p { deny = map (cut taken) p.deny }
 abbrev pub without_wrappers_in : Circumstances → List EntryId → Circumstances
 without_wrappers_in c taken = record c { policy = without_wrappers c.policy taken }
 
--- what is hit stays, no entry loses its last wrapper, and none of these is a skip
+-- what is hit stays, no entry loses its last wrapper, and none of these is a skip or an ignore
 pub record AreUnhitWrappers (p : Policy) (g : Graph) (taken : List EntryId) : Type 0 where
   pub wrappers : (ban : Ban) → Contains p.deny ban → (w : policy.Words) → Contains ban.wrappers w
       → is_hit_wrapper p g ban w ≡ true → stays_wrapper taken w ≡ true
   pub not_emptied : EmptyNone p taken
   pub no_skip : (range : Span) → is_taken taken Skip range ≡ false
   pub no_root : (range : Span) → is_taken taken SkipRoot range ≡ false
+  pub no_ignore : (range : Span) → is_taken taken ReplacementIgnore range ≡ false
 
 -- ---- the law
 

@@ -1,16 +1,18 @@
-//! Laws of the definitions: what follows where entries are taken out of a policy, and where its ranges
-//! are replaced. Each is a function with an empty body, whose contract is the law.
+//! Laws of the definitions: what follows where entries are taken out of a policy, and where its
+//! ranges are replaced. Each is a function with an empty body, whose contract is the law.
 #![tactic(auto)]
 
-ghost use Rattle.deny_laws.specs.Dead.{DeadCanGo, DeadSkipsCanGo, DeadWrappersCanGo};
+ghost use Rattle.deny_laws.specs.Dead.{DeadCanGo, DeadIgnoresCanGo, DeadSkipsCanGo};
+ghost use Rattle.deny_laws.specs.Dead.{DeadWrappersCanGo};
+ghost use Rattle.deny_laws.specs.IgnoreRemoval.{IgnoresCanGo};
 ghost use Rattle.deny_laws.specs.Removal.{EntriesCanGo};
 ghost use Rattle.deny_laws.specs.Renaming.{RangesCanBeReplaced};
 ghost use Rattle.deny_laws.specs.SkipRemoval.{SkipsCanGo};
 ghost use Rattle.deny_laws.specs.WrapperRemoval.{WrappersCanGo};
 
-/// Entries of any kind without a hit can go, all at once, where no entry loses its last wrapper: what
-/// stood stands, but for the findings that named them as unused, and each entry that is hit is hit as
-/// before.
+/// Entries of any kind without a hit can go, all at once, where no entry loses its last wrapper:
+/// what stood stands, but for the findings that named them as unused, and each entry that is hit is
+/// hit as before.
 pub fn entries_can_go()
     ensures { EntriesCanGo }
 {
@@ -24,33 +26,45 @@ pub fn dead_can_go()
     deny_base::entry_order();
 }
 
-/// Skips and skipped trees by themselves ..
+/// Skips and skipped trees without a hit can go by themselves.
 pub fn skips_can_go()
     ensures { SkipsCanGo }
 {}
 
-/// .. and wrappers by themselves, without a word on the order of entries.
+/// Wrappers without a hit can go by themselves, where no entry loses its last one.
 pub fn wrappers_can_go()
     ensures { WrappersCanGo }
 {}
 
-/// Dead skips and skipped trees by themselves ..
+/// Ignores without a hit, which pass over what the standard library replaces, can go by themselves.
+pub fn ignores_can_go()
+    ensures { IgnoresCanGo }
+{}
+
+/// Dead skips and skipped trees can go by themselves.
 pub fn dead_skips_can_go()
     ensures { DeadSkipsCanGo }
 {
     deny_base::entry_order();
 }
 
-/// .. and dead wrappers by themselves, where no entry loses its last one.
+/// Dead wrappers can go by themselves, where no entry loses its last one.
 pub fn dead_wrappers_can_go()
     ensures { DeadWrappersCanGo }
 {
     deny_base::entry_order();
 }
 
-/// Where a policy is printed anew, others stand in the place of its ranges, in whatever order: the same
-/// findings stand, each with the new range, and the same entries are hit, as long as two wrappers of one
-/// entry keep two ranges.
+/// Dead ignores can go by themselves.
+pub fn dead_ignores_can_go()
+    ensures { DeadIgnoresCanGo }
+{
+    deny_base::entry_order();
+}
+
+/// Where a policy is printed anew, others stand in the place of its ranges, in whatever order: the
+/// same findings stand, each with the new range, and the same entries are hit, as long as two
+/// wrappers of one entry keep two ranges, and so do two ignores.
 pub fn ranges_can_be_replaced()
     ensures { RangesCanBeReplaced }
 {}

@@ -1,5 +1,5 @@
--- Facts that are true of one policy and graph tell the same, so what stands by them is the same.
-use Rattle.std.proofs.Common.{◌≡◌, ◌==◌, ◌&&◌, ◌||◌, inl, inr, ℕ, List, not, ap, ◌∙◌, subst}
+-- Facts that are true of one policy and graph tell the same, so what rules find by them is the same.
+use Rattle.std.proofs.Common.{◌≡◌, ◌==◌, ◌&&◌, ◌||◌, ℕ, List, not, ap, ◌∙◌, subst}
 use Rattle.std.specs.Prelude.{Contains, filter, map, length, nat_le, if◌then◌else◌}
 use Rattle.deny_lists.specs.Ascending.{Lists}
 use Rattle.deny_base.specs.declared.key.Key.{Key}
@@ -10,9 +10,8 @@ use Rattle.deny_model.specs.Graph.{Crate, Graph}
 use Rattle.deny_model.specs.Groups.{group, has_name, is_in_group, is_internal, is_marked, is_rooted, may_stand, reduced}
 use Rattle.deny_model.specs.Match.{matches}
 use Rattle.deny_model.specs.Policy.{Entry, Policy, Root}
-use Rattle.deny_model.specs.Rules.{skip_keys, Stands}
 use Rattle.deny_model.specs.Skips.{is_skipped, is_skipped_by_root, is_hit_skip, is_needless, skipped_keys_of, skipped_by_root_keys_of, unmatched_skip_keys, unnecessary_skip_keys}
-use Rattle.deny_lists.proofs.Agreement.{AgreeOn, filter_on, flat_map_on, list_any_on, same_test}
+use Rattle.deny_lists.proofs.Agreement.{AgreeOn, filter_on, list_any_on, same_test}
 
 -- two facts of one policy and graph
 pub record TwoFacts (p : Policy) (g : Graph) (these those : Facts) : Type 0 where
@@ -56,7 +55,7 @@ reduced_alike p g these those name both =
     ap (λ (crates : List Crate). if length crates == 1 then crates else filter (λ c. not (is_internal g name c)) crates)
     (groups_alike p g these those name both)
 
-duplicates_alike : (p : Policy) (g : Graph) (these those : Facts) (key : Key) → TwoFacts p g these those
+pub duplicates_alike : (p : Policy) (g : Graph) (these those : Facts) (key : Key) → TwoFacts p g these those
     → IsDuplicate p g these key → IsDuplicate p g those key
 duplicates_alike p g these those key both found =
     let c = found.0 in
@@ -88,13 +87,13 @@ rooted_alike p g these those t both written = λ c known.
     (same_test (these.in_tree t c) (those.in_tree t c) (both.left.in_tree t written c known)
     (both.right.in_tree t written c known))
 
-skipped_keys_alike : (p : Policy) (g : Graph) (these those : Facts) → TwoFacts p g these those
+pub skipped_keys_alike : (p : Policy) (g : Graph) (these those : Facts) → TwoFacts p g these those
     → AgreeOn p.skip (skipped_keys_of g these) (skipped_keys_of g those)
 unfolding skipped_keys_of
 skipped_keys_alike p g these those both = λ s written.
     ap (map _) (filter_on (is_skipped these s) (is_skipped those s) g.crates (skipped_alike p g these those s both))
 
-rooted_keys_alike : (p : Policy) (g : Graph) (these those : Facts) → TwoFacts p g these those
+pub rooted_keys_alike : (p : Policy) (g : Graph) (these those : Facts) → TwoFacts p g these those
     → AgreeOn p.skip_tree (skipped_by_root_keys_of p g these) (skipped_by_root_keys_of p g those)
 unfolding skipped_by_root_keys_of
 rooted_keys_alike p g these those both = λ t written.
@@ -115,36 +114,16 @@ needless_alike p g these those s both =
     ∙ ap (λ (crates : List Crate). is_hit_skip g those s && nat_le (length crates) 1)
     (reduced_alike p g these those s.spec.name both)
 
-unmatched_alike : (p : Policy) (g : Graph) (these those : Facts) → TwoFacts p g these those
+pub unmatched_alike : (p : Policy) (g : Graph) (these those : Facts) → TwoFacts p g these those
     → unmatched_skip_keys p g these ≡ unmatched_skip_keys p g those
 unfolding unmatched_skip_keys
 unmatched_alike p g these those both =
     ap (map _) (filter_on (λ s. not (is_hit_skip g these s)) (λ s. not (is_hit_skip g those s)) p.skip
     (λ s written. ap (λ b. not b) (hit_alike p g these those s both)))
 
-unnecessary_alike : (p : Policy) (g : Graph) (these those : Facts) → TwoFacts p g these those
+pub unnecessary_alike : (p : Policy) (g : Graph) (these those : Facts) → TwoFacts p g these those
     → unnecessary_skip_keys p g these ≡ unnecessary_skip_keys p g those
 unfolding unnecessary_skip_keys
 unnecessary_alike p g these those both =
     ap (map _) (filter_on (is_needless p g these) (is_needless p g those) p.skip
     (λ s written. needless_alike p g these those s both))
-
-skip_keys_alike : (p : Policy) (g : Graph) (these those : Facts) → TwoFacts p g these those
-    → skip_keys p g these ≡ skip_keys p g those
-unfolding skip_keys
-skip_keys_alike p g these those both =
-    let skipped = flat_map_on (skipped_keys_of g these) (skipped_keys_of g those) p.skip
-    (skipped_keys_alike p g these those both) in
-    let rooted = flat_map_on (skipped_by_root_keys_of p g these) (skipped_by_root_keys_of p g those) p.skip_tree
-    (rooted_keys_alike p g these those both) in
-    let unmatched = unmatched_alike p g these those both in
-    let unnecessary = unnecessary_alike p g these those both in
-    cc (skipped, rooted, unmatched, unnecessary)
-
-pub stands_alike : (p : Policy) (g : Graph) (these those : Facts) (key : Key) → TwoFacts p g these those
-    → Stands p g these key → Stands p g those key
-stands_alike p g these those key both (inl banned) = inl banned
-stands_alike p g these those key both (inr (inl skipped)) = inr
-    (inl (subst (λ (keys : List Key). Contains keys key) (skip_keys_alike p g these those both) skipped))
-stands_alike p g these those key both (inr (inr duplicate)) = inr
-    (inr (duplicates_alike p g these those key both duplicate))

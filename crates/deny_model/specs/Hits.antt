@@ -31,7 +31,7 @@ wrapper_hit_at g ban w c = option_map (λ parent. hit_of Wrapper w.span (Parent 
 unfoldable pub wrapper_hit : Policy → Graph → Ban → Words → Option Hit
 wrapper_hit p g ban w = option_and_then (wrapper_hit_at g ban w) (find (hits_wrapper p g ban w) g.crates)
 
--- one for each entry that is hit
+-- one for each skip, skipped tree and wrapper that is hit
 abbrev pub all_hits : Policy → Graph → Facts → List Hit
 all_hits p g facts = filter_map (skip_hit g facts) p.skip
     ++ (filter_map (root_hit g) p.skip_tree

@@ -11,7 +11,6 @@ pub mod Match
 pub mod Policy
 pub mod Resolution
 pub mod Roots
-pub mod Rules
 pub mod Skips
 pub mod TargetEdge
 pub mod Text

@@ -1,8 +1,8 @@
--- A policy: what it denies, allows and passes over, and at which level it minds crates that stand
--- in several versions. Each entry's range is the range of its name in the policy's text, and tells
--- it from the others.
+-- A policy: what it denies, allows and passes over, at which level it minds crates that stand in several
+-- versions, and how it minds features and crates that the standard library replaces. Each entry's range is the
+-- range of its name in the policy's text, and tells it from the others.
 use Rattle.std.specs.Prelude.{ℕ, Bool, List, Option}
-use Rattle.semver.specs.Parse.{Held}
+use Rattle.semver.specs.Parse.{Held, Parts}
 use Rattle.deny_base.specs.declared.level.LintLevel.{LintLevel}
 use Rattle.deny_base.specs.declared.span.Span.{Span}
 use Rattle.deny_base.specs.declared.span.Spanned.{Spanned}
@@ -39,6 +39,34 @@ pub record Root : Type 0 where
   pub depth : Option ℕ
   pub reason : Option Words
 
+-- which features a crate may have: those that are allowed, or these and what they lead to, and those that are
+-- denied; each list's words are features
+pub record FeatureEntry : Type 0 where
+  pub spec : Spec
+  pub allow : Spanned (List Words)
+  pub deny : List Words
+  -- whether all others are denied, and those that are allowed have to be there
+  pub exact : Spanned Bool
+
+-- of some crates: none, the members of the workspace, the others, or all
+pub data Scope : Type 0 where
+  NoCrate : Scope
+  Workspace : Scope
+  Transitive : Scope
+  EachCrate : Scope
+
+-- how crates are minded that the standard library replaces
+pub record Replacing : Type 0 where
+  -- whose direct dependencies are looked at
+  pub scope : Scope
+  pub level : LintLevel
+  -- the version of Rust of a crate that names none
+  pub rust_version : Option Parts
+  -- the crates that are passed over
+  pub ignore : List Entry
+  -- whose version of Rust does not count
+  pub ignore_rust_version : Scope
+
 pub record Policy : Type 0 where
   pub multiple_versions : LintLevel
   -- whether crates count that only dev edges lead to
@@ -53,3 +81,9 @@ pub record Policy : Type 0 where
   pub allow_workspace : Bool
   pub skip : List Entry
   pub skip_tree : List Root
+  pub features : List FeatureEntry
+  -- how the feature `default` of a member of the workspace is minded, and that of another crate
+  pub workspace_default : Option (Spanned LintLevel)
+  pub external_default : Option (Spanned LintLevel)
+  -- none where the policy does not mind what the standard library replaces
+  pub replacing : Option Replacing

@@ -6,5 +6,5 @@
 mod laws;
 mod target_edge;
 
-pub use laws::{one_group, one_report};
+pub use laws::one_group;
 pub use target_edge::{TargetEdge, target_edge_order};
