@@ -1,12 +1,15 @@
 -- Steps of the whole reading.
-use Rattle.std.proofs.Common.{◌≡◌, ◌∙◌, sym, ℕ, List, Ok, Err, refl, subst}
+use Rattle.std.proofs.Common.{◌≡◌, ◌∙◌, sym, ℕ, List, Result, Ok, Err, refl, subst}
+use Rattle.std.specs.Prelude.{IfErr, IfOk}
 use Rattle.serde_json.specs.Data.{Data}
 use Rattle.deny_model.specs.Graph.{Graph}
 use Rattle.deny_metadata.specs.Checked.{Resolved, checked, resolved}
 use Rattle.deny_metadata.specs.Document.{document_of, value_at}
+use Rattle.deny_metadata.specs.Reading.{Fails, Gives}
 use Rattle.deny_krates.specs.Read.{IsGraph, IsGraphOf}
 use Rattle.deny_metadata.specs.declared.document.Document.{Document}
 use Rattle.deny_metadata.specs.declared.fault.MetadataFault.{MetadataFault}
+use Rattle.deny_metadata.proofs.ReadingLemmas.{fails_through}
 use Rattle.deny_krates.proofs.ResolvedLemmas.{resolved_is}
 
 pub no_value : (bytes : List ℕ) (e : MetadataFault) → value_at bytes ≡ Err e → checked bytes ≡ Err e
@@ -22,6 +25,17 @@ pub document_reads : (bytes : List ℕ) (value : Data) (doc : Document) → valu
     → document_of value ≡ Ok doc → checked bytes ≡ resolved doc
 unfolding checked
 document_reads bytes value doc is reads = rw (is, reads) refl
+
+pub document_stands : (bytes : List ℕ) (value : Data) (r : Result Document MetadataFault) → value_at bytes ≡ Ok value
+    → Gives r (document_of value) → IfOk r (λ d. checked bytes ≡ resolved d)
+document_stands bytes value (Ok d) is gives = document_reads bytes value d is gives
+document_stands bytes value (Err e) is gives = tt
+
+pub document_fails : (bytes : List ℕ) (value : Data) (r : Result Document MetadataFault) → value_at bytes ≡ Ok value
+    → Gives r (document_of value) → IfErr r (λ e. Fails e (checked bytes))
+document_fails bytes value (Ok d) is gives = tt
+document_fails bytes value (Err e) is gives = fails_through e (document_of value) (checked bytes)
+    (λ f fails. no_document bytes value f is fails) gives
 
 pub graph_is : (bytes : List ℕ) (doc : Document) (g : Graph) → checked bytes ≡ resolved doc
     → (r : Resolved) × (resolved doc ≡ Ok r) × IsGraph doc g → IsGraphOf bytes g

@@ -1,5 +1,5 @@
 -- Crates ascend as their packages do, and so do their enabled features.
-use Rattle.std.proofs.Common.{◌≡◌, ℕ, zero, suc, ◌+◌, List, [], ◌∷◌, Some, Ok, map, refl, sym, ap, ◌∙◌, subst}
+use Rattle.std.proofs.Common.{◌≡◌, ℕ, zero, suc, ◌+◌, List, [], ◌∷◌, Some, map, refl, sym, ap, ◌∙◌, subst}
 use Rattle.std.specs.Prelude.{Contains, slice_get, unwrap_or}
 use Rattle.std.specs.Cmp.Lexicographic.{slice_cmp}
 use Rattle.std.specs.List.{AllByRecursion}
@@ -10,11 +10,10 @@ use Rattle.std.specs.declared.cmp.Ordering.{Ordering}
 use Rattle.std.specs.declared.cmp.Ordering.TheVariants.{Less}
 use Rattle.std.proofs.lemmas.Option.{none-some, same_Some}
 use Rattle.semver.specs.Identifiers.{parts_text}
-use Rattle.semver.specs.Parse.{Parts, version_parts}
 use Rattle.semver.proofs.Grammar.{version_parts-sound}
 use Rattle.deny_lists.proofs.Members.{Contains-first, Contains-rest}
 use Rattle.deny_model.specs.Graph.{Crate}
-use Rattle.deny_krates.specs.Listed.{AreCratesAt, IsCrateAt, crate_at, version_read}
+use Rattle.deny_krates.specs.Listed.{AreCratesAt, IsCrateAt, version_read}
 use Rattle.deny_krates.specs.private.Numbered.{HasVersion}
 use Rattle.deny_krates.specs.Orderly.{crate_cmp, crate_rank}
 use Rattle.deny_krates.specs.Packages.{package_cmp, rank_cmp, rank_of}

@@ -1,18 +1,21 @@
 -- The direct dependents that are sorted out of incoming are those of the graph.
 use Rattle.deny_lists.proofs.Members.{contains_map, filter_keeps, from_contains_map, from_there, there}
 use Rattle.std.proofs.Common.{◌≡◌, ◌⊎◌, ◌<◌, ◌≤◌, ◌+◌, ◌++◌, ℕ, zero, suc, inl, inr, List, [], ◌∷◌, Bool, true, false, Some, length, map, refl, sym, ap, ◌∙◌, subst, arith, add-zero, append_assoc, append-nil}
-use Rattle.std.specs.Prelude.{◌==◌, ◌&&◌, ◌||◌, All, Contains, cond, filter, fold, slice_get, slice_index_or}
+use Rattle.std.specs.Prelude.{◌==◌, ◌||◌, All, Contains, cond, fold, slice_get, slice_index_or}
 use mathlib.Core.Path.{fun_ext}
-use Rattle.std.specs.Cmp.Lexicographic.{slice_cmp, nat_list_cmp_total}
+use Rattle.std.specs.Cmp.{nat_cmp_total}
+use Rattle.std.specs.Cmp.Lexicographic.{slice_cmp}
+use Rattle.std.specs.FinMap.{nat_cmp-IsAntisymmetric}
 use Rattle.std.specs.List.{AllByRecursion, list_any}
 use Rattle.std.specs.List.Sorted.{IsStrictlySortedBy}
 use Rattle.std.specs.Option.{option_map_or}
-use Rattle.std.specs.Ordering.{nat_cmp, on, ordering_reverse, ordering_then}
+use Rattle.std.specs.Ordering.{nat_cmp, on, ordering_then}
 use Rattle.std.specs.declared.cmp.Ordering.{Ordering}
 use Rattle.std.specs.declared.cmp.Ordering.TheVariants.{Less, Equal, Greater}
 use Rattle.std.proofs.lemmas.Bool.{and_parts, cases_eq, cases_lt, eq-eqb, eqb-true, ne_eqb}
 use Rattle.std.proofs.lemmas.Bool.Decides.{nat_tests}
 use Rattle.std.proofs.lemmas.List.Elements.{All-contains, Contains-append_left, Contains-append_right, Contains-push, Contains-push_cases, filter_passes}
+use Rattle.std.proofs.lemmas.List.{map-id}
 use Rattle.std.proofs.lemmas.Option.{none-some, get_or_from_slice_get, slice_get_within, slice_get-get_or, same_Some}
 use Rattle.deny_lists.specs.Ascending.{Lists}
 use Rattle.deny_base.specs.Edge.{kind_cmp, kind_number}
@@ -21,29 +24,23 @@ use Rattle.deny_base.specs.declared.edge.Edge.{Edge}
 use Rattle.deny_model.specs.Graph.{Crate, dependents, leads}
 use Rattle.deny_krates.specs.Crates.{crate_view, crates_from, graph_of}
 use Rattle.deny_krates.specs.Dependents.{AreDirectDependents, IsLeastKind}
-use Rattle.deny_krates.specs.private.Direct.{incoming_cmp, incoming_of, id_in, is_last, with_incoming}
+use Rattle.deny_krates.specs.private.Direct.{AreRanks, incoming_cmp, incoming_of, id_in, is_last, rank_in, with_incoming}
 use Rattle.deny_krates.specs.declared.direct.IncomingEdge.{IncomingEdge}
 use Rattle.deny_krates.specs.declared.krate.DirectDependent.{DirectDependent}
 use Rattle.deny_krates.specs.declared.krate.Krate.{Krate}
-use Rattle.deny_lists.proofs.Orders.{below_or_tie, not_below_itself, text_cmp-exact}
+use Rattle.deny_lists.proofs.Orders.{below_or_tie, not_below_itself}
 use Rattle.deny_krates.proofs.GraphLemmas.{last_is}
-use Rattle.deny_lists.proofs.Sorted.{ascends_at}
+use Rattle.deny_lists.proofs.Sorted.{ascends_at, ascends_map}
 use Rattle.deny_model.specs.declared.target_edge.TargetEdge.{TargetEdge}
 
-abbrev pub id_cmp : (ℕ → List ℕ) → DirectDependent → DirectDependent → Ordering
-id_cmp id = on (λ d. id d.place) (slice_cmp nat_cmp)
+abbrev pub rank_order : (ℕ → ℕ) → DirectDependent → DirectDependent → Ordering
+rank_order rank = on (λ d. rank d.place) nat_cmp
 
 nat_same : (m n : ℕ) → m ≡ n → nat_cmp m n ≡ Equal
 nat_same m n same = grind (arith, nat_tests)
 
-text_same : (xs ys : List ℕ) → xs ≡ ys → slice_cmp nat_cmp xs ys ≡ Equal
-text_same xs ys same = self_or (slice_cmp nat_cmp xs ys) refl
-  where
-    self_or : (o : Ordering) → slice_cmp nat_cmp xs ys ≡ o → slice_cmp nat_cmp xs ys ≡ Equal
-    self_or Equal e = e
-    self_or Less e = absurd (not_below_itself (slice_cmp nat_cmp) nat_list_cmp_total xs ys same e)
-    self_or Greater e = absurd (not_below_itself (slice_cmp nat_cmp) nat_list_cmp_total ys xs (sym same)
-        (nat_list_cmp_total.antisymm ys xs ∙ ap ordering_reverse e))
+nat_below : (m n : ℕ) → nat_cmp m n ≡ Less → m < n
+nat_below m n below = grind (arith, nat_tests)
 
 -- an incoming edge whose dependent a row holds, with the least kind
 pub record HasIncoming (child : ℕ) (done : List IncomingEdge) (d : DirectDependent) : Type 0 where
@@ -61,8 +58,8 @@ pub record HasDependent (row : List DirectDependent) (place : ℕ) : Type 0 wher
   pub is : dependent.place ≡ place
 
 -- the row of a child, after these incoming
-pub record IsRow (id : ℕ → List ℕ) (child : ℕ) (done : List IncomingEdge) (row : List DirectDependent) : Type 0 where
-  pub ascending : IsStrictlySortedBy (id_cmp id) row
+pub record IsRow (rank : ℕ → ℕ) (child : ℕ) (done : List IncomingEdge) (row : List DirectDependent) : Type 0 where
+  pub ascending : IsStrictlySortedBy (rank_order rank) row
   pub sound : (d : DirectDependent) → Contains row d → HasIncoming child done d
   pub whole : (a : IncomingEdge) → Contains done a → a.child ≡ child → HasDependent row a.parent
 
@@ -88,23 +85,23 @@ sorted_push {A} cmp (x ∷ xs) y up below = (
     all_push (z ∷ zs) all = (all.0, all_push zs all.1)
 
 -- one of a row is its last, or is below another
-last_or_below : (id : ℕ → List ℕ) (row : List DirectDependent) (k : ℕ) (d : DirectDependent)
-    → IsStrictlySortedBy (id_cmp id) row → slice_get row k ≡ Some d
-    → (is_last row d.place ≡ true) ⊎ ((e : DirectDependent) × Contains row e × (id_cmp id d e ≡ Less))
-last_or_below id row k d up at =
+last_or_below : (rank : ℕ → ℕ) (row : List DirectDependent) (k : ℕ) (d : DirectDependent)
+    → IsStrictlySortedBy (rank_order rank) row → slice_get row k ≡ Some d
+    → (is_last row d.place ≡ true) ⊎ ((e : DirectDependent) × Contains row e × (rank_order rank d e ≡ Less))
+last_or_below rank row k d up at =
     elim (cases_lt (suc k) (length row)) as (λ _. (is_last row d.place ≡ true)
-    ⊎ ((e : DirectDependent) × Contains row e × (id_cmp id d e ≡ Less))) [
+    ⊎ ((e : DirectDependent) × Contains row e × (rank_order rank d e ≡ Less))) [
       | inl more ↦ inr (after more)
       | inr no_more ↦ inl (last_is row k d.place d (omega (arith, no_more, slice_get_within row k d at)) at ∙ eq-eqb
           d.place
           d.place refl)
     ]
   where
-    after : suc k < length row → (e : DirectDependent) × Contains row e × (id_cmp id d e ≡ Less)
+    after : suc k < length row → (e : DirectDependent) × Contains row e × (rank_order rank d e ≡ Less)
     after more =
         let e = slice_index_or row (suc k) d in
         let there_is = slice_get-get_or row (suc k) d more in
-        (e, from_there row (suc k) e there_is, ascends_at (id_cmp id) row k (suc k) d e up (omega arith) at there_is)
+        (e, from_there row (suc k) e there_is, ascends_at (rank_order rank) row k (suc k) d e up (omega arith) at there_is)
 
 -- that a row ends with a dependent says that it has it
 ends : (row : List DirectDependent) (place : ℕ) → is_last row place ≡ true → HasDependent row place
@@ -119,13 +116,13 @@ ends (d ∷ e ∷ ds) place is =
       is = later.is;
     }
 
-module _ (id : ℕ → List ℕ) (child : ℕ) (done : List IncomingEdge) (row : List DirectDependent) (a : IncomingEdge)
-    (is : IsRow id child done row)
-    (named : (b : IncomingEdge) → Contains done b → b.id ≡ id b.parent) (named_too : a.id ≡ id a.parent)
-    (apart : (b : IncomingEdge) → Contains done b → id b.parent ≡ id a.parent → b.parent ≡ a.parent)
+module _ (rank : ℕ → ℕ) (child : ℕ) (done : List IncomingEdge) (row : List DirectDependent) (a : IncomingEdge)
+    (is : IsRow rank child done row)
+    (named : (b : IncomingEdge) → Contains done b → b.rank ≡ rank b.parent) (named_too : a.rank ≡ rank a.parent)
+    (apart : (b : IncomingEdge) → Contains done b → rank b.parent ≡ rank a.parent → b.parent ≡ a.parent)
     (above : (b : IncomingEdge) → Contains done b → incoming_cmp b a ≡ Less) where
   -- another crate's incoming edge
-  other_child : (a.child ≡ child → ⊥) → IsRow id child (done ++ a ∷ []) row
+  other_child : (a.child ≡ child → ⊥) → IsRow rank child (done ++ a ∷ []) row
   other_child other = record {
     ascending = is.ascending;
     sound = λ d stands. let had = is.sound d stands in record {
@@ -146,9 +143,9 @@ module _ (id : ℕ → List ℕ) (child : ℕ) (done : List IncomingEdge) (row :
     ];
   }
 
-  -- an incoming edge of the same child before it has a lower id, or the same and no greater kind
+  -- an incoming edge of the same child before it has a lower rank, or the same and no greater kind
   after_child : (b : IncomingEdge) → Contains done b → b.child ≡ a.child
-      → ordering_then (slice_cmp nat_cmp b.id a.id) (ordering_then (kind_cmp b.kind a.kind) (nat_cmp b.parent a.parent))
+      → ordering_then (nat_cmp b.rank a.rank) (ordering_then (kind_cmp b.kind a.kind) (nat_cmp b.parent a.parent))
       ≡ Less
   after_child b stands same = second_less (nat_cmp b.child a.child) _ (above b stands) (nat_same b.child a.child same)
     where
@@ -161,8 +158,8 @@ module _ (id : ℕ → List ℕ) (child : ℕ) (done : List IncomingEdge) (row :
       → kind_number b.kind ≤ kind_number a.kind
   same_parent_kind b stands own same =
       kind_below b.kind a.kind (below_or_tie (kind_cmp b.kind a.kind) (nat_cmp b.parent a.parent)
-      (tie_then (slice_cmp nat_cmp b.id a.id) _ (after_child b stands own)
-      (text_same b.id a.id (named b stands ∙ (ap id same ∙ sym named_too)))))
+      (tie_then (nat_cmp b.rank a.rank) _ (after_child b stands own)
+      (nat_same b.rank a.rank (named b stands ∙ (ap rank same ∙ sym named_too)))))
     where
       tie_then : (o p : Ordering) → ordering_then o p ≡ Less → o ≡ Equal → p ≡ Less
       tie_then Less p e h = cc
@@ -170,7 +167,7 @@ module _ (id : ℕ → List ℕ) (child : ℕ) (done : List IncomingEdge) (row :
       tie_then Greater p e h = cc
 
   -- the row has the incoming edge's parent at its end already
-  known_parent : a.child ≡ child → is_last row a.parent ≡ true → IsRow id child (done ++ a ∷ []) row
+  known_parent : a.child ≡ child → is_last row a.parent ≡ true → IsRow rank child (done ++ a ∷ []) row
   known_parent own last = record {
     ascending = is.ascending;
     sound = λ d stands. let had = is.sound d stands in record {
@@ -196,55 +193,55 @@ module _ (id : ℕ → List ℕ) (child : ℕ) (done : List IncomingEdge) (row :
   }
 
   -- all of the row are below the incoming edge's parent, if that is not its last
-  id_upto : (d : DirectDependent) → Contains row d → a.child ≡ child
-      → (slice_cmp nat_cmp (id d.place) (id a.parent) ≡ Less) ⊎ (slice_cmp nat_cmp (id d.place) (id a.parent) ≡ Equal)
-  id_upto d stands own =
+  rank_upto : (d : DirectDependent) → Contains row d → a.child ≡ child
+      → (nat_cmp (rank d.place) (rank a.parent) ≡ Less) ⊎ (nat_cmp (rank d.place) (rank a.parent) ≡ Equal)
+  rank_upto d stands own =
       let had = is.sound d stands in
-      let named_d : had.edge.id ≡ id d.place = named had.edge had.stands ∙ ap id had.parent in
-      let le = below_or_tie (slice_cmp nat_cmp had.edge.id a.id) _
+      let named_d : had.edge.rank ≡ rank d.place = named had.edge had.stands ∙ ap rank had.parent in
+      let le = below_or_tie (nat_cmp had.edge.rank a.rank) _
       (after_child had.edge had.stands (had.own ∙ sym own)) in
-      subst (λ (t : List ℕ). (slice_cmp nat_cmp (id d.place) t ≡ Less) ⊎ (slice_cmp nat_cmp (id d.place) t ≡ Equal))
+      subst (λ (t : ℕ). (nat_cmp (rank d.place) t ≡ Less) ⊎ (nat_cmp (rank d.place) t ≡ Equal))
       named_too
-      (subst (λ (t : List ℕ). (slice_cmp nat_cmp t a.id ≡ Less) ⊎ (slice_cmp nat_cmp t a.id ≡ Equal)) named_d le)
+      (subst (λ (t : ℕ). (nat_cmp t a.rank ≡ Less) ⊎ (nat_cmp t a.rank ≡ Equal)) named_d le)
 
   all_below : a.child ≡ child → is_last row a.parent ≡ false → (d : DirectDependent) → Contains row d
-      → slice_cmp nat_cmp (id d.place) (id a.parent) ≡ Less
+      → nat_cmp (rank d.place) (rank a.parent) ≡ Less
   all_below own not_last d stands =
-      elim (id_upto d stands own) as (λ _. slice_cmp nat_cmp (id d.place) (id a.parent) ≡ Less) [
+      elim (rank_upto d stands own) as (λ _. nat_cmp (rank d.place) (rank a.parent) ≡ Less) [
         | inl below ↦ below
         | inr tie ↦ absurd (tied tie)
       ]
     where
-      tied : slice_cmp nat_cmp (id d.place) (id a.parent) ≡ Equal → ⊥
+      tied : nat_cmp (rank d.place) (rank a.parent) ≡ Equal → ⊥
       tied tie =
           let had = is.sound d stands in
           let place : d.place ≡ a.parent = sym had.parent ∙ apart had.edge had.stands
-          (ap id had.parent ∙ text_cmp-exact (id d.place) (id a.parent) tie) in
+          (ap rank had.parent ∙ nat_cmp-IsAntisymmetric (rank d.place) (rank a.parent) tie) in
           let at = there row d stands in
-          elim (last_or_below id row at.0 d is.ascending at.1) as (λ _. ⊥) [
+          elim (last_or_below rank row at.0 d is.ascending at.1) as (λ _. ⊥) [
             | inl last ↦ true-false (sym (subst (λ (p : ℕ). is_last row p ≡ true) place last) ∙ not_last)
-            | inr above_it ↦ not_back above_it (text_cmp-exact (id d.place) (id a.parent) tie)
+            | inr above_it ↦ not_back above_it (nat_cmp-IsAntisymmetric (rank d.place) (rank a.parent) tie)
           ]
         where
           true-false : true ≡ false → ⊥
           true-false e = absurd (cc)
 
-          not_back : (e : DirectDependent) × Contains row e × (id_cmp id d e ≡ Less) → id d.place ≡ id a.parent → ⊥
-          not_back up same = elim (id_upto up.0 up.1 own) as (λ _. ⊥) [
-            | inl below ↦ not_below_itself (slice_cmp nat_cmp) nat_list_cmp_total (id d.place) (id a.parent) same
-                (nat_list_cmp_total.trans (id d.place) (id up.0.place) (id a.parent) up.2 below)
-            | inr level ↦ not_below_itself (slice_cmp nat_cmp) nat_list_cmp_total (id d.place) (id up.0.place)
-                (same ∙ sym (text_cmp-exact (id up.0.place) (id a.parent) level)) up.2
+          not_back : (e : DirectDependent) × Contains row e × (rank_order rank d e ≡ Less) → rank d.place ≡ rank a.parent → ⊥
+          not_back up same = elim (rank_upto up.0 up.1 own) as (λ _. ⊥) [
+            | inl below ↦ not_below_itself nat_cmp nat_cmp_total (rank d.place) (rank a.parent) same
+                (nat_cmp_total.trans (rank d.place) (rank up.0.place) (rank a.parent) up.2 below)
+            | inr level ↦ not_below_itself nat_cmp nat_cmp_total (rank d.place) (rank up.0.place)
+                (same ∙ sym (nat_cmp-IsAntisymmetric (rank up.0.place) (rank a.parent) level)) up.2
           ]
 
   new_dependent : DirectDependent
   new_dependent = record { place = a.parent; kind = a.kind }
 
   new_parent : a.child ≡ child → is_last row a.parent ≡ false
-      → IsRow id child (done ++ a ∷ []) (row ++ new_dependent ∷ [])
+      → IsRow rank child (done ++ a ∷ []) (row ++ new_dependent ∷ [])
   unfolding new_dependent
   new_parent own not_last = record {
-    ascending = sorted_push (id_cmp id) row new_dependent is.ascending (all_below own not_last);
+    ascending = sorted_push (rank_order rank) row new_dependent is.ascending (all_below own not_last);
     sound = λ d stands. elim (Contains-push_cases row new_dependent d stands) as (λ _. HasIncoming child
         (done ++ a ∷ []) d) [
           | inl before ↦ old d before
@@ -269,8 +266,8 @@ module _ (id : ℕ → List ℕ) (child : ℕ) (done : List IncomingEdge) (row :
   }
     where
       differ : (d : DirectDependent) → Contains row d → d.place ≡ a.parent → ⊥
-      differ d stands same = not_below_itself (slice_cmp nat_cmp) nat_list_cmp_total (id d.place) (id a.parent)
-          (ap id same) (all_below own not_last d stands)
+      differ d stands same = not_below_itself nat_cmp nat_cmp_total (rank d.place) (rank a.parent)
+          (ap rank same) (all_below own not_last d stands)
 
       old : (d : DirectDependent) → Contains row d → HasIncoming child (done ++ a ∷ []) d
       old d stands = let had = is.sound d stands in record {
@@ -301,23 +298,23 @@ module _ (id : ℕ → List ℕ) (child : ℕ) (done : List IncomingEdge) (row :
             ];
       }
 
-  next_row : IsRow id child (done ++ a ∷ []) (with_incoming child row a)
+  next_row : IsRow rank child (done ++ a ∷ []) (with_incoming child row a)
   unfolding new_dependent
-  next_row = elim (cases_eq a.child child) as (λ _. IsRow id child (done ++ a ∷ []) (with_incoming child row a)) [
+  next_row = elim (cases_eq a.child child) as (λ _. IsRow rank child (done ++ a ∷ []) (with_incoming child row a)) [
     | inl own ↦ rw (eq-eqb a.child child own) (by_last own (is_last row a.parent) refl)
     | inr other ↦ rw (ne_eqb a.child child other) (other_child other)
   ]
     where
       by_last : a.child ≡ child → (b : Bool) → is_last row a.parent ≡ b
-          → IsRow id child (done ++ a ∷ []) (cond b row (row ++ (record { place = a.parent; kind = a.kind }) ∷ []))
+          → IsRow rank child (done ++ a ∷ []) (cond b row (row ++ (record { place = a.parent; kind = a.kind }) ∷ []))
       by_last own true last = known_parent own last
       by_last own false last = new_parent own last
 
 -- ---- all incoming
 
-no_row : (id : ℕ → List ℕ) (child : ℕ) → IsRow id child [] []
+no_row : (rank : ℕ → ℕ) (child : ℕ) → IsRow rank child [] []
 unfolding IsStrictlySortedBy
-no_row id child = record {
+no_row rank child = record {
   ascending = tt;
   sound = λ d stands. absurd (none-some d (there [] d stands).1);
   whole = λ a stands own. absurd (none-some a (there [] a stands).1);
@@ -332,39 +329,39 @@ get_seam : {A : Type 0} (xs : List A) (y : A) (ys : List A) → slice_get (xs ++
 get_seam [] y ys = refl
 get_seam (x ∷ xs) y ys = get_seam xs y ys
 
-rows_on : (id : ℕ → List ℕ) (child : ℕ) (done rest : List IncomingEdge) (row : List DirectDependent)
-    → IsRow id child done row
-    → ((b : IncomingEdge) → Contains (done ++ rest) b → b.id ≡ id b.parent)
-    → ((b c : IncomingEdge) → Contains (done ++ rest) b → Contains (done ++ rest) c → id b.parent ≡ id c.parent
+rows_on : (rank : ℕ → ℕ) (child : ℕ) (done rest : List IncomingEdge) (row : List DirectDependent)
+    → IsRow rank child done row
+    → ((b : IncomingEdge) → Contains (done ++ rest) b → b.rank ≡ rank b.parent)
+    → ((b c : IncomingEdge) → Contains (done ++ rest) b → Contains (done ++ rest) c → rank b.parent ≡ rank c.parent
     → b.parent ≡ c.parent)
     → IsStrictlySortedBy incoming_cmp (done ++ rest)
-    → IsRow id child (done ++ rest) (fold (with_incoming child) row rest)
-rows_on id child done [] row is named apart up =
-    subst (λ (prefix : List IncomingEdge). IsRow id child prefix row) (sym (append-nil done)) is
-rows_on id child done (a ∷ rest) row is named apart up =
+    → IsRow rank child (done ++ rest) (fold (with_incoming child) row rest)
+rows_on rank child done [] row is named apart up =
+    subst (λ (prefix : List IncomingEdge). IsRow rank child prefix row) (sym (append-nil done)) is
+rows_on rank child done (a ∷ rest) row is named apart up =
     let whole : (done ++ a ∷ []) ++ rest ≡ done ++ a ∷ rest = append_assoc done (a ∷ []) rest in
     let here : Contains (done ++ a ∷ rest) a = Contains-append_right done (a ∷ rest) a
     (from_there (a ∷ rest) 0 a refl) in
     let before = λ (b : IncomingEdge) (stands : Contains done b). Contains-append_left done (a ∷ rest) b stands in
-    let next = next_row id child done row a is (λ b stands. named b (before b stands)) (named a here)
+    let next = next_row rank child done row a is (λ b stands. named b (before b stands)) (named a here)
     (λ b stands same. apart b a (before b stands) here same)
     (λ b stands. let at = there done b stands in
     ascends_at incoming_cmp (done ++ a ∷ rest) at.0 (length done) b a up (slice_get_within done at.0 b at.1)
     (get_left done (a ∷ rest) at.0 b at.1) (get_seam done a rest)) in
-    let P : List IncomingEdge → Type 0 = λ xs. IsRow id child xs
+    let P : List IncomingEdge → Type 0 = λ xs. IsRow rank child xs
     (fold (with_incoming child) (with_incoming child row a) rest) in
-    subst P whole (rows_on id child (done ++ a ∷ []) rest (with_incoming child row a) next
+    subst P whole (rows_on rank child (done ++ a ∷ []) rest (with_incoming child row a) next
     (λ b stands. named b (subst (λ (xs : List IncomingEdge). Contains xs b) whole stands))
     (λ b c stands stands' same. apart b c (subst (λ (xs : List IncomingEdge). Contains xs b) whole stands)
     (subst (λ (xs : List IncomingEdge). Contains xs c) whole stands') same)
     (subst (λ (xs : List IncomingEdge). IsStrictlySortedBy incoming_cmp xs) (sym whole) up))
 
-pub rows_are : (id : ℕ → List ℕ) (child : ℕ) (incoming : List IncomingEdge)
-    → ((b : IncomingEdge) → Contains incoming b → b.id ≡ id b.parent)
-    → ((b c : IncomingEdge) → Contains incoming b → Contains incoming c → id b.parent ≡ id c.parent → b.parent
+pub rows_are : (rank : ℕ → ℕ) (child : ℕ) (incoming : List IncomingEdge)
+    → ((b : IncomingEdge) → Contains incoming b → b.rank ≡ rank b.parent)
+    → ((b c : IncomingEdge) → Contains incoming b → Contains incoming c → rank b.parent ≡ rank c.parent → b.parent
     ≡ c.parent)
-    → IsStrictlySortedBy incoming_cmp incoming → IsRow id child incoming (fold (with_incoming child) [] incoming)
-rows_are id child incoming named apart up = rows_on id child [] incoming [] (no_row id child) named apart up
+    → IsStrictlySortedBy incoming_cmp incoming → IsRow rank child incoming (fold (with_incoming child) [] incoming)
+rows_are rank child incoming named apart up = rows_on rank child [] incoming [] (no_row rank child) named apart up
 
 -- ---- as the graph has them
 
@@ -430,18 +427,18 @@ edge_is e parent child kind a b c =
     sym (edge_again-is e) ∙ same
 
 module _ (targeted : List TargetEdge) (root : List ℕ) (krates : List Krate) (members : List ℕ) (edges : List Edge) (incoming : List IncomingEdge)
-    (lists : Lists incoming_cmp (Contains (map (incoming_of krates) edges)) incoming)
-    (parents : All (λ e. e.parent < length krates) edges)
-    (ids : (p q : ℕ) → p < length krates → q < length krates → id_in krates p ≡ id_in krates q → p ≡ q) where
-  incoming_edge : (a : IncomingEdge) → Contains incoming a → (e : Edge) × Contains edges e × (incoming_of krates e ≡ a)
-  incoming_edge a stands = from_contains_map (incoming_of krates) edges a (lists.sound a stands)
+    (ranks : List ℕ) (are : AreRanks krates ranks)
+    (lists : Lists incoming_cmp (Contains (map (incoming_of ranks) edges)) incoming)
+    (parents : All (λ e. e.parent < length krates) edges) where
+  incoming_edge : (a : IncomingEdge) → Contains incoming a → (e : Edge) × Contains edges e × (incoming_of ranks e ≡ a)
+  incoming_edge a stands = from_contains_map (incoming_of ranks) edges a (lists.sound a stands)
 
-  edge_incoming : (e : Edge) → Contains edges e → Contains incoming (incoming_of krates e)
-  edge_incoming e stands = lists.whole (incoming_of krates e) (contains_map (incoming_of krates) edges e stands)
+  edge_incoming : (e : Edge) → Contains edges e → Contains incoming (incoming_of ranks e)
+  edge_incoming e stands = lists.whole (incoming_of ranks e) (contains_map (incoming_of ranks) edges e stands)
 
-  incoming_named : (b : IncomingEdge) → Contains incoming b → b.id ≡ id_in krates b.parent
-  incoming_named b stands = let from = incoming_edge b stands in sym (ap (λ (x : IncomingEdge). x.id) from.2) ∙ ap
-      (λ (x : IncomingEdge). id_in krates x.parent) from.2
+  incoming_named : (b : IncomingEdge) → Contains incoming b → b.rank ≡ rank_in ranks b.parent
+  incoming_named b stands = let from = incoming_edge b stands in sym (ap (λ (x : IncomingEdge). x.rank) from.2) ∙ ap
+      (λ (x : IncomingEdge). rank_in ranks x.parent) from.2
 
   incoming_inside : (b : IncomingEdge) → Contains incoming b → b.parent < length krates
   incoming_inside b stands =
@@ -454,7 +451,7 @@ module _ (targeted : List TargetEdge) (root : List ℕ) (krates : List Krate) (m
   unfolding dependents
   dependents_are child = record {
     ascending = subst (λ (f : ℕ → List ℕ). IsStrictlySortedBy (on (λ d. f d.place) (slice_cmp nat_cmp))
-        (fold (with_incoming child) [] incoming)) (sym (fun_ext (λ p. id_in_graph 0 krates p))) row.ascending;
+        (fold (with_incoming child) [] incoming)) (sym (fun_ext (λ p. id_in_graph 0 krates p))) by_ids;
     whole = λ k d inside. crate_there (slice_index_or (dependents (graph_of targeted root krates members edges) child) k d)
         (from_there (dependents (graph_of targeted root krates members edges) child) k _
         (slice_get-get_or (dependents (graph_of targeted root krates members edges) child) k d inside));
@@ -466,10 +463,24 @@ module _ (targeted : List TargetEdge) (root : List ℕ) (krates : List Krate) (m
         (slice_get-get_or (fold (with_incoming child) [] incoming) k d inside));
   }
     where
-      row : IsRow (id_in krates) child incoming (fold (with_incoming child) [] incoming)
-      row = rows_are (id_in krates) child incoming incoming_named
-          (λ b c stands stands' same. ids b.parent c.parent (incoming_inside b stands) (incoming_inside c stands') same)
-          lists.ascending
+      row : IsRow (rank_in ranks) child incoming (fold (with_incoming child) [] incoming)
+      row = rows_are (rank_in ranks) child incoming incoming_named
+          (λ b c stands stands' same. are.apart b.parent c.parent (incoming_inside b stands)
+          (incoming_inside c stands') same) lists.ascending
+
+      inside : (d : DirectDependent) → Contains (fold (with_incoming child) [] incoming) d → d.place < length krates
+      inside d stands =
+          let had = row.sound d stands in
+          subst (λ (n : ℕ). n < length krates) had.parent (incoming_inside had.edge had.stands)
+
+      by_ids : IsStrictlySortedBy (on (λ d. id_in krates d.place) (slice_cmp nat_cmp))
+          (fold (with_incoming child) [] incoming)
+      by_ids = subst (λ (ds : List DirectDependent). IsStrictlySortedBy
+          (on (λ d. id_in krates d.place) (slice_cmp nat_cmp)) ds) (map-id (fold (with_incoming child) [] incoming))
+          (ascends_map (rank_order (rank_in ranks)) (on (λ d. id_in krates d.place) (slice_cmp nat_cmp))
+          (λ (d : DirectDependent). d) (λ d. d.place < length krates) (fold (with_incoming child) [] incoming)
+          (λ d e in_d in_e below. are.below d.place e.place in_d in_e
+          (nat_below (rank_in ranks d.place) (rank_in ranks e.place) below)) inside row.ascending)
 
       crate_there : (c : Crate) → Contains (dependents (graph_of targeted root krates members edges) child) c
           → Contains (map (λ d. d.place) (fold (with_incoming child) [] incoming)) c.place
@@ -482,7 +493,7 @@ module _ (targeted : List TargetEdge) (root : List ℕ) (krates : List Krate) (m
           (slice_get_within (dependents (graph_of targeted root krates members edges) child) at.0 c at.1)) in
           let edge = any_one (leads c.place child) edges passes in
           let ends_at = leads_from c.place child edge.0 edge.2 in
-          let had = row.whole (incoming_of krates edge.0) (edge_incoming edge.0 edge.1) ends_at.1 in
+          let had = row.whole (incoming_of ranks edge.0) (edge_incoming edge.0 edge.1) ends_at.1 in
           subst (λ (p : ℕ). Contains (map (λ d. d.place) (fold (with_incoming child) [] incoming)) p)
           (had.is ∙ ends_at.0) (contains_map (λ (d : DirectDependent). d.place) (fold (with_incoming child) [] incoming)
           had.dependent had.stands)
@@ -520,6 +531,6 @@ module _ (targeted : List TargetEdge) (root : List ℕ) (krates : List Krate) (m
                 (ap (λ (x : IncomingEdge). x.child) edge.2 ∙ had.own)
                 (ap (λ (x : IncomingEdge). x.kind) edge.2 ∙ had.kind)) edge.1;
             least = λ kind there_is. had.least
-                (incoming_of krates (record { parent = d.place; child = child; kind = kind }))
+                (incoming_of ranks (record { parent = d.place; child = child; kind = kind }))
                 (edge_incoming (record { parent = d.place; child = child; kind = kind }) there_is) refl refl;
           }

@@ -1,18 +1,16 @@
 -- The rows that are sorted out of edges are those of the graph, from either end.
-use Rattle.std.proofs.Common.{◌≡◌, ◌<◌, ℕ, zero, suc, List, [], ◌∷◌, Bool, true, false, Some, length, map, refl, sym, ap, ◌∙◌, subst}
-use Rattle.std.specs.Prelude.{◌==◌, ◌&&◌, ◌||◌, All, Contains, filter, fold, slice_get, slice_index_or}
+use Rattle.std.proofs.Common.{◌≡◌, ◌<◌, ℕ, List, [], ◌∷◌, Bool, true, false, length, map, refl, sym, ap, ◌∙◌, subst}
+use Rattle.std.specs.Prelude.{◌==◌, ◌&&◌, ◌||◌, All, Contains, filter, fold, slice_index_or}
 use mathlib.Core.Path.{fun_ext}
 use Rattle.std.specs.List.{list_any}
-use Rattle.std.proofs.lemmas.List.{length-map}
-use Rattle.std.proofs.lemmas.List.Elements.{All-contains, All-map, All-weaker}
+use Rattle.std.proofs.lemmas.List.Elements.{All-contains, All-weaker}
 use Rattle.std.proofs.lemmas.Option.{get_or_from_slice_get, slice_get_within, slice_get-get_or}
 use Rattle.deny_lists.specs.Ascending.{Lists}
-use Rattle.deny_base.specs.declared.edge.DepKind.{DepKind}
 use Rattle.deny_base.specs.declared.edge.Edge.{Edge}
-use Rattle.deny_model.specs.Graph.{Crate, Graph, dependencies, dependents, leads}
+use Rattle.deny_model.specs.Graph.{Crate, dependencies, dependents, leads}
 use Rattle.deny_krates.specs.Crates.{crates_from, graph_of}
 use Rattle.deny_krates.specs.Dependents.{AreDirectDependencies, AreDirectDependents, AreRows, IsLeastKind}
-use Rattle.deny_krates.specs.private.Direct.{AreApart, incoming_cmp, incoming_of, reversed, with_incoming}
+use Rattle.deny_krates.specs.private.Direct.{AreRanks, incoming_cmp, incoming_of, reversed, with_incoming}
 use Rattle.deny_krates.specs.declared.direct.IncomingEdge.{IncomingEdge}
 use Rattle.deny_krates.specs.declared.krate.DirectDependent.{DirectDependent}
 use Rattle.deny_krates.specs.declared.krate.Krate.{Krate}
@@ -21,30 +19,30 @@ use Rattle.deny_lists.proofs.Members.{contains_map, from_contains_map, from_ther
 use Rattle.deny_krates.proofs.Runs.{length-crates_from}
 use Rattle.deny_model.specs.declared.target_edge.TargetEdge.{TargetEdge}
 
-pub children_inside : (krates : List Krate) (edges : List Edge) (incoming : List IncomingEdge)
-    → All (λ e. e.child < length krates) edges → Lists incoming_cmp (Contains (map (incoming_of krates) edges)) incoming
+pub children_inside : (krates : List Krate) (ranks : List ℕ) (edges : List Edge) (incoming : List IncomingEdge)
+    → All (λ e. e.child < length krates) edges → Lists incoming_cmp (Contains (map (incoming_of ranks) edges)) incoming
     → All (λ a. a.child < length krates) incoming
-children_inside krates edges incoming children lists k d inside =
+children_inside krates ranks edges incoming children lists k d inside =
     let a = slice_index_or incoming k d in
-    let from = from_contains_map (incoming_of krates) edges a
+    let from = from_contains_map (incoming_of ranks) edges a
     (lists.sound a (from_there incoming k a (slice_get-get_or incoming k d inside))) in
     subst (λ (x : IncomingEdge). x.child < length krates) from.2
     (All-contains (λ e. e.child < length krates) edges from.0 children from.1)
 
 -- rows of dependents
-pub rows_are_kept : (krates : List Krate) (edges : List Edge) (incoming : List IncomingEdge)
-    (direct : List (List DirectDependent)) → AreApart krates → All (λ e. e.parent < length krates) edges
-    → Lists incoming_cmp (Contains (map (incoming_of krates) edges)) incoming → length direct ≡ length krates
+pub rows_are_kept : (krates : List Krate) (ranks : List ℕ) (edges : List Edge) (incoming : List IncomingEdge)
+    (direct : List (List DirectDependent)) → AreRanks krates ranks → All (λ e. e.parent < length krates) edges
+    → Lists incoming_cmp (Contains (map (incoming_of ranks) edges)) incoming → length direct ≡ length krates
     → ((child : ℕ) → child < length krates → slice_index_or direct child [] ≡ fold (with_incoming child) [] incoming)
     → (targeted : List TargetEdge) (root members : List ℕ)
     → AreRows (graph_of targeted root krates members edges) (AreDirectDependents (graph_of targeted root krates members edges)) direct
-rows_are_kept krates edges incoming direct apart parents lists long rows targeted root members = record {
+rows_are_kept krates ranks edges incoming direct are parents lists long rows targeted root members = record {
   length = long ∙ sym (length-crates_from 0 krates);
   each = λ place row at.
       let inside : place < length krates = subst (λ (n : ℕ). place < n) long (slice_get_within direct place row at) in
       subst (λ (r : List DirectDependent). AreDirectDependents (graph_of targeted root krates members edges) place r)
       (sym (rows place inside) ∙ get_or_from_slice_get direct place row [] at)
-      (dependents_are targeted root krates members edges incoming lists parents apart.ids place);
+      (dependents_are targeted root krates members edges incoming ranks are lists parents place);
 }
 
 -- ---- from the other end

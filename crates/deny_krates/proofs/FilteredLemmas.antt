@@ -1,9 +1,8 @@
 -- What is reached by links from place to place is what chains of edges lead to.
-use Rattle.std.proofs.Common.{◌≡◌, ◌<◌, ◌≤◌, ◌+◌, ◌++◌, ℕ, zero, suc, inl, inr, List, [], ◌∷◌, Bool, true, false, Some, None, length, map, take, refl, sym, ap, ◌∙◌, subst, arith, add-one, append-nil, IsTrue}
-use Rattle.std.specs.Prelude.{◌==◌, ◌&&◌, ◌↔◌, not, All, Contains, filter, slice_get, slice_set, slice_index_or}
-use Rattle.std.specs.Option.{option_map_or}
+use Rattle.std.proofs.Common.{◌≡◌, ◌<◌, ◌≤◌, ◌+◌, ◌++◌, ℕ, zero, suc, inl, inr, List, [], ◌∷◌, Bool, true, false, Some, length, map, take, refl, sym, ap, ◌∙◌, subst, arith, add-one, append-nil}
+use Rattle.std.specs.Prelude.{◌==◌, ◌&&◌, not, All, Contains, filter, slice_get, slice_set, slice_index_or}
 use Rattle.std.proofs.lemmas.Bool.{cases_eq, cases_lt, eq-eqb, eqb-true, ne_eqb}
-use Rattle.std.proofs.lemmas.List.{map-append, length-set, get_or-set_same, get_or-set_other}
+use Rattle.std.proofs.lemmas.List.{map-append, length-set}
 use Rattle.std.proofs.lemmas.List.Elements.{All-contains, filter-append}
 use Rattle.std.proofs.lemmas.Option.{none-some, slice_get-get_or, slice_get_within, get_or_from_slice_get}
 use Rattle.std.proofs.Math.Seq.{take-suc}
@@ -15,7 +14,6 @@ use Rattle.deny_model.specs.Graph.{Graph}
 use Rattle.deny_krates.specs.Filtered.{AreMarks}
 use Rattle.deny_krates.specs.private.OtherLinks.{AreWays, is_way, link_of, links_from}
 use Rattle.deny_krates.specs.private.Reach.{AreReached, Reaches, from_start, by_link, links_at}
-use Rattle.deny_krates.specs.Filtered.{is_marked}
 use Rattle.deny_metadata.specs.declared.checked.Link.{Link}
 use Rattle.deny_metadata.specs.declared.checked.ResolvedNode.{ResolvedNode}
 use Rattle.deny_lists.proofs.Members.{contains_map, filter_keeps, filtered, from_contains_map, from_there, passes_filter, there}

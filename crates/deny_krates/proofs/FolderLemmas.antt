@@ -1,5 +1,5 @@
 -- The folder that a path lies in.
-use Rattle.std.proofs.Common.{◌≡◌, ◌<◌, ◌≤◌, ◌+◌, ◌-◌, ℕ, zero, suc, List, [], ◌∷◌, Bool, true, false, length, take, refl, sym, ap, ◌∙◌, subst, arith}
+use Rattle.std.proofs.Common.{◌≡◌, ◌<◌, ◌+◌, ◌-◌, ℕ, List, [], ◌∷◌, length, take, sym, ap, ◌∙◌, arith}
 use Rattle.std.specs.Prelude.{◌==◌, ◌≢◌, not, slice_index_or}
 use Rattle.std.specs.List.{before_last, suffix_len}
 use Rattle.std.proofs.lemmas.Bool.{eq-eqb, ne_eqb}

@@ -1,13 +1,9 @@
 -- What `get` answers.
-use Rattle.std.proofs.Common.{◌≡◌, ◌<◌, ◌≤◌, ℕ, zero, suc, List, [], ◌∷◌, Option, Some, None, Result, Ok, Err, length, map, refl, sym, ap, ◌∙◌, subst, arith}
-use Rattle.std.specs.Prelude.{Contains, MatchOption, option_copied, option_map, slice_get}
+use Rattle.std.proofs.Common.{◌≡◌, ◌<◌, ◌≤◌, ℕ, List, Option, Some, None, length, sym, ap, ◌∙◌}
+use Rattle.std.specs.Prelude.{MatchOption, option_copied, slice_get}
 use Rattle.std.specs.Borrow.{Bor}
-use Rattle.std.specs.List.{AllByRecursion, AllZip, HoldsAt}
-use Rattle.std.specs.List.Sorted.{IsStrictlySortedBy}
-use Rattle.std.specs.declared.cmp.Ordering.{Ordering}
-use Rattle.std.specs.declared.cmp.Ordering.TheVariants.{Less}
-use Rattle.std.proofs.lemmas.Option.{none-some, slice_get-map, slice_get_read, slice_get_past, slice_get_within, slice_get-get_or, get_or_from_slice_get}
-use Rattle.deny_lists.proofs.Members.{one_there}
+use Rattle.std.specs.List.{HoldsAt}
+use Rattle.std.proofs.lemmas.Option.{slice_get_past, slice_get-get_or}
 
 -- what `get` gives
 pub got : {A : Type 0} (xs : List A) (n : ℕ) (r : Option (Bor A))

@@ -1,12 +1,9 @@
 -- The graph that is put together by numbers is the graph of the metadata.
 use Rattle.deny_lists.proofs.Orders.{not_below_itself, then_below}
-use Rattle.std.proofs.Common.{◌≡◌, ◌⊎◌, ◌<◌, ◌+◌, ℕ, zero, suc, inl, inr, List, [], ◌∷◌, Bool, false, Option, Some, length, map, refl, sym, ap, ◌∙◌, subst, arith, add-zero}
+use Rattle.std.proofs.Common.{◌≡◌, ◌⊎◌, ◌<◌, ◌+◌, ℕ, zero, suc, inl, inr, List, [], ◌∷◌, Bool, Option, Some, length, map, refl, sym, ap, ◌∙◌, subst, arith, add-zero}
 use Rattle.std.specs.Prelude.{◌≢◌, All, AllPairs, Contains, slice_get, slice_index_or}
-use Rattle.std.specs.Cmp.{IsTotalOrder, nat_cmp_total}
-use Rattle.std.specs.Cmp.Lexicographic.{slice_cmp, nat_list_cmp_total}
-use Rattle.std.specs.Ordering.{is_lt, nat_cmp, ordering_then, ordering_reverse}
-use Rattle.std.specs.declared.cmp.Ordering.{Ordering}
-use Rattle.std.specs.declared.cmp.Ordering.TheVariants.{Less, Equal, Greater}
+use Rattle.std.specs.Ordering.{nat_cmp}
+use Rattle.std.specs.declared.cmp.Ordering.TheVariants.{Less}
 use Rattle.std.proofs.lemmas.List.Elements.{Contains-append_cases, Contains-append_left, Contains-append_right}
 use Rattle.std.proofs.lemmas.Option.{none-some, slice_get_within, slice_get-get_or, same_Some}
 use Rattle.deny_lists.specs.Ascending.{Lists}
@@ -14,7 +11,7 @@ use Rattle.deny_base.specs.Edge.{edge_cmp}
 use Rattle.deny_base.specs.declared.edge.DepKind.{DepKind}
 use Rattle.deny_base.specs.declared.edge.Edge.{Edge}
 use Rattle.deny_metadata.specs.Checked.{node_ids}
-use Rattle.deny_krates.specs.private.Graph.{IsInverse, IsKeptNode, edge_to, edges_from, kept_cmp, listed, place_at}
+use Rattle.deny_krates.specs.private.Graph.{IsInverse, IsKeptNode, edge_to, edges_from, kept_cmp, listed, no_package, place_at}
 use Rattle.deny_krates.specs.private.Numbered.{IsNumbered}
 use Rattle.deny_krates.specs.Packages.{package_cmp, rank_cmp, rank_of}
 use Rattle.deny_krates.specs.private.Reach.{Reaches, from_start, by_link, links_at}
@@ -166,6 +163,20 @@ module _ (doc : Document) (starting : List ℕ) (rows : List ResolvedNode) (mark
       (same_node k.0 l.0 (kept_stands i k.0 k.1) (kept_stands j l.0 l.1) ids) in
       not_below_itself kept_cmp kept_cmp-total k.0 l.0 one
       (ascends_at kept_cmp kept i j k.0 l.0 is.lists.ascending below k.1 l.1)
+
+  -- kept packages have numbers of their own
+  pub owners_apart : AllPairs (λ m n. m ≢ n) (map (λ (k : KeptPackage). k.owner) kept)
+  unfolding listed
+  owners_apart i j d below inside same =
+      let at = from_map_at (λ (k : KeptPackage). k.owner) kept i _
+      (slice_get-get_or (map (λ (k : KeptPackage). k.owner) kept) i d (omega (arith, below, inside))) in
+      let at' = from_map_at (λ (k : KeptPackage). k.owner) kept j _
+      (slice_get-get_or (map (λ (k : KeptPackage). k.owner) kept) j d inside) in
+      let one : listed doc.packages at.0 ≡ listed doc.packages at'.0 = ap
+      (λ (n : ℕ). slice_index_or doc.packages n no_package) (at.2 ∙ (same ∙ sym at'.2)) in
+      ids_apart i j (listed doc.packages at.0) (listed doc.packages at'.0) below
+      (map_at (listed doc.packages) kept i at.0 at.1) (map_at (listed doc.packages) kept j at'.0 at'.1)
+      (ap (λ (p : Package). p.id) one)
 
   module _ (places : List ℕ) (inverse : IsInverse (map (λ (k : KeptPackage). k.node) kept) (length rows) places) where
     pub place_is : (place : ℕ) (k : KeptPackage) → slice_get kept place ≡ Some k → place_at places k.node ≡ place

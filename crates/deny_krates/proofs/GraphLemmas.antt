@@ -5,16 +5,15 @@ use Rattle.std.specs.Prelude.{◌==◌, ◌≢◌, All, AllPairs, Contains, fold
 use Rattle.std.specs.List.{AllZip}
 use Rattle.std.specs.Option.{option_map_or}
 use Rattle.std.proofs.lemmas.Bool.{cases_eq, eq-eqb, ne_eqb}
-use Rattle.std.proofs.lemmas.List.{map-append, length-set, get_or-set_same, get_or-set_other}
+use Rattle.std.proofs.lemmas.List.{length-set, get_or-set_same, get_or-set_other}
 use Rattle.std.proofs.lemmas.List.Elements.{All-contains, All-push, Contains-push, Contains-append_left}
 use Rattle.std.proofs.lemmas.List.Sums.{fold-append}
 use Rattle.std.proofs.lemmas.Option.{slice_get_read, slice_get_within, get_or_from_slice_get}
 use Rattle.std.proofs.Math.Seq.{drop-cons, take-suc}
 use Rattle.std.specs.declared.cmp.Ordering.{Ordering}
 use Rattle.deny_lists.specs.Ascending.{Lists}
-use Rattle.deny_base.specs.declared.edge.Edge.{Edge}
 use Rattle.deny_krates.proofs.OrderLemmas.{kept_from-is}
-use Rattle.deny_krates.specs.private.Direct.{incoming_of, id_in, is_last, with_incoming, with_dependent}
+use Rattle.deny_krates.specs.private.Direct.{id_in, is_last, with_incoming, with_dependent}
 use Rattle.deny_krates.specs.private.Graph.{IsKeptNode, edge_to, edges_from, features_at, listed, no_package}
 use Rattle.deny_krates.specs.Packages.{rank_of}
 use Rattle.deny_krates.specs.Filtered.{is_marked}
@@ -24,10 +23,8 @@ use Rattle.deny_metadata.specs.declared.document.Node.{Node}
 use Rattle.deny_metadata.specs.declared.document.Package.{Package}
 use Rattle.deny_krates.specs.declared.direct.IncomingEdge.{IncomingEdge}
 use Rattle.deny_krates.specs.declared.graph.KeptPackage.{KeptPackage}
-use Rattle.deny_krates.specs.declared.graph.Rank.{Rank}
 use Rattle.deny_krates.specs.declared.krate.DirectDependent.{DirectDependent}
 use Rattle.deny_krates.specs.declared.krate.Krate.{Krate}
-use Rattle.deny_model.specs.declared.target_edge.TargetEdge.{TargetEdge}
 
 pub read_at : {A : Type 0} (xs : List A) (i : ℕ) (x : A) → i < length xs → x ≡ slice_index_or xs i x
     → slice_get xs i ≡ Some x
@@ -223,25 +220,6 @@ pub empty_rows_at : (n child : ℕ) → slice_index_or {A = List DirectDependent
 empty_rows_at zero child = refl
 empty_rows_at (suc n) zero = refl
 empty_rows_at (suc n) (suc child) = empty_rows_at n child
-
-abbrev pub incoming_with : Edge → List ℕ → IncomingEdge
-incoming_with e id = record { child = e.child; id = id; kind = e.kind; parent = e.parent }
-
-pub incoming_more : (krates : List Krate) (edges : List Edge) (incoming : List IncomingEdge) (i : ℕ) (id : List ℕ)
-    (d : Edge) → i < length edges → incoming ≡ map (incoming_of krates) (take i edges)
-    → id ≡ id_in krates (slice_index_or edges i d).parent
-    → incoming ++ (record {
-      child = (slice_index_or edges i d).child;
-      id = id;
-      kind = (slice_index_or edges i d).kind;
-      parent = (slice_index_or edges i d).parent;
-    }) ∷ [] ≡ map (incoming_of krates) (take (i + 1) edges)
-incoming_more krates edges incoming i id d inside so_far is =
-    let e = slice_index_or edges i d in
-    ap (λ (prefix : List IncomingEdge). prefix ++ incoming_with e id ∷ []) so_far
-    ∙ (ap (λ (x : List ℕ). map (incoming_of krates) (take i edges) ++ incoming_with e x ∷ []) is
-    ∙ (sym (map-append (incoming_of krates) (take i edges) (e ∷ [])) ∙ ap (map (incoming_of krates))
-    (sym (take-suc edges i d inside) ∙ ap (λ n. take n edges) (sym (add-one i)))))
 
 -- a list of what stands in a list of exactly that
 pub lists_of : {T : Type 0} (cmp : T → T → Ordering) (P : T → Type 0) (xs ys : List T) → Lists cmp (Contains xs) ys

@@ -1,6 +1,6 @@
--- The crates that ids name.
+-- The crates that ids name, and their ranks.
 use Rattle.std.proofs.Common.{◌≡◌, ◌<◌, ◌≤◌, ◌+◌, ◌++◌, ℕ, zero, suc, inl, inr, List, [], ◌∷◌, Bool, true, false, Option, Some, None, length, drop, map, refl, sym, ap, ◌∙◌, subst, arith, add-one, add-zero, append-nil}
-use Rattle.std.specs.Prelude.{Contains, IfNone, IfSome, MatchOption, cond, find, option_copied, option_map, slice_get, slice_index_or}
+use Rattle.std.specs.Prelude.{◌≢◌, All, AllPairs, Contains, IfNone, IfSome, MatchOption, cond, find, option_copied, option_map, slice_get, slice_index_or}
 use Rattle.std.specs.Borrow.{Bor}
 use Rattle.std.specs.Cmp.{IsTotalOrder, nat_cmp_total, on_total, then_total}
 use Rattle.std.specs.Cmp.Lexicographic.{slice_cmp, nat_list_cmp_total}
@@ -17,15 +17,16 @@ use Rattle.deny_base.specs.declared.edge.Edge.{Edge}
 use Rattle.deny_model.specs.Graph.{Crate}
 use Rattle.deny_model.specs.Text.{same_text}
 use Rattle.deny_krates.specs.Crates.{crate_view, crates_from, graph_of}
-use Rattle.deny_krates.specs.private.Direct.{AreApart}
+use Rattle.deny_krates.specs.private.Direct.{AreApart, AreRanks, id_in, rank_in}
 use Rattle.deny_krates.specs.private.IdEntries.{AreIds, entries_from, id_entry_cmp}
 use Rattle.deny_krates.specs.Ids.{crate_of}
+use Rattle.deny_krates.specs.private.Graph.{IsInverse}
 use Rattle.deny_krates.specs.declared.ids.Entry.{Entry}
 use Rattle.deny_krates.specs.declared.krate.Krate.{Krate}
 use Rattle.deny_lists.proofs.Orders.{below_or_tie, not_below_itself, not_less, text_cmp-exact, then_first, then_second}
 use Rattle.deny_krates.proofs.SearchLemmas.{not_above_itself}
-use Rattle.deny_lists.proofs.Sorted.{ascends_at}
-use Rattle.deny_lists.proofs.Members.{from_there, one_there, there}
+use Rattle.deny_lists.proofs.Sorted.{ascends_at, length-ascending}
+use Rattle.deny_lists.proofs.Members.{from_map_at, from_there, map_at, one_there, some_at, there}
 use Rattle.deny_krates.proofs.GraphLemmas.{id_of_krate}
 use Rattle.deny_model.specs.declared.target_edge.TargetEdge.{TargetEdge}
 
@@ -245,3 +246,78 @@ module _ (targeted : List TargetEdge) (root : List ℕ) (krates : List Krate) (m
         subst (λ (x : Krate). crate_of (graph_of targeted root krates members edges) id ≡ Some (crate_view place x))
             (sym same) found.2,
       )
+
+-- ---- the crates' ranks
+
+length-entries_from : (first : ℕ) (ks : List Krate) → length (entries_from first ks) ≡ length ks
+length-entries_from first [] = refl
+length-entries_from first (k ∷ ks) = ap suc (length-entries_from (first + 1) ks)
+
+module _ (krates : List Krate) (entries : List Entry) (apart : AreApart krates) (ids : AreIds krates entries) where
+  pub few_entries : length entries ≤ length krates
+  few_entries =
+      let shorter = length-ascending id_entry_cmp-total entries (entries_from 0 krates) ids.ascending ids.sound in
+      omega (arith, shorter, length-entries_from 0 krates)
+
+  -- the crate whose place an entry has
+  placed : (i place : ℕ) → slice_get (map (λ (e : Entry). e.place) entries) i ≡ Some place
+      → (place < length krates) × (slice_get entries i ≡ Some (entry_from (id_in krates place) place))
+  unfolding entry_from
+  placed i place at =
+      let from = from_map_at (λ (e : Entry). e.place) entries i place at in
+      let entry = entry_at 0 krates from.0 (ids.sound from.0 (from_there entries i from.0 from.1)) in
+      let here : entry.0 ≡ place = omega (arith, entry.3, from.2) in
+      let stands : slice_get krates place ≡ Some entry.1 = subst (λ (n : ℕ). slice_get krates n ≡ Some entry.1) here
+      entry.2 in
+      let id : from.0.id ≡ id_in krates place = entry.4 ∙ sym (id_of_krate krates place entry.1 stands) in
+      let same : from.0 ≡ entry_from (id_in krates place) place = cc (entry_from-is from.0, id, from.2) in
+      (slice_get_within krates place entry.1 stands, from.1 ∙ ap (λ (e : Entry). Some e) same)
+
+  pub places_inside : All (λ n. n < length krates) (map (λ (e : Entry). e.place) entries)
+  places_inside i d inside = (placed i _ (slice_get-get_or (map (λ (e : Entry). e.place) entries) i d inside)).0
+
+  pub places_apart : AllPairs (λ m n. m ≢ n) (map (λ (e : Entry). e.place) entries)
+  places_apart i j d below inside same =
+      let places = map (λ (e : Entry). e.place) entries in
+      let p = slice_index_or places i d in
+      let one = placed i p (slice_get-get_or places i d (omega (arith, below, inside))) in
+      let other = placed j (slice_index_or places j d) (slice_get-get_or places j d inside) in
+      not_below_itself id_entry_cmp id_entry_cmp-total (entry_from (id_in krates p) p)
+      (entry_from (id_in krates (slice_index_or places j d)) (slice_index_or places j d))
+      (ap (λ (n : ℕ). entry_from (id_in krates n) n) same)
+      (ascends_at id_entry_cmp entries i j _ _ ids.ascending below one.1 other.1)
+
+  module _ (ranks : List ℕ) (inverse : IsInverse (map (λ (e : Entry). e.place) entries) (length krates) ranks) where
+    ranked : (p : ℕ) → p < length krates → slice_get entries (rank_in ranks p) ≡ Some (entry_from (id_in krates p) p)
+    unfolding entry_from
+    ranked p inside =
+        let k = some_at krates p inside in
+        let zero_on : 0 + p ≡ p = omega arith in
+        let stands = subst (λ (n : ℕ). Contains (entries_from 0 krates) (record { id = k.0.id.0; place = n })) zero_on
+        (entry_there 0 krates p k.0 k.1) in
+        let at = there entries (record { id = k.0.id.0; place = p })
+        (ids.whole (record { id = k.0.id.0; place = p }) stands) in
+        let rank = inverse.at at.0 p (map_at (λ (e : Entry). e.place) entries at.0
+        (record { id = k.0.id.0; place = p }) at.1) in
+        subst (λ (n : ℕ). slice_get entries n ≡ Some (entry_from (id_in krates p) p)) (sym rank)
+        (at.1 ∙ ap (λ (id : List ℕ). Some (entry_from id p)) (sym (id_of_krate krates p k.0 k.1)))
+
+    pub ranks_are : AreRanks krates ranks
+    unfolding entry_from
+    ranks_are = record {
+      long = inverse.long;
+      below = λ p q in_p in_q lower. elim (below_or_tie (slice_cmp nat_cmp (id_in krates p) (id_in krates q))
+          (nat_cmp p q) (ascends_at id_entry_cmp entries (rank_in ranks p) (rank_in ranks q)
+          (entry_from (id_in krates p) p) (entry_from (id_in krates q) q) ids.ascending lower (ranked p in_p)
+          (ranked q in_q))) as (λ _. slice_cmp nat_cmp (id_in krates p) (id_in krates q) ≡ Less) [
+            | inl less ↦ less
+            | inr tie ↦ absurd (not_lower p q (apart.ids p q in_p in_q
+                (text_cmp-exact (id_in krates p) (id_in krates q) tie)) lower)
+          ];
+      apart = λ p q in_p in_q same. ap (λ (e : Entry). e.place)
+          (same_Some (entry_from (id_in krates p) p) (entry_from (id_in krates q) q)
+          (sym (ranked p in_p) ∙ (ap (λ (n : ℕ). slice_get entries n) same ∙ ranked q in_q)));
+    }
+      where
+        not_lower : (p q : ℕ) → p ≡ q → rank_in ranks p < rank_in ranks q → ⊥
+        not_lower p q same lower = omega (arith, lower, ap (λ (n : ℕ). rank_in ranks n) same)

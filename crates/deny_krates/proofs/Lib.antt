@@ -17,3 +17,4 @@ pub mod ResolutionLemmas
 pub mod ResolvedLemmas
 pub mod Runs
 pub mod SearchLemmas
+pub mod TakenLemmas

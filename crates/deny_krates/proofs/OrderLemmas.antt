@@ -1,13 +1,11 @@
 -- Only equal ranks tie, only equal kept packages, and only equal incoming edges.
 use Rattle.deny_lists.proofs.Orders.{option_text_cmp-exact, text_cmp-exact, then_first, then_second}
-use Rattle.std.proofs.Common.{◌≡◌, ℕ, List, Option, Some, None, refl, ap}
+use Rattle.std.proofs.Common.{◌≡◌, ℕ, List, Option, refl, ap}
 use Rattle.std.specs.Cmp.{IsTotalOrder, nat_cmp_total, on_total, then_total}
 use Rattle.std.specs.Cmp.Lexicographic.{slice_cmp, nat_list_cmp_total, options_total}
-use Rattle.std.specs.FinMap.{IsAntisymmetric, nat_cmp-IsAntisymmetric, slice_cmp-IsAntisymmetric}
+use Rattle.std.specs.FinMap.{IsAntisymmetric, nat_cmp-IsAntisymmetric}
 use Rattle.std.specs.Option.{option_cmp}
-use Rattle.std.specs.Ordering.{nat_cmp, ordering_then}
-use Rattle.std.specs.declared.cmp.Ordering.{Ordering}
-use Rattle.std.specs.declared.cmp.Ordering.TheVariants.{Less, Equal, Greater}
+use Rattle.std.specs.Ordering.{nat_cmp}
 use Rattle.deny_base.specs.Edge.{edge_cmp, kind_cmp, kind_number}
 use Rattle.deny_base.specs.declared.edge.DepKind.{DepKind}
 use Rattle.deny_base.specs.declared.edge.Edge.{Edge}
@@ -64,10 +62,10 @@ kept_cmp-total = then_total (on_total (λ (k : KeptPackage). k.rank) rank_cmp-to
     (then_total (on_total (λ (k : KeptPackage). k.owner) nat_cmp_total)
     (on_total (λ (k : KeptPackage). k.node) nat_cmp_total))
 
-incoming_from : ℕ → List ℕ → DepKind → ℕ → IncomingEdge
-incoming_from child id kind parent = record { child = child; id = id; kind = kind; parent = parent }
+incoming_from : ℕ → ℕ → DepKind → ℕ → IncomingEdge
+incoming_from child rank kind parent = record { child = child; rank = rank; kind = kind; parent = parent }
 
-incoming_from-is : (a : IncomingEdge) → incoming_from a.child a.id a.kind a.parent ≡ a
+incoming_from-is : (a : IncomingEdge) → incoming_from a.child a.rank a.kind a.parent ≡ a
 unfolding incoming_from
 incoming_from-is a = refl
 
@@ -81,17 +79,17 @@ kind_exact exact a b e = ap (λ (x : Edge). x.kind) (exact (edge_of_kind a) (edg
 pub incoming_cmp-exact : IsAntisymmetric edge_cmp → IsAntisymmetric incoming_cmp
 incoming_cmp-exact exact a b e =
     let after_child = then_second (nat_cmp a.child b.child) _ e in
-    let after_id = then_second (slice_cmp nat_cmp a.id b.id) _ after_child in
+    let after_rank = then_second (nat_cmp a.rank b.rank) _ after_child in
     let child : a.child ≡ b.child = nat_cmp-IsAntisymmetric a.child b.child (then_first _ _ e) in
-    let id : a.id ≡ b.id = text_cmp-exact a.id b.id (then_first _ _ after_child) in
-    let kind : a.kind ≡ b.kind = kind_exact exact a.kind b.kind (then_first _ _ after_id) in
+    let rank : a.rank ≡ b.rank = nat_cmp-IsAntisymmetric a.rank b.rank (then_first _ _ after_child) in
+    let kind : a.kind ≡ b.kind = kind_exact exact a.kind b.kind (then_first _ _ after_rank) in
     let parent : a.parent ≡ b.parent = nat_cmp-IsAntisymmetric a.parent b.parent
-    (then_second (kind_cmp a.kind b.kind) (nat_cmp a.parent b.parent) after_id) in
+    (then_second (kind_cmp a.kind b.kind) (nat_cmp a.parent b.parent) after_rank) in
     cc (incoming_from-is a, incoming_from-is b)
 
 pub incoming_cmp-total : IsTotalOrder incoming_cmp
 incoming_cmp-total =
     then_total (on_total (λ (a : IncomingEdge). a.child) nat_cmp_total)
-    (then_total (on_total (λ (a : IncomingEdge). a.id) nat_list_cmp_total)
+    (then_total (on_total (λ (a : IncomingEdge). a.rank) nat_cmp_total)
     (then_total (on_total (λ (a : IncomingEdge). a.kind) (on_total kind_number nat_cmp_total))
     (on_total (λ (a : IncomingEdge). a.parent) nat_cmp_total)))

@@ -1,8 +1,8 @@
 -- The nodes to which steps lead are those that links lead to.
-use Rattle.std.proofs.Common.{◌≡◌, ◌<◌, ℕ, zero, suc, List, Bool, true, length, map, refl, sym, subst}
-use Rattle.std.specs.Prelude.{All, Contains}
+use Rattle.std.proofs.Common.{◌<◌, ℕ, zero, suc, List, Bool, length, refl, sym, subst}
+use Rattle.std.specs.Prelude.{All}
 use Rattle.std.proofs.lemmas.List.Elements.{All-contains}
-use Rattle.deny_lists.specs.Walk.{AreMarks, Chain, IsLed, IsReached, StaysBelow}
+use Rattle.deny_lists.specs.Walk.{AreMarks, Chain, IsLed, StaysBelow}
 use Rattle.deny_lists.proofs.Members.{contains_map, from_contains_map}
 use Rattle.deny_krates.specs.private.Reach.{AreReached, Reaches, by_link, from_start, link_leads, links_at}
 use Rattle.deny_metadata.specs.declared.checked.Link.{Link}

@@ -1,5 +1,5 @@
 -- How a declaration is resolved: the edges of a parent, and the first of them that suits it.
-use Rattle.std.proofs.Common.{◌≡◌, ◌<◌, ◌≤◌, ◌+◌, ◌∙◌, ◌⊎◌, ℕ, zero, suc, inl, inr, List, [], ◌∷◌, Bool, true, false, Option, Some, None, length, drop, take, map, refl, sym, ap, subst, arith, add-zero}
+use Rattle.std.proofs.Common.{◌≡◌, ◌<◌, ◌≤◌, ◌+◌, ◌∙◌, ◌⊎◌, ℕ, zero, suc, inl, inr, List, [], ◌∷◌, true, false, Option, Some, None, length, drop, take, map, refl, sym, ap, subst, arith, add-zero}
 use Rattle.std.specs.Prelude.{◌==◌, ◌&&◌, filter, find, nat_le, nat_lt, option_copied, option_map, slice_get, slice_index_or}
 use Rattle.std.specs.Borrow.{Bor}
 use Rattle.std.specs.List.Sorted.{IsPartitionedBy, IsStrictlySortedBy}

@@ -3,12 +3,9 @@ use Rattle.deny_lists.proofs.Orders.{is_equal, not_both, not_equal_above, not_eq
 use Rattle.std.proofs.Common.{inl, inr, add-zero, ◌+◌, zero, suc, take, drop, ◌≡◌, ◌≤◌, ◌<◌, ℕ, List, [], ◌∷◌, true, false, length, refl, arith, ◌∙◌, ap}
 use Rattle.std.specs.Prelude.{slice_index_or, filter}
 use Rattle.std.specs.Cmp.Lexicographic.{slice_cmp, texts_ties}
-use Rattle.std.specs.List.Sorted.{IsNonDecreasingBy, IsPartitionedBy}
-use Rattle.std.specs.Ordering.{is_lt, is_le, is_eq, nat_cmp, ordering_index}
+use Rattle.std.specs.Ordering.{is_lt, is_le, is_eq, nat_cmp}
 use Rattle.std.proofs.lemmas.Bool.{cases_lt}
 use Rattle.std.proofs.Math.Seq.{take-nil, drop-nil}
-use Rattle.std.specs.declared.cmp.Ordering.{Ordering}
-use Rattle.std.specs.declared.cmp.Ordering.TheVariants.{Less, Equal, Greater}
 use Rattle.deny_model.specs.Groups.{has_name}
 use Rattle.deny_model.specs.Text.{same_text}
 use Rattle.deny_krates.specs.Crates.{crate_view, crates_from}

@@ -2,26 +2,27 @@ ghost use Rattle.std.specs.Prelude.{◌≡◌, ◌<◌, ℕ, List, IfOk, OnOk, A
 ghost use Rattle.std.specs.Cmp.{IsTotalOrder};
 ghost use Rattle.std.specs.FinMap.{IsAntisymmetric};
 ghost use Rattle.deny_lists.specs.Ascending.{Lists};
-ghost use Rattle.deny_krates.specs.private.Direct.{incoming_of, incoming_cmp, with_dependent, with_incoming, is_last, reversed, AreApart, AreDependencies, AreDependents};
+ghost use Rattle.deny_krates.specs.private.Direct.{incoming_of, incoming_cmp, with_dependent, with_incoming, is_last, reversed, AreDependencies, AreDependents, AreRanks};
 ghost use Rattle.deny_krates.specs.declared.direct.IncomingEdge.{IncomingEdge};
 
 use crate::krate::{DirectDependent, Krate};
 use deny_base::{DepKind, Edge, edge_order};
-use deny_lists::{List, NoMemory, Text, put_in_order};
+use deny_lists::{List, NoMemory, put_in_order};
 use std::alloc::Global;
 
 /// For each crate the crates with an edge to it, in order of their ids.
 pub fn dependents_of(
     alloc: Global,
     krates: &[Krate],
+    ranks: &[u32],
     edges: &[Edge],
 ) -> Result<List<List<DirectDependent>>, NoMemory>
-    requires apart { AreApart krates.now }
+    requires ranks { AreRanks krates.now ranks.now }
     requires parents { All (λ e. e.parent < length krates.now) edges.now }
     requires children { All (λ e. e.child < length krates.now) edges.now }
     ensures { IfOk result (AreDependents krates.now edges.now) }
 {
-    let incoming = incoming_edges(alloc, krates, edges)?;
+    let incoming = incoming_edges(alloc, ranks, edges)?;
     direct_of(alloc, incoming.as_slice(), krates.len())
 }
 
@@ -29,15 +30,16 @@ pub fn dependents_of(
 pub fn dependencies_of(
     alloc: Global,
     krates: &[Krate],
+    ranks: &[u32],
     edges: &[Edge],
 ) -> Result<List<List<DirectDependent>>, NoMemory>
-    requires apart { AreApart krates.now }
+    requires ranks { AreRanks krates.now ranks.now }
     requires parents { All (λ e. e.parent < length krates.now) edges.now }
     requires children { All (λ e. e.child < length krates.now) edges.now }
     ensures { IfOk result (AreDependencies krates.now edges.now) }
 {
     let others = reversed_edges(alloc, edges)?;
-    dependents_of(alloc, krates, others.as_slice())
+    dependents_of(alloc, krates, ranks, others.as_slice())
 }
 
 // The edges from their other ends.
@@ -55,26 +57,26 @@ fn reversed_edges(alloc: Global, edges: &[Edge]) -> Result<List<Edge>, NoMemory>
     Ok(others)
 }
 
-/// An edge from its child's side, with the id of its parent.
+/// An edge from its child's side, with the rank of its parent.
 #[derive(Debug, PartialEq, Eq, PartialOrd, Ord, Drop)]
 pub struct IncomingEdge {
     pub child: u32,
-    pub id: Text,
+    pub rank: u32,
     pub kind: DepKind,
     pub parent: u32,
 }
 
-// The edges from their children's sides, ascending by child, parent's id and kind.
+// The edges from their children's sides, ascending by child, parent's rank and kind.
 fn incoming_edges(
     alloc: Global,
-    krates: &[Krate],
+    ranks: &[u32],
     edges: &[Edge],
 ) -> Result<List<IncomingEdge>, NoMemory>
-    requires { All (λ e. e.parent < length krates.now) edges.now }
+    requires { All (λ e. e.parent < length ranks.now) edges.now }
     ensures { IfOk result (λ incoming.
-        Lists incoming_cmp (Contains (map (incoming_of krates.now) edges.now)) incoming) }
+        Lists incoming_cmp (Contains (map (incoming_of ranks.now) edges.now)) incoming) }
 {
-    let mut incoming = gather_incoming(alloc, krates, edges)?;
+    let mut incoming = gather_incoming(alloc, ranks, edges)?;
     incoming_order();
     put_in_order(&mut incoming)?;
     Ok(incoming)
@@ -82,17 +84,17 @@ fn incoming_edges(
 
 fn gather_incoming(
     alloc: Global,
-    krates: &[Krate],
+    ranks: &[u32],
     edges: &[Edge],
 ) -> Result<List<IncomingEdge>, NoMemory>
-    requires { All (λ e. e.parent < length krates.now) edges.now }
-    ensures { IfOk result (λ incoming. incoming ≡ map (incoming_of krates.now) edges.now) }
+    requires { All (λ e. e.parent < length ranks.now) edges.now }
+    ensures { IfOk result (λ incoming. incoming ≡ map (incoming_of ranks.now) edges.now) }
 {
     let mut incoming = List::new(alloc);
     for edge in edges {
         incoming.push(IncomingEdge {
             child: edge.child,
-            id: krates[edge.parent as usize].id.0.clone()?,
+            rank: ranks[edge.parent as usize],
             kind: edge.kind,
             parent: edge.parent,
         })?;
@@ -100,7 +102,7 @@ fn gather_incoming(
     Ok(incoming)
 }
 
-// The order of incoming is by child, id, kind and parent, it is total, and only equal incoming tie.
+// The order of incoming is by child, rank, kind and parent, it is total, and only equal incoming tie.
 fn incoming_order()
     ensures fields { (a b : IncomingEdge) → ⟦<IncomingEdge as Ord>⟧.cmp a b ≡ incoming_cmp a b }
     ensures total { IsTotalOrder incoming_cmp }

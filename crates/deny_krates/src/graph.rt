@@ -98,8 +98,8 @@ fn kept_order()
     ensures equal { IsAntisymmetric kept_cmp }
 {}
 
-// The places of numbers in a list of them; 0 for those that it has not.
-fn inverse_of(alloc: Global, numbers: &[u32], size: usize) -> Result<List<u32>, NoMemory>
+/// The places of numbers in a list of them; 0 for those that it has not.
+pub fn inverse_of(alloc: Global, numbers: &[u32], size: usize) -> Result<List<u32>, NoMemory>
     requires few { length numbers.now < 2 ^ 28 }
     requires inside { All (λ n. n < size) numbers.now }
     requires apart { AllPairs (λ m n. m ≢ n) numbers.now }

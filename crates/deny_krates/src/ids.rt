@@ -1,10 +1,12 @@
-ghost use Rattle.std.specs.Prelude.{◌≡◌, ◌<◌, ◌≤◌, ◌^◌, ℕ, List, IfOk, IfSome, IfNone, Contains, length, ◌≢◌};
+ghost use Rattle.std.specs.Prelude.{◌≡◌, ◌<◌, ◌≤◌, ◌^◌, ℕ, List, IfOk, IfSome, IfNone, Contains, length, map, ◌≢◌};
 ghost use Rattle.std.specs.Cmp.{IsTotalOrder};
 ghost use Rattle.std.specs.FinMap.{IsAntisymmetric};
 ghost use Rattle.std.specs.List.Sorted.{IsStrictlySortedBy};
+ghost use Rattle.deny_krates.specs.private.Direct.{AreApart, AreRanks};
 ghost use Rattle.deny_krates.specs.private.IdEntries.{AreIds, entries_from, id_entry_cmp};
 ghost use Rattle.deny_krates.specs.declared.ids.Entry.{Entry};
 
+use crate::graph::inverse_of;
 use crate::krate::Krate;
 use deny_lists::{List, NoMemory, Text, put_in_order};
 use std::alloc::Global;
@@ -47,6 +49,27 @@ fn entry_order()
     ensures total { IsTotalOrder id_entry_cmp }
     ensures equal { IsAntisymmetric id_entry_cmp }
 {}
+
+/// The rank of each crate among all by their ids.
+pub fn ranks_of(alloc: Global, krates: &[Krate], entries: &[Entry]) -> Result<List<u32>, NoMemory>
+    requires few { length krates.now < 2 ^ 28 }
+    requires apart { AreApart krates.now }
+    requires ids { AreIds krates.now entries.now }
+    ensures { IfOk result (AreRanks krates.now) }
+{
+    let places = places_by_id(alloc, entries)?;
+    inverse_of(alloc, places.as_slice(), krates.len())
+}
+
+fn places_by_id(alloc: Global, entries: &[Entry]) -> Result<List<u32>, NoMemory>
+    ensures { IfOk result (λ places. places ≡ map (λ e. e.place) entries.now) }
+{
+    let mut places = List::new(alloc);
+    for entry in entries {
+        places.push(entry.place)?;
+    }
+    Ok(places)
+}
 
 /// The place of an id, in a list that ascends.
 pub fn place_of(entries: &[Entry], id: &str) -> Option<u32>

@@ -23,7 +23,7 @@ use crate::crates::krates_of;
 use crate::direct::{dependencies_of, dependents_of};
 use crate::filtered::ways;
 use crate::graph::{KeptPackage, edges_of, kept_of, members_of, places_in, target_edges_of};
-use crate::ids::{Entry, ids_of, place_of};
+use crate::ids::{Entry, ids_of, place_of, ranks_of};
 use crate::krate::{DirectDependent, Krate};
 use crate::reach::reach;
 use crate::resolution::{declared, resolution};
@@ -83,9 +83,8 @@ impl Krates {
         ensures ok { IfOk result (IsGraphOf bytes.now) }
         ensures err { IfErr result (λ e. Fails e (checked bytes.now)) }
     {
-        let value = value_of(alloc, bytes)?;
-        let document = document_in(alloc, &value)?;
-        graph_in(alloc, &document)
+        let document = document_at(alloc, bytes)?;
+        graph_in(alloc, document)
     }
 
     /// The crates in order. Their lock text and their nodes, a crate and its enabled features, are within
@@ -222,15 +221,24 @@ impl Krates {
 // More packages or nodes than any text of fewer bytes holds.
 const MANY: usize = 1 << 28;
 
+// The metadata of a text; the value that it was read from is let go, before the graph is made.
+fn document_at(alloc: Global, bytes: &[u8]) -> Result<Document, MetadataFault>
+    ensures ok { IfOk result (λ d. checked bytes.now ≡ resolved d) }
+    ensures err { IfErr result (λ e. Fails e (checked bytes.now)) }
+{
+    let value = value_of(alloc, bytes)?;
+    document_in(alloc, &value)
+}
+
 // The graph of a document, or its first fault.
-fn graph_in(alloc: Global, document: &Document) -> Result<Krates, MetadataFault>
-    ensures ok { IfOk result (λ g. (r : Resolved) × (resolved document.now ≡ Ok r) × IsGraph document.now g) }
-    ensures err { IfErr result (λ e. Fails e (resolved document.now)) }
+fn graph_in(alloc: Global, document: Document) -> Result<Krates, MetadataFault>
+    ensures ok { IfOk result (λ g. (r : Resolved) × (resolved document ≡ Ok r) × IsGraph document g) }
+    ensures err { IfErr result (λ e. Fails e (resolved document)) }
 {
     if document.packages.len() >= MANY || document.nodes.len() >= MANY {
         return Err(MetadataFault::Memory);
     }
-    let resolution = resolve(alloc, document)?;
+    let resolution = resolve(alloc, &document)?;
     Ok(put_together(
         alloc,
         document,
@@ -242,13 +250,13 @@ fn graph_in(alloc: Global, document: &Document) -> Result<Krates, MetadataFault>
 // The graph of a document without fault.
 fn put_together(
     alloc: Global,
-    document: &Document,
+    document: Document,
     starts: &[u32],
     rows: &[ResolvedNode],
 ) -> Result<Krates, NoMemory>
-    requires few { length document.now.nodes < 2 ^ 28 }
-    requires resolved { IsResolved document.now starts.now rows.now }
-    ensures { IfOk result (IsGraph document.now) }
+    requires few { length document.nodes < 2 ^ 28 }
+    requires resolved { IsResolved document starts.now rows.now }
+    ensures { IfOk result (IsGraph document) }
 {
     let marks = reach(alloc, rows, starts)?;
     let kept = kept_of(alloc, document.packages.as_slice(), rows, marks.as_slice())?;
@@ -258,27 +266,28 @@ fn put_together(
 // The graph of the packages that are kept.
 fn join(
     alloc: Global,
-    document: &Document,
+    document: Document,
     starts: &[u32],
     rows: &[ResolvedNode],
     kept: &[KeptPackage],
 ) -> Result<Krates, NoMemory>
     requires few { length kept.now < 2 ^ 28 }
-    requires numbered { (marks : List Bool) × IsNumbered document.now starts.now rows.now marks kept.now }
-    ensures { IfOk result (IsGraph document.now) }
+    requires numbered { (marks : List Bool) × IsNumbered document starts.now rows.now marks kept.now }
+    ensures { IfOk result (IsGraph document) }
 {
     let places = places_in(alloc, kept, rows.len())?;
     let members = members_of(alloc, starts, places.as_slice())?;
     let target_edges = target_edges_of(alloc, kept, rows, places.as_slice())?;
     let edges = edges_of(alloc, target_edges.as_slice())?;
-    let root = document.workspace_root.clone()?;
-    let krates = krates_of(
+    let krates = krates_of(alloc, document.packages, document.nodes.as_slice(), kept)?;
+    finish(
         alloc,
-        document.packages.as_slice(),
-        document.nodes.as_slice(),
-        kept,
-    )?;
-    finish(alloc, root, krates, members, edges, target_edges)
+        document.workspace_root,
+        krates,
+        members,
+        edges,
+        target_edges,
+    )
 }
 
 // A graph with what is kept of its crates' neighbours and ids.
@@ -295,9 +304,15 @@ fn finish(
     requires orderly { IsOrderly (graph_of target_edges root krates members edges) }
     ensures { IfOk result (λ g. g ≡ graph_of target_edges root krates members edges) }
 {
-    let dependents = dependents_of(alloc, krates.as_slice(), edges.as_slice())?;
-    let dependencies = dependencies_of(alloc, krates.as_slice(), edges.as_slice())?;
     let ids = ids_of(alloc, krates.as_slice())?;
+    let ranks = ranks_of(alloc, krates.as_slice(), ids.as_slice())?;
+    let dependents = dependents_of(alloc, krates.as_slice(), ranks.as_slice(), edges.as_slice())?;
+    let dependencies = dependencies_of(
+        alloc,
+        krates.as_slice(),
+        ranks.as_slice(),
+        edges.as_slice(),
+    )?;
     check_bounds(alloc, krates.as_slice())?;
     Ok(Krates {
         root,

@@ -1,7 +1,6 @@
 -- The links of dependencies, from a place on.
 use Rattle.std.proofs.Common.{◌≡◌, ◌<◌, ◌≤◌, ◌+◌, ◌++◌, ℕ, List, [], Result, Ok, Err, length, drop, refl, sym, ap, ◌∙◌, add-one}
 use Rattle.std.specs.Prelude.{slice_index_or, MatchResult}
-use Rattle.std.specs.Borrow.{Bor}
 use Rattle.std.specs.BTreeMap.{BTreeMap}
 use mathlib.Core.Path.{fun_ext}
 use Rattle.std.proofs.Math.ListN.{drop_of_length-le}
@@ -13,6 +12,7 @@ use Rattle.deny_metadata.specs.declared.checked.Resolution.{Resolution}
 use Rattle.deny_metadata.specs.declared.document.NodeDependency.{NodeDependency}
 use Rattle.deny_metadata.specs.declared.document.Document.{Document}
 use Rattle.deny_metadata.specs.declared.fault.MetadataFault.{MetadataFault}
+use Rattle.deny_metadata.specs.declared.index.HashedId.{HashedId}
 use Rattle.deny_metadata.proofs.ReadingLemmas.{fails_through}
 
 pub next_links : (packages nodes : Numbering) (deps : List NodeDependency) (i : ℕ) (dep : NodeDependency)
@@ -35,7 +35,7 @@ same_numbering packages packages' nodes nodes' doc p n = ap (λ (f : Numbering).
     ∙ ap (λ (g : Numbering). resolved_by packages' g doc) (fun_ext n)
 
 -- with the ids apart, a document resolves by the indexes of its packages and nodes
-pub resolved_by_indexes : (packages nodes : BTreeMap (Bor (List ℕ)) ℕ) (doc : Document)
+pub resolved_by_indexes : (packages nodes : BTreeMap HashedId ℕ) (doc : Document)
     → distinct (package_ids doc) ≡ Ok tt → distinct (node_ids doc) ≡ Ok tt → IsIndex packages (package_ids doc)
     → IsIndex nodes (node_ids doc)
     → resolved doc ≡ resolved_by (number_by packages) (number_by nodes) doc

@@ -5,7 +5,7 @@ ghost use Rattle.deny_metadata.specs.Reading.{Fails, Gives, each, each_passes};
 
 use crate::document::{Declaration, Document, NeededAs, Node, NodeDependency, Package};
 use crate::fault::MetadataFault;
-use crate::index::index_of;
+use crate::index::{HashedId, index_of, number_by};
 use crate::source::source_in;
 use crate::versions::{requirement_in, rust_version_in, version_in};
 use deny_lists::{List, NoMemory, Text};
@@ -29,8 +29,8 @@ pub struct ResolvedNode {
 /// The numbers of the packages and of the nodes, by their ids.
 #[derive(Drop)]
 pub struct Indexes<'d> {
-    pub packages: BTreeMap<&'d str, u32>,
-    pub nodes: BTreeMap<&'d str, u32>,
+    pub packages: BTreeMap<HashedId<'d>, u32>,
+    pub nodes: BTreeMap<HashedId<'d>, u32>,
 }
 
 // The fault of an id without a package, or without a node.
@@ -42,18 +42,22 @@ fn dangles<T>(alloc: Global, id: &str) -> Result<T, MetadataFault>
 
 // The number of an id, or the fault that it has none.
 #[tactic(auto, unfolding(crate::specs::Checked::number_or))]
-fn number_of(alloc: Global, index: &BTreeMap<&str, u32>, id: &str) -> Result<u32, MetadataFault>
+fn number_of<'d>(
+    alloc: Global,
+    index: &BTreeMap<HashedId<'d>, u32>,
+    id: &'d str,
+) -> Result<u32, MetadataFault>
     ensures { Gives result (number_or id.now (number_by index.now id.now)) }
 {
-    match index.get(id) {
-        Some(number) => Ok(*number),
+    match number_by(index, id) {
+        Some(number) => Ok(number),
         None => dangles(alloc, id),
     }
 }
 
 // The number of an id's node, where a package has the id too.
 #[tactic(auto, unfolding(crate::specs::Checked::known))]
-fn known_number(alloc: Global, indexes: &Indexes, id: &str) -> Result<u32, MetadataFault>
+fn known_number<'d>(alloc: Global, indexes: &Indexes<'d>, id: &'d str) -> Result<u32, MetadataFault>
     ensures { Gives result (known (number_by indexes.now.packages) (number_by indexes.now.nodes) id.now) }
 {
     number_of(alloc, &indexes.packages, id)?;
@@ -61,7 +65,11 @@ fn known_number(alloc: Global, indexes: &Indexes, id: &str) -> Result<u32, Metad
 }
 
 // The numbers of the nodes of the members.
-fn numbers(alloc: Global, indexes: &Indexes, members: &[Text]) -> Result<List<u32>, MetadataFault>
+fn numbers<'d>(
+    alloc: Global,
+    indexes: &Indexes<'d>,
+    members: &'d [Text],
+) -> Result<List<u32>, MetadataFault>
     ensures { Gives result (each (known (number_by indexes.now.packages) (number_by indexes.now.nodes)) members.now) }
 {
     let mut numbers = List::new(alloc);
@@ -85,10 +93,10 @@ fn push_links(links: &mut List<Link>, node: u32, kinds: &[NeededAs]) -> Result<(
 }
 
 // The links of dependencies, in their order.
-fn links_in(
+fn links_in<'d>(
     alloc: Global,
-    indexes: &Indexes,
-    deps: &[NodeDependency],
+    indexes: &Indexes<'d>,
+    deps: &'d [NodeDependency],
 ) -> Result<List<Link>, MetadataFault>
     ensures { Gives result (links_of (number_by indexes.now.packages) (number_by indexes.now.nodes) deps.now) }
 {
@@ -102,10 +110,10 @@ fn links_in(
 
 // What a node resolves to.
 #[tactic(auto, unfolding(crate::specs::Checked::resolved_node))]
-fn resolve_node(
+fn resolve_node<'d>(
     alloc: Global,
-    indexes: &Indexes,
-    node: &Node,
+    indexes: &Indexes<'d>,
+    node: &'d Node,
 ) -> Result<ResolvedNode, MetadataFault>
     ensures { Gives result (resolved_node (number_by indexes.now.packages) (number_by indexes.now.nodes) node.now) }
 {
@@ -115,10 +123,10 @@ fn resolve_node(
 }
 
 // What each node resolves to.
-fn resolve_nodes(
+fn resolve_nodes<'d>(
     alloc: Global,
-    indexes: &Indexes,
-    nodes: &[Node],
+    indexes: &Indexes<'d>,
+    nodes: &'d [Node],
 ) -> Result<List<ResolvedNode>, MetadataFault>
     ensures { Gives result (each (resolved_node (number_by indexes.now.packages) (number_by indexes.now.nodes))
         nodes.now) }
@@ -262,10 +270,10 @@ pub struct Resolution {
 }
 
 #[tactic(auto, unfolding(crate::specs::Checked::resolved_by))]
-fn resolve_by(
+fn resolve_by<'d>(
     alloc: Global,
-    indexes: &Indexes,
-    document: &Document,
+    indexes: &Indexes<'d>,
+    document: &'d Document,
 ) -> Result<Resolution, MetadataFault>
     ensures { MatchResult result (λ r. resolved_by (number_by indexes.now.packages) (number_by indexes.now.nodes) document.now
         ≡ Ok (record { document = document.now; starts = r.starts; rows = r.rows }))

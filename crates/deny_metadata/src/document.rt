@@ -6,8 +6,9 @@ ghost use Rattle.deny_metadata.specs.Document.{json_at, value_at, target_at, dec
 ghost use Rattle.deny_metadata.specs.Reading.{Fails, Gives};
 
 use crate::elements::{
-    Element, array_of, each_given, each_of, elements, flag_in, given_member, object, object_of,
-    optional_text_in, optional_texts_in, path_of, refuse_member, text_of, texts,
+    Element, array_of, each_given, each_of, each_text_given, each_text_of, elements, flag_in,
+    given_member, object, object_of, optional_text_in, optional_texts_in, path_of, refuse_member,
+    text_of, texts,
 };
 use crate::fault::MetadataFault;
 use crate::floats::is_fractional;
@@ -45,7 +46,7 @@ impl Element for Target {
     #[tactic(auto, unfolding(crate::specs::Document::target_at))]
     fn from_value(alloc: Global, path: &str, value: &Value) -> Result<Target, MetadataFault> {
         object(alloc, path, value)?;
-        let kind = each_of(alloc, path, value, Member::Kind)?;
+        let kind = each_text_of(alloc, path, value, Member::Kind)?;
         let src_path = text_of(alloc, path, value, Member::SrcPath)?;
         Ok(Target { kind, src_path })
     }
@@ -77,7 +78,7 @@ impl Element for Declaration {
             rename: optional_text_in(alloc, path, value, Member::Rename)?,
             target: optional_text_in(alloc, path, value, Member::Target)?,
             path: optional_text_in(alloc, path, value, Member::Path)?,
-            features: each_given(alloc, path, value, Member::Features)?,
+            features: each_text_given(alloc, path, value, Member::Features)?,
             uses_default_features: flag_in(alloc, path, value, Member::UsesDefaultFeatures, true)?,
         })
     }
@@ -164,8 +165,7 @@ fn feature_of(
 ) -> Result<Feature, MetadataFault>
     ensures { Gives result (feature_at path.now name.now (view value.now)) }
 {
-    let at = path_of(alloc, path, name)?;
-    let enables = texts(alloc, at.as_str(), value)?;
+    let enables = texts(alloc, path, name, value)?;
     let name = Text::from_str(alloc, name)?;
     Ok(Feature { name, enables })
 }
@@ -277,7 +277,7 @@ impl Element for Node {
     fn from_value(alloc: Global, path: &str, value: &Value) -> Result<Node, MetadataFault> {
         object(alloc, path, value)?;
         let id = text_of(alloc, path, value, Member::Id)?;
-        let features = each_given(alloc, path, value, Member::Features)?;
+        let features = each_text_given(alloc, path, value, Member::Features)?;
         let deps = each_given(alloc, path, value, Member::Deps)?;
         Ok(Node { id, features, deps })
     }
@@ -349,7 +349,7 @@ pub fn document_in(alloc: Global, root: &Value) -> Result<Document, MetadataFaul
     object(alloc, "", root)?;
     resolve_stands(root)?;
     let packages = array_of(alloc, "", root, Member::Packages)?;
-    let members = each_of(alloc, "", root, Member::WorkspaceMembers)?;
+    let members = each_text_of(alloc, "", root, Member::WorkspaceMembers)?;
     let workspace_root = text_of(alloc, "", root, Member::WorkspaceRoot)?;
     let resolve = object_of(alloc, "", root, Member::Resolve)?;
     Ok(Document {

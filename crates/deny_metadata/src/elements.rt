@@ -1,4 +1,4 @@
-ghost use Rattle.std.specs.Prelude.{◌≡◌, List, ℕ, Result, Ok, Err, IfOk, MatchResult, option_map, map};
+ghost use Rattle.std.specs.Prelude.{◌≡◌, List, ℕ, Result, Ok, Err, IfOk, OnOk, MatchResult, option_map, map};
 ghost use Rattle.std.specs.Fmt.{decimal};
 ghost use Rattle.serde_json.specs.Data.{Data};
 ghost use Rattle.serde_json.specs.Find.{get};
@@ -23,18 +23,6 @@ pub trait Element: Sized + Drop {
         ensures { Gives result (read_at path.now (view value.now)) };
 }
 
-impl Element for Text {
-    ghost read_at = { text_at };
-
-    #[tactic(auto, unfolding(crate::specs::Elements::text_at, crate::specs::Elements::required))]
-    fn from_value(alloc: Global, path: &str, value: &Value) -> Result<Text, MetadataFault> {
-        match value.as_str() {
-            Some(text) => Ok(Text::from_str(alloc, text)?),
-            None => refuse(alloc, path),
-        }
-    }
-}
-
 /// The fault of a value that is not of its kind.
 pub fn refuse<T>(alloc: Global, path: &str) -> Result<T, MetadataFault>
     ensures { Gives result (Err (MetadataFault.Shape path.now)) }
@@ -42,33 +30,69 @@ pub fn refuse<T>(alloc: Global, path: &str) -> Result<T, MetadataFault>
     Err(MetadataFault::Shape(Text::from_str(alloc, path)?))
 }
 
+// The fault of a part that is not of its kind.
+fn refuse_part<T>(alloc: Global, path: &str, name: &str) -> Result<T, MetadataFault>
+    ensures { Gives result (Err (MetadataFault.Shape (part_of path.now name.now))) }
+{
+    Err(MetadataFault::Shape(path_of(alloc, path, name)?))
+}
+
 /// The fault of a member that is missing or not of its kind.
 pub fn refuse_member<T>(alloc: Global, path: &str, member: Member) -> Result<T, MetadataFault>
     ensures { Gives result (Err (MetadataFault.Shape (path_to path.now member))) }
 {
-    Err(MetadataFault::Shape(path_of(alloc, path, member.name())?))
+    refuse_part(alloc, path, member.name())
 }
 
 /// The path of a part of the value at `path`.
-#[tactic(auto, unfolding(crate::specs::Elements::part_of))]
 pub fn path_of(alloc: Global, path: &str, name: &str) -> Result<Text, NoMemory>
     ensures { IfOk result (λ t. t ≡ part_of path.now name.now) }
 {
-    if path.is_empty() {
-        return Text::from_str(alloc, name);
-    }
-    let mut part = Text::from_str(alloc, path)?;
-    part.push_str(".")?;
-    part.push_str(name)?;
+    let mut part = Text::new(alloc);
+    write_path(&mut part, path, name)?;
     Ok(part)
 }
 
-/// The path of the element at `index` of the array at `path`.
-pub fn element_path(alloc: Global, path: &str, index: usize) -> Result<Text, NoMemory>
-    ensures { IfOk result (λ t. t ≡ part_of path.now (decimal index)) }
+// Writes the path of a part of the value at `path` in the place of what the text says, and in its
+// memory.
+#[tactic(auto, unfolding(crate::specs::Elements::part_of))]
+fn write_path(part: &mut Text, path: &str, name: &str) -> Result<(), NoMemory>
+    ensures { OnOk result (part.new ≡ part_of path.now name.now) }
+{
+    part.string.clear();
+    if !path.is_empty() {
+        part.push_str(path)?;
+        part.push_str(".")?;
+    }
+    part.push_str(name)
+}
+
+// The same, of the element at `index` of the array at `path`.
+fn write_element_path(
+    alloc: Global,
+    part: &mut Text,
+    path: &str,
+    index: usize,
+) -> Result<(), NoMemory>
+    ensures { OnOk result (part.new ≡ part_of path.now (decimal index)) }
 {
     let name = format!(in alloc; "{index}")?;
-    path_of(alloc, path, name.as_str())
+    write_path(part, path, name.as_str())
+}
+
+// The fault of an element that is not of its kind, of an array that is a part of the value at `path`.
+fn refuse_element<T>(
+    alloc: Global,
+    path: &str,
+    name: &str,
+    index: usize,
+) -> Result<T, MetadataFault>
+    ensures { Gives result (Err (MetadataFault.Shape (part_of (part_of path.now name.now) (decimal index)))) }
+{
+    let array = path_of(alloc, path, name)?;
+    let mut at = Text::new(alloc);
+    write_element_path(alloc, &mut at, array.as_str(), index)?;
+    Err(MetadataFault::Shape(at))
 }
 
 /// The value of a member that stands and is not null.
@@ -198,8 +222,9 @@ pub fn elements<T: Element>(
     ensures { Gives result (elements_from T.read_at path.now 0 (items_view items.now)) }
 {
     let mut list = List::new(alloc);
+    let mut at = Text::new(alloc);
     for (index, value) in items.iter().enumerate() {
-        let at = element_path(alloc, path, index)?;
+        write_element_path(alloc, &mut at, path, index)?;
         list.push(T::from_value(alloc, at.as_str(), value)?)?;
     }
     Ok(list)
@@ -242,14 +267,86 @@ pub fn each_given<T: Element>(
     }
 }
 
-/// The texts of the array at `path`, or the first fault in it.
+// An element of an array that is a part of the value at `path`, as a text.
+#[tactic(auto, unfolding(crate::specs::Elements::text_at, crate::specs::Elements::required))]
+fn element_text(
+    alloc: Global,
+    path: &str,
+    name: &str,
+    index: usize,
+    value: &Value,
+) -> Result<Text, MetadataFault>
+    ensures { Gives result (text_at (part_of (part_of path.now name.now) (decimal index)) (view value.now)) }
+{
+    match value.as_str() {
+        Some(text) => Ok(Text::from_str(alloc, text)?),
+        None => refuse_element(alloc, path, name, index),
+    }
+}
+
+// The texts of an array that is a part of the value at `path`, or the first fault in them. A path is
+// made for a fault alone.
+fn each_text(
+    alloc: Global,
+    path: &str,
+    name: &str,
+    items: &[Value],
+) -> Result<List<Text>, MetadataFault>
+    ensures { Gives result (elements_from text_at (part_of path.now name.now) 0 (items_view items.now)) }
+{
+    let mut list = List::new(alloc);
+    for (index, value) in items.iter().enumerate() {
+        list.push(element_text(alloc, path, name, index, value)?)?;
+    }
+    Ok(list)
+}
+
+/// The texts of an array that must stand, or the first fault in them.
+#[tactic(auto, unfolding(crate::specs::Elements::each_member))]
+pub fn each_text_of(
+    alloc: Global,
+    path: &str,
+    object: &Value,
+    member: Member,
+) -> Result<List<Text>, MetadataFault>
+    ensures { Gives result (each_member text_at path.now member (view object.now)) }
+{
+    let items = array_of(alloc, path, object, member)?;
+    each_text(alloc, path, member.name(), items)
+}
+
+/// The texts of an array that may be missing or null, or the first fault in them.
+#[tactic(auto, unfolding(crate::specs::Elements::each_optional, crate::specs::Elements::optional_items, crate::specs::Elements::required, crate::specs::Elements::elements_from))]
+pub fn each_text_given(
+    alloc: Global,
+    path: &str,
+    object: &Value,
+    member: Member,
+) -> Result<List<Text>, MetadataFault>
+    ensures { Gives result (each_optional text_at path.now member (view object.now)) }
+{
+    match given_member(object, member) {
+        None => Ok(List::new(alloc)),
+        Some(value) => match value.as_array() {
+            None => refuse_member(alloc, path, member),
+            Some(items) => each_text(alloc, path, member.name(), items.as_slice()),
+        },
+    }
+}
+
+/// The texts of an array that is a part of the value at `path`, or the first fault in it.
 #[tactic(auto, unfolding(crate::specs::Elements::texts_at, crate::specs::Elements::required))]
-pub fn texts(alloc: Global, path: &str, value: &Value) -> Result<List<Text>, MetadataFault>
-    ensures { Gives result (texts_at path.now (view value.now)) }
+pub fn texts(
+    alloc: Global,
+    path: &str,
+    name: &str,
+    value: &Value,
+) -> Result<List<Text>, MetadataFault>
+    ensures { Gives result (texts_at (part_of path.now name.now) (view value.now)) }
 {
     match value.as_array() {
-        Some(items) => elements(alloc, path, items.as_slice()),
-        None => refuse(alloc, path),
+        Some(items) => each_text(alloc, path, name, items.as_slice()),
+        None => refuse_part(alloc, path, name),
     }
 }
 
@@ -264,10 +361,7 @@ pub fn optional_texts_in(
     ensures { Gives result (optional_texts path.now member (view object.now)) }
 {
     match given_member(object, member) {
-        Some(value) => {
-            let at = path_of(alloc, path, member.name())?;
-            Ok(Some(texts(alloc, at.as_str(), value)?))
-        }
+        Some(value) => Ok(Some(texts(alloc, path, member.name(), value)?)),
         None => Ok(None),
     }
 }

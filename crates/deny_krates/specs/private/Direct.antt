@@ -1,9 +1,10 @@
 -- How the rows of neighbours are sorted out of the edges.
-use Rattle.std.specs.Prelude.{◌≡◌, ◌==◌, ◌<◌, ◌++◌, ◌∷◌, ℕ, List, [], Bool, false, if◌then◌else◌, length, slice_get}
+use Rattle.std.specs.Prelude.{◌≡◌, ◌==◌, ◌<◌, ◌++◌, ◌∷◌, ℕ, List, [], Bool, false, if◌then◌else◌, length, slice_get, slice_index_or}
 use Rattle.std.specs.Cmp.Lexicographic.{slice_cmp}
 use Rattle.std.specs.Option.{option_map_or}
 use Rattle.std.specs.Ordering.{nat_cmp, on, then_cmp}
 use Rattle.std.specs.declared.cmp.Ordering.{Ordering}
+use Rattle.std.specs.declared.cmp.Ordering.TheVariants.{Less}
 use Rattle.deny_base.specs.Edge.{kind_cmp}
 use Rattle.deny_base.specs.declared.edge.Edge.{Edge}
 use Rattle.deny_krates.specs.Crates.{graph_of}
@@ -24,13 +25,24 @@ pub record AreApart (krates : List Krate) : Type 0 where
 abbrev pub reversed : Edge → Edge
 reversed e = record { parent = e.child; child = e.parent; kind = e.kind }
 
--- an edge from its child's side, with the parent's id
-abbrev pub incoming_of : List Krate → Edge → IncomingEdge
-incoming_of krates e = record { child = e.child; id = id_in krates e.parent; kind = e.kind; parent = e.parent }
+-- a crate's rank, by its place
+abbrev pub rank_in : List ℕ → ℕ → ℕ
+rank_in ranks place = slice_index_or ranks place 0
+
+-- the crates' ranks by their ids: a lower one is that of a lower id, and each crate has its own
+pub record AreRanks (krates : List Krate) (ranks : List ℕ) : Type 0 where
+  pub long : length ranks ≡ length krates
+  pub below : (p q : ℕ) → p < length krates → q < length krates → rank_in ranks p < rank_in ranks q
+      → slice_cmp nat_cmp (id_in krates p) (id_in krates q) ≡ Less
+  pub apart : (p q : ℕ) → p < length krates → q < length krates → rank_in ranks p ≡ rank_in ranks q → p ≡ q
+
+-- an edge from its child's side, with the parent's rank
+abbrev pub incoming_of : List ℕ → Edge → IncomingEdge
+incoming_of ranks e = record { child = e.child; rank = rank_in ranks e.parent; kind = e.kind; parent = e.parent }
 
 abbrev pub incoming_cmp : IncomingEdge → IncomingEdge → Ordering
 incoming_cmp = then_cmp (on (λ a. a.child) nat_cmp)
-    (then_cmp (on (λ a. a.id) (slice_cmp nat_cmp)) (then_cmp (on (λ a. a.kind) kind_cmp) (on (λ a. a.parent) nat_cmp)))
+    (then_cmp (on (λ a. a.rank) nat_cmp) (then_cmp (on (λ a. a.kind) kind_cmp) (on (λ a. a.parent) nat_cmp)))
 
 -- dependents after one more, which counts once
 abbrev pub is_last : List DirectDependent → ℕ → Bool

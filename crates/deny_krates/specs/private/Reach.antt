@@ -1,5 +1,5 @@
 -- The nodes that links lead to from a start.
-use Rattle.std.specs.Prelude.{◌≡◌, ℕ, List, [], Bool, true, false, length, map, Contains, slice_get, slice_index_or}
+use Rattle.std.specs.Prelude.{◌≡◌, ℕ, List, [], Bool, true, length, map, Contains, slice_get}
 use Rattle.std.specs.Option.{option_map_or}
 use Rattle.deny_krates.specs.Filtered.{is_marked}
 use Rattle.deny_metadata.specs.declared.checked.Link.{Link}

@@ -1,4 +1,4 @@
-use Rattle.std.proofs.Common.{◌<◌, ◌≤◌, ◌-◌, ◌^◌, refl, arith}
+use Rattle.std.proofs.Common.{◌≤◌, ◌-◌, ◌^◌, refl, arith}
 use Rattle.deny_krates.specs.Bounds.{lock_length, lock_line_length}
 use Rattle.deny_krates.specs.Crates.{crates_from}
 use Rattle.deny_krates.proofs.BoundsLemmas.{all_taken, taken}

@@ -1,4 +1,4 @@
-use Rattle.std.proofs.Common.{◌≡◌, ◌<◌, ◌≤◌, ◌+◌, ◌-◌, ◌^◌, ℕ, length, refl, arith}
+use Rattle.std.proofs.Common.{◌≡◌, ◌≤◌, ◌+◌, ◌-◌, ◌^◌, ℕ, length, refl, arith}
 use Rattle.deny_krates.specs.Bounds.{node_count}
 use Rattle.deny_krates.specs.Crates.{crate_view, crates_from}
 use Rattle.deny_model.specs.Graph.{Crate}

@@ -1,4 +1,4 @@
-use Rattle.std.proofs.Common.{◌≡◌, ◌+◌, ◌∙◌, ap, ℕ, List, length, arith}
+use Rattle.std.proofs.Common.{◌≡◌, ◌+◌, ap, ℕ, List, length, arith}
 use Rattle.deny_krates.specs.Bounds.{lock_line_length}
 use Rattle.deny_krates.specs.Crates.{crate_view}
 use Rattle.deny_metadata.proofs.ReadingLemmas.{if_ok_then}

@@ -1,7 +1,11 @@
 use Rattle.std.proofs.Common.{take}
 use Rattle.std.specs.List.{AllZip}
 use Rattle.deny_krates.specs.private.Graph.{IsKrateOf}
+use Rattle.deny_krates.proofs.TakenLemmas.{AreLeft}
 use Rattle.deny_krates.proofs.crates.krates_of.Given as goal
 
 abbrev pub invariant-loop-each : goal.invariant-loop-each
-invariant-loop-each l = AllZip (IsKrateOf l.packages l.nodes) (take l.each-index l.kept) l.krates
+invariant-loop-each l = record {
+  made : AllZip (IsKrateOf l.fn.packages l.nodes) (take l.each-index l.kept) l.krates;
+  left : AreLeft l.fn.packages l.kept l.each-index l.packages;
+}

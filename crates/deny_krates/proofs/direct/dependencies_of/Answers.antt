@@ -1,9 +1,8 @@
-use Rattle.std.proofs.Common.{◌<◌, ◌∙◌, sym, List, length, map, subst}
+use Rattle.std.proofs.Common.{◌<◌, ◌∙◌, sym, List, length, subst}
 use Rattle.std.specs.Prelude.{All}
 use Rattle.std.proofs.lemmas.List.Elements.{All-map}
 use Rattle.deny_base.specs.declared.edge.Edge.{Edge}
 use Rattle.deny_krates.specs.private.Direct.{AreDependencies, AreDependents, reversed}
-use Rattle.deny_krates.specs.declared.krate.DirectDependent.{DirectDependent}
 use Rattle.deny_krates.proofs.DirectLemmas.{rows_reversed}
 use Rattle.deny_metadata.proofs.ReadingLemmas.{if_ok_then}
 use Rattle.deny_krates.proofs.direct.dependencies_of.Goals as goal

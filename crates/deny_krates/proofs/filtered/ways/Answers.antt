@@ -2,7 +2,6 @@ use Rattle.std.proofs.Common.{◌<◌, ◌+◌, ◌∙◌, ap, sym, subst, ℕ, 
 use Rattle.std.specs.Prelude.{◌++◌, ◌∷◌, [], slice_index_or}
 use Rattle.std.proofs.lemmas.Option.{slice_get-get_or}
 use Rattle.deny_base.specs.declared.edge.DepKind.TheVariants.{Normal}
-use Rattle.deny_base.specs.declared.edge.Edge.{Edge}
 use Rattle.deny_krates.specs.private.OtherLinks.{AreWays, link_of}
 use Rattle.deny_metadata.specs.declared.checked.Link.{Link}
 use Rattle.deny_metadata.specs.declared.checked.ResolvedNode.{ResolvedNode}

@@ -1,4 +1,3 @@
-use Rattle.std.proofs.Common.{arith}
 use Rattle.deny_krates.proofs.IdsLemmas.{entries_done}
 use Rattle.deny_krates.proofs.ids.entries.Goals as goal
 

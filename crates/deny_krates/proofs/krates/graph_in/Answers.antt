@@ -1,4 +1,5 @@
 use Rattle.std.proofs.Common.{sym, ℕ, List, subst}
+use Rattle.deny_metadata.specs.Checked.{Resolved}
 use Rattle.deny_krates.specs.private.Numbered.{IsResolved}
 use Rattle.deny_metadata.specs.declared.checked.ResolvedNode.{ResolvedNode}
 use Rattle.deny_krates.proofs.ResolvedLemmas.{resolved_is}
@@ -6,8 +7,16 @@ use Rattle.deny_krates.proofs.krates.graph_in.Goals as goal
 
 pub put_together-requires-clause-resolved : goal.put_together-requires-clause-resolved
 put_together-requires-clause-resolved c =
-    let doc = c.args.document.now in
+    let doc = c.args.document in
     let is = (resolved_is doc _ c.in_ok-resolution.ensures).0 in
     subst (λ (starts : List ℕ). IsResolved doc starts c.as_slice-2.result.now) (sym c.as_slice.ensures)
     (subst (λ (rows : List ResolvedNode). IsResolved doc c.in_ok-resolution.resolution.starts rows)
     (sym c.as_slice-2.ensures) is)
+
+pub returns-clause-ok : goal.returns-clause-ok
+returns-clause-ok c =
+    let r : Resolved = record {
+      document = c.args.document;
+      starts = c.in_ok-resolution.resolution.starts;
+      rows = c.in_ok-resolution.resolution.rows;
+    } in (r, c.in_ok-resolution.ensures, c.in_ok-put_together.ensures)

@@ -9,10 +9,10 @@ use Rattle.deny_krates.proofs.ResolvedLemmas.{links_inside, owners_inside, rows_
 use Rattle.deny_krates.proofs.krates.put_together.Goals as goal
 
 pub reach-requires-clause-starts : goal.reach-requires-clause-starts
-reach-requires-clause-starts c = starts_inside c.args.document.now c.args.starts.now c.args.rows.now c.requires.resolved
+reach-requires-clause-starts c = starts_inside c.args.document c.args.starts.now c.args.rows.now c.requires.resolved
 
 pub reach-requires-clause-links : goal.reach-requires-clause-links
-reach-requires-clause-links c = links_inside c.args.document.now c.args.starts.now c.args.rows.now c.requires.resolved
+reach-requires-clause-links c = links_inside c.args.document c.args.starts.now c.args.rows.now c.requires.resolved
 
 rows_few_of : (doc : Document) (starts : List ℕ) (rows : List ResolvedNode) → IsResolved doc starts rows
     → length doc.nodes < 2 ^ 28 → length rows < 2 ^ 28
@@ -20,20 +20,20 @@ rows_few_of doc starts rows is few = subst (λ (n : ℕ). n < 2 ^ 28) (rows_long
 
 pub reach-requires-clause-few : goal.reach-requires-clause-few
 reach-requires-clause-few c =
-    rows_few_of c.args.document.now c.args.starts.now c.args.rows.now c.requires.resolved c.requires.few
+    rows_few_of c.args.document c.args.starts.now c.args.rows.now c.requires.resolved c.requires.few
 
 pub kept_of-requires-clause-few : goal.kept_of-requires-clause-few
 kept_of-requires-clause-few c =
-    rows_few_of c.args.document.now c.args.starts.now c.args.rows.now c.requires.resolved c.requires.few
+    rows_few_of c.args.document c.args.starts.now c.args.rows.now c.requires.resolved c.requires.few
 
 pub kept_of-requires-clause-owned : goal.kept_of-requires-clause-owned
 kept_of-requires-clause-owned c =
     subst (λ (ps : List Package). All (λ r. r.owner < length ps) c.args.rows.now) (sym c.as_slice.ensures)
-    (owners_inside c.args.document.now c.args.starts.now c.args.rows.now c.requires.resolved)
+    (owners_inside c.args.document c.args.starts.now c.args.rows.now c.requires.resolved)
 
 pub join-requires-clause-few : goal.join-requires-clause-few
 join-requires-clause-few c =
-    let rows_few : length c.args.rows.now < 2 ^ 28 = rows_few_of c.args.document.now c.args.starts.now c.args.rows.now
+    let rows_few : length c.args.rows.now < 2 ^ 28 = rows_few_of c.args.document c.args.starts.now c.args.rows.now
     c.requires.resolved c.requires.few in
     let few : length c.in_ok-kept.kept ≤ length c.args.rows.now = c.in_ok-kept.ensures.few in
     subst (λ (ks : List KeptPackage). length ks < 2 ^ 28) (sym c.as_slice-3.ensures) (omega arith)

@@ -1,8 +1,8 @@
 use Rattle.std.proofs.Common.{◌∙◌, ap, sym}
-use Rattle.std.specs.Prelude.{◌&&◌, find, option_map}
+use Rattle.std.specs.Prelude.{find, option_map}
 use Rattle.std.specs.Option.{option_or}
 use Rattle.deny_krates.specs.Crates.{crates_from, dependency_view}
-use Rattle.deny_model.specs.Resolution.{is_wanted, suits}
+use Rattle.deny_model.specs.Resolution.{suits}
 use Rattle.deny_model.specs.declared.target_edge.TargetEdge.{TargetEdge}
 use Rattle.deny_krates.proofs.ResolutionLemmas.{resolution_is}
 use Rattle.deny_krates.proofs.resolution.resolution.Goals as goal

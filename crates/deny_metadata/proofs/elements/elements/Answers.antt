@@ -17,7 +17,7 @@ returns-in_err-from_value g c =
     (omega (arith, c.loop-index-test.true)) c.index-items-index.is in
     let here = part_of path (decimal c.loop-index.index) in
     let fails : Fails fault (read here value) = subst (λ (p : List ℕ). Fails fault (read p value))
-    (c.as_str.ensures ∙ c.in_ok-at.ensures) c.in_err-from_value.ensures in
+    (c.as_str.ensures ∙ c.in_ok-write_element_path.ensures) c.in_err-from_value.ensures in
     handed_on _ fault _ c.from_residual-in_err-from_value.ensures.1
     (fails_here _ _ _ (read here value) c.loop-index.list fault c.loop-index.invariant step fails)
 
@@ -31,7 +31,7 @@ loop-index-preserved g c =
     (omega (arith, c.loop-index-test.true)) c.index-items-index.is in
     let here = part_of path (decimal c.loop-index.index) in
     let reads : read here value ≡ Ok x = subst (λ (p : List ℕ). read p value ≡ Ok x)
-    (c.as_str.ensures ∙ c.in_ok-at.ensures) c.in_ok-from_value.ensures in
+    (c.as_str.ensures ∙ c.in_ok-write_element_path.ensures) c.in_ok-from_value.ensures in
     rw c.in_ok-push.ensures.ok (goes_on _ _ _ (read here value) c.loop-index.list x c.loop-index.invariant step reads)
 
 pub returns : goal.returns

@@ -1,13 +1,10 @@
-use Rattle.std.proofs.Common.{◌≡◌, ◌<◌, ◌∙◌, ap, sym, ℕ, List, Some, true, false, length, map, take, subst, arith}
+use Rattle.std.proofs.Common.{◌≡◌, ◌<◌, ◌∙◌, ap, sym, true, false, length, map, take, arith}
 use Rattle.std.specs.Prelude.{is_some}
-use Rattle.std.specs.BTreeMap as tree
-use Rattle.std.specs.Cmp.Lexicographic.{slice_cmp}
 use Rattle.std.specs.List.{list_any}
-use Rattle.std.specs.Ordering.{nat_cmp}
 use Rattle.deny_model.specs.Text.{same_text}
 use Rattle.deny_metadata.specs.Checked.{distinct_after}
-use Rattle.deny_metadata.specs.private.Index.{number_by}
-use Rattle.deny_metadata.proofs.IndexLemmas.{ids_next, ids_more, ids_end, ids_length, any_numbered, index_more, stood_before, is_new, no_more_ids}
+use Rattle.deny_metadata.specs.private.Index.{hash_of, number_by}
+use Rattle.deny_metadata.proofs.IndexLemmas.{asked_by, ids_next, ids_more, ids_end, ids_length, any_numbered, index_more, stood_before, is_new, no_more_ids}
 use Rattle.deny_metadata.proofs.index.index_of.Goals as goal
 
 pub returns-then-contains_key-clause-distinct : goal.returns-then-contains_key-clause-distinct
@@ -19,9 +16,9 @@ returns-then-contains_key-clause-distinct g c =
     let id = id_of c.index-things-number.result in
     let next = ids_next id_of things number c.index-things-number.result (omega (arith, c.loop-number-test.true))
     c.index-things-number.is in
-    let asked : is_some (number_by c.loop-number.index id) ≡ true = subst
-    (λ (t : List ℕ). is_some (number_by c.loop-number.index t) ≡ true) c.id-id.ensures
-    (sym c.contains_key.ensures ∙ c.if-contains_key.true) in
+    let asked : is_some (number_by c.loop-number.index id) ≡ true = sym (asked_by is_some c.loop-number.index
+    c.hashed-key.result.hash c.hashed-key.result.id.now id _ (c.hashed-key.ensures.hash ∙ ap hash_of c.id-id.ensures)
+    (c.hashed-key.ensures.id ∙ c.id-id.ensures) c.contains_key.ensures) ∙ c.if-contains_key.true in
     let stood : list_any (same_text id) before ≡ true = sym (any_numbered id 0 before)
     ∙ (ap is_some (sym (c.loop-number.invariant.index.at id)) ∙ asked) in
     rw (c.in_ok-from_str.ensures, c.id-id.ensures)
@@ -37,18 +34,18 @@ loop-number-preserved g c =
     let inside : number < length things = omega (arith, c.loop-number-test.true) in
     let next = ids_next id_of things number c.index-things-number.result inside c.index-things-number.is in
     let more = ids_more id_of things number c.index-things-number.result inside c.index-things-number.is in
-    let asked : is_some (number_by c.loop-number.index id) ≡ false = subst
-    (λ (t : List ℕ). is_some (number_by c.loop-number.index t) ≡ false) c.id-id.ensures
-    (sym c.contains_key.ensures ∙ c.if-contains_key.false) in
+    let hash = c.hashed-key.ensures.hash ∙ ap hash_of c.id-id.ensures in
+    let text = c.hashed-key.ensures.id ∙ c.id-id.ensures in
+    let asked : is_some (number_by c.loop-number.index id) ≡ false = sym (asked_by is_some c.loop-number.index
+    c.hashed-key.result.hash c.hashed-key.result.id.now id _ hash text c.contains_key.ensures)
+    ∙ c.if-contains_key.false in
     let fresh : list_any (same_text id) before ≡ false = sym (any_numbered id 0 before)
     ∙ (ap is_some (sym (c.loop-number.invariant.index.at id)) ∙ asked) in
     let last : number ≡ length before = sym (ids_length id_of things number (omega arith)) in
-    let updates = subst (λ (t : List ℕ). tree.UpdatesBy (λ x y. slice_cmp nat_cmp x.now y.now)
-    (λ k. slice_cmp nat_cmp t k.now) c.loop-number.index c.insert.new.self (Some number)) c.id-id.ensures
-    c.in_ok-insert.ensures.updates in
     rw more record {
-      index = index_more c.loop-number.index c.insert.new.self before id number c.loop-number.invariant.index fresh last
-          updates;
+      index = index_more c.loop-number.index c.insert.new.self before c.hashed-key.result.hash
+          c.hashed-key.result.id.now id number hash text c.loop-number.invariant.index fresh last
+          c.in_ok-insert.ensures.updates;
       distinct = c.loop-number.invariant.distinct ∙ (ap (distinct_after before) next ∙ is_new before _ id fresh);
     }
 

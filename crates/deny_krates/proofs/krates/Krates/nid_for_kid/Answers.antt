@@ -1,5 +1,5 @@
 use Rattle.std.proofs.Common.{◌≡◌, ℕ, List, subst}
-use Rattle.std.specs.Prelude.{Contains, IfNone, IfSome, option_map}
+use Rattle.std.specs.Prelude.{option_map}
 use Rattle.deny_model.specs.Graph.{Crate, Graph}
 use Rattle.deny_krates.specs.Ids.{crate_of}
 use Rattle.deny_krates.specs.declared.ids.Entry.{Entry}

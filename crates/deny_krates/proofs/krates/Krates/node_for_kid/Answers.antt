@@ -1,4 +1,4 @@
-use Rattle.std.proofs.Common.{◌≡◌, ◌∙◌, ap, sym, ℕ, List, None, Some, Option, subst}
+use Rattle.std.proofs.Common.{◌≡◌, ◌∙◌, ap, ℕ, List, None, Some, Option, subst}
 use Rattle.std.specs.Prelude.{Contains, MatchOption, slice_get}
 use Rattle.std.specs.Borrow.{Bor}
 use Rattle.deny_model.specs.Graph.{Graph}
