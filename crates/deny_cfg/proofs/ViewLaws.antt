@@ -1,28 +1,31 @@
 -- Configurations that are alike have the same clashes, and the same view once they are valid.
-use Rattle.std.proofs.Common.{◌≡◌, ◌++◌, ◌+◌, ◌&&◌, ℕ, Bool, false, List, [], ◌∷◌, Option, map, not, refl, sym, ap, ◌∙◌}
+use Rattle.std.proofs.Common.{◌≡◌, ◌++◌, ◌+◌, ◌&&◌, ℕ, Bool, false, List, [], ◌∷◌, Option, None, Some, map, not, refl, sym, ap, ◌∙◌}
 use Rattle.std.specs.Prelude.{filter, filter_map, find, option_and_then, option_map}
 use Rattle.std.specs.List.{AllZip}
 use Rattle.std.specs.Option.{option_eq, option_map_or}
+use Rattle.semver.specs.Identifiers.{parts_of}
 use Rattle.deny_base.specs.declared.span.Span.{Span}
 use Rattle.deny_model.specs.Policy.{Ban, Entry, Root, Spec, Words}
 use Rattle.deny_model.specs.Text.{same_text}
 use Rattle.deny_cfg.specs.Clashes.{banned_specs, clash_with, clashes_in, feature_at, feature_clash, feature_clashes, is_ban, specs_of, two_places, wrappers_clash, wrappers_clash_by}
-use Rattle.deny_cfg.specs.PolicyView.{ban_view, entry_view, policy_view, reason_words, root_view, roots_from, words_or_none}
+use Rattle.deny_cfg.specs.PolicyView.{ban_view, entry_view, feature_view, policy_view, reason_words, replacing_view, root_view, roots_from, scope_view, words_or_none}
 use Rattle.deny_tables.specs.Highlight.{shows_lowest, shows_simplest}
 use Rattle.deny_entries.specs.SpecView.{same_spec, spec_view}
-use Rattle.deny_cfg.specs.Valid.{IsValidOf, ban_of, is_multiple, krate_ban}
+use Rattle.deny_cfg.specs.Valid.{IsValidOf, ban_of, features_of, is_multiple, krate_ban}
 use Rattle.deny_tables.specs.declared.bans.cfg.ban.CrateBanExtended.{CrateBanExtended}
 use Rattle.deny_tables.specs.declared.bans.cfg.config.Config.{Config}
+use Rattle.deny_tables.specs.declared.bans.cfg.features.CrateFeatures.{CrateFeatures}
 use Rattle.deny_tables.specs.declared.bans.cfg.tree_skip.TreeSkipExtended.{TreeSkipExtended}
 use Rattle.deny_cfg.specs.declared.bans.cfg.valid.KrateBan.{KrateBan}
 use Rattle.deny_cfg.specs.declared.bans.cfg.valid.ValidConfig.{ValidConfig}
+use Rattle.deny_cfg.specs.declared.bans.cfg.valid.ValidKrateFeatures.{ValidKrateFeatures}
 use Rattle.deny_cfg.specs.declared.clash.Clash.{Clash}
 use Rattle.deny_cfg.specs.declared.clash.ClashKind.{ClashKind}
 use Rattle.deny_cfg.specs.declared.clash.ClashKind.TheVariants as clash
 use Rattle.deny_entries.specs.declared.package_spec.PackageSpec.{PackageSpec}
 use Rattle.deny_entries.specs.declared.reason.Reason.{Reason}
 use Rattle.deny_entries.specs.declared.spec_or_extended.PackageSpecOrExtended.{PackageSpecOrExtended}
-use Rattle.deny_tables.proofs.ConfigLaws.{ConfigsAlike, EntriesAlike, FeaturesAlike}
+use Rattle.deny_tables.proofs.ConfigLaws.{BothAlike, ConfigsAlike, EntriesAlike, FeaturesAlike, StdAlike, VersionsAlike}
 use Rattle.deny_lists.proofs.Alike.{Same, alike_filter, alike_map, same_filter_map, same_find, same_flat_map, same_map}
 use Rattle.deny_entries.proofs.ReadsLaws.{SpecsAlike}
 
@@ -171,6 +174,46 @@ same_multiple a b alike =
     (specs_of (filter is_multiple b.deny))
     (entry_specs_alike (filter is_multiple a.deny) (filter is_multiple b.deny) entries)
 
+SeenAlike : ValidKrateFeatures → ValidKrateFeatures → Type 0
+SeenAlike a b = feature_view a ≡ feature_view b
+
+seen_alike : (a b : CrateFeatures) → FeaturesAlike a b → SeenAlike (features_of a) (features_of b)
+unfolding SeenAlike
+seen_alike a b alike = λ i. record {
+  spec = alike.0 i;
+  allow = (alike.1 i).allow;
+  deny = (alike.1 i).deny;
+  exact = (alike.1 i).exact;
+}
+
+same_features : (a b : Config) → ConfigsAlike a b
+    → map feature_view (map features_of a.features) ≡ map feature_view (map features_of b.features)
+unfolding SeenAlike
+same_features a b alike =
+    same_map SeenAlike feature_view feature_view (λ x y same. same) (map features_of a.features)
+    (map features_of b.features)
+    (alike_map FeaturesAlike SeenAlike features_of seen_alike a.features b.features alike.features)
+
+same_option : {T A : Type 0} (Alike : T → T → Type 0) (f : T → A) → Same Alike f f → (a b : Option T)
+    → BothAlike Alike a b → option_map f a ≡ option_map f b
+same_option Alike f same None None both = refl
+same_option Alike f same None (Some y) both = absurd both
+same_option Alike f same (Some x) None both = absurd both
+same_option Alike f same (Some x) (Some y) both = ap Some (same x y both)
+
+same_replacing : Same StdAlike replacing_view replacing_view
+same_replacing a b alike =
+    let rust_version =
+    same_option VersionsAlike parts_of (λ x y same. same) a.rust_version b.rust_version alike.rust_version in
+    let ignore = same_map EntriesAlike entry_view entry_view same_entry a.ignore b.ignore alike.ignore in
+    λ i. record {
+      scope = scope_view (alike.scope i);
+      level = alike.level i;
+      rust_version = rust_version i;
+      ignore = ignore i;
+      ignore_rust_version = scope_view (alike.ignore_rust_version i);
+    }
+
 -- the view of a configuration that was found valid
 pub same_view : (a b : Config) (file number : ℕ) (these those : ValidConfig) → ConfigsAlike a b → IsValidOf a file these
     → IsValidOf b number those
@@ -195,6 +238,15 @@ same_view a b file number these those alike one two =
     let skip_tree =
     ap (roots_from 0) one.tree_skipped ∙ same_roots 0 a.skip_tree b.skip_tree alike.skip_tree
     ∙ sym (ap (roots_from 0) two.tree_skipped) in
+    let features =
+    ap (map feature_view) one.features ∙ same_features a b alike ∙ sym (ap (map feature_view) two.features) in
+    let workspace_default =
+    one.workspace_default_features ∙ alike.workspace_default ∙ sym two.workspace_default_features in
+    let external_default = one.external_default_features ∙ alike.external_default ∙ sym two.external_default_features in
+    let replacing =
+    ap (option_map replacing_view) one.std_replacements
+    ∙ same_option StdAlike replacing_view same_replacing a.std_replacements b.std_replacements alike.std_replacements
+    ∙ sym (ap (option_map replacing_view) two.std_replacements) in
     λ i. record {
       multiple_versions = multiple_versions i;
       include_dev = include_dev i;
@@ -206,4 +258,8 @@ same_view a b file number these those alike one two =
       allow_workspace = allow_workspace i;
       skip = skip i;
       skip_tree = skip_tree i;
+      features = features i;
+      workspace_default = workspace_default i;
+      external_default = external_default i;
+      replacing = replacing i;
     }

@@ -25,5 +25,7 @@ pub use Rattle.deny_tables.specs.StdReplacements
 pub use Rattle.deny_tables.specs.Workspace
 pub use Rattle.deny_entries.specs.declared.reason.Reason
 pub use Rattle.deny_entries.specs.declared.package_spec.PackageSpec
+pub use Rattle.deny_entries.specs.declared.scope.Scope
 pub use Rattle.deny_entries.specs.declared.spec_or_extended.PackageSpecOrExtended
 pub use Rattle.deny_tables.specs.declared.bans.cfg.tree_skip.TreeSkipExtended
+pub use Rattle.deny_tables.specs.declared.bans.cfg.std_replacements.StdReplacementConfig

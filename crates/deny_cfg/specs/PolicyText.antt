@@ -79,7 +79,6 @@ not_built =
     ∷ key.AllowBuildScripts
     ∷ key.Build
     ∷ key.WorkspaceDependencies
-    ∷ key.StdReplacements
     ∷ []
 
 abbrev pub writes_key : Value → PolicyKey → Bool

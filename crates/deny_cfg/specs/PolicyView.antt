@@ -1,12 +1,18 @@
 -- What the rules see of a configuration.
 use Rattle.std.specs.Prelude.{ℕ, ◌+◌, List, [], ◌∷◌, map, Option, None, Some, option_map, option_and_then}
-use Rattle.deny_model.specs.Policy.{Ban, Entry, Policy, Root, Words}
+use Rattle.semver.specs.Identifiers.{parts_of}
+use Rattle.deny_model.specs.Policy as model
+use Rattle.deny_model.specs.Policy.{Ban, Entry, FeatureEntry, Policy, Replacing, Root, Words}
 use Rattle.deny_entries.specs.SpecView.{spec_view}
 use Rattle.deny_tables.specs.Highlight.{shows_lowest, shows_simplest}
+use Rattle.deny_tables.specs.declared.bans.cfg.std_replacements.StdReplacementConfig.{StdReplacementConfig}
 use Rattle.deny_tables.specs.declared.bans.cfg.tree_skip.TreeSkipExtended.{TreeSkipExtended}
 use Rattle.deny_cfg.specs.declared.bans.cfg.valid.KrateBan.{KrateBan}
 use Rattle.deny_cfg.specs.declared.bans.cfg.valid.ValidConfig.{ValidConfig}
+use Rattle.deny_cfg.specs.declared.bans.cfg.valid.ValidKrateFeatures.{ValidKrateFeatures}
 use Rattle.deny_entries.specs.declared.reason.Reason.{Reason}
+use Rattle.deny_entries.specs.declared.scope.Scope.{Scope}
+use Rattle.deny_entries.specs.declared.scope.Scope.TheVariants as scope
 use Rattle.deny_entries.specs.declared.spec_or_extended.PackageSpecOrExtended.{PackageSpecOrExtended}
 
 abbrev pub words_or_none : Option (List Words) → List Words
@@ -39,6 +45,29 @@ abbrev pub roots_from : ℕ → List (PackageSpecOrExtended TreeSkipExtended) �
 roots_from number [] = []
 roots_from number (e ∷ es) = root_view number e ∷ roots_from (number + 1) es
 
+abbrev pub feature_view : ValidKrateFeatures → FeatureEntry
+feature_view f = record {
+  spec = spec_view f.spec;
+  allow = f.features.allow;
+  deny = f.features.deny;
+  exact = f.features.exact;
+}
+
+abbrev pub scope_view : Scope → model.Scope
+scope_view scope.All = model.EachCrate
+scope_view scope.Workspace = model.Workspace
+scope_view scope.Transitive = model.Transitive
+scope_view scope.None = model.NoCrate
+
+abbrev pub replacing_view : StdReplacementConfig → Replacing
+replacing_view std = record {
+  scope = scope_view std.scope;
+  level = std.level;
+  rust_version = option_map parts_of std.rust_version;
+  ignore = map entry_view std.ignore;
+  ignore_rust_version = scope_view std.ignore_rust_version;
+}
+
 abbrev pub policy_view : ValidConfig → Policy
 policy_view cfg = record {
   multiple_versions = cfg.multiple_versions;
@@ -51,4 +80,8 @@ policy_view cfg = record {
   allow_workspace = cfg.allow_workspace;
   skip = map entry_view cfg.skipped;
   skip_tree = roots_from 0 cfg.tree_skipped;
+  features = map feature_view cfg.features;
+  workspace_default = cfg.workspace_default_features;
+  external_default = cfg.external_default_features;
+  replacing = option_map replacing_view cfg.std_replacements;
 }

@@ -123,7 +123,6 @@ fn has_unbuilt(bans: &Value<'_>) -> bool
         || bans.has_key(PolicyKey::AllowBuildScripts.name())
         || bans.has_key(PolicyKey::Build.name())
         || bans.has_key(PolicyKey::WorkspaceDependencies.name())
-        || bans.has_key(PolicyKey::StdReplacements.name())
 }
 
 /// Whether a policy writes a key whose rule is not there yet.

@@ -1,6 +1,7 @@
 pub mod Apart
 pub mod Depends
 pub mod Entry
+pub mod Licence
 pub mod PolicyKey
 pub mod Reasons
 pub mod Requirement

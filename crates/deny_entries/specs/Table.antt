@@ -118,6 +118,10 @@ must_hold key kind part = record {
   Says = λ v x. ReadsThere kind.Reads v (part x);
 }
 
+-- a key whose value passes unread
+abbrev pub unread : {T : Type 0} → PolicyKey → Row T
+unread key = record { field = optional key (λ v. []); Says = λ v x. Unit {0} }
+
 abbrev pub fields_of : {T : Type 0} → List (Row T) → List Field
 fields_of [] = []
 fields_of (row ∷ rows) = row.field ∷ fields_of rows

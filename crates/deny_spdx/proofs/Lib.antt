@@ -2,6 +2,8 @@ pub mod AfterLemmas
 pub mod AnswerLemmas
 pub mod BadLemmas
 pub mod KeepsLemmas
+pub mod MeaningLemmas
+pub mod MeaningRows
 pub mod PrefixLemmas
 pub mod ReadingLemmas
 pub mod RunLemmas

@@ -1,5 +1,6 @@
 pub mod Bad
 pub mod Grammar
+pub mod Meaning
 pub mod Prefix
 pub mod Reader
 pub mod Reading

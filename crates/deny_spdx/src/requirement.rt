@@ -3,6 +3,7 @@ ghost use Rattle.std.specs.Prelude.{◌≡◌, ℕ, IfOk, Ok, Err};
 ghost use Rattle.deny_spdx.specs.Grammar.{IsRequirement};
 ghost use Rattle.deny_lists.specs.Reader.{Answers};
 ghost use Rattle.deny_spdx.specs.Bad.{Spells, IsBadAt};
+ghost use Rattle.deny_spdx.specs.Meaning.{IsMeaning};
 
 use crate::error::SpdxError;
 use crate::parse::read_requirement;
@@ -31,6 +32,7 @@ impl Requirement {
 
         ensures refused { (place : ℕ) → result ≡ Err (SpdxError.Bad place) → IsBadAt IsRequirement text.now place }
         ensures bad { (place : ℕ) → IsBadAt IsRequirement text.now place → Answers SpdxError.Memory (Err (SpdxError.Bad place)) result }
+        ensures meaning { IsMeaning text.now result }
     {
         read_requirement(alloc, text)
     }

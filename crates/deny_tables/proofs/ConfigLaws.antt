@@ -1,9 +1,13 @@
 -- What is read twice from one value says the same: entries, and the table `bans`.
 use Rattle.std.proofs.Common.{◌≡◌, ℕ, false, List, [], Option, None, Some, refl, sym, ap, ◌∙◌}
+use Rattle.std.specs.Prelude.{⊤}
 use Rattle.std.specs.List.{AllZip}
+use Rattle.semver.specs.Identifiers.{parts_of}
+use Rattle.semver.specs.declared.Version.{Version}
 use Rattle.deny_base.specs.declared.level.LintLevel.TheVariants as level
 use Rattle.deny_toml.specs.Calls.{text_in}
 use Rattle.deny_toml.specs.declared.value.Value.{Value}
+use Rattle.deny_entries.specs.RustVersion.{rust_version_in}
 use Rattle.deny_entries.specs.Reasons.{ReadsReason, ReadsReasonKey, ReadsReasoned}
 use Rattle.deny_tables.specs.Bans.{ReadsBan, ReadsBanEntry, ReadsTreeSkip, ReadsTreeSkipEntry, ban_fields, tree_skip_fields}
 use Rattle.deny_tables.specs.Config.{ReadsConfig}
@@ -11,14 +15,17 @@ use Rattle.deny_entries.proofs.RowLaws.{says_of}
 use Rattle.deny_entries.specs.PolicyKey.{name_of}
 use Rattle.deny_entries.specs.Entry.{ReadsEntry, ReadsEntryBy, ReadsEntryKeys, ReadsPair, ReadsSome}
 use Rattle.deny_tables.specs.Features.{ReadsCrateFeatures, ReadsFeatures, lists_in, nowhere}
-use Rattle.deny_entries.specs.Table.{Entries, Field, at_key}
-use Rattle.deny_entries.specs.Words.{ReadsAs, ReadsBool, ReadsCount, ReadsSpanned, ReadsText, ReadsTexts, level_of}
+use Rattle.deny_entries.specs.Table.{Entries, Field, ReadsIfThere, ReadsTable, at_key}
+use Rattle.deny_entries.specs.Words.{ReadsAs, ReadsBool, ReadsCount, ReadsSpanned, ReadsText, ReadsTexts, level_of, scope_of}
 use Rattle.deny_tables.specs.Highlight.{highlight_of}
+use Rattle.deny_tables.specs.StdReplacements.{ReadsRustVersion, ReadsStd}
 use Rattle.deny_tables.specs.declared.bans.cfg.config.Config.{Config}
 use Rattle.deny_tables.specs.declared.bans.cfg.features.CrateFeatures.{CrateFeatures}
 use Rattle.deny_tables.specs.declared.bans.cfg.highlight.GraphHighlight.TheVariants as highlight
+use Rattle.deny_tables.specs.declared.bans.cfg.std_replacements.StdReplacementConfig.{StdReplacementConfig}
 use Rattle.deny_entries.specs.declared.package_spec.PackageSpec.{PackageSpec}
 use Rattle.deny_entries.specs.declared.policy_key.PolicyKey.TheVariants as key
+use Rattle.deny_entries.specs.declared.scope.Scope.TheVariants as scope
 use Rattle.deny_entries.specs.declared.spec_or_extended.PackageSpecOrExtended.{PackageSpecOrExtended}
 use Rattle.deny_entries.proofs.ReadsLaws.{ReadsAlike, ReadsOne, SpecsAlike, alike_list_or, alike_table, keys_alike, one_as, one_bool, one_count, one_optional, one_or, one_spanned, one_text, one_texts, text_alike}
 
@@ -138,6 +145,64 @@ features_alike v a b one two =
     alike_table (λ entries (read : CrateFeatures). ReadsEntryKeys ReadsFeatures entries read.spec (lists_in read))
     FeaturesAlike features_keys_alike v a b one two
 
+-- both are left out, or what they hold is alike
+abbrev pub BothAlike : {T : Type 0} → (T → T → Type 0) → Option T → Option T → Type 0
+BothAlike Alike None None = ⊤
+BothAlike Alike None (Some y) = ⊥
+BothAlike Alike (Some x) None = ⊥
+BothAlike Alike (Some x) (Some y) = Alike x y
+
+alike_optional : {T : Type 0} (Reads : Value → T → Type 0) (Alike : T → T → Type 0) → ReadsAlike Reads Alike
+    → ReadsAlike (ReadsIfThere Reads) (BothAlike Alike)
+alike_optional Reads Alike alike None None None one two = tt
+alike_optional Reads Alike alike None None (Some y) one two = absurd (cc two)
+alike_optional Reads Alike alike None (Some x) y one two = absurd (cc one)
+alike_optional Reads Alike alike (Some v) None y one two = absurd one
+alike_optional Reads Alike alike (Some v) (Some x) None one two = absurd two
+alike_optional Reads Alike alike (Some v) (Some x) (Some y) one two = alike v x y one two
+
+abbrev pub VersionsAlike : Version → Version → Type 0
+VersionsAlike a b = parts_of a ≡ parts_of b
+
+versions_alike : ReadsAlike ReadsRustVersion VersionsAlike
+versions_alike v a b one two = one_as rust_version_in v (parts_of a) (parts_of b) one two
+
+-- how two tables mind crates that the standard library replaces
+pub record StdAlike (a b : StdReplacementConfig) : Type 0 where
+  pub scope : a.scope ≡ b.scope
+  pub level : a.level ≡ b.level
+  pub rust_version : BothAlike VersionsAlike a.rust_version b.rust_version
+  pub ignore : AllZip EntriesAlike a.ignore b.ignore
+  pub ignore_rust_version : a.ignore_rust_version ≡ b.ignore_rust_version
+
+std_keys_alike : ReadsAlike ReadsStd StdAlike
+unfolding name_of
+std_keys_alike entries a b one two = record {
+  scope =
+      one_or scope.Workspace (ReadsAs scope_of) (one_as scope_of) (at_key key.Scope entries) a.scope b.scope
+      (says_of key.Scope one) (says_of key.Scope two);
+  level =
+      one_or level.Deny (ReadsAs level_of) (one_as level_of) (at_key key.Level entries) a.level b.level
+      (says_of key.Level one) (says_of key.Level two);
+  rust_version =
+      alike_optional ReadsRustVersion VersionsAlike versions_alike (at_key key.RustVersion entries) a.rust_version
+      b.rust_version (says_of key.RustVersion one) (says_of key.RustVersion two);
+  ignore =
+      alike_list_or ReadsReasoned EntriesAlike reasoned_alike (at_key key.Ignore entries) a.ignore b.ignore
+      (says_of key.Ignore one) (says_of key.Ignore two);
+  ignore_rust_version =
+      one_or scope.None (ReadsAs scope_of) (one_as scope_of) (at_key key.IgnoreRustVersion entries)
+      a.ignore_rust_version b.ignore_rust_version (says_of key.IgnoreRustVersion one)
+      (says_of key.IgnoreRustVersion two);
+}
+
+std_alike : ReadsAlike (ReadsTable ReadsStd) StdAlike
+std_alike v a b one two = alike_table ReadsStd StdAlike std_keys_alike v a b one two
+
+one_placed_level : ReadsOne (ReadsIfThere (ReadsSpanned (ReadsAs level_of)))
+one_placed_level v x y one two =
+    one_optional (ReadsSpanned (ReadsAs level_of)) (one_spanned (ReadsAs level_of) (one_as level_of)) v x y one two
+
 -- Two configurations are alike in what the rules see, and in what may clash.
 pub record ConfigsAlike (a b : Config) : Type 0 where
   pub multiple_versions : a.multiple_versions ≡ b.multiple_versions
@@ -146,9 +211,12 @@ pub record ConfigsAlike (a b : Config) : Type 0 where
   pub deny : AllZip EntriesAlike a.deny b.deny
   pub allow : AllZip EntriesAlike a.allow b.allow
   pub allow_workspace : a.allow_workspace ≡ b.allow_workspace
+  pub external_default : a.external_default_features ≡ b.external_default_features
+  pub workspace_default : a.workspace_default_features ≡ b.workspace_default_features
   pub features : AllZip FeaturesAlike a.features b.features
   pub skip : AllZip EntriesAlike a.skip b.skip
   pub skip_tree : AllZip EntriesAlike a.skip_tree b.skip_tree
+  pub std_replacements : BothAlike StdAlike a.std_replacements b.std_replacements
 
 pub configs_alike : ReadsAlike ReadsConfig ConfigsAlike
 unfolding name_of
@@ -172,6 +240,13 @@ configs_alike entries a b one two = record {
   allow_workspace =
       one_or false ReadsBool one_bool (at_key key.AllowWorkspace entries) a.allow_workspace b.allow_workspace
       (says_of key.AllowWorkspace one) (says_of key.AllowWorkspace two);
+  external_default =
+      one_placed_level (at_key key.ExternalDefaultFeatures entries) a.external_default_features
+      b.external_default_features (says_of key.ExternalDefaultFeatures one) (says_of key.ExternalDefaultFeatures two);
+  workspace_default =
+      one_placed_level (at_key key.WorkspaceDefaultFeatures entries) a.workspace_default_features
+      b.workspace_default_features (says_of key.WorkspaceDefaultFeatures one)
+      (says_of key.WorkspaceDefaultFeatures two);
   features =
       alike_list_or ReadsCrateFeatures FeaturesAlike features_alike (at_key key.Features entries) a.features b.features
       (says_of key.Features one) (says_of key.Features two);
@@ -181,4 +256,7 @@ configs_alike entries a b one two = record {
   skip_tree =
       alike_list_or ReadsTreeSkipEntry EntriesAlike tree_skip_alike (at_key key.SkipTree entries) a.skip_tree
       b.skip_tree (says_of key.SkipTree one) (says_of key.SkipTree two);
+  std_replacements =
+      alike_optional (ReadsTable ReadsStd) StdAlike std_alike (at_key key.StdReplacements entries) a.std_replacements
+      b.std_replacements (says_of key.StdReplacements one) (says_of key.StdReplacements two);
 }

@@ -9,6 +9,7 @@ use Rattle.deny_tables.specs.Features.{feature_fields}
 use Rattle.deny_tables.specs.Build.{bypass_path_fields, bypass_fields, build_fields}
 use Rattle.deny_tables.specs.StdReplacements.{std_fields}
 use Rattle.deny_tables.specs.Config.{bans_fields}
+use Rattle.deny_tables.specs.Licenses.{exception_fields, licenses_fields, private_fields}
 use Rattle.deny_tables.specs.Workspace.{workspace_fields}
 
 pub ban-apart : are_apart ban_fields ≡ true
@@ -62,3 +63,19 @@ bypass-apart = refl
 pub bypass_entry-apart : (entries : Entries) → are_apart (entry_fields bypass_fields entries) ≡ true
 unfolding name_of
 bypass_entry-apart = entry-apart bypass_fields refl refl
+
+pub exception-apart : are_apart exception_fields ≡ true
+unfolding name_of
+exception-apart = refl
+
+pub exception_entry-apart : (entries : Entries) → are_apart (entry_fields exception_fields entries) ≡ true
+unfolding name_of
+exception_entry-apart = entry-apart exception_fields refl refl
+
+pub private-apart : are_apart private_fields ≡ true
+unfolding name_of
+private-apart = refl
+
+pub licenses-apart : are_apart licenses_fields ≡ true
+unfolding name_of
+licenses-apart = refl

@@ -6,5 +6,6 @@ pub mod Config
 pub mod Depends
 pub mod Features
 pub mod Highlight
+pub mod Licenses
 pub mod StdReplacements
 pub mod Workspace

@@ -1,0 +1,58 @@
+-- Licences that are read with their places.
+use Rattle.std.proofs.Common.{◌≡◌, List, [], ◌∷◌, Option, None, Some, map, refl, sym, ap, subst, ◌∙◌}
+use Rattle.deny_base.specs.declared.span.Spanned.{Spanned}
+use Rattle.deny_spdx.specs.Meaning.{requirement_in}
+use Rattle.deny_spdx.specs.declared.requirement.Requirement.{Requirement}
+use Rattle.deny_toml.specs.Calls.{array_in}
+use Rattle.deny_toml.specs.Deserialize.{ReadsArray, ReadsEach}
+use Rattle.deny_toml.specs.declared.value.Value.{Value}
+use Rattle.deny_entries.specs.Licence.{ReadsLicences, requirement_of}
+use Rattle.deny_entries.specs.Table.{Field, Gives, ReadAt, ReadsOr, ReadsThere, State}
+use Rattle.deny_entries.specs.Words.{ReadsAs, ReadsList, ReadsSpanned}
+use Rattle.deny_entries.specs.declared.licence.Licence.{Licence}
+
+-- a part of what is read, as the reading of it
+each_mapped : {S T : Type 0} (Reads : Value → T → Type 0) (part : S → T) (vs : List Value) (xs : List S)
+    → ReadsEach (λ v x. Reads v (part x)) vs xs → ReadsEach Reads vs (map part xs)
+each_mapped Reads part [] [] reads = reads
+each_mapped Reads part [] (x ∷ xs) reads = reads
+each_mapped Reads part (v ∷ vs) [] reads = reads
+each_mapped Reads part (v ∷ vs) (x ∷ xs) reads = (reads.0, each_mapped Reads part vs xs reads.1)
+
+array_mapped : {S T : Type 0} (Reads : Value → T → Type 0) (part : S → T) (vs : Option (List Value)) (xs : List S)
+    → ReadsArray (λ v x. Reads v (part x)) vs xs → ReadsArray Reads vs (map part xs)
+array_mapped Reads part None xs reads = reads
+array_mapped Reads part (Some vs) xs reads = each_mapped Reads part vs xs reads
+
+-- what a value says as licences that are wrapped
+abbrev ReadsWrapped : Value → List (Spanned Licence) → Type 0
+ReadsWrapped = ReadsList (ReadsSpanned (λ v (read : Licence). ReadsAs requirement_in v read.0))
+
+unwrapped : (v : Value) (xs : List (Spanned Licence)) → ReadsWrapped v xs → ReadsLicences v (map requirement_of xs)
+unwrapped v xs reads = array_mapped (ReadsSpanned (ReadsAs requirement_in)) requirement_of (array_in v) xs reads
+
+unwrapped_or : (v : Option Value) (xs : List (Spanned Licence)) → ReadsOr [] ReadsWrapped v xs
+    → ReadsOr [] ReadsLicences v (map requirement_of xs)
+unwrapped_or None xs reads = ap (map requirement_of) reads
+unwrapped_or (Some v) xs reads = unwrapped v xs reads
+
+unwrapped_there : (v : Option Value) (xs : List (Spanned Licence)) → ReadsThere ReadsWrapped v xs
+    → ReadsThere ReadsLicences v (map requirement_of xs)
+unwrapped_there None xs reads = reads
+unwrapped_there (Some v) xs reads = unwrapped v xs reads
+
+pub read_if_there : (f : Field) (s : State) (xs : List (Spanned Licence)) (ys : List (Spanned Requirement))
+    → ys ≡ map requirement_of xs → ReadAt f s (λ v. ReadsOr [] ReadsWrapped v xs)
+    → ReadAt f s (λ v. ReadsOr [] ReadsLicences v ys)
+read_if_there f s xs ys is read = record {
+  says = λ none. subst (ReadsOr [] ReadsLicences _) (sym is) (unwrapped_or _ xs (read.says none));
+}
+
+pub read_there : (f : Field) (s : State) (found : Option (List (Spanned Licence))) (xs : List (Spanned Licence))
+    (ys : List (Spanned Requirement)) → found ≡ Some xs → ys ≡ map requirement_of xs
+    → ReadAt f s (λ v. Gives (ReadsThere ReadsWrapped v) found)
+    → ReadAt f s (λ v. Gives (ReadsThere ReadsLicences v) (Some ys))
+read_there f s found xs ys there is read = record {
+  says = λ none. subst (ReadsThere ReadsLicences _) (sym is)
+      (unwrapped_there _ xs (subst (Gives (ReadsThere ReadsWrapped _)) there (read.says none)));
+}

@@ -1,0 +1,65 @@
+ghost use Rattle.deny_entries.specs.Table.{Gives};
+ghost use Rattle.deny_tables.specs.Apart.{exception_entry-apart};
+ghost use Rattle.deny_tables.specs.Depends.{exception-depends};
+ghost use Rattle.deny_tables.specs.Licenses.{ReadsException, ReadsExceptionKeys, exception_fields, faults_of_exception};
+
+use deny_base::Spanned;
+use deny_entries::{Extension, PackageSpec, PolicyKey, licences, read_entry};
+use deny_lists::{List, NoMemory};
+use deny_spdx::Requirement;
+use deny_toml::{DeserError, Deserialize, TableHelper, Value};
+use std::alloc::Global;
+
+/// What some crates may ask for besides the licences that all may: an entry of `exceptions`.
+#[derive(Debug, Drop)]
+pub struct Exception {
+    /// The crates that it speaks of.
+    pub spec: PackageSpec,
+    /// What they may ask for.
+    pub allow: List<Spanned<Requirement>>,
+}
+
+/// What an entry of `exceptions` says besides its spec.
+#[derive(Debug, Drop)]
+pub(crate) struct ExceptionKeys {
+    /// The key `allow`.
+    pub allow: List<Spanned<Requirement>>,
+}
+
+impl Extension for ExceptionKeys {
+    ghost fields = { exception_fields };
+
+    ghost reads_in = { λ entries said. Gives (ReadsExceptionKeys entries) said };
+
+    fn read_keys(
+        alloc: Global,
+        helper: &mut TableHelper<'_>,
+    ) -> Result<Option<ExceptionKeys>, NoMemory> {
+        let allow = licences(alloc, helper, PolicyKey::Allow)?;
+        match allow {
+            Some(allow) => Ok(Some(ExceptionKeys { allow })),
+            None => Ok(None),
+        }
+    }
+
+    ghost apart = { exception_entry-apart };
+
+    ghost depends = { exception-depends };
+}
+
+/// A table of a spec and of `allow`.
+impl Deserialize for Exception {
+    ghost reads = { ReadsException };
+
+    ghost faults_of = { faults_of_exception };
+
+    fn deserialize(alloc: Global, value: &mut Value<'_>) -> Result<Exception, DeserError> {
+        match read_entry::<ExceptionKeys>(alloc, value)? {
+            (spec, Some(keys)) => Ok(Exception {
+                spec,
+                allow: keys.allow,
+            }),
+            (_, None) => unreachable!(),
+        }
+    }
+}
