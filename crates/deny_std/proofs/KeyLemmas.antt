@@ -1,0 +1,138 @@
+-- The keys of what is kept are those that stand, in their order, and what is told of them is what is told of each key.
+use Rattle.std.proofs.Common.{◌≡◌, ◌++◌, ◌∷◌, ◌⊎◌, ℕ, List, [], Option, Some, None, Contains, map, refl, sym, ap, ◌∙◌, subst}
+use Rattle.std.specs.Prelude.{codes, filter, option_map}
+use Rattle.std.specs.Option.{option_map_or}
+use Rattle.std.specs.Ordering.{nat_cmp}
+use Rattle.std.specs.declared.cmp.Ordering.TheVariants.{Less}
+use Rattle.std.proofs.lemmas.Option.{none-some, same_Some}
+use Rattle.std.proofs.lemmas.Simd.{map-map}
+use Rattle.deny_lists.specs.Ascending.{Lists}
+use Rattle.deny_lists.proofs.Members.{contains_map, from_contains_map}
+use Rattle.deny_lists.proofs.Sorted.{ascends_map}
+use Rattle.deny_base.specs.Code.{code_number, diagnostic_code_number, section_number}
+use Rattle.deny_base.specs.KeyOrder.{key_cmp, span_cmp}
+use Rattle.deny_base.specs.declared.code.Code.TheVariants.{UnmatchedReplacementIgnore}
+use Rattle.deny_base.specs.declared.key.Key.{Key}
+use Rattle.deny_base.specs.declared.label.Label.{Label}
+use Rattle.deny_base.specs.declared.level.Severity.TheVariants.{Warning}
+use Rattle.deny_base.specs.declared.span.Span.{Span}
+use Rattle.deny_model.specs.Graph.{Crate, Graph}
+use Rattle.deny_model.specs.Keys.{key_of, unused_key}
+use Rattle.deny_model.specs.Policy.{Entry, Replacing, Words}
+use Rattle.deny_model.specs.Told.{label_at, primary, spec_text}
+use Rattle.deny_codes.specs.Saying.{Saying}
+use Rattle.deny_codes.specs.StdReplacements.{ignore_at, ignore_labels, ignore_range, is_told_replaced, is_unmatched_ignore}
+use Rattle.deny_codes.specs.StdReplacements.{replaced_key, replaced_keys, replaced_told, unmatched_ignore_keys, unmatched_ignore_told}
+use Rattle.deny_codes.specs.Telling.{plainly}
+use Rattle.deny_codes.proofs.Parts.{lists_append}
+use Rattle.deny_std.specs.declared.told.Unmatched.{Unmatched}
+use Rattle.deny_std.specs.private.Kept.{AreTold, AreUnmatched}
+use Rattle.deny_std.specs.private.Told.{reason_label, replaced_words, unmatched_of, unmatched_words}
+
+abbrev pub ignore_key : Span → Key
+ignore_key range = unused_key UnmatchedReplacementIgnore range
+
+-- ---- keys
+
+-- what two lists share, mapped
+shared : {A B : Type 0} (f : A → B) (xs ys : List A) → ((x : A) → Contains xs x → Contains ys x) → (y : B)
+    → Contains (map f xs) y → Contains (map f ys) y
+shared f xs ys there y is =
+    let of = from_contains_map f xs y is in
+    subst (Contains (map f ys)) of.2 (contains_map f ys of.0 (there of.0 of.1))
+
+ignore-below : (a b : Span) → span_cmp a b ≡ Less → key_cmp (ignore_key a) (ignore_key b) ≡ Less
+unfolding key_of section_number code_number diagnostic_code_number
+ignore-below a b less = rw less refl
+
+replaced-below : (a b : ℕ) → nat_cmp a b ≡ Less → key_cmp (replaced_key a) (replaced_key b) ≡ Less
+unfolding key_of section_number code_number diagnostic_code_number
+replaced-below a b less = rw less refl
+
+apart : (range : Span) (place : ℕ) → key_cmp (ignore_key range) (replaced_key place) ≡ Less
+unfolding key_of section_number code_number diagnostic_code_number
+apart range place = refl
+
+module _ (r : Replacing) (g : Graph) (said : Saying) where
+  abbrev unmatched_entries : List Entry
+  unmatched_entries = filter (is_unmatched_ignore r g said) r.ignore
+
+  unmatched-keys : map ignore_key (map ignore_range unmatched_entries) ≡ unmatched_ignore_keys r g said
+  unfolding unmatched_ignore_keys
+  unmatched-keys = map-map ignore_key ignore_range unmatched_entries
+
+  lists-unmatched : (us : List Unmatched) → AreUnmatched r g said us
+      → Lists key_cmp (Contains (unmatched_ignore_keys r g said)) (map ignore_key (map (λ u. u.range) us))
+  lists-unmatched us are = record {
+    ascending = ascends_map span_cmp key_cmp ignore_key (λ _. Unit {0}) (map (λ u. u.range) us)
+        (λ a b _ _ less. ignore-below a b less) (λ _ _. tt) are.listed.ascending;
+    whole = λ key is. shared ignore_key (map ignore_range unmatched_entries) (map (λ u. u.range) us)
+        are.listed.whole key (subst (λ (keys : List Key). Contains keys key) (sym unmatched-keys) is);
+    sound = λ key is. subst (λ (keys : List Key). Contains keys key) unmatched-keys
+        (shared ignore_key (map (λ u. u.range) us) (map ignore_range unmatched_entries) are.listed.sound key is);
+  }
+
+  lists-told : (places : List ℕ) → AreTold r g said places
+      → Lists key_cmp (Contains (replaced_keys r g said)) (map replaced_key places)
+  unfolding replaced_keys
+  lists-told places are =
+      let same : map replaced_key places ≡ replaced_keys r g said =
+      ap (map replaced_key) are.are
+      ∙ map-map replaced_key (λ (c : Crate). c.place) (filter (is_told_replaced r g said) g.crates) in
+      record {
+        ascending = ascends_map nat_cmp key_cmp replaced_key (λ _. Unit {0}) places
+            (λ a b _ _ less. replaced-below a b less) (λ _ _. tt) are.ascending;
+        whole = λ key is. subst (λ (keys : List Key). Contains keys key) (sym same) is;
+        sound = λ key is. subst (λ (keys : List Key). Contains keys key) same is;
+      }
+
+  pub lists-all : (us : List Unmatched) (places : List ℕ) → AreUnmatched r g said us → AreTold r g said places
+      → Lists key_cmp (λ key. Contains (unmatched_ignore_keys r g said) key ⊎ Contains (replaced_keys r g said) key)
+      (map ignore_key (map (λ u. u.range) us) ++ map replaced_key places)
+  unfolding unmatched_ignore_keys replaced_keys
+  lists-all us places unmatched told =
+      lists_append key_cmp (Contains (unmatched_ignore_keys r g said)) (Contains (replaced_keys r g said))
+      (map ignore_key (map (λ u. u.range) us)) (map replaced_key places) (lists-unmatched us unmatched)
+      (lists-told places told) far
+    where
+      far : (x y : Key) → Contains (unmatched_ignore_keys r g said) x → Contains (replaced_keys r g said) y
+          → key_cmp x y ≡ Less
+      far x y is there =
+          let one = from_contains_map (λ (e : Entry). ignore_key (ignore_range e)) unmatched_entries x is in
+          let other = from_contains_map (λ (c : Crate). replaced_key c.place)
+          (filter (is_told_replaced r g said) g.crates) y there in
+          subst (λ (key : Key). key_cmp key y ≡ Less) one.2
+          (subst (λ (key : Key). key_cmp (ignore_key (ignore_range one.0)) key ≡ Less) other.2
+          (apart (ignore_range one.0) other.0.place))
+
+-- ---- what is told
+
+reason-told : (file : ℕ) (o : Option Words)
+    → label_at file (codes "ignore reason") o ≡ reason_label file (option_map (λ words. words.span) o)
+reason-told file None = refl
+reason-told file (Some words) = refl
+
+pub unmatched-told : (r : Replacing) (file : ℕ) (u : Unmatched)
+    → option_map unmatched_of (ignore_at r u.range) ≡ Some u
+    → unmatched_ignore_told r file (ignore_key u.range) ≡ unmatched_words file u
+unfolding unmatched_ignore_told key_of
+unmatched-told r file u is = by_entry (ignore_at r u.range) is
+  where
+    by_entry : (o : Option Entry) → option_map unmatched_of o ≡ Some u
+        → plainly Warning
+        (codes "std replacement ignore '"
+        ++ (option_map_or (λ e. spec_text e.spec) o [] ++ codes "' was not encountered"))
+        (option_map_or (ignore_labels file) o []) None
+        ≡ unmatched_words file u
+    by_entry None is = absurd (none-some u is)
+    by_entry (Some e) is =
+        ap (λ (labels : List Label). plainly Warning
+        (codes "std replacement ignore '" ++ (spec_text e.spec ++ codes "' was not encountered"))
+        (primary file (ignore_range e) (codes "unmatched ignore configuration") ∷ labels) None)
+        (reason-told file e.reason)
+        ∙ ap (unmatched_words file) (same_Some (unmatched_of e) u is)
+
+pub replaced-told : (r : Replacing) (g : Graph) (said : Saying) (place : ℕ)
+    → replaced_told r g said (replaced_key place) ≡ replaced_words r.level g said place
+unfolding replaced_told key_of
+replaced-told r g said place = refl

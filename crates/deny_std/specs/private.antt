@@ -1,0 +1,13 @@
+pub mod Dependents
+pub mod FirstWitnesses
+pub mod Hits
+pub mod Ignored
+pub mod Kept
+pub mod Members
+pub mod Note
+pub mod Placed
+pub mod Replaced
+pub mod Said
+pub mod Sorted
+pub mod StableSince
+pub mod Told

@@ -1,0 +1,98 @@
+//! A policy's table `std-replacements` brought together with a graph and a table of replacements.
+ghost use Rattle.std.specs.Prelude.{◌≡◌, IfOk, false};
+ghost use Rattle.deny_cfg.specs.PolicyView.{replacing_view, scope_view};
+ghost use Rattle.deny_codes.specs.Saying.{said_in};
+ghost use Rattle.deny_codes.specs.StdReplacements.{looks_at_none};
+ghost use Rattle.deny_std.specs.Found.{IsFound, IsFoundFrom};
+
+use crate::dependents::Asked;
+use crate::hits::{hits_of, unmatched_of};
+use crate::ignored::Ignored;
+use crate::places::are_placed;
+use crate::replaced::replaced_places;
+use crate::replacements::Replacements;
+use crate::sorted::sort;
+use deny_cfg::Scope;
+use deny_cfg::bans::cfg::StdReplacementConfig;
+use deny_krates::Krates;
+use deny_lists::NoMemory;
+use deny_std_table::ReplacementData;
+use std::alloc::Global;
+
+/// How a policy minds crates that the standard library replaces.
+#[derive(Debug, Drop)]
+pub struct ReplacementCtx {
+    cfg: StdReplacementConfig,
+}
+
+impl ReplacementCtx {
+    /// Keeps a configuration.
+    pub fn new(cfg: StdReplacementConfig) -> ReplacementCtx
+        ensures { result.cfg ≡ cfg }
+    {
+        ReplacementCtx { cfg }
+    }
+
+    /// What the table replaces of the graph. None exactly where the scope is none: then nothing is
+    /// looked at.
+    pub fn process<'d>(
+        self,
+        alloc: Global,
+        krates: &Krates,
+        table: ReplacementData<'d>,
+    ) -> Result<Option<Replacements<'d>>, NoMemory>
+        ensures { IfOk result (IsFound (replacing_view self.cfg) krates.now (said_in table.entry)) }
+    {
+        replacements_of(alloc, &self.cfg, krates, table)
+    }
+}
+
+/// The same for a configuration that its owner keeps.
+pub fn replacements_of<'d>(
+    alloc: Global,
+    cfg: &StdReplacementConfig,
+    krates: &Krates,
+    table: ReplacementData<'d>,
+) -> Result<Option<Replacements<'d>>, NoMemory>
+    ensures { IfOk result (IsFound (replacing_view cfg.now) krates.now (said_in table.entry)) }
+{
+    if is_none(cfg.scope) {
+        return Ok(None);
+    }
+    Ok(Some(found_in(alloc, cfg, krates, table)?))
+}
+
+fn is_none(scope: Scope) -> bool
+    ensures { result ≡ looks_at_none (scope_view scope) }
+{
+    match scope {
+        Scope::None => true,
+        Scope::All | Scope::Workspace | Scope::Transitive => false,
+    }
+}
+
+/// What is found with a scope.
+fn found_in<'d>(
+    alloc: Global,
+    cfg: &StdReplacementConfig,
+    krates: &Krates,
+    table: ReplacementData<'d>,
+) -> Result<Replacements<'d>, NoMemory>
+    requires { looks_at_none (scope_view cfg.now.scope) ≡ false }
+    ensures { IfOk result (IsFoundFrom (replacing_view cfg.now) krates.now (said_in table.entry)) }
+{
+    are_placed(krates);
+    let asked = Asked::new(alloc, cfg, krates)?;
+    let replaced = replaced_places(alloc, &asked, &table)?;
+    let ignored = Ignored::new(alloc, cfg.ignore.as_slice())?;
+    let sorted = sort(alloc, krates, &ignored, replaced.as_slice())?;
+    let hits = hits_of(alloc, krates, cfg.ignore.as_slice(), &sorted.passed)?;
+    let unmatched = unmatched_of(alloc, cfg.ignore.as_slice(), &sorted.passed)?;
+    Ok(Replacements {
+        table,
+        level: cfg.level,
+        unmatched,
+        replaced: sorted.told,
+        hits,
+    })
+}
