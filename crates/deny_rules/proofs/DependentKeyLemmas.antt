@@ -1,7 +1,6 @@
 -- What a ban tells of the direct dependents of a crate.
 use Rattle.std.proofs.Common.{◌≡◌, ◌++◌, ℕ, Bool, true, List, Contains, Some, is_some, map, slice_get, refl, sym, ap, ◌∙◌, subst}
 use Rattle.std.specs.Prelude.{◌==◌, filter_map}
-use Rattle.std.specs.FinMap as finite
 use Rattle.std.specs.List.{list_all}
 use Rattle.std.proofs.lemmas.Bool.{and_from, eq-eqb}
 use Rattle.deny_lists.specs.Ascending.{Adds}

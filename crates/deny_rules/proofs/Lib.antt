@@ -6,5 +6,9 @@ pub mod SkipLemmas
 pub mod BannedLemmas
 pub mod AllowedLemmas
 pub mod BanKeysLemmas
+pub mod StdLastLemmas
 pub mod OwnRuleLemmas
+pub mod OrderedLemmas
+pub mod StdLemmas
+pub mod CheckLemmas
 pub mod HitLemmas

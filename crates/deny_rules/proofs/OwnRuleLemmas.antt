@@ -1,8 +1,9 @@
--- What stands in the sections of the bans check is what its rules give, a line a rule.
-use Rattle.std.proofs.Common.{List, ◌⊎◌, arith, inl, inr, refl, subst, sym, ℕ, ◌<◌, ◌≡◌}
+-- What stands in the sections of the bans check: what its rules give, a line a rule, and replaced crates.
+use Rattle.std.proofs.Common.{List, ◌++◌, ◌⊎◌, arith, inl, inr, refl, subst, sym, ℕ, ◌<◌, ◌≡◌}
 use Rattle.std.specs.List.{AllByRecursion}
 use Rattle.std.specs.Prelude.{Contains, IsTrue, length, slice_index_or}
-use Rattle.deny_lists.specs.Ascending.{Adds}
+use Rattle.deny_lists.specs.Ascending.{Adds, Lists}
+use Rattle.deny_base.specs.KeyOrder.{key_cmp}
 use Rattle.deny_base.specs.declared.code.Code.{Code}
 use Rattle.deny_base.specs.declared.code.Code.TheVariants as code
 use Rattle.deny_base.specs.declared.code.DiagnosticCode.{DiagnosticCode}
@@ -11,18 +12,24 @@ use Rattle.deny_base.specs.declared.key.Key.{Key}
 use Rattle.deny_base.specs.declared.key.Section.{Section}
 use Rattle.deny_base.specs.declared.key.Section.TheVariants as section
 use Rattle.deny_model.specs.Duplicates.{IsDuplicate}
+use Rattle.deny_model.specs.Facts as chains
+use Rattle.deny_model.specs.Graph.{Graph}
+use Rattle.deny_model.specs.Policy.{Policy}
 use Rattle.deny_codes.specs.Circumstances.{Circumstances}
 use Rattle.deny_codes.specs.Codes.{is_of_bans}
 use Rattle.deny_codes.specs.Facts.{Facts}
-use Rattle.deny_codes.specs.Standing.{Stands, StandsAs, StandsBy, StandsIn}
-use Rattle.deny_lists.proofs.Adding.{adds_same, adds_then}
+use Rattle.deny_codes.specs.Standing.{ListsOwn, StandsAs, StandsBy, StandsIn}
+use Rattle.deny_lists.proofs.Adding.{adds_then}
 use Rattle.deny_lists.proofs.Members.{Contains-flat_map, Contains-from_flat_map, at_member}
 use Rattle.deny_codes.proofs.Made.{Made, allowed_by_wrapper_made, allowed_made, banned_made, duplicate_made}
-use Rattle.deny_codes.proofs.Made.{not_allowed_made, skipped_by_root_made, skipped_made, unmatched_skip_made}
-use Rattle.deny_codes.proofs.Made.{unmatched_skip_root_made, unmatched_wrapper_made, unnecessary_skip_made}
-use Rattle.deny_codes.proofs.Made.{unused_wrapper_made}
-use Rattle.deny_codes.proofs.RuleLaws.{none_licensed}
-use Rattle.deny_rules.specs.private.OwnRules.{ban_rules, keys_of_rules, skip_rules}
+use Rattle.deny_codes.proofs.Made.{not_allowed_made, replaced_made, skipped_by_root_made, skipped_made}
+use Rattle.deny_codes.proofs.Made.{unmatched_ignore_made, unmatched_skip_made, unmatched_skip_root_made}
+use Rattle.deny_codes.proofs.Made.{unmatched_wrapper_made, unnecessary_skip_made, unused_wrapper_made}
+use Rattle.deny_codes.proofs.Parts.{lists_append, lists_same}
+use Rattle.deny_codes.proofs.Sections.{none_licensed}
+use Rattle.deny_std.specs.Found.{IsOfStd}
+use Rattle.deny_rules.proofs.StdLastLemmas.{rules_first}
+use Rattle.deny_rules.specs.private.OwnRules.{IsByRule, ban_rules, keys_of_rules, skip_rules}
 
 module _ (c : Circumstances) (facts : Facts) where
   abbrev IsOwn : Key → Type 0
@@ -30,9 +37,7 @@ module _ (c : Circumstances) (facts : Facts) where
 
   -- what stands by one of the rules
   abbrev ByRule : Key → Type 0
-  ByRule key = Contains (keys_of_rules (ban_rules c.policy c.graph)) key
-      ⊎ (Contains (keys_of_rules (skip_rules c.policy c.graph facts.chains)) key
-      ⊎ IsDuplicate c.policy c.graph facts.chains key)
+  ByRule key = IsByRule c.policy c.graph facts.chains key
 
   -- what stands as a code whose keys bear it, in a section of the bans check
   own : (s : Section) (d : Code) (key : Key) → IsTrue (is_of_bans s) → Made s d key → StandsAs d c facts key → IsOwn key
@@ -97,6 +102,11 @@ module _ (c : Circumstances) (facts : Facts) where
   sound key (inr (inr is)) = own section.Groups code.Duplicate key refl
       (duplicate_made c.policy c.graph facts.chains key is) is
 
+  std_sound : (key : Key) → IsOfStd c key → IsOwn key
+  std_sound key (inl is) = own section.Unused code.UnmatchedReplacementIgnore key refl
+      (unmatched_ignore_made c key is) is
+  std_sound key (inr is) = own section.Std code.ReplacedInStd key refl (replaced_made c key is) is
+
 -- ---- and back: the last line is that of the codes whose rules are not there
 
 -- a key of the rule of a number
@@ -105,15 +115,20 @@ of_rule : (rules : List (List Key)) (n : ℕ) (keys : List Key) (key : Key) → 
 of_rule rules n keys key within at is = Contains-flat_map (λ (ks : List Key). ks) rules keys key (n, within, at) is
 
 module _ (c : Circumstances) (facts : Facts) (key : Key) where
+  -- what stands by a rule, or of replaced crates
+  abbrev IsEither : Type 0
+  IsEither = ByRule c facts key ⊎ IsOfStd c key
+
   ban : (n : ℕ) (keys : List Key) → n < 6 → slice_index_or (ban_rules c.policy c.graph) n keys ≡ keys
-      → Contains keys key → ByRule c facts key
-  ban n keys within at is = inl (of_rule (ban_rules c.policy c.graph) n keys key within at is)
+      → Contains keys key → IsEither
+  ban n keys within at is = inl (inl (of_rule (ban_rules c.policy c.graph) n keys key within at is))
 
   skip : (n : ℕ) (keys : List Key) → n < 5
-      → slice_index_or (skip_rules c.policy c.graph facts.chains) n keys ≡ keys → Contains keys key → ByRule c facts key
-  skip n keys within at is = inr (inl (of_rule (skip_rules c.policy c.graph facts.chains) n keys key within at is))
+      → slice_index_or (skip_rules c.policy c.graph facts.chains) n keys ≡ keys → Contains keys key → IsEither
+  skip n keys within at is = inl (inr
+      (inl (of_rule (skip_rules c.policy c.graph facts.chains) n keys key within at is)))
 
-whole_as : (d : Code) (c : Circumstances) (facts : Facts) (key : Key) → StandsAs d c facts key → ByRule c facts key
+whole_as : (d : Code) (c : Circumstances) (facts : Facts) (key : Key) → StandsAs d c facts key → IsEither c facts key
 whole_as code.Banned c facts key is = ban c facts key 0 _ (omega arith) refl is
 whole_as code.AllowedByWrapper c facts key is = ban c facts key 1 _ (omega arith) refl is
 whole_as code.UnmatchedWrapper c facts key is = ban c facts key 2 _ (omega arith) refl is
@@ -125,27 +140,38 @@ whole_as code.SkippedByRoot c facts key is = skip c facts key 1 _ (omega arith) 
 whole_as code.UnmatchedSkip c facts key is = skip c facts key 2 _ (omega arith) refl is
 whole_as code.UnnecessarySkip c facts key is = skip c facts key 3 _ (omega arith) refl is
 whole_as code.UnmatchedSkipRoot c facts key is = skip c facts key 4 _ (omega arith) refl is
-whole_as code.Duplicate c facts key is = inr (inr is)
+whole_as code.Duplicate c facts key is = inl (inr (inr is))
+whole_as code.UnmatchedReplacementIgnore c facts key is = inr (inl is)
+whole_as code.ReplacedInStd c facts key is = inr (inr is)
 whole_as _ c facts key is = absurd is
 
 whole_by : (d : DiagnosticCode) (c : Circumstances) (facts : Facts) (key : Key) → StandsBy d c facts key
-    → ByRule c facts key
+    → IsEither c facts key
 whole_by Deprecated c facts key is = absurd is
 whole_by (Bans d) c facts key is = whole_as d c facts key is
 whole_by (License d) c facts key is = absurd (none_licensed d c.policy c.graph key is)
 
--- what all rules add is what stands in the sections of the bans check
-pub adds_own : (c : Circumstances) (facts : Facts) (old one two new : List Key)
-    → Adds (Contains (keys_of_rules (ban_rules c.policy c.graph))) old one
-    → Adds (Contains (keys_of_rules (skip_rules c.policy c.graph facts.chains))) one two
-    → Adds (IsDuplicate c.policy c.graph facts.chains) two new
-    → Adds (StandsIn is_of_bans c facts) old new
-adds_own c facts old one two new bans skips duplicates =
-    let banned = Contains (keys_of_rules (ban_rules c.policy c.graph)) in
-    let skipped = Contains (keys_of_rules (skip_rules c.policy c.graph facts.chains)) in
-    let doubled = IsDuplicate c.policy c.graph facts.chains in
-    adds_same (ByRule c facts) (StandsIn is_of_bans c facts) old new
-    (adds_then banned (λ key. skipped key ⊎ doubled key) old one new bans
-    (adds_then skipped doubled one two new skips duplicates))
-    (sound c facts)
+-- what all rules add
+pub adds_by_rule : (p : Policy) (g : Graph) (facts : chains.Facts) (old one two new : List Key)
+    → Adds (Contains (keys_of_rules (ban_rules p g))) old one
+    → Adds (Contains (keys_of_rules (skip_rules p g facts))) one two
+    → Adds (IsDuplicate p g facts) two new
+    → Adds (IsByRule p g facts) old new
+adds_by_rule p g facts old one two new bans skips duplicates =
+    let banned = Contains (keys_of_rules (ban_rules p g)) in
+    let skipped = Contains (keys_of_rules (skip_rules p g facts)) in
+    let doubled = IsDuplicate p g facts in
+    adds_then banned (λ key. skipped key ⊎ doubled key) old one new bans
+    (adds_then skipped doubled one two new skips duplicates)
+
+-- the keys that rules give and then those of replaced crates are what stands in the sections of the bans check
+pub lists_own : (c : Circumstances) (facts : Facts) (rules std : List Key)
+    → Lists key_cmp (IsByRule c.policy c.graph facts.chains) rules → Lists key_cmp (IsOfStd c) std
+    → ListsOwn is_of_bans c facts (rules ++ std)
+lists_own c facts rules std these those =
+    lists_same key_cmp (IsEither c facts) (StandsIn is_of_bans c facts) (rules ++ std)
+    (lists_append key_cmp (ByRule c facts) (IsOfStd c) rules std these those
+    (λ x y is there. rules_first c.policy c.graph facts.chains x is c y there))
+    (λ key is. elim is as (λ _. StandsIn is_of_bans c facts key)
+    [ inl by_rule ↦ sound c facts key by_rule | inr of_std ↦ std_sound c facts key of_std ])
     (λ key is. whole_by key.code c facts key is.1)

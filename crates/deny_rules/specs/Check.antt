@@ -1,14 +1,16 @@
 -- What the bans check hands out.
-use Rattle.std.specs.Prelude.{◌≡◌, ◌++◌, ◌⊎◌, List, filter, map}
+use Rattle.std.specs.Prelude.{◌≡◌, ◌++◌, ◌⊎◌, ℕ, IsTrue, List, Option, filter, map}
 use Rattle.deny_base.specs.declared.finding.Pack.{Pack}
 use Rattle.deny_base.specs.declared.key.Key.{Key}
 use Rattle.deny_cfg.specs.PolicyView.{policy_view}
 use Rattle.deny_cfg.specs.declared.bans.cfg.valid.ValidConfig.{ValidConfig}
 use Rattle.deny_model.specs.Graph.{Graph}
-use Rattle.deny_model.specs.Hits.{all_hits}
-use Rattle.deny_codes.specs.Circumstances.{Circumstances, View, seen_by}
+use Rattle.deny_codes.specs.Circumstances.{Circumstances, View, seen_by, tabled}
 use Rattle.deny_codes.specs.Codes.{is_of_bans}
+use Rattle.deny_codes.specs.Hits.{hits_in}
+use Rattle.deny_codes.specs.Saying.{HasTable, bytes_of}
 use Rattle.deny_codes.specs.Standing.{AreOwnKeys}
+use Rattle.deny_codes.specs.StdReplacements.{asks_for_table}
 use Rattle.deny_codes.specs.Told.{pack_told}
 use Rattle.deny_dup_edges.specs.DupEdges.{ShowsEach, is_of_duplicate}
 use Rattle.deny_telling.specs.Telling.{TellsPrefix}
@@ -20,13 +22,22 @@ pub record IsChecked (c : Circumstances) (old new : List Pack) (end : BansEnd) :
   pub keys : List Key
   pub listed : AreOwnKeys is_of_bans c keys
   pub told : new ≡ old ++ map (pack_told c) keys
-  pub hits : end.hits ≡ all_hits c.policy c.graph listed.facts.chains
+  pub hits : end.hits ≡ hits_in c listed.facts
   pub dup_edges : ShowsEach c.policy c.graph (filter is_of_duplicate keys) end.dup_edges
 
+-- where the policy asks for a table of replacements, one was handed in
+abbrev pub IsTableThere : ValidConfig → Option (List ℕ) → Type 0
+IsTableThere cfg table = IsTrue (asks_for_table (policy_view cfg)) → HasTable table
+
+-- of a configuration, with the bytes of a table and what was seen of files
+abbrev pub circumstances_of : ValidConfig → Graph → Option (List ℕ) → View → Circumstances
+circumstances_of cfg g table view = tabled (seen_by (policy_view cfg) g cfg.file_id view) (bytes_of table)
+
 -- the same of a configuration, by what was seen of files
-pub record IsCheckOf (cfg : ValidConfig) (g : Graph) (old new : List Pack) (end : BansEnd) : Type 0 where
+pub record IsCheckOf (cfg : ValidConfig) (g : Graph) (table : Option (List ℕ)) (old new : List Pack) (end : BansEnd)
+    : Type 0 where
   pub view : View
-  pub checked : IsChecked (seen_by (policy_view cfg) g cfg.file_id view) old new end
+  pub checked : IsChecked (circumstances_of cfg g table view) old new end
 
 -- a prefix of what stands in the sections of the bans check was told
 pub record IsPrefixTold (c : Circumstances) (old new : List Pack) : Type 0 where
@@ -35,10 +46,10 @@ pub record IsPrefixTold (c : Circumstances) (old new : List Pack) : Type 0 where
   pub told : TellsPrefix c keys old new
 
 -- the same of a configuration, by what was seen of files
-pub record IsPrefixOf (cfg : ValidConfig) (g : Graph) (old new : List Pack) : Type 0 where
+pub record IsPrefixOf (cfg : ValidConfig) (g : Graph) (table : Option (List ℕ)) (old new : List Pack) : Type 0 where
   pub view : View
-  pub prefix : IsPrefixTold (seen_by (policy_view cfg) g cfg.file_id view) old new
+  pub prefix : IsPrefixTold (circumstances_of cfg g table view) old new
 
 -- nothing was told, or a prefix of what stands by a configuration
-abbrev pub TellsPrefixOf : ValidConfig → Graph → List Pack → List Pack → Type 0
-TellsPrefixOf cfg g old new = (new ≡ old) ⊎ IsPrefixOf cfg g old new
+abbrev pub TellsPrefixOf : ValidConfig → Graph → Option (List ℕ) → List Pack → List Pack → Type 0
+TellsPrefixOf cfg g table old new = (new ≡ old) ⊎ IsPrefixOf cfg g table old new

@@ -2,5 +2,6 @@ pub mod Allowed
 pub mod Banned
 pub mod Duplicates
 pub mod OwnRules
+pub mod Replaced
 pub mod Skipping
 pub mod WrappedEdges

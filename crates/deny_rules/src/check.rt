@@ -1,16 +1,17 @@
 //! The bans check.
-ghost use Rattle.std.specs.Prelude.{◌≡◌, IfOk, OnErr};
+ghost use Rattle.std.specs.Prelude.{◌≡◌, IfOk, OnErr, option_copied};
 ghost use Rattle.deny_cfg.specs.PolicyView.{policy_view};
+ghost use Rattle.deny_lists.specs.Ascending.{Lists};
 ghost use Rattle.deny_outside.specs.Disk.{IsLater};
-ghost use Rattle.deny_codes.specs.Circumstances.{unseen_by};
-ghost use Rattle.deny_codes.specs.Codes.{is_of_bans};
-ghost use Rattle.deny_codes.specs.Standing.{ListsOwn};
+ghost use Rattle.deny_base.specs.KeyOrder.{key_cmp};
 ghost use Rattle.deny_facts.specs.Marks.{facts_of};
-ghost use Rattle.deny_rules.specs.Check.{IsCheckOf, TellsPrefixOf};
+ghost use Rattle.deny_rules.specs.Check.{IsCheckOf, IsTableThere, TellsPrefixOf};
+ghost use Rattle.deny_rules.specs.private.OwnRules.{IsByRule};
 
 use crate::ban_keys::add_ban_keys;
 use crate::duplicates::add_duplicate_keys;
 use crate::hits::hits_of;
+use crate::replaced::{add_ignore_hits, replacements_in, tell_replaced};
 use crate::skips::add_skip_keys;
 use deny_base::{Hit, Key, Pack, key_order};
 use deny_cfg::bans::cfg::ValidConfig;
@@ -27,6 +28,8 @@ use std::alloc::Global;
 pub struct CheckCtx<'a> {
     pub cfg: &'a ValidConfig,
     pub krates: &'a Krates,
+    /// The bytes of a table of replacements, where one was handed in.
+    pub table: Option<&'a [u8]>,
 }
 
 /// What the check hands out besides its findings.
@@ -38,15 +41,15 @@ pub struct BansEnd {
     pub dup_edges: List<DupEdges>,
 }
 
-/// The keys of what stands by these facts, ascending, each once.
+/// The keys of what stands by the crate rules and these facts, ascending, each once.
 fn keys_of(
     alloc: Global,
     cfg: &ValidConfig,
     krates: &Krates,
     marks: &Marks,
 ) -> Result<List<Key>, NoMemory>
-    ensures { IfOk result (ListsOwn is_of_bans (unseen_by (policy_view cfg.now) krates.now cfg.now.file_id)
-        (record { chains = facts_of marks.now })) }
+    ensures { IfOk result (Lists key_cmp
+        (IsByRule (policy_view cfg.now) krates.now (facts_of marks.now))) }
 {
     key_order();
     let mut keys = List::new(alloc);
@@ -57,8 +60,10 @@ fn keys_of(
     Ok(keys)
 }
 
-/// Appends the findings of the crate rules, one a pack, in the order of their keys.
+/// Appends the findings of the crate rules, and of what the standard library replaces, one a pack, in
+/// the order of their keys.
 ///
+/// A policy that asks for a table of replacements needs one; its bytes are not looked at otherwise.
 /// Where memory runs out, `sink` holds what it held before and then a prefix of what stands, which may
 /// be empty. The disk is left as it was: nothing is read from it.
 pub fn check<D: PackageFiles>(
@@ -67,15 +72,21 @@ pub fn check<D: PackageFiles>(
     disk: &mut D,
     sink: &mut List<Pack>,
 ) -> Result<BansEnd, NoMemory>
-    ensures checked { IfOk result (IsCheckOf ctx.now.cfg.now ctx.now.krates.now sink.old sink.new) }
-    ensures prefix { OnErr result (TellsPrefixOf ctx.now.cfg.now ctx.now.krates.now sink.old sink.new) }
+    requires table { IsTableThere ctx.now.cfg.now (option_copied ctx.now.table) }
+    ensures checked { IfOk result
+        (IsCheckOf ctx.now.cfg.now ctx.now.krates.now (option_copied ctx.now.table) sink.old sink.new) }
+    ensures prefix { OnErr result
+        (TellsPrefixOf ctx.now.cfg.now ctx.now.krates.now (option_copied ctx.now.table) sink.old sink.new) }
     ensures untouched { disk.new ≡ disk.old }
     ensures later { IsLater (D.seen disk.old) (D.seen disk.new) }
 {
     let marks = marks_of(alloc, ctx.cfg, ctx.krates)?;
     let keys = keys_of(alloc, ctx.cfg, ctx.krates, &marks)?;
-    let hits = hits_of(alloc, ctx.cfg, ctx.krates, &marks)?;
+    let replaced = replacements_in(alloc, ctx.cfg, ctx.krates, ctx.table)?;
+    let mut hits = hits_of(alloc, ctx.cfg, ctx.krates, &marks)?;
+    add_ignore_hits(&replaced, &mut hits)?;
     let dup_edges = dup_edges_of(alloc, ctx.cfg, ctx.krates, keys.as_slice())?;
     tell_all(alloc, ctx.cfg, ctx.krates, keys.as_slice(), sink)?;
+    tell_replaced(alloc, ctx.krates, replaced, ctx.cfg.file_id, sink)?;
     Ok(BansEnd { hits, dup_edges })
 }

@@ -1,4 +1,5 @@
-//! The crate rules: which keys stand of a policy on a graph, and which entries are hit.
+//! The bans check: which keys stand of a policy on a graph by the crate rules, which entries are hit,
+//! and with them what the standard library replaces.
 #![tactic(auto)]
 
 mod allowed;
@@ -9,6 +10,7 @@ mod check;
 mod crate_keys;
 mod duplicates;
 mod hits;
+mod replaced;
 mod skips;
 
 pub use check::{BansEnd, CheckCtx};

@@ -1,8 +1,9 @@
 //! What a report tells of each key, code by code.
-ghost use Rattle.std.specs.Prelude.{◌≡◌, ◌++◌, IfOk, OnErr, OnOk, map};
+ghost use Rattle.std.specs.Prelude.{◌≡◌, ◌++◌, IfOk, IsTrue, OnErr, OnOk, map};
 ghost use Rattle.deny_cfg.specs.PolicyView.{policy_view};
 ghost use Rattle.deny_codes.specs.Circumstances.{unseen_by};
 ghost use Rattle.deny_codes.specs.Told.{check_told, diag_of, pack_of, pack_told, words_as, words_licensed, words_told};
+ghost use Rattle.deny_telling.specs.Here.{AreToldHere, bans_told_here, is_told_here};
 ghost use Rattle.deny_telling.specs.Telling.{TellsPrefix};
 ghost use Rattle.deny_telling.specs.private.Teller.{told_from};
 
@@ -21,8 +22,9 @@ use deny_krates::Krates;
 use deny_lists::{List, NoMemory};
 use std::alloc::Global;
 
-/// Appends what is told of keys, in their order, one pack a key. Where memory runs out, it has
-/// appended what is told of the first of them, or nothing.
+/// Appends what is told of keys, in their order, one pack a key: of every code but those of what the
+/// standard library replaces. Where memory runs out, it has appended what is told of the first of
+/// them, or nothing.
 pub fn tell_all(
     alloc: Global,
     cfg: &ValidConfig,
@@ -30,6 +32,7 @@ pub fn tell_all(
     keys: &[Key],
     sink: &mut List<Pack>,
 ) -> Result<(), NoMemory>
+    requires told_here { AreToldHere keys.now }
     ensures ok { OnOk result (sink.new ≡ sink.old ++ map
         (pack_told (unseen_by (policy_view cfg.now) krates.now cfg.now.file_id)) keys.now) }
     ensures prefix { OnErr result (TellsPrefix
@@ -45,6 +48,7 @@ fn add_packs(
     keys: &[Key],
     sink: &mut List<Pack>,
 ) -> Result<(), NoMemory>
+    requires told_here { AreToldHere keys.now }
     ensures ok { OnOk result (sink.new ≡ sink.old ++ map (pack_told (told_from teller.now)) keys.now) }
     ensures prefix { OnErr result (TellsPrefix (told_from teller.now) keys.now sink.old sink.new) }
 {
@@ -56,6 +60,7 @@ fn add_packs(
 
 // What is told of a key.
 fn tell(alloc: Global, teller: &Teller<'_>, key: &Key) -> Result<Pack, NoMemory>
+    requires told_here { IsTrue (is_told_here key.now.code) }
     ensures { IfOk result (λ pack. pack ≡ pack_told (told_from teller.now) key.now) }
 {
     let words = words_told(alloc, teller, key)?;
@@ -64,6 +69,7 @@ fn tell(alloc: Global, teller: &Teller<'_>, key: &Key) -> Result<Pack, NoMemory>
 
 #[tactic(auto, unfolding(deny_codes::specs::Told::words_licensed))]
 fn words_told(alloc: Global, teller: &Teller<'_>, key: &Key) -> Result<Words, NoMemory>
+    requires told_here { IsTrue (is_told_here key.now.code) }
     ensures { IfOk result (λ words. words ≡ words_told (told_from teller.now) key.now) }
 {
     match key.code {
@@ -83,6 +89,7 @@ fn words_told(alloc: Global, teller: &Teller<'_>, key: &Key) -> Result<Words, No
 
 #[tactic(auto, unfolding(deny_codes::specs::Told::words_as))]
 fn words_as(alloc: Global, teller: &Teller<'_>, code: Code, key: &Key) -> Result<Words, NoMemory>
+    requires told_here { IsTrue (bans_told_here code) }
     ensures { IfOk result (λ words. words ≡ words_as code (told_from teller.now) key.now) }
 {
     match code {
@@ -119,9 +126,8 @@ fn words_as(alloc: Global, teller: &Teller<'_>, code: Code, key: &Key) -> Result
         | Code::UnmatchedGlob
         | Code::WorkspaceDuplicate
         | Code::UnresolvedWorkspaceDependency
-        | Code::UnusedWorkspaceDependency
-        | Code::ReplacedInStd
-        | Code::UnmatchedReplacementIgnore => Ok(not_built(alloc)),
+        | Code::UnusedWorkspaceDependency => Ok(not_built(alloc)),
+        Code::ReplacedInStd | Code::UnmatchedReplacementIgnore => unreachable!(),
     }
 }
 

@@ -1,8 +1,9 @@
 -- The rules of the bans check whose keys are lists, each by the keys of all its entries.
-use Rattle.std.specs.Prelude.{List, [], ◌∷◌}
+use Rattle.std.specs.Prelude.{◌⊎◌, List, [], ◌∷◌, Contains}
 use Rattle.std.specs.List.{flat_map}
 use Rattle.deny_base.specs.declared.key.Key.{Key}
 use Rattle.deny_model.specs.Bans.{not_allowed_keys}
+use Rattle.deny_model.specs.Duplicates.{IsDuplicate}
 use Rattle.deny_model.specs.Facts as chains
 use Rattle.deny_model.specs.Graph.{Graph}
 use Rattle.deny_model.specs.Policy.{Policy}
@@ -33,3 +34,9 @@ skip_rules p g facts = skipped_keys p g facts
 -- the keys of rules, one after another
 abbrev pub keys_of_rules : List (List Key) → List Key
 keys_of_rules rules = flat_map (λ keys. keys) rules
+
+-- what stands by one of the crate rules
+abbrev pub IsByRule : Policy → Graph → chains.Facts → Key → Type 0
+IsByRule p g facts key = Contains (keys_of_rules (ban_rules p g)) key
+    ⊎ (Contains (keys_of_rules (skip_rules p g facts)) key
+    ⊎ IsDuplicate p g facts key)
