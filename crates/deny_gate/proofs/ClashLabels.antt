@@ -1,5 +1,5 @@
 -- The labels of clashes lie in the policy's text, which is the one file.
-use Rattle.std.proofs.Common.{◌≡◌, ℕ, List, [], ◌∷◌, Result, Ok, Err, refl, sym, ap, subst}
+use Rattle.std.proofs.Common.{◌≡◌, ℕ, List, [], ◌∷◌, Option, Result, Ok, Err, refl, sym, ap, subst}
 use Rattle.std.specs.Prelude.{IfErr, map, slice_get}
 use Rattle.std.specs.List.{AllByRecursion}
 use Rattle.std.specs.Result.{IsErrAnd}
@@ -15,11 +15,13 @@ use Rattle.deny_cfg.specs.declared.clash.ClashKind.TheVariants as clash
 use Rattle.deny_cfg.proofs.LabelLaws.{Lie}
 use Rattle.deny_cfg.proofs.LabelValid.{lie_rest, lie_prefix}
 use Rattle.deny_toml.specs.Ranges.{IsRange}
-use Rattle.deny_gate.specs.Gating.{IsMetadataCause, IsPolicyCause}
+use Rattle.deny_model.specs.Policy.{Policy}
+use Rattle.deny_gate.specs.Gating.{IsCauseBehind, IsPolicyCause}
 use Rattle.deny_gate.specs.Labels.{AreLabelledClashes, ArePlaced, IsLabelledCause, IsPlaced}
 use Rattle.deny_gate.specs.Report.{policy_id}
 use Rattle.deny_gate.specs.declared.report.GateError.{GateError}
-use Rattle.deny_gate.specs.declared.report.GateError.TheVariants.{Config, Invalid, NotBuilt, Metadata, Memory}
+use Rattle.deny_gate.specs.declared.report.GateError.TheVariants.{Config, Invalid, NotBuilt, Metadata, Replacement}
+use Rattle.deny_gate.specs.declared.report.GateError.TheVariants.{Memory}
 use Rattle.deny_gate.specs.declared.report.Report.{Report}
 
 abbrev AreIn : ℕ → List Label → Type 0
@@ -72,6 +74,7 @@ module _ (text : List ℕ) where
   cause_labelled (Config faults) cause = tt
   cause_labelled (NotBuilt which) cause = tt
   cause_labelled (Metadata f) cause = tt
+  cause_labelled (Replacement at) cause = tt
   cause_labelled Memory cause = tt
 
 -- what is handed on of the text that the inputs hold
@@ -83,16 +86,19 @@ policy_cause_labelled policy text (Err handed) error same is cause =
     subst (λ (e : GateError). IsLabelledCause policy e) (sym is)
     (subst (λ (t : List ℕ). IsLabelledCause t error) same (cause_labelled text error cause))
 
--- the metadata has no clashes
-no_clash : (policy metadata : List ℕ) (error : GateError) → IsMetadataCause metadata error
-    → IsLabelledCause policy error
-no_clash policy metadata (Invalid told) cause = absurd cause
-no_clash policy metadata (Config faults) cause = tt
-no_clash policy metadata (NotBuilt which) cause = tt
-no_clash policy metadata (Metadata f) cause = tt
-no_clash policy metadata Memory cause = tt
+-- what comes behind the policy has no clashes
+no_clash : (policy metadata : List ℕ) (p : Policy) (replacements : Option (List ℕ)) (error : GateError)
+    → IsCauseBehind p metadata replacements error → IsLabelledCause policy error
+no_clash policy metadata p replacements (Invalid told) cause = absurd cause
+no_clash policy metadata p replacements (Config faults) cause = tt
+no_clash policy metadata p replacements (NotBuilt which) cause = tt
+no_clash policy metadata p replacements (Metadata f) cause = tt
+no_clash policy metadata p replacements (Replacement at) cause = tt
+no_clash policy metadata p replacements Memory cause = tt
 
-pub metadata_cause_labelled : (policy metadata : List ℕ) (result : Result Report GateError)
-    → IfErr result (IsMetadataCause metadata) → IfErr result (IsLabelledCause policy)
-metadata_cause_labelled policy metadata (Ok report) cause = tt
-metadata_cause_labelled policy metadata (Err error) cause = no_clash policy metadata error cause
+pub cause_behind_labelled : (policy metadata : List ℕ) (p : Policy) (replacements : Option (List ℕ))
+    (result : Result Report GateError) → IfErr result (IsCauseBehind p metadata replacements)
+    → IfErr result (IsLabelledCause policy)
+cause_behind_labelled policy metadata p replacements (Ok report) cause = tt
+cause_behind_labelled policy metadata p replacements (Err error) cause =
+    no_clash policy metadata p replacements error cause

@@ -1,10 +1,13 @@
 -- The tests of the rules are the words of the headline.
-use Rattle.std.proofs.Common.{◌≡◌, ◌≢◌, ◌==◌, ℕ, Bool, true, false, not, List, [], ◌∷◌, length, Contains, Option, Some, refl, sym, ap, ◌∙◌, subst, inl, inr, arith}
+use Rattle.std.proofs.Common.{◌≡◌, ◌≢◌, ◌==◌, ℕ, Bool, true, false, not, List, [], ◌∷◌, length, Contains, Option, Some}
+use Rattle.std.proofs.Common.{refl, sym, ap, ◌∙◌, subst, inl, inr, arith}
 use Rattle.std.specs.Prelude.{◌||◌, find, is_none}
 use Rattle.std.specs.List.{list_all, list_any}
-use Rattle.std.proofs.lemmas.Bool.{and_parts, and_from, cases_Bool, eqb-true, eq-eqb, false≢true, not-true, not_from_false, cond-true, cond-false, ne_eqb}
+use Rattle.std.proofs.lemmas.Bool.{and_parts, and_from, cases_Bool, eqb-true, eq-eqb, false≢true, not-true}
+use Rattle.std.proofs.lemmas.Bool.{not_from_false, cond-true, cond-false, ne_eqb}
 use Rattle.std.proofs.lemmas.Slice.Eq.{bytes_eq-Decides}
-use Rattle.deny_lists.proofs.Members.{Contains-filter, Contains-first, Contains-rest, all_at, all_from, any_from, any_passes, filtered, passes_filter}
+use Rattle.deny_lists.proofs.Members.{Contains-filter, Contains-first, Contains-rest, all_at, all_from, any_from}
+use Rattle.deny_lists.proofs.Members.{any_passes, filtered, passes_filter}
 use Rattle.deny_model.specs.Bans.{has_wrappers, is_exempt, is_lifted, is_wrapper, wrapper_of}
 use Rattle.deny_model.specs.Graph.{Crate, Graph, dependents, leads}
 use Rattle.deny_model.specs.Policy.{Ban, Policy, Words}

@@ -1,145 +1,145 @@
 -- The headline follows from the words of a report.
-use Rattle.std.proofs.Common.{◌≡◌, ℕ, Bool, true, false, IsTrue, List, [], ◌∷◌, Contains, Some, refl, sym, ap, ◌∙◌, subst, inl, inr, if◌then◌else◌}
+use Rattle.std.proofs.Common.{◌≡◌, ◌⊎◌, ℕ, Bool, true, false, IsTrue, List, [], ◌∷◌, Contains, Option, Some, refl, sym}
+use Rattle.std.proofs.Common.{ap, ◌∙◌, subst, inl, inr, if◌then◌else◌}
 use Rattle.std.specs.Prelude.{◌&&◌, filter, map}
 use Rattle.std.specs.List.{list_any}
-use Rattle.std.proofs.lemmas.Bool.{and_from, both_ways, cases_Bool, cond-true, cond-false, false≢true, false_from_ne_true}
+use Rattle.std.proofs.lemmas.Bool.{and_from, both_ways, cases_Bool, cond-true, cond-false, false_from_ne_true}
 use Rattle.std.proofs.lemmas.List.Kept.{IsStrictlySortedBy-filter}
 use Rattle.deny_lists.specs.Ascending.{Lists}
 use Rattle.deny_base.specs.KeyOrder.{key_cmp}
 use Rattle.deny_base.specs.declared.check.Check.{Check}
 use Rattle.deny_base.specs.declared.check.Check.TheVariants as check
-use Rattle.deny_base.specs.declared.code.Code.TheVariants as code
 use Rattle.deny_base.specs.declared.code.DiagnosticCode.{DiagnosticCode}
-use Rattle.deny_base.specs.declared.code.DiagnosticCode.TheVariants.{Deprecated, Bans, License}
 use Rattle.deny_base.specs.declared.key.Key.{Key}
-use Rattle.deny_cfg.specs.PolicyView.{policy_view}
-use Rattle.deny_lists.proofs.Members.{Contains-filter, any_passes, filtered, from_contains_map, passes_filter}
-use Rattle.deny_model.specs.Facts.{Facts}
-use Rattle.deny_model.specs.Graph.{Graph}
-use Rattle.deny_model.specs.Policy.{Policy}
-use Rattle.deny_model.specs.Rules.{Stands}
-use Rattle.deny_model.specs.Told.{check_told, diag_told, severity_told}
 use Rattle.deny_lists.proofs.Agreement.{list_any_on}
-use Rattle.deny_gate.specs.Gating.{IsReportOf}
-use Rattle.deny_gate.specs.Headline.{IsHeadlineOf, IsViolation, KeepsHeadline, is_crate_error, is_crate_rule}
-use Rattle.deny_gate.specs.Report.{fails_as, has_error, is_error, same_check, verdict_by, verdict_of}
+use Rattle.deny_lists.proofs.Members.{Contains-filter, any_passes, filtered, from_contains_map, passes_filter}
+use Rattle.deny_cfg.specs.PolicyView.{policy_view}
+use Rattle.deny_cfg.specs.declared.policy.Policy as cfg
+use Rattle.deny_model.specs.Policy.{Policy}
+use Rattle.deny_codes.specs.Circumstances.{Circumstances, View}
+use Rattle.deny_codes.specs.Facts.{Facts}
+use Rattle.deny_codes.specs.Standing.{Stands}
+use Rattle.deny_codes.specs.Told.{diag_of, words_told}
+use Rattle.deny_gate.specs.Gating.{IsBuilt, IsReportBy, IsReportOf, Texts, circumstances_on}
+use Rattle.deny_gate.specs.Headline.{IsHeadlineOf, IsViolation, KeepsHeadline, WritesRule, WritesRuleOf, is_crate_error}
+use Rattle.deny_gate.specs.Headline.{is_crate_rule}
+use Rattle.deny_gate.specs.Report.{IsReport, fails_as, finding_told, has_error, is_error, same_check, verdict_by}
+use Rattle.deny_gate.specs.Report.{verdict_of}
 use Rattle.deny_gate.specs.declared.report.Finding.{Finding}
 use Rattle.deny_gate.specs.declared.report.Report.{Report}
 use Rattle.deny_gate.specs.declared.report.Verdict.TheVariants.{Pass, Fail}
+use Rattle.deny_gate.proofs.OtherErrors.{IsOfStd, grave, rule_written}
 use Rattle.deny_gate.proofs.Placed.{ArePlaced, are_placed}
+use Rattle.deny_gate.proofs.Standing.{told_of_bans}
 use Rattle.deny_gate.proofs.Violations.{error_is, violation_error, violation_from, violation_stands}
-use Rattle.deny_gate.proofs.Modelled.{IsModelled, finding_modelled, modelled}
 
 -- ---- the violations
 
-key_told : (p : Policy) (g : Graph) (key : Key) → (finding_modelled p g key).diag.key ≡ key
-unfolding finding_modelled diag_told
-key_told p g key = refl
+key_told : (c : Circumstances) (key : Key) → (finding_told c key).diag.key ≡ key
+unfolding finding_told diag_of
+key_told c key = refl
 
-abbrev is_error_key : Policy → Graph → Key → Bool
-is_error_key p g key = is_crate_error (finding_modelled p g key)
+abbrev is_error_key : Circumstances → Key → Bool
+is_error_key c key = is_crate_error (finding_told c key)
 
 -- the keys of the crate-rule errors, among those of all findings
-kept_keys : (p : Policy) (g : Graph) (keys : List Key)
-    → map (λ (f : Finding). f.diag.key) (filter is_crate_error (map (finding_modelled p g) keys))
-    ≡ filter (is_error_key p g) keys
-kept_keys p g [] = refl
-kept_keys p g (key ∷ keys) =
-    let told = finding_modelled p g key in
-    let others = filter is_crate_error (map (finding_modelled p g) keys) in
-    let rest : map (λ (f : Finding). f.diag.key) others ≡ filter (is_error_key p g) keys = kept_keys p g keys in
+kept_keys : (c : Circumstances) (keys : List Key)
+    → map (λ (f : Finding). f.diag.key) (filter is_crate_error (map (finding_told c) keys))
+    ≡ filter (is_error_key c) keys
+kept_keys c [] = refl
+kept_keys c (key ∷ keys) =
+    let told = finding_told c key in
+    let others = filter is_crate_error (map (finding_told c) keys) in
+    let rest : map (λ (f : Finding). f.diag.key) others ≡ filter (is_error_key c) keys = kept_keys c keys in
     elim (cases_Bool (is_crate_error told))
-    as (λ _. map (λ (f : Finding). f.diag.key) (filter is_crate_error (map (finding_modelled p g) (key ∷ keys)))
-    ≡ filter (is_error_key p g) (key ∷ keys)) [
+    as (λ _. map (λ (f : Finding). f.diag.key) (filter is_crate_error (map (finding_told c) (key ∷ keys)))
+    ≡ filter (is_error_key c) (key ∷ keys)) [
       | inl e ↦
           ap (map (λ (f : Finding). f.diag.key)) (cond-true (is_crate_error told) (told ∷ others) others e)
-          ∙ (ap (λ (k : Key). k ∷ map (λ (f : Finding). f.diag.key) others) (key_told p g key)
+          ∙ (ap (λ (k : Key). k ∷ map (λ (f : Finding). f.diag.key) others) (key_told c key)
           ∙ (ap (λ (ks : List Key). key ∷ ks) rest
-          ∙ sym (cond-true (is_crate_error told) (key ∷ filter (is_error_key p g) keys)
-          (filter (is_error_key p g) keys) e)))
+          ∙ sym (cond-true (is_crate_error told) (key ∷ filter (is_error_key c) keys)
+          (filter (is_error_key c) keys) e)))
       | inr e ↦
           ap (map (λ (f : Finding). f.diag.key)) (cond-false (is_crate_error told) (told ∷ others) others e)
-          ∙ (rest ∙ sym (cond-false (is_crate_error told) (key ∷ filter (is_error_key p g) keys)
-          (filter (is_error_key p g) keys) e))
+          ∙ (rest ∙ sym (cond-false (is_crate_error told) (key ∷ filter (is_error_key c) keys)
+          (filter (is_error_key c) keys) e))
     ]
 
-violations_listed : (p : Policy) (g : Graph) (facts : Facts) (keys : List Key) → ArePlaced g g.crates
-    → Lists key_cmp (Stands p g facts) keys → Lists key_cmp (IsViolation p g facts) (filter (is_error_key p g) keys)
-violations_listed p g facts keys placed listed = record {
-  ascending = IsStrictlySortedBy-filter key_cmp (is_error_key p g) keys listed.ascending;
-  whole = λ key is. Contains-filter (is_error_key p g) keys key
-      (listed.whole key (violation_stands p g facts placed key is)) (violation_error p g facts placed key is);
-  sound = λ key at. violation_from p g facts placed key (listed.sound key (filtered (is_error_key p g) keys key at))
-      (passes_filter (is_error_key p g) keys key at);
+violations_listed : (c : Circumstances) (facts : Facts) (keys : List Key) → ArePlaced c.graph c.graph.crates
+    → Lists key_cmp (Stands c facts) keys
+    → Lists key_cmp (IsViolation c.policy c.graph facts.chains) (filter (is_error_key c) keys)
+violations_listed c facts keys placed listed = record {
+  ascending = IsStrictlySortedBy-filter key_cmp (is_error_key c) keys listed.ascending;
+  whole = λ key is. Contains-filter (is_error_key c) keys key
+      (listed.whole key (violation_stands c facts placed key is)) (violation_error c facts placed key is);
+  sound = λ key at. violation_from c facts placed key (listed.sound key (filtered (is_error_key c) keys key at))
+      (passes_filter (is_error_key c) keys key at);
 }
 
--- ---- the other findings
+-- ---- the other errors
 
-error_code : (c : DiagnosticCode) (p : Policy) (g : Graph) (key : Key) → is_error (severity_told c p g key) ≡ true
-    → is_crate_rule (Some c) ≡ true
-unfolding severity_told
-error_code (Bans code.Banned) p g key error = refl
-error_code (Bans code.NotAllowed) p g key error = refl
-error_code (Bans code.Duplicate) p g key error = refl
-error_code (Bans code.Allowed) p g key error = absurd (false≢true error)
-error_code (Bans code.Skipped) p g key error = absurd (false≢true error)
-error_code (Bans code.AllowedByWrapper) p g key error = absurd (false≢true error)
-error_code (Bans code.SkippedByRoot) p g key error = absurd (false≢true error)
-error_code _ p g key error = absurd (false≢true error)
+severity_is : (c : Circumstances) (key : Key) → has_error (finding_told c key) ≡ is_error (words_told c key).severity
+unfolding has_error finding_told diag_of
+severity_is c key = refl
 
-error_told : (p : Policy) (g : Graph) (key : Key) → has_error (finding_modelled p g key) ≡ true
-    → is_error (severity_told key.code p g key) ≡ true
-unfolding has_error finding_modelled diag_told
-error_told p g key error = error
+code_is : (c : Circumstances) (key : Key) → (finding_told c key).diag.diag.code ≡ Some key.code
+unfolding finding_told diag_of
+code_is c key = refl
 
-crate_error : (p : Policy) (g : Graph) (key : Key) → has_error (finding_modelled p g key) ≡ true
-    → is_crate_error (finding_modelled p g key) ≡ true
-crate_error p g key error =
-    let grave = error_told p g key error in
-    error_is p g key ∙ and_from (is_error (severity_told key.code p g key)) (is_crate_rule (Some key.code)) grave
-    (error_code key.code p g key grave)
+-- an error that stands is one of a crate rule, or another that the policy minds
+abbrev IsGraveFinding : Policy → Finding → Type 0
+IsGraveFinding p f = (is_crate_error f ≡ true)
+    ⊎ ((d : DiagnosticCode) × (f.diag.diag.code ≡ Some d) × IsOfStd p d)
+
+grave_finding : (c : Circumstances) (facts : Facts) (key : Key) → Stands c facts key
+    → has_error (finding_told c key) ≡ true → IsGraveFinding c.policy (finding_told c key)
+grave_finding c facts key stands error =
+    let severe = sym (severity_is c key) ∙ error in
+    elim (grave key.code c facts key stands severe) as (λ _. IsGraveFinding c.policy (finding_told c key)) [
+      | inl rule ↦ inl (error_is c key
+          ∙ and_from (is_error (words_told c key).severity) (is_crate_rule (Some key.code)) severe rule)
+      | inr std ↦ inr (key.code, code_is c key, std)
+    ]
 
 -- ---- the verdict
 
-rule_check : (c : DiagnosticCode) → is_crate_rule (Some c) ≡ true → check_told c ≡ check.Bans
-rule_check Deprecated rule = refl
-rule_check (Bans c) rule = refl
-rule_check (License c) rule = absurd (false≢true rule)
+check_of : (c : Circumstances) (facts : Facts) (key : Key) → Stands c facts key
+    → (finding_told c key).check ≡ check.Bans
+unfolding finding_told
+check_of c facts key stands = told_of_bans key.code c facts key stands
 
-check_of : (p : Policy) (g : Graph) (key : Key) → has_error (finding_modelled p g key) ≡ true
-    → (finding_modelled p g key).check ≡ check.Bans
-unfolding finding_modelled
-check_of p g key error = rule_check key.code (error_code key.code p g key (error_told p g key error))
+and_right : (a b : Bool) → b ≡ true → (a && b) ≡ a
+and_right true b is = is
+and_right false b is = refl
 
-and_same : (a b : Bool) → (a ≡ true → b ≡ true) → (a && b) ≡ a
-and_same true b so = so refl
-and_same false b so = refl
+and_none : (a b : Bool) → b ≡ false → (a && b) ≡ false
+and_none true b is = is
+and_none false b is = refl
 
-and_none : (a b : Bool) → (a ≡ true → b ≡ false) → (a && b) ≡ false
-and_none true b so = so refl
-and_none false b so = refl
-
-module _ (p : Policy) (g : Graph) (keys : List Key) where
+module _ (c : Circumstances) (facts : Facts) (keys : List Key)
+    (stand : (key : Key) → Contains keys key → Stands c facts key) where
   abbrev findings : List Finding
-  findings = map (finding_modelled p g) keys
+  findings = map (finding_told c) keys
+
+  -- what is so of the finding of each key that stands is so of each finding
+  each_finding : (P : Finding → Type 0) → ((key : Key) → Stands c facts key → P (finding_told c key)) → (f : Finding)
+      → Contains findings f → P f
+  each_finding P each f is =
+      let of = from_contains_map (finding_told c) keys f is in
+      subst P of.2 (each of.0 (stand of.0 of.1))
 
   bans_fail : (f : Finding) → Contains findings f → fails_as check.Bans f ≡ has_error f
   unfolding fails_as
-  bans_fail f is =
-      let of = from_contains_map (finding_modelled p g) keys f is in
-      let at : fails_as check.Bans (finding_modelled p g of.0) ≡ has_error (finding_modelled p g of.0) =
-      and_same (has_error (finding_modelled p g of.0)) (same_check (finding_modelled p g of.0).check check.Bans)
-      (λ error. ap (λ (c : Check). same_check c check.Bans) (check_of p g of.0 error)) in
-      subst (λ (f : Finding). fails_as check.Bans f ≡ has_error f) of.2 at
+  bans_fail = each_finding (λ (f : Finding). fails_as check.Bans f ≡ has_error f)
+      (λ key stands. and_right (has_error (finding_told c key)) (same_check (finding_told c key).check check.Bans)
+      (ap (λ (of : Check). same_check of check.Bans) (check_of c facts key stands)))
 
   licenses_pass : (f : Finding) → Contains findings f → fails_as check.Licenses f ≡ false
   unfolding fails_as
-  licenses_pass f is =
-      let of = from_contains_map (finding_modelled p g) keys f is in
-      let at : fails_as check.Licenses (finding_modelled p g of.0) ≡ false =
-      and_none (has_error (finding_modelled p g of.0)) (same_check (finding_modelled p g of.0).check check.Licenses)
-      (λ error. ap (λ (c : Check). same_check c check.Licenses) (check_of p g of.0 error)) in
-      subst (λ (f : Finding). fails_as check.Licenses f ≡ false) of.2 at
+  licenses_pass = each_finding (λ (f : Finding). fails_as check.Licenses f ≡ false)
+      (λ key stands. and_none (has_error (finding_told c key)) (same_check (finding_told c key).check check.Licenses)
+      (ap (λ (of : Check). same_check of check.Licenses) (check_of c facts key stands)))
 
   no_license_fails : list_any (fails_as check.Licenses) findings ≡ false
   no_license_fails =
@@ -157,44 +157,61 @@ module _ (p : Policy) (g : Graph) (keys : List Key) where
       (list_any_on (fails_as check.Bans) has_error findings bans_fail)
       ∙ (ap (verdict_by (list_any has_error findings)) no_license_fails ∙ bans_alone (list_any has_error findings))
 
-  no_other_error : (f : Finding) → Contains findings f → has_error f ≡ true → is_crate_error f ≡ true
-  no_other_error f is =
-      let of = from_contains_map (finding_modelled p g) keys f is in
-      subst (λ (f : Finding). has_error f ≡ true → is_crate_error f ≡ true) of.2 (crate_error p g of.0)
+  grave_findings : (f : Finding) → Contains findings f → has_error f ≡ true → IsGraveFinding c.policy f
+  grave_findings = each_finding (λ (f : Finding). has_error f ≡ true → IsGraveFinding c.policy f)
+      (grave_finding c facts)
 
 -- ---- together
 
-keeps : (p : Policy) (g : Graph) (report : Report) → ArePlaced g g.crates → (is : IsModelled p g report)
-    → KeepsHeadline p g is.listed.facts report
-keeps p g report placed is =
+keeps : (c : Circumstances) (report : Report) → ArePlaced c.graph c.graph.crates → (is : IsReport c report)
+    → KeepsHeadline c.policy c.graph is.listed.facts.chains report
+keeps c report placed is =
     let facts = is.listed.facts in
-    let listed = violations_listed p g facts is.keys placed is.listed.listed in
+    let listed = violations_listed c facts is.keys placed is.listed.listed in
     record {
       violations =
-          subst (λ (fs : List Finding). Lists key_cmp (IsViolation p g facts)
+          subst (λ (fs : List Finding). Lists key_cmp (IsViolation c.policy c.graph facts.chains)
           (map (λ (f : Finding). f.diag.key) (filter is_crate_error fs))) (sym is.told)
-          (subst (λ (ks : List Key). Lists key_cmp (IsViolation p g facts) ks) (sym (kept_keys p g is.keys)) listed);
-      no_other = subst (λ (fs : List Finding). (f : Finding) → Contains fs f → IsTrue (has_error f)
-          → IsTrue (is_crate_error f)) (sym is.told) (no_other_error p g is.keys);
+          (subst (λ (ks : List Key). Lists key_cmp (IsViolation c.policy c.graph facts.chains) ks)
+          (sym (kept_keys c is.keys)) listed);
       fails = is.verdict ∙ subst
           (λ (fs : List Finding). verdict_of fs ≡ (if list_any has_error fs then Fail 2 else Pass)) (sym is.told)
-          (fails_by_errors p g is.keys);
+          (fails_by_errors c facts is.keys is.listed.listed.sound);
       bits = is.verdict;
     }
 
-pub headline_of : (policy metadata : List ℕ) (report : Report) → IsReportOf policy metadata report
-    → IsHeadlineOf policy metadata report
-headline_of policy metadata report of =
+written_code : (text : List ℕ) (d : DiagnosticCode) (o : Option DiagnosticCode) → o ≡ Some d → WritesRule text d
+    → WritesRuleOf text o
+written_code text d o same written = subst (WritesRuleOf text) (sym same) written
+
+other_written : (text : List ℕ) (said : cfg.Policy) (f : Finding) → IsBuilt text said
+    → IsGraveFinding (policy_view said.bans) f → IsTrue (is_crate_error f) ⊎ WritesRuleOf text f.diag.diag.code
+other_written text said f built (inl rule) = inl rule
+other_written text said f built (inr other) = inr
+    (written_code text other.0 f.diag.diag.code other.1 (rule_written text said other.0 built other.2))
+
+others_of : (texts : Texts) (view : View) (report : Report) (by : IsReportBy texts view report) (f : Finding)
+    → Contains report.findings f → has_error f ≡ true
+    → IsTrue (is_crate_error f) ⊎ WritesRuleOf texts.policy f.diag.diag.code
+others_of texts view report by f at error =
+    let is = by.is_report in
+    let c : Circumstances = circumstances_on (policy_view by.said.bans) by.graph texts.replacements view in
+    other_written texts.policy by.said f by.is_said
+    (grave_findings c is.listed.facts is.keys is.listed.listed.sound f
+    (subst (λ (fs : List Finding). Contains fs f) is.told at) error)
+
+pub headline_of : (texts : Texts) (report : Report) → IsReportOf texts report → IsHeadlineOf texts report
+headline_of texts report of =
     let by = of.by in
-    let is = modelled (policy_view by.said.bans) by.graph of.view report by.is_report in
-    let kept = keeps (policy_view by.said.bans) by.graph report (are_placed metadata by.graph by.is_graph) is in
+    let is = by.is_report in
+    let c : Circumstances = circumstances_on (policy_view by.said.bans) by.graph texts.replacements of.view in
     record {
       said = by.said;
       is_said = by.is_said;
       graph = by.graph;
       is_graph = by.is_graph;
-      facts = is.listed.facts;
-      true_facts = is.listed.true_facts;
-      keeps = kept;
-      others = λ f at error. inl (kept.no_other f at error);
+      facts = is.listed.facts.chains;
+      true_facts = is.listed.true_facts.chains;
+      keeps = keeps c report (are_placed texts.metadata by.graph by.is_graph) is;
+      others = others_of texts of.view report by;
     }

@@ -1,14 +1,16 @@
 pub mod AnswerLaws
+pub mod Beside
 pub mod CauseLaws
 pub mod ClashLabels
 pub mod Covered
 pub mod FindingLaws
 pub mod HeadlineLaws
 pub mod LabelLaws
-pub mod Modelled
 pub mod OneGraph
 pub mod OneReport
+pub mod OtherErrors
 pub mod Placed
 pub mod PolicyLabels
+pub mod PolicyRanges
 pub mod Standing
 pub mod Violations

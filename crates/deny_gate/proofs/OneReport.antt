@@ -1,10 +1,9 @@
--- Two texts have one report.
-use Rattle.std.proofs.Common.{◌≡◌, ◌∙◌, ◌⊎◌, ◌<◌, ◌≤◌, ℕ, Bool, true, false, List, [], ◌∷◌, Option, None, Some, length, map, ap, refl, sym, subst, inl, inr, arith}
-use Rattle.std.specs.Prelude.{filter}
+-- Texts have one report, by one view of files, and by whatever view.
+use Rattle.std.proofs.Common.{◌≡◌, ◌∙◌, ◌<◌, ℕ, Bool, true, false, List, [], ◌∷◌, Option, None, Some, map, ap, refl}
+use Rattle.std.proofs.Common.{sym, subst, arith}
+use Rattle.std.specs.Prelude.{Contains, IsTrue, filter}
 use Rattle.std.specs.Cmp.{nat_cmp_total}
 use Rattle.std.specs.List.{AllZip}
-use Rattle.std.specs.Ordering.{nat_cmp}
-use Rattle.deny_lists.specs.Ascending.{Lists}
 use Rattle.deny_base.specs.declared.edge.Edge.{Edge}
 use Rattle.deny_base.specs.declared.key.Key.{Key}
 use Rattle.deny_lists.proofs.Sorted.{one_list}
@@ -14,16 +13,22 @@ use Rattle.deny_cfg.specs.PolicyView.{policy_view}
 use Rattle.deny_cfg.specs.declared.policy.Policy as cfg
 use Rattle.deny_model.specs.Graph.{Graph}
 use Rattle.deny_model.specs.Policy.{Policy}
-use Rattle.deny_model.specs.Rules.{AreKeys}
 use Rattle.deny_dup_edges.specs.DupEdges.{AreEdgesOf, IsSetOf, IsSimplest, ShowsEach, Simplest, is_of_duplicate}
 use Rattle.deny_dup_edges.specs.declared.dup_edges.DupEdges.{DupEdges}
 use Rattle.deny_dup_edges.specs.declared.dup_edges.DupSet.{DupSet}
-use Rattle.deny_codes.specs.Circumstances.{View}
-use Rattle.deny_gate.specs.Gating.{IsReportBy}
-use Rattle.deny_gate.specs.Report.{policy_id, verdict_of}
 use Rattle.deny_gate.specs.declared.report.Report.{Report}
+use Rattle.deny_codes.specs.Circumstances.{Circumstances, View, viewed}
+use Rattle.deny_codes.specs.Codes.{asks_no_file, unseeing}
+use Rattle.deny_codes.specs.Standing.{AreKeys}
+use Rattle.deny_codes.specs.Told.{check_told, diag_of, words_told}
+use Rattle.deny_codes.specs.declared.words.Words.{Words}
+use Rattle.deny_lists.proofs.Agreement.{filter_on, map_on}
+use Rattle.deny_lists.proofs.Filters.{filter-all}
+use Rattle.deny_gate.specs.Gating.{IsReportBy, IsReportOf, Texts, circumstances_on}
+use Rattle.deny_gate.specs.Report.{IsReport, finding_told, policy_id, verdict_of}
+use Rattle.deny_gate.specs.declared.report.Finding.{Finding}
 use Rattle.deny_gate.proofs.OneGraph.{one_graph}
-use Rattle.deny_gate.proofs.Modelled.{IsModelled, finding_modelled, modelled}
+use Rattle.deny_gate.proofs.Standing.{asks_none}
 
 -- what determines each of its items determines the list
 one_zip : {A B : Type 0} (R : A → B → Type 0) → ((x : A) (y z : B) → R x y → R x z → y ≡ z)
@@ -83,28 +88,87 @@ one_shown p g key s t this that =
 
 -- ---- the report
 
-module _ (one_keys : (p : Policy) → (g : Graph) → (xs ys : List Key) → AreKeys p g xs → AreKeys p g ys → xs ≡ ys) where
-  of_graph : (p : Policy) (g : Graph) (a b : Report) → IsModelled p g a → IsModelled p g b → a.files ≡ b.files → a ≡ b
-  of_graph p g a b this that files =
-      let keys : this.keys ≡ that.keys = one_keys p g this.keys that.keys this.listed that.listed in
-      let findings : a.findings ≡ b.findings = this.told ∙ (ap (map (finding_modelled p g)) keys ∙ sym that.told) in
-      let dup_edges : a.dup_edges ≡ b.dup_edges =
-      one_zip (AreEdgesOf p g) (one_shown p g) (filter is_of_duplicate that.keys) a.dup_edges b.dup_edges
-      (subst (λ (ks : List Key). ShowsEach p g (filter is_of_duplicate ks) a.dup_edges) keys this.shown) that.shown in
-      let verdict : a.verdict ≡ b.verdict = this.verdict ∙ (ap verdict_of findings ∙ sym that.verdict) in
-      λ i. record { files = files i; findings = findings i; dup_edges = dup_edges i; verdict = verdict i }
+-- what is known of reports and policies
+pub record ReportLaws : Type 0 where
+  pub keys : (c : Circumstances) → (xs ys : List Key) → AreKeys c xs → AreKeys c ys → xs ≡ ys
+  pub unseen : (c : Circumstances) → (view : View) → (xs ys : List Key) → AreKeys c xs → AreKeys (viewed c view) ys
+      → unseeing xs ≡ unseeing ys
+  pub words : (c : Circumstances) → (view : View) → (key : Key) → IsTrue (asks_no_file key.code)
+      → words_told (viewed c view) key ≡ words_told c key
+  pub policies : (text : List ℕ) → (file : ℕ) → (a b : cfg.Policy) → IsPolicyOf text file a → IsPolicyOf text file b
+      → (policy_view a.bans ≡ policy_view b.bans) × (a.not_built ≡ b.not_built)
 
-  pub one_report : ((text : List ℕ) → (file : ℕ) → (a b : cfg.Policy) → IsPolicyOf text file a → IsPolicyOf text file b
-      → (policy_view a.bans ≡ policy_view b.bans) × (a.not_built ≡ b.not_built))
-      → (policy metadata : List ℕ) (these those : View) (a b : Report) → IsReportBy policy metadata these a
-      → IsReportBy policy metadata those b → a ≡ b
-  one_report one_policy policy metadata these those a b this that =
-      let views : policy_view this.said.bans
-      ≡ policy_view that.said.bans = (one_policy policy policy_id this.said that.said this.is_said.is_policy
-      that.is_said.is_policy).0 in
-      let graphs : this.graph ≡ that.graph = one_graph metadata this.graph that.graph this.is_graph that.is_graph in
-      of_graph (policy_view that.said.bans) that.graph a b
-      (subst (λ (p : Policy). IsModelled p that.graph a) views
-      (subst (λ (g : Graph). IsModelled (policy_view this.said.bans) g a) graphs
-      (modelled (policy_view this.said.bans) this.graph these a this.is_report)))
-      (modelled (policy_view that.said.bans) that.graph those b that.is_report) (this.files ∙ sym that.files)
+-- the finding of a key by its words
+abbrev finding_by : Key → Words → Finding
+finding_by key words = record { check = check_told key.code; kid = words.krate; diag = diag_of key words }
+
+finding_is : (c : Circumstances) (key : Key) → finding_told c key ≡ finding_by key (words_told c key)
+unfolding finding_told
+finding_is c key = refl
+
+all_free : (keys : List Key) → ((key : Key) → Contains keys key → IsTrue (asks_no_file key.code))
+    → unseeing keys ≡ keys
+all_free keys free = filter_on (λ (key : Key). asks_no_file key.code) (λ (key : Key). true) keys free
+    ∙ filter-all keys
+
+keys_free : (c : Circumstances) (keys : List Key) → AreKeys c keys → unseeing keys ≡ keys
+keys_free c keys are = all_free keys (λ key at. asks_none c are.facts key (are.listed.sound key at))
+
+-- two reports of the same keys, which are told alike
+of_keys : (c : Circumstances) (view : View) (a b : Report) (this : IsReport c a) (that : IsReport (viewed c view) b)
+    → this.keys ≡ that.keys → map (finding_told c) that.keys ≡ map (finding_told (viewed c view)) that.keys
+    → a.files ≡ b.files → a ≡ b
+of_keys c view a b this that keys alike files =
+    let findings : a.findings ≡ b.findings = this.told ∙ (ap (map (finding_told c)) keys ∙ (alike ∙ sym that.told)) in
+    let dup_edges : a.dup_edges ≡ b.dup_edges =
+    one_zip (AreEdgesOf c.policy c.graph) (one_shown c.policy c.graph) (filter is_of_duplicate that.keys)
+    a.dup_edges b.dup_edges
+    (subst (λ (ks : List Key). ShowsEach c.policy c.graph (filter is_of_duplicate ks) a.dup_edges) keys this.shown)
+    that.shown in
+    let verdict : a.verdict ≡ b.verdict = this.verdict ∙ (ap verdict_of findings ∙ sym that.verdict) in
+    λ i. record { files = files i; findings = findings i; dup_edges = dup_edges i; verdict = verdict i }
+
+module _ (laws : ReportLaws) where
+  told_alike : (c : Circumstances) (view : View) (keys : List Key) → AreKeys (viewed c view) keys
+      → map (finding_told c) keys ≡ map (finding_told (viewed c view)) keys
+  told_alike c view keys are =
+      let free = asks_none (viewed c view) are.facts in
+      map_on (finding_told c) (finding_told (viewed c view)) keys
+      (λ key at. finding_is c key
+      ∙ (ap (finding_by key) (sym (laws.words c view key (free key (are.listed.sound key at))))
+      ∙ sym (finding_is (viewed c view) key)))
+
+  same_view : (c : Circumstances) (a b : Report) → IsReport c a → IsReport c b → a.files ≡ b.files → a ≡ b
+  same_view c a b this that files =
+      of_keys c c.view a b this that (laws.keys c this.keys that.keys this.listed that.listed) refl files
+
+  other_view : (c : Circumstances) (view : View) (a b : Report) → IsReport c a → IsReport (viewed c view) b
+      → a.files ≡ b.files → a ≡ b
+  other_view c view a b this that files =
+      let keys : this.keys ≡ that.keys = sym (keys_free c this.keys this.listed)
+      ∙ (laws.unseen c view this.keys that.keys this.listed that.listed
+      ∙ keys_free (viewed c view) that.keys that.listed) in
+      of_keys c view a b this that keys (told_alike c view that.keys that.listed) files
+
+  -- the first report in the circumstances of the second, but by its own view
+  moved : (texts : Texts) (view other : View) (a b : Report) (this : IsReportBy texts view a)
+      (that : IsReportBy texts other b)
+      → IsReport (circumstances_on (policy_view that.said.bans) that.graph texts.replacements view) a
+  moved texts view other a b this that =
+      let views : policy_view this.said.bans ≡ policy_view that.said.bans =
+      (laws.policies texts.policy policy_id this.said that.said this.is_said.is_policy that.is_said.is_policy).0 in
+      let graphs : this.graph ≡ that.graph =
+      one_graph texts.metadata this.graph that.graph this.is_graph that.is_graph in
+      subst (λ (p : Policy). IsReport (circumstances_on p that.graph texts.replacements view) a) views
+      (subst (λ (g : Graph). IsReport (circumstances_on (policy_view this.said.bans) g texts.replacements view) a)
+      graphs this.is_report)
+
+  pub by_view : (texts : Texts) (view : View) (a b : Report) → IsReportBy texts view a → IsReportBy texts view b → a ≡ b
+  by_view texts view a b this that =
+      same_view (circumstances_on (policy_view that.said.bans) that.graph texts.replacements view) a b
+      (moved texts view view a b this that) that.is_report (this.files ∙ sym that.files)
+
+  pub by_any : (texts : Texts) (a b : Report) → IsReportOf texts a → IsReportOf texts b → a ≡ b
+  by_any texts a b this that =
+      other_view (circumstances_on (policy_view that.by.said.bans) that.by.graph texts.replacements this.view) that.view
+      a b (moved texts this.view that.view a b this.by that.by) that.by.is_report (this.by.files ∙ sym that.by.files)

@@ -1,14 +1,18 @@
 -- The ranges of a policy are those of the configuration that it is seen from, and so lie in the text where those do.
 use Rattle.std.proofs.Common.{◌≡◌, ◌++◌, ◌+◌, ℕ, List, [], ◌∷◌, All, Option, None, Some, Result, Ok, Err, ◌∙◌, map}
+use Rattle.std.proofs.Common.{refl}
 use Rattle.std.specs.Prelude.{IfOk, option_map, option_and_then}
 use Rattle.std.specs.List.{flat_map}
 use Rattle.std.proofs.lemmas.List.Elements.{All-from_recursion, recursion_from_All}
 use Rattle.deny_base.specs.declared.files.File.{File}
 use Rattle.deny_base.specs.declared.span.Span.{Span}
-use Rattle.deny_cfg.specs.LabelRanges.{AreLabels, feature_ranges, of_some, own_range, reason_range, spec_range, with_spec, word_labels, word_ranges}
+use Rattle.deny_cfg.specs.LabelRanges.{AreLabels, feature_ranges, of_some, own_range, reason_range, spec_range}
+use Rattle.deny_cfg.specs.LabelRanges.{std_ranges, with_spec, word_labels, word_ranges}
 use Rattle.deny_cfg.specs.LabelRanges as written
 use Rattle.deny_cfg.specs.PolicyText.{policy_file}
-use Rattle.deny_cfg.specs.PolicyView.{ban_view, entry_view, policy_view, reason_words, root_view, roots_from, words_or_none}
+use Rattle.deny_cfg.specs.PolicyView.{ban_view, entry_view, policy_view, reason_words, replacing_view, root_view}
+use Rattle.deny_cfg.specs.PolicyView.{roots_from, words_or_none}
+use Rattle.deny_cfg.specs.StdReplacementConfig.{StdReplacementConfig}
 use Rattle.deny_cfg.specs.TreeSkipExtended.{TreeSkipExtended}
 use Rattle.deny_cfg.specs.declared.bans.cfg.valid.KrateBan.{KrateBan}
 use Rattle.deny_cfg.specs.declared.bans.cfg.valid.ValidConfig.{ValidConfig}
@@ -19,12 +23,12 @@ use Rattle.deny_cfg.proofs.LabelLaws.{Lie, lie_append}
 use Rattle.deny_cfg.proofs.LabelValid.{lie_rest, lie_prefix}
 use Rattle.deny_model.specs.Policy.{Words}
 use Rattle.deny_toml.specs.Ranges.{IsRange}
-use Rattle.deny_gate.specs.Gating.{IsReportOn}
-use Rattle.deny_gate.specs.Labels.{AreLabelled, ban_ranges, entry_ranges, range_of, ranges_of, root_ranges}
+use Rattle.deny_gate.specs.Gating.{IsReportOn, circumstances_on}
+use Rattle.deny_gate.specs.Labels.{AreLabelled, ban_ranges, entry_ranges, ignore_ranges, range_of, ranges_of}
+use Rattle.deny_gate.specs.Labels.{root_ranges}
 use Rattle.deny_gate.specs.declared.report.GateError.{GateError}
 use Rattle.deny_gate.specs.declared.report.Report.{Report}
 use Rattle.deny_gate.proofs.LabelLaws.{report_labelled}
-use Rattle.deny_gate.proofs.Modelled.{modelled}
 
 module _ (text : List ℕ) where
   words_lie : (words : List Words) → Lie text (word_ranges words) → Lie text (map (λ (w : Words). w.span) words)
@@ -111,7 +115,16 @@ module _ (text : List ℕ) where
       (lies x (lie_prefix text (from x) (flat_map from xs) lie))
       (each_lies view from to lies xs (lie_rest text (from x) (flat_map from xs) lie))
 
-  -- the bans, the allowed, the skips and the trees among all that is written
+  entries_lie : (es : List (PackageSpecOrExtended Reason)) → Lie text (flat_map (with_spec reason_range) es)
+      → Lie text (flat_map entry_ranges (map entry_view es))
+  entries_lie = each_lies entry_view (with_spec reason_range) entry_ranges entry_lies
+
+  ignores_lie : (std : Option StdReplacementConfig) → Lie text (of_some std_ranges std)
+      → Lie text (ignore_ranges (option_map replacing_view std))
+  ignores_lie None lie = tt
+  ignores_lie (Some std) lie = entries_lie std.ignore lie
+
+  -- the bans, the allowed, the skips, the trees and the ignores among all that is written
   ranges_lie : (cfg : ValidConfig) → Lie text (word_labels cfg) → Lie text (ranges_of (policy_view cfg))
   unfolding word_labels ranges_of
   ranges_lie cfg lie =
@@ -127,15 +140,17 @@ module _ (text : List ℕ) where
       let from_trees = lie_rest text skipped _ from_skipped in
       let bans = lie_prefix text denied (flat_map spec_range cfg.denied_multiple_versions)
       (lie_prefix text (denied ++ flat_map spec_range cfg.denied_multiple_versions) _ lie) in
+      let from_std = lie_rest text trees _ from_trees in
+      let std = lie_prefix text (of_some std_ranges cfg.std_replacements) _ from_std in
       lie_append text (flat_map ban_ranges (map ban_view cfg.denied)) _
       (each_lies ban_view (with_spec written.ban_ranges) ban_ranges ban_lies cfg.denied bans)
       (lie_append text (flat_map entry_ranges (map entry_view cfg.allowed)) _
-      (each_lies entry_view (with_spec reason_range) entry_ranges entry_lies cfg.allowed
-      (lie_prefix text allowed _ from_allowed))
+      (entries_lie cfg.allowed (lie_prefix text allowed _ from_allowed))
       (lie_append text (flat_map entry_ranges (map entry_view cfg.skipped)) _
-      (each_lies entry_view (with_spec reason_range) entry_ranges entry_lies cfg.skipped
-      (lie_prefix text skipped _ from_skipped))
-      (roots_lie 0 cfg.tree_skipped (lie_prefix text trees _ from_trees))))
+      (entries_lie cfg.skipped (lie_prefix text skipped _ from_skipped))
+      (lie_append text (flat_map root_ranges (roots_from 0 cfg.tree_skipped)) _
+      (roots_lie 0 cfg.tree_skipped (lie_prefix text trees _ from_trees))
+      (ignores_lie cfg.std_replacements std))))
 
   policy_ranges : (cfg : ValidConfig) → All (IsRange text) (word_labels cfg)
       → All (IsRange text) (ranges_of (policy_view cfg))
@@ -144,11 +159,13 @@ module _ (text : List ℕ) where
       (ranges_lie cfg (recursion_from_All (IsRange text) (word_labels cfg) all))
 
   -- the report of the policy that was read, with its text as the one file
-  pub labels_then : (metadata : List ℕ) (said : Policy) (files : List File) (result : Result Report GateError)
-      → AreLabels text (word_labels said.bans) → files ≡ policy_file text ∷ []
-      → IfOk result (IsReportOn (policy_view said.bans) metadata) → IfOk result (λ report. report.files ≡ files)
+  pub labels_then : (metadata : List ℕ) (replacements : Option (List ℕ)) (said : Policy) (files : List File)
+      (result : Result Report GateError) → AreLabels text (word_labels said.bans) → files ≡ policy_file text ∷ []
+      → IfOk result (IsReportOn (policy_view said.bans) metadata replacements)
+      → IfOk result (λ report. report.files ≡ files)
       → IfOk result (λ report. AreLabelled report.files report.findings)
-  labels_then metadata said files (Ok report) labels first on in_files =
-      report_labelled (policy_view said.bans) on.graph text report (policy_ranges said.bans labels.placed)
-      (modelled (policy_view said.bans) on.graph on.seen.view report on.seen.is_report) (in_files ∙ first)
-  labels_then metadata said files (Err error) labels first on in_files = tt
+  labels_then metadata replacements said files (Ok report) labels first on in_files =
+      let p = policy_view said.bans in
+      report_labelled (circumstances_on p on.graph replacements on.seen.view) text report refl
+      (policy_ranges said.bans labels.placed) on.seen.is_report (in_files ∙ first)
+  labels_then metadata replacements said files (Err error) labels first on in_files = tt

@@ -1,47 +1,56 @@
 -- The keys of the crate-rule errors are those of the violations.
-use Rattle.std.proofs.Common.{◌≡◌, ◌==◌, ◌⊎◌, ℕ, Bool, true, not, List, length, Contains, Some, refl, sym, ap, ◌∙◌, subst, inl, inr}
+use Rattle.std.proofs.Common.{◌≡◌, ◌==◌, ◌⊎◌, ℕ, Bool, true, false, not, List, length, Contains, Some, refl, sym, ap}
+use Rattle.std.proofs.Common.{◌∙◌, subst, inl, inr}
 use Rattle.std.specs.Prelude.{◌&&◌, filter, map}
-use Rattle.std.specs.List.{flat_map, list_any}
-use Rattle.std.proofs.lemmas.Bool.{and_parts, and_from, both_ways, cases_Bool, cond-true, cond-false, cond_both, false≢true, false_from_ne_true, not-true, not_from_false}
+use Rattle.std.specs.List.{list_any}
+use Rattle.std.proofs.lemmas.Bool.{and_parts, and_from, both_ways, cases_Bool, cond-true, cond-false, cond_both}
+use Rattle.std.proofs.lemmas.Bool.{false≢true, false_from_ne_true, not-true, not_from_false}
 use Rattle.deny_base.specs.Level.{severity_of}
 use Rattle.deny_base.specs.declared.code.Code.TheVariants as code
 use Rattle.deny_base.specs.declared.code.DiagnosticCode.{DiagnosticCode}
-use Rattle.deny_base.specs.declared.code.DiagnosticCode.TheVariants.{Bans}
+use Rattle.deny_base.specs.declared.code.DiagnosticCode.TheVariants.{Bans, License}
 use Rattle.deny_base.specs.declared.key.Key.{Key}
 use Rattle.deny_base.specs.declared.level.LintLevel.{LintLevel}
 use Rattle.deny_base.specs.declared.level.LintLevel.TheVariants as level
-use Rattle.deny_lists.proofs.Members.{Contains-filter, Contains-flat_map, Contains-from_flat_map, any_from, any_passes, contains_map, filtered, from_contains_map, passes_filter}
-use Rattle.deny_model.specs.Bans.{banned_keys_of, concerns, is_banned, is_exempt, is_lifted, is_not_allowed, not_allowed_keys, allowed_by_wrapper_keys_of, unmatched_wrapper_keys_of, allowed_keys_of}
+use Rattle.deny_lists.proofs.Members.{Contains-filter, Contains-flat_map, Contains-from_flat_map, any_from, any_passes}
+use Rattle.deny_lists.proofs.Members.{contains_map, filtered, from_contains_map, passes_filter}
+use Rattle.deny_model.specs.Bans.{banned_keys_of, concerns, is_banned, is_exempt, is_lifted, is_not_allowed}
+use Rattle.deny_model.specs.Bans.{not_allowed_keys}
 use Rattle.deny_model.specs.Duplicates.{IsDuplicate, duplicate_level, is_denied_multiple}
-use Rattle.deny_model.specs.Facts.{Facts}
 use Rattle.deny_model.specs.Graph.{Crate, Graph}
-use Rattle.deny_model.specs.Groups.{group, is_in_group, is_internal, is_marked, reduced, unmarked}
 use Rattle.deny_model.specs.Keys.{crate_key, duplicate_key, no_span}
 use Rattle.deny_model.specs.Match.{matches}
 use Rattle.deny_model.specs.Policy.{Entry, Policy, Spec}
-use Rattle.deny_model.specs.Rules.{Stands, ban_keys}
-use Rattle.deny_model.specs.Told.{crates_at, diag_told, severity_told}
-use Rattle.deny_model.specs.Wrappers.{unused_wrapper_keys_of}
-use Rattle.std.proofs.lemmas.List.Elements.{Contains-append_left, Contains-append_right}
-use Rattle.deny_gate.specs.Headline.{AreSeveral, IsBan, IsDeniedMultiple, IsUnlisted, IsViolation, is_ban, is_unlisted, are_several, is_crate_error, is_crate_rule}
-use Rattle.deny_gate.specs.Report.{has_error, is_error}
+use Rattle.deny_gate.specs.Headline.{AreSeveral, IsBan, IsDeniedMultiple, IsUnlisted, IsViolation, is_ban, is_unlisted}
+use Rattle.deny_gate.specs.Headline.{are_several, is_crate_error, is_crate_rule}
+use Rattle.deny_model.specs.Facts as chains
+use Rattle.deny_model.specs.Told.{crates_at}
+use Rattle.deny_codes.specs.Bans.{banned_keys, banned_told}
+use Rattle.deny_codes.specs.AllowList.{not_allowed_told}
+use Rattle.deny_codes.specs.Circumstances.{Circumstances}
+use Rattle.deny_codes.specs.Duplicates.{duplicate_told}
+use Rattle.deny_codes.specs.Facts.{Facts}
+use Rattle.deny_codes.specs.Standing.{Stands, StandsBy}
+use Rattle.deny_codes.specs.Told.{diag_of, words_as, words_by}
+use Rattle.deny_codes.proofs.Made.{banned_made, duplicate_made, not_allowed_made}
+use Rattle.deny_codes.proofs.Sections.{none_licensed}
+use Rattle.deny_gate.specs.Report.{finding_told, has_error, is_error}
+use Rattle.deny_gate.proofs.Beside.{listed_from, listed_to}
 use Rattle.deny_gate.proofs.Covered.{exempt_is, is_exempt_test, is_lifted_test, lifted_is, some_are, some_test}
 use Rattle.deny_gate.proofs.Placed.{ArePlaced, at_places}
-use Rattle.deny_gate.proofs.Standing.{IsKnown, of_ban, of_unlisted, of_several, of_entry, code_in, code_of_duplicate, known}
-use Rattle.deny_gate.proofs.Modelled.{finding_modelled}
 
 -- whether the finding of a code is a crate-rule error
-abbrev pub error_at : DiagnosticCode → Policy → Graph → Key → Bool
-error_at c p g key = is_error (severity_told c p g key) && is_crate_rule (Some c)
+abbrev pub error_at : DiagnosticCode → Circumstances → Key → Bool
+error_at d c key = is_error (words_by d c key).severity && is_crate_rule (Some d)
 
-pub error_is : (p : Policy) (g : Graph) (key : Key) → is_crate_error (finding_modelled p g key) ≡ error_at key.code p g key
-unfolding is_crate_error has_error finding_modelled diag_told
-error_is p g key = refl
+pub error_is : (c : Circumstances) (key : Key) → is_crate_error (finding_told c key) ≡ error_at key.code c key
+unfolding is_crate_error has_error finding_told diag_of
+error_is c key = refl
 
 -- ---- bans
 
 module _ (p : Policy) (g : Graph) where
-  ban_from : (key : Key) → Contains (flat_map (banned_keys_of p g) p.deny) key → IsBan p g key
+  ban_from : (key : Key) → Contains (banned_keys p g) key → IsBan p g key
   unfolding banned_keys_of is_banned concerns
   ban_from key is =
       let of = Contains-from_flat_map (banned_keys_of p g) p.deny key is in
@@ -64,7 +73,7 @@ module _ (p : Policy) (g : Graph) where
         is = sym at.2;
       }
 
-  ban_to : (key : Key) → IsBan p g key → Contains (flat_map (banned_keys_of p g) p.deny) key
+  ban_to : (key : Key) → IsBan p g key → Contains (banned_keys p g) key
   unfolding banned_keys_of is_banned concerns
   ban_to key is =
       let ban = is.ban in
@@ -153,42 +162,30 @@ places_in : (places : List ℕ) → (duplicate_key places).places ≡ places
 unfolding duplicate_key
 places_in places = refl
 
-in_graph : (p : Policy) (g : Graph) (facts : Facts) (name : List ℕ) (c : Crate) → Contains (unmarked p g facts name) c
-    → Contains g.crates c
-unfolding reduced
-in_graph p g facts name c is =
-    let named : List Crate = group p g facts name in
-    let kept = filtered (λ (c : Crate). not (is_marked p c)) (reduced p g facts name) c is in
-    let of_group : Contains named c → Contains g.crates c = λ at. filtered (is_in_group p facts name) g.crates c at in
-    cond_both (length named == 1) named (filter (λ c. not (is_internal g name c)) named)
-    (λ (cs : List Crate). Contains cs c → Contains g.crates c)
-    (λ _. of_group) (λ _ at. of_group (filtered (λ (c : Crate). not (is_internal g name c)) named c at)) kept
-
-module _ (p : Policy) (g : Graph) (facts : Facts) (placed : ArePlaced g g.crates) where
+module _ (p : Policy) (g : Graph) (facts : chains.Facts) (placed : ArePlaced g g.crates) where
   -- the crates of a duplicate are those at the places of its key
-  crates_are : (name : List ℕ) (crates : List Crate) (key : Key)
-      → ((c : Crate) → Contains crates c → Contains (unmarked p g facts name) c)
+  crates_are : (crates : List Crate) (key : Key)
+      → ((c : Crate) → Contains crates c → Contains g.crates c)
       → key ≡ duplicate_key (map (λ c. c.place) crates) → crates_at g key.places ≡ crates
   unfolding crates_at
-  crates_are name crates key sound is =
+  crates_are crates key sound is =
       let places : key.places ≡ map (λ (c : Crate). c.place) crates = ap (λ (k : Key). k.places) is
       ∙ places_in (map (λ (c : Crate). c.place) crates) in
-      ap (crates_at g) places ∙ at_places g crates (λ c at. placed c (in_graph p g facts name c (sound c at)))
+      ap (crates_at g) places ∙ at_places g crates (λ c at. placed c (sound c at))
 
-  several_from : (key : Key) → IsDuplicate p g facts key → error_at (Bans code.Duplicate) p g key ≡ true
-      → AreSeveral p g facts key
-  unfolding severity_told
+  several_from : (key : Key) → IsDuplicate p g facts key
+      → is_error (severity_of (duplicate_level p (crates_at g key.places))) ≡ true → AreSeveral p g facts key
   several_from key found error =
       let d = found.2 in
-      let same = crates_are found.0.name d.crates key d.listed.sound d.is in
-      let grave = and_parts (is_error (severity_of (duplicate_level p (crates_at g key.places)))) true error in
+      let listed = listed_from p g facts found.0.name d.crates d.listed d.several in
+      let same = crates_are d.crates key (λ c at. (listed.sound c at).known) d.is in
       let denied : duplicate_level p d.crates ≡ level.Deny =
-      ap (duplicate_level p) (sym same) ∙ deny_is (duplicate_level p (crates_at g key.places)) grave.0 in
+      ap (duplicate_level p) (sym same) ∙ deny_is (duplicate_level p (crates_at g key.places)) error in
       record {
         owner = found.0;
         known = found.1;
         crates = d.crates;
-        listed = d.listed;
+        listed = listed;
         several = d.several;
         denied = denied_from p d.crates denied;
         is = d.is;
@@ -201,72 +198,95 @@ module _ (p : Policy) (g : Graph) (facts : Facts) (placed : ArePlaced g g.crates
         is.known,
         record {
           crates = is.crates;
-          listed = is.listed;
+          listed = listed_to p g facts is.owner.name is.crates is.listed is.several;
           several = is.several;
           minded = λ allow. let both : level.Deny ≡ level.Allow = sym denied ∙ allow in cc both;
           is = is.is;
         },
       )
 
-  several_error : (key : Key) → AreSeveral p g facts key → error_at (Bans code.Duplicate) p g key ≡ true
-  unfolding severity_told
+  several_error : (key : Key) → AreSeveral p g facts key
+      → is_error (severity_of (duplicate_level p (crates_at g key.places))) ≡ true
   several_error key is =
-      let same = crates_are is.owner.name is.crates key is.listed.sound is.is in
+      let same = crates_are is.crates key (λ c at. (is.listed.sound c at).known) is.is in
       let denied : duplicate_level p (crates_at g key.places) ≡ level.Deny = ap (duplicate_level p) same
       ∙ denied_to p is.crates is.denied in
-      and_from (is_error (severity_of (duplicate_level p (crates_at g key.places)))) true
-      (ap (λ (l : LintLevel). is_error (severity_of l)) denied) refl
+      ap (λ (l : LintLevel). is_error (severity_of l)) denied
 
-  -- ---- all three
+-- ---- all three
 
-  by_code : (key : Key) (c d : DiagnosticCode) → c ≡ d → error_at d p g key ≡ true → error_at c p g key ≡ true
-  by_code key c d same error = ap (λ (e : DiagnosticCode). error_at e p g key) same ∙ error
+module _ (c : Circumstances) (facts : Facts) (placed : ArePlaced c.graph c.graph.crates) where
+  abbrev Violates : Key → Type 0
+  Violates key = IsViolation c.policy c.graph facts.chains key
 
-  of_kind : (key : Key) → IsKnown p g facts key → error_at key.code p g key ≡ true → IsViolation p g facts key
-  of_kind key (of_ban k is c range) error = is_ban key (ban_from p g key is)
-  of_kind key (of_unlisted k is c) error = is_unlisted key (unlisted_from p g key is)
-  of_kind key (of_several k is c) error = are_several key
-      (several_from key is (by_code key (Bans code.Duplicate) key.code (sym c) error))
-  of_kind key (of_entry k c is of_other range) error =
-      absurd (both_ways (is_crate_rule (Some (Bans c))) of_other
-      (ap (λ (d : DiagnosticCode). is_crate_rule (Some d)) (sym is)
-      ∙ (and_parts (is_error (severity_told key.code p g key)) (is_crate_rule (Some key.code)) error).1))
+  -- the last line is that of the codes that are none of the crate rules'
+  from_code : (d : DiagnosticCode) (key : Key) → StandsBy d c facts key → error_at d c key ≡ true → Violates key
+  unfolding words_as duplicate_told
+  from_code (Bans code.Banned) key is error = is_ban key (ban_from c.policy c.graph key is)
+  from_code (Bans code.NotAllowed) key is error = is_unlisted key (unlisted_from c.policy c.graph key is)
+  from_code (Bans code.Duplicate) key is error = are_several key
+      (several_from c.policy c.graph facts.chains placed key is
+      (and_parts (is_error (severity_of (duplicate_level c.policy (crates_at c.graph key.places)))) true error).0)
+  from_code (License d) key is error = absurd (none_licensed d c.policy c.graph key is)
+  from_code d key is error = absurd (false≢true (and_parts (is_error (words_by d c key).severity) false error).1)
 
-  pub violation_from : (key : Key) → Stands p g facts key → is_crate_error (finding_modelled p g key) ≡ true
-      → IsViolation p g facts key
-  violation_from key stands error = of_kind key (known p g facts key stands) (sym (error_is p g key) ∙ error)
+  pub violation_from : (key : Key) → Stands c facts key → is_crate_error (finding_told c key) ≡ true → Violates key
+  violation_from key stands error = from_code key.code key stands (sym (error_is c key) ∙ error)
 
-  pub violation_stands : (key : Key) → IsViolation p g facts key → Stands p g facts key
-  unfolding ban_keys
-  violation_stands key (is_ban k is) = inl
-      (Contains-append_left (flat_map (banned_keys_of p g) p.deny) _ key (ban_to p g key is))
-  violation_stands key (is_unlisted k is) =
-      inl (Contains-append_right (flat_map (banned_keys_of p g) p.deny) _ key
-      (Contains-append_right (flat_map (allowed_by_wrapper_keys_of p g) p.deny) _ key
-      (Contains-append_right (flat_map (unmatched_wrapper_keys_of p g) p.deny) _ key
-      (Contains-append_right (flat_map (unused_wrapper_keys_of p g) p.deny) _ key
-      (Contains-append_right (flat_map (allowed_keys_of g) p.allow) (not_allowed_keys p g) key
-      (unlisted_to p g key is))))))
-  violation_stands key (are_several k is) = inr (inr (several_to key is))
+  -- a code of the crate rules under which a violation stands, as an error
+  record StandsGravely (key : Key) : Type 0 where
+    under : DiagnosticCode
+    is_its : key.code ≡ under
+    stands : StandsBy under c facts key
+    error : error_at under c key ≡ true
 
-  ban_error : (key : Key) → error_at (Bans code.Banned) p g key ≡ true
-  unfolding severity_told
+  ban_error : (key : Key) → error_at (Bans code.Banned) c key ≡ true
+  unfolding words_as banned_told
   ban_error key = refl
 
-  unlisted_error : (key : Key) → error_at (Bans code.NotAllowed) p g key ≡ true
-  unfolding severity_told
+  unlisted_error : (key : Key) → error_at (Bans code.NotAllowed) c key ≡ true
+  unfolding words_as not_allowed_told
   unlisted_error key = refl
 
-  pub violation_error : (key : Key) → IsViolation p g facts key → is_crate_error (finding_modelled p g key) ≡ true
-  violation_error key (is_ban k is) =
-      let same : key.code ≡ Bans code.Banned = ap (λ (j : Key). j.code) is.is
-      ∙ code_in _ code.Banned is.krate.place is.ban.spec.range 0 in
-      error_is p g key ∙ by_code key key.code (Bans code.Banned) same (ban_error key)
-  violation_error key (is_unlisted k is) =
-      let same : key.code ≡ Bans code.NotAllowed = ap (λ (j : Key). j.code) is.is
-      ∙ code_in _ code.NotAllowed is.krate.place no_span 0 in
-      error_is p g key ∙ by_code key key.code (Bans code.NotAllowed) same (unlisted_error key)
-  violation_error key (are_several k is) =
-      let same : key.code ≡ Bans code.Duplicate = ap (λ (j : Key). j.code) is.is
-      ∙ code_of_duplicate (map (λ (c : Crate). c.place) is.crates) in
-      error_is p g key ∙ by_code key key.code (Bans code.Duplicate) same (several_error key is)
+  duplicate_error : (key : Key) → AreSeveral c.policy c.graph facts.chains key
+      → error_at (Bans code.Duplicate) c key ≡ true
+  unfolding words_as duplicate_told
+  duplicate_error key is =
+      and_from (is_error (severity_of (duplicate_level c.policy (crates_at c.graph key.places)))) true
+      (several_error c.policy c.graph facts.chains placed key is) refl
+
+  gravely : (key : Key) → Violates key → StandsGravely key
+  gravely key (is_ban k is) =
+      let stands = ban_to c.policy c.graph key is in
+      record {
+        under = Bans code.Banned;
+        is_its = (banned_made c.policy c.graph key stands).code_is;
+        stands = stands;
+        error = ban_error key;
+      }
+  gravely key (is_unlisted k is) =
+      let stands = unlisted_to c.policy c.graph key is in
+      record {
+        under = Bans code.NotAllowed;
+        is_its = (not_allowed_made c.policy c.graph key stands).code_is;
+        stands = stands;
+        error = unlisted_error key;
+      }
+  gravely key (are_several k is) =
+      let stands = several_to c.policy c.graph facts.chains placed key is in
+      record {
+        under = Bans code.Duplicate;
+        is_its = (duplicate_made c.policy c.graph facts.chains key stands).code_is;
+        stands = stands;
+        error = duplicate_error key is;
+      }
+
+  pub violation_stands : (key : Key) → Violates key → Stands c facts key
+  violation_stands key is =
+      let g = gravely key is in
+      subst (λ (d : DiagnosticCode). StandsBy d c facts key) (sym g.is_its) g.stands
+
+  pub violation_error : (key : Key) → Violates key → is_crate_error (finding_told c key) ≡ true
+  violation_error key is =
+      let g = gravely key is in
+      error_is c key ∙ (ap (λ (d : DiagnosticCode). error_at d c key) g.is_its ∙ g.error)

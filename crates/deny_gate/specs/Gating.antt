@@ -1,5 +1,6 @@
 -- What the gate promises of the texts that it is handed.
-use Rattle.std.specs.Prelude.{◌≡◌, ◌≢◌, ◌⊎◌, ℕ, true, false, List, [], ◌∷◌, map, filter, Ok, Err}
+use Rattle.std.specs.Prelude.{◌≡◌, ◌≢◌, ◌⊎◌, ◌<◌, ◌^◌, ℕ, true, false, IsTrue, List, [], ◌∷◌, length, map, filter}
+use Rattle.std.specs.Prelude.{Option, Ok, Err, IfSome, option_map}
 use Rattle.deny_base.specs.declared.check.Which.TheVariants as which
 use Rattle.deny_base.specs.declared.key.Key.{Key}
 use Rattle.deny_base.specs.declared.span.Span.{Span}
@@ -12,8 +13,10 @@ use Rattle.deny_krates.specs.fault.MetadataFault.{MetadataFault}
 use Rattle.deny_krates.specs.fault.MetadataFault.TheVariants as fault
 use Rattle.deny_model.specs.Graph.{Graph}
 use Rattle.deny_model.specs.Policy as model
-use Rattle.deny_codes.specs.Circumstances.{Circumstances, View, seen_by}
+use Rattle.deny_codes.specs.Circumstances.{Circumstances, View, seen_by, tabled}
+use Rattle.deny_codes.specs.Saying.{HasTable, IsBreakIn, bytes_of}
 use Rattle.deny_codes.specs.Standing.{AreKeys}
+use Rattle.deny_codes.specs.StdReplacements.{asks_for_table}
 use Rattle.deny_dup_edges.specs.DupEdges.{ShowsEach, is_of_duplicate}
 use Rattle.deny_dup_edges.specs.declared.dup_edges.DupEdges.{DupEdges}
 use Rattle.deny_toml.specs.Faults.{fault_at}
@@ -21,28 +24,58 @@ use Rattle.deny_toml.specs.declared.error.FaultKind.TheVariants.{Grammar}
 use Rattle.deny_gate.specs.Report.{IsReport, finding_told, policy_id}
 use Rattle.deny_gate.specs.declared.report.Finding.{Finding}
 use Rattle.deny_gate.specs.declared.report.GateError.{GateError}
-use Rattle.deny_gate.specs.declared.report.GateError.TheVariants.{Config, Invalid, NotBuilt, Metadata, Memory}
+use Rattle.deny_gate.specs.declared.report.GateError.TheVariants.{Config, Invalid, NotBuilt, Metadata, Replacement}
+use Rattle.deny_gate.specs.declared.report.GateError.TheVariants.{Memory}
+use Rattle.deny_gate.specs.declared.report.Inputs.{Inputs}
 use Rattle.deny_gate.specs.declared.report.Report.{Report}
+
+-- the texts that the gate is handed: of a policy, of metadata, and bytes of a table of replacements, if there are any
+pub record Texts : Type 0 where
+  pub policy : List ℕ
+  pub metadata : List ℕ
+  pub replacements : Option (List ℕ)
+
+abbrev pub texts_in : Inputs → Texts
+texts_in inputs = record {
+  policy = inputs.policy.items;
+  metadata = inputs.metadata.items;
+  replacements = option_map (λ bytes. bytes.items) inputs.replacements;
+}
+
+-- each is under 2^28 bytes
+pub record AreShort (texts : Texts) : Type 0 where
+  pub policy : length texts.policy < 2 ^ 28
+  pub metadata : length texts.metadata < 2 ^ 28
+  pub replacements : IfSome texts.replacements (λ bytes. length bytes < 2 ^ 28)
 
 -- the text is this policy, and each rule that it writes is there
 pub record IsBuilt (text : List ℕ) (policy : Policy) : Type 0 where
   pub is_policy : IsPolicyOf text policy_id policy
   pub is_built : policy.not_built ≡ false
 
--- the policy is one whose rules are there, the metadata has a graph, and this is the report of the one on the other,
--- by this view of files. Its one file is the policy's text.
-pub record IsReportBy (policy metadata : List ℕ) (view : View) (report : Report) : Type 0 where
-  pub said : Policy
-  pub is_said : IsBuilt policy said
-  pub graph : Graph
-  pub is_graph : IsGraphOf metadata graph
-  pub is_report : IsReport (seen_by (policy_view said.bans) graph policy_id view) report
-  pub files : report.files ≡ policy_file policy ∷ []
+-- a policy on a graph, with these bytes of a table and what was seen of files
+abbrev pub circumstances_on : model.Policy → Graph → Option (List ℕ) → View → Circumstances
+circumstances_on p g replacements view = tabled (seen_by p g policy_id view) (bytes_of replacements)
 
--- by some view: no file but the two texts is read yet
-pub record IsReportOf (policy metadata : List ℕ) (report : Report) : Type 0 where
+-- where a policy asks for a table of replacements, one was handed in
+abbrev pub IsTableFor : model.Policy → Option (List ℕ) → Type 0
+IsTableFor p replacements = IsTrue (asks_for_table p) → HasTable replacements
+
+-- the policy is one whose rules are there, the metadata has a graph, there is the table that the policy asks for, and
+-- this is the report of the one on the other, by this view of files. Its one file is the policy's text.
+pub record IsReportBy (texts : Texts) (view : View) (report : Report) : Type 0 where
+  pub said : Policy
+  pub is_said : IsBuilt texts.policy said
+  pub graph : Graph
+  pub is_graph : IsGraphOf texts.metadata graph
+  pub table : IsTableFor (policy_view said.bans) texts.replacements
+  pub is_report : IsReport (circumstances_on (policy_view said.bans) graph texts.replacements view) report
+  pub files : report.files ≡ policy_file texts.policy ∷ []
+
+-- by some view: no file but these texts is read yet
+pub record IsReportOf (texts : Texts) (report : Report) : Type 0 where
   pub view : View
-  pub by : IsReportBy policy metadata view report
+  pub by : IsReportBy texts view report
 
 -- the text is a policy whose rules are there
 pub record HasPolicy (policy : List ℕ) : Type 0 where
@@ -65,6 +98,12 @@ pub record IsFirstFault (metadata : List ℕ) (f : MetadataFault) : Type 0 where
   pub is_theirs : f ≢ fault.Memory
   pub is : checked metadata ≡ Err f
 
+-- the text is a policy whose rules are there, and which asks for a table of replacements
+pub record AsksForTable (policy : List ℕ) : Type 0 where
+  pub said : Policy
+  pub is_said : IsBuilt policy said
+  pub asks : IsTrue (asks_for_table (policy_view said.bans))
+
 -- when an answer may come that speaks of the policy alone, or of the metadata alone; want of memory
 -- may come at any time
 abbrev pub IsPolicyCause : List ℕ → GateError → Type 0
@@ -74,6 +113,7 @@ IsPolicyCause policy (NotBuilt which.Policy) = IsUnbuilt policy
 IsPolicyCause policy (NotBuilt which.Metadata) = ⊥
 IsPolicyCause policy (NotBuilt which.Replacements) = ⊥
 IsPolicyCause policy (Metadata f) = ⊥
+IsPolicyCause policy (Replacement at) = ⊥
 IsPolicyCause policy Memory = Unit {0}
 
 abbrev pub IsMetadataCause : List ℕ → GateError → Type 0
@@ -81,15 +121,17 @@ IsMetadataCause metadata (Config faults) = ⊥
 IsMetadataCause metadata (Invalid told) = ⊥
 IsMetadataCause metadata (NotBuilt text) = ⊥
 IsMetadataCause metadata (Metadata f) = IsFirstFault metadata f
+IsMetadataCause metadata (Replacement at) = ⊥
 IsMetadataCause metadata Memory = Unit {0}
 
--- when an answer that is no report may come: the policy is looked at first
-abbrev pub IsCause : List ℕ → List ℕ → GateError → Type 0
-IsCause policy metadata (Config faults) = ListsFaults policy faults
-IsCause policy metadata (Invalid told) = TellsClashes policy policy_id told
-IsCause policy metadata (NotBuilt text) = IsPolicyCause policy (NotBuilt text)
-IsCause policy metadata (Metadata f) = HasPolicy policy × IsFirstFault metadata f
-IsCause policy metadata Memory = Unit {0}
+-- when an answer that is no report may come: the policy is looked at first, and then the metadata
+abbrev pub IsCause : Texts → GateError → Type 0
+IsCause texts (Config faults) = ListsFaults texts.policy faults
+IsCause texts (Invalid told) = TellsClashes texts.policy policy_id told
+IsCause texts (NotBuilt text) = IsPolicyCause texts.policy (NotBuilt text)
+IsCause texts (Metadata f) = HasPolicy texts.policy × IsFirstFault texts.metadata f
+IsCause texts (Replacement at) = AsksForTable texts.policy × HasGraph texts.metadata × IsBreakIn texts.replacements at
+IsCause texts Memory = Unit {0}
 
 -- a text outside the grammar of TOML; where in the text it is so is free
 pub record IsOutsideGrammar (error : GateError) : Type 0 where
@@ -103,15 +145,40 @@ AreOneCause a b = (a ≡ b) ⊎ (IsOutsideGrammar a × IsOutsideGrammar b)
 -- ---- for private clauses
 
 -- the report of a policy on a graph, by some view of files
-pub record IsReportSeen (p : model.Policy) (g : Graph) (report : Report) : Type 0 where
+pub record IsReportSeen (p : model.Policy) (g : Graph) (replacements : Option (List ℕ)) (report : Report) : Type 0 where
   pub view : View
-  pub is_report : IsReport (seen_by p g policy_id view) report
+  pub is_report : IsReport (circumstances_on p g replacements view) report
 
--- the metadata has a graph, and this is the report of a policy on it
-pub record IsReportOn (p : model.Policy) (metadata : List ℕ) (report : Report) : Type 0 where
+-- the metadata has a graph, there is the table that a policy asks for, and this is the report of the policy on it
+pub record IsReportOn (p : model.Policy) (metadata : List ℕ) (replacements : Option (List ℕ)) (report : Report)
+    : Type 0 where
   pub graph : Graph
   pub is_graph : IsGraphOf metadata graph
-  pub seen : IsReportSeen p graph report
+  pub table : IsTableFor p replacements
+  pub seen : IsReportSeen p graph replacements report
+
+-- when an answer may come that speaks of the bytes of a table alone
+abbrev pub IsTableCause : Option (List ℕ) → GateError → Type 0
+IsTableCause replacements (Config faults) = ⊥
+IsTableCause replacements (Invalid told) = ⊥
+IsTableCause replacements (NotBuilt text) = ⊥
+IsTableCause replacements (Metadata f) = ⊥
+IsTableCause replacements (Replacement at) = IsBreakIn replacements at
+IsTableCause replacements Memory = Unit {0}
+
+-- the same where only a policy that asks for a table has a cause
+abbrev pub IsTableCauseFor : model.Policy → Option (List ℕ) → GateError → Type 0
+IsTableCauseFor p replacements error = IsTrue (asks_for_table p) × IsTableCause replacements error
+
+-- when an answer may come that is no report, where the policy is there
+abbrev pub IsCauseBehind : model.Policy → List ℕ → Option (List ℕ) → GateError → Type 0
+IsCauseBehind p metadata replacements (Config faults) = ⊥
+IsCauseBehind p metadata replacements (Invalid told) = ⊥
+IsCauseBehind p metadata replacements (NotBuilt text) = ⊥
+IsCauseBehind p metadata replacements (Metadata f) = IsFirstFault metadata f
+IsCauseBehind p metadata replacements (Replacement at) =
+    HasGraph metadata × IsTableCauseFor p replacements (Replacement at)
+IsCauseBehind p metadata replacements Memory = Unit {0}
 
 -- what stands is told and shown so
 pub record IsTold (c : Circumstances) (findings : List Finding) (shown : List DupEdges) : Type 0 where
@@ -121,6 +188,7 @@ pub record IsTold (c : Circumstances) (findings : List Finding) (shown : List Du
   pub each : ShowsEach c.policy c.graph (filter is_of_duplicate keys) shown
 
 -- by some view of files
-pub record IsToldOn (p : model.Policy) (g : Graph) (findings : List Finding) (shown : List DupEdges) : Type 0 where
+pub record IsToldOn (p : model.Policy) (g : Graph) (replacements : Option (List ℕ)) (findings : List Finding)
+    (shown : List DupEdges) : Type 0 where
   pub view : View
-  pub is_told : IsTold (seen_by p g policy_id view) findings shown
+  pub is_told : IsTold (circumstances_on p g replacements view) findings shown

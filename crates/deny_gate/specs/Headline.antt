@@ -1,13 +1,14 @@
--- The headline: the crate-rule errors of a report are exactly the uncovered violations at level deny, nothing else is an
--- error, and a report fails exactly where an error stands.
-use Rattle.std.specs.Prelude.{◌≡◌, ◌≢◌, ◌⊎◌, ◌≤◌, ◌&&◌, ◌||◌, ◌==◌, ℕ, Bool, true, false, not, IsTrue, List, [], length, map, filter, Contains, Option, None, Some, codes, is_some, if◌then◌else◌}
+-- The headline: the crate-rule errors of a report are exactly the uncovered violations at level deny, another rule's
+-- error comes only where the policy writes that rule, and a report fails exactly where an error stands.
+use Rattle.std.specs.Prelude.{◌≡◌, ◌≢◌, ◌⊎◌, ◌≤◌, ◌&&◌, ◌||◌, ◌==◌, ℕ, Bool, true, false, not, IsTrue, List, [], length}
+use Rattle.std.specs.Prelude.{map, filter, Contains, Option, None, Some, codes, is_some, if◌then◌else◌}
 use Rattle.std.specs.List.{list_any}
 use Rattle.std.specs.Option.{option_map_or}
 use Rattle.deny_lists.specs.Ascending.{Lists}
 use Rattle.deny_base.specs.KeyOrder.{key_cmp}
 use Rattle.deny_base.specs.declared.code.Code.{Code}
 use Rattle.deny_base.specs.declared.code.Code.TheVariants as code
-use Rattle.deny_base.specs.declared.code.Code.TheVariants.{Banned, NotAllowed, Duplicate}
+use Rattle.deny_base.specs.declared.code.Code.TheVariants.{Banned, NotAllowed}
 use Rattle.deny_base.specs.declared.code.DiagnosticCode.{DiagnosticCode}
 use Rattle.deny_base.specs.declared.code.DiagnosticCode.TheVariants.{Deprecated, Bans, License}
 use Rattle.deny_base.specs.declared.edge.Edge.{Edge}
@@ -20,15 +21,14 @@ use Rattle.deny_cfg.specs.declared.policy.Policy as cfg
 use Rattle.deny_krates.specs.Read.{IsGraphOf}
 use Rattle.deny_model.specs.Facts.{Facts, AreFacts}
 use Rattle.deny_model.specs.Graph.{Crate, Graph}
-use Rattle.deny_model.specs.Groups.{unmarked}
 use Rattle.deny_model.specs.Keys.{crate_key, duplicate_key, no_span}
 use Rattle.deny_model.specs.Match.{matches}
-use Rattle.deny_model.specs.Policy.{Ban, Entry, Policy, Spec, Words}
+use Rattle.deny_model.specs.Policy.{Ban, Entry, Policy, Root, Spec, Words}
 use Rattle.deny_model.specs.VersionOrder.{version_cmp}
 use Rattle.deny_toml.specs.Calls.{array_in, below_name}
 use Rattle.deny_toml.specs.Parser.{IsTreeOf}
 use Rattle.deny_toml.specs.declared.value.Value.{Value}
-use Rattle.deny_gate.specs.Gating.{IsBuilt}
+use Rattle.deny_gate.specs.Gating.{IsBuilt, Texts}
 use Rattle.deny_gate.specs.Report.{has_error, verdict_of}
 use Rattle.deny_gate.specs.declared.report.Finding.{Finding}
 use Rattle.deny_gate.specs.declared.report.Report.{Report}
@@ -90,12 +90,28 @@ pub record IsDeniedMultiple (p : Policy) (crates : List Crate) : Type 0 where
   pub written : Contains p.deny_multiple spec
   pub spoken_of : IsTrue (matches spec krate)
 
--- two crates or more of a name stand side by side, none of which is skipped, and the policy denies that
+-- another name needs a crate of this name: a direct dependent bears another
+pub record IsNeeded (g : Graph) (name : List ℕ) (c : Crate) : Type 0 where
+  pub parent : Crate
+  pub depends : DependsOn g parent c
+  pub another : parent.name ≢ name
+
+-- a crate of a name stands beside others of it: it counts, no skip speaks of it, it lies in no skipped tree, and
+-- another name needs it
+pub record StandsBeside (p : Policy) (g : Graph) (facts : Facts) (name : List ℕ) (c : Crate) : Type 0 where
+  pub known : Contains g.crates c
+  pub named : c.name ≡ name
+  pub counts : IsTrue (facts.counts c)
+  pub not_skipped : (s : Entry) → Contains p.skip s → ¬ IsTrue (matches s.spec c)
+  pub in_no_tree : (t : Root) → Contains p.skip_tree t → ¬ IsTrue (facts.in_tree t c)
+  pub needed : IsNeeded g name c
+
+-- two crates or more of a name stand side by side, and the policy denies that
 pub record AreSeveral (p : Policy) (g : Graph) (facts : Facts) (key : Key) : Type 0 where
   pub owner : Crate
   pub known : Contains g.crates owner
   pub crates : List Crate
-  pub listed : Lists version_cmp (Contains (unmarked p g facts owner.name)) crates
+  pub listed : Lists version_cmp (StandsBeside p g facts owner.name) crates
   pub several : 2 ≤ length crates
   pub denied : IsDeniedMultiple p crates ⊎ (p.multiple_versions ≡ Deny)
   pub is : key ≡ duplicate_key (map (λ c. c.place) crates)
@@ -107,11 +123,56 @@ pub data IsViolation (p : Policy) (g : Graph) (facts : Facts) : Key → Type 0 w
 
 -- ---- what a report tells of it
 
+-- the codes of the crate rules that can tell errors
+abbrev pub is_crate_code : Code → Bool
+is_crate_code code.Banned = true
+is_crate_code code.Allowed = false
+is_crate_code code.NotAllowed = true
+is_crate_code code.Duplicate = true
+is_crate_code code.Skipped = false
+is_crate_code code.Wildcard = false
+is_crate_code code.UnmatchedSkip = false
+is_crate_code code.UnnecessarySkip = false
+is_crate_code code.AllowedByWrapper = false
+is_crate_code code.UnmatchedWrapper = false
+is_crate_code code.SkippedByRoot = false
+is_crate_code code.UnmatchedSkipRoot = false
+is_crate_code code.BuildScriptNotAllowed = false
+is_crate_code code.ExactFeaturesMismatch = false
+is_crate_code code.FeatureNotExplicitlyAllowed = false
+is_crate_code code.FeatureBanned = false
+is_crate_code code.UnknownFeature = false
+is_crate_code code.DefaultFeatureEnabled = false
+is_crate_code code.PathBypassed = false
+is_crate_code code.PathBypassedByGlob = false
+is_crate_code code.ChecksumMatch = false
+is_crate_code code.ChecksumMismatch = false
+is_crate_code code.DeniedByExtension = false
+is_crate_code code.DetectedExecutable = false
+is_crate_code code.DetectedExecutableScript = false
+is_crate_code code.UnableToCheckPath = false
+is_crate_code code.FeaturesEnabled = false
+is_crate_code code.UnmatchedBypass = false
+is_crate_code code.UnmatchedPathBypass = false
+is_crate_code code.UnmatchedGlob = false
+is_crate_code code.UnusedWrapper = false
+is_crate_code code.WorkspaceDuplicate = false
+is_crate_code code.UnresolvedWorkspaceDependency = false
+is_crate_code code.UnusedWorkspaceDependency = false
+is_crate_code code.ReplacedInStd = false
+is_crate_code code.UnmatchedReplacementIgnore = false
+
 abbrev pub is_crate_rule : Option DiagnosticCode → Bool
-is_crate_rule (Some (Bans Banned)) = true
-is_crate_rule (Some (Bans NotAllowed)) = true
-is_crate_rule (Some (Bans Duplicate)) = true
-is_crate_rule _ = false
+is_crate_rule None = false
+is_crate_rule (Some Deprecated) = false
+is_crate_rule (Some (Bans code)) = is_crate_code code
+is_crate_rule (Some (License license.Accepted)) = false
+is_crate_rule (Some (License license.Rejected)) = false
+is_crate_rule (Some (License license.Unlicensed)) = false
+is_crate_rule (Some (License license.ParseError)) = false
+is_crate_rule (Some (License license.SkippedPrivateWorkspaceCrate)) = false
+is_crate_rule (Some (License license.LicenseNotEncountered)) = false
+is_crate_rule (Some (License license.LicenseExceptionNotEncountered)) = false
 
 unfoldable pub is_crate_error : Finding → Bool
 is_crate_error f = has_error f && is_crate_rule f.diag.diag.code
@@ -202,22 +263,20 @@ WritesRuleOf text (Some code) = WritesRule text code
 pub record KeepsHeadline (p : Policy) (g : Graph) (facts : Facts) (report : Report) : Type 0 where
   -- the keys of the crate-rule errors are those of the violations, ascending, each once
   pub violations : Lists key_cmp (IsViolation p g facts) (map (λ f. f.diag.key) (filter is_crate_error report.findings))
-  -- no other finding is an error
-  pub no_other : (f : Finding) → Contains report.findings f → IsTrue (has_error f) → IsTrue (is_crate_error f)
   -- the report fails exactly where a finding is an error
   pub fails : report.verdict ≡ (if list_any has_error report.findings then Fail 2 else Pass)
   -- by check: 2 where the bans check has an error, 4 where the licence check has one, or their sum
   pub bits : report.verdict ≡ verdict_of report.findings
 
--- of the policy and the graph of two texts, by true facts
-pub record IsHeadlineOf (policy metadata : List ℕ) (report : Report) : Type 0 where
+-- of the policy and the graph of texts, by true facts
+pub record IsHeadlineOf (texts : Texts) (report : Report) : Type 0 where
   pub said : cfg.Policy
-  pub is_said : IsBuilt policy said
+  pub is_said : IsBuilt texts.policy said
   pub graph : Graph
-  pub is_graph : IsGraphOf metadata graph
+  pub is_graph : IsGraphOf texts.metadata graph
   pub facts : Facts
   pub true_facts : AreFacts (policy_view said.bans) graph facts
   pub keeps : KeepsHeadline (policy_view said.bans) graph facts report
   -- another rule's error comes only where the policy's text writes that rule
   pub others : (f : Finding) → Contains report.findings f → IsTrue (has_error f)
-      → IsTrue (is_crate_error f) ⊎ WritesRuleOf policy f.diag.diag.code
+      → IsTrue (is_crate_error f) ⊎ WritesRuleOf texts.policy f.diag.diag.code

@@ -6,11 +6,12 @@ use Rattle.deny_base.specs.declared.finding.Diagnostic.{Diagnostic}
 use Rattle.deny_base.specs.declared.label.Label.{Label}
 use Rattle.deny_base.specs.declared.span.Span.{Span}
 use Rattle.deny_cfg.specs.PolicyText.{policy_file}
-use Rattle.deny_model.specs.Policy.{Ban, Entry, Policy, Root, Words}
+use Rattle.deny_model.specs.Policy.{Ban, Entry, Policy, Replacing, Root, Words}
 use Rattle.deny_toml.specs.Ranges.{IsRange}
 use Rattle.deny_gate.specs.declared.report.Finding.{Finding}
 use Rattle.deny_gate.specs.declared.report.GateError.{GateError}
-use Rattle.deny_gate.specs.declared.report.GateError.TheVariants.{Config, Invalid, NotBuilt, Metadata, Memory}
+use Rattle.deny_gate.specs.declared.report.GateError.TheVariants.{Config, Invalid, NotBuilt, Metadata, Replacement}
+use Rattle.deny_gate.specs.declared.report.GateError.TheVariants.{Memory}
 
 -- a label marks a range of its file, on character boundaries
 pub record IsPlaced (files : List File) (label : Label) : Type 0 where
@@ -34,6 +35,7 @@ IsLabelledCause text (Config faults) = Unit {0}
 IsLabelledCause text (Invalid told) = AreLabelledClashes text told
 IsLabelledCause text (NotBuilt which) = Unit {0}
 IsLabelledCause text (Metadata f) = Unit {0}
+IsLabelledCause text (Replacement at) = Unit {0}
 IsLabelledCause text Memory = Unit {0}
 
 -- ---- the ranges of a policy that labels mark: each entry's name, and what it names besides
@@ -51,6 +53,12 @@ entry_ranges e = e.spec.range ∷ range_of e.reason
 unfoldable pub root_ranges : Root → List Span
 root_ranges t = t.spec.range ∷ range_of t.reason
 
+-- of the entries that pass replaced crates over
+abbrev pub ignore_ranges : Option Replacing → List Span
+ignore_ranges None = []
+ignore_ranges (Some r) = flat_map entry_ranges r.ignore
+
 unfoldable pub ranges_of : Policy → List Span
 ranges_of p = flat_map ban_ranges p.deny
-    ++ (flat_map entry_ranges p.allow ++ (flat_map entry_ranges p.skip ++ flat_map root_ranges p.skip_tree))
+    ++ (flat_map entry_ranges p.allow
+    ++ (flat_map entry_ranges p.skip ++ (flat_map root_ranges p.skip_tree ++ ignore_ranges p.replacing)))

@@ -1,7 +1,8 @@
 //! What a report tells of each key, and what it comes to.
 ghost use Rattle.std.specs.Prelude.{◌≡◌, ◌++◌, map, IfOk, OnOk};
 ghost use Rattle.std.specs.List.{list_any, flat_map};
-ghost use Rattle.deny_gate.specs.Report.{finding_of, findings_of, has_error, fails_as, is_error, same_check, verdict_by, verdict_of};
+ghost use Rattle.deny_gate.specs.Report.{finding_of, findings_of, has_error, fails_as, is_error};
+ghost use Rattle.deny_gate.specs.Report.{same_check, verdict_by, verdict_of};
 
 use crate::report::{Finding, Verdict};
 use deny_base::{Check, Diag, Kid, Pack, Severity};

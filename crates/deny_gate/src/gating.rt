@@ -1,10 +1,16 @@
 ghost use Rattle.std.specs.Prelude.{◌≡◌, ◌<◌, ◌^◌, [], ◌∷◌, length, IfOk, IfErr, OnOk};
+ghost use Rattle.std.specs.Prelude.{option_copied};
 ghost use Rattle.deny_cfg.specs.LabelRanges.{AreLabels, word_labels};
 ghost use Rattle.deny_cfg.specs.PolicyText.{policy_file};
 ghost use Rattle.deny_cfg.specs.PolicyView.{policy_view};
 ghost use Rattle.deny_krates.specs.Read.{IsGraphOf};
 ghost use Rattle.deny_outside.specs.Disk.{IsLater};
-ghost use Rattle.deny_gate.specs.Gating.{IsBuilt, IsReportOf, IsCause, IsPolicyCause, IsMetadataCause, IsReportOn, IsReportSeen, IsToldOn};
+ghost use Rattle.deny_codes.specs.Saying.{HasTable};
+ghost use Rattle.deny_codes.specs.StdReplacements.{asks_for_table};
+ghost use Rattle.deny_gate.specs.Gating.{AreShort, IsBuilt, IsCause, IsCauseBehind};
+ghost use Rattle.deny_gate.specs.Gating.{IsMetadataCause, IsPolicyCause, IsReportOf, IsReportOn};
+ghost use Rattle.deny_gate.specs.Gating.{IsReportSeen, IsTableCause, IsTableCauseFor, IsTableFor};
+ghost use Rattle.deny_gate.specs.Gating.{IsToldOn, texts_in};
 ghost use Rattle.deny_gate.specs.Headline.{IsHeadlineOf};
 ghost use Rattle.deny_gate.specs.Labels.{AreLabelled, IsLabelledCause};
 
@@ -12,11 +18,12 @@ use crate::findings::{findings_in, verdict_of};
 use crate::report::{Finding, GateError, Inputs, Report};
 use deny_base::{Files, Which};
 use deny_cfg::bans::cfg::ValidConfig;
-use deny_cfg::{Policy, PolicyError, read_policy};
+use deny_cfg::{Policy, PolicyError, Scope, read_policy};
 use deny_krates::{Krates, MetadataFault};
 use deny_lists::{List, NoMemory};
 use deny_outside::PackageFiles;
 use deny_rules::{CheckCtx, DupEdges, bans};
+use deny_std::{ReplacementData, ReplacementError};
 use std::alloc::Global;
 
 /// The policy of a text, each of whose rules has to be there.
@@ -53,21 +60,59 @@ fn read_graph(alloc: Global, bytes: &[u8]) -> Result<Krates, GateError>
     }
 }
 
+/// Whether a policy minds crates that the standard library replaces, and looks at some.
+fn asks_for_table(cfg: &ValidConfig) -> bool
+    ensures { result ≡ asks_for_table (policy_view cfg.now) }
+{
+    match &cfg.std_replacements {
+        Some(minding) => !matches!(minding.scope, Scope::None),
+        None => false,
+    }
+}
+
+/// Bytes have to be there, and to be a table of replacements.
+fn check_table(alloc: Global, table: Option<&[u8]>) -> Result<(), GateError>
+    ensures ok { OnOk result (HasTable (option_copied table.entry)) }
+    ensures err { IfErr result (IsTableCause (option_copied table.entry)) }
+{
+    let Some(bytes) = table else {
+        return Err(GateError::Replacement(0));
+    };
+    match ReplacementData::from_bytes(alloc, bytes) {
+        Ok(_) => Ok(()),
+        Err(ReplacementError::Bad(at)) => Err(GateError::Replacement(at)),
+        Err(ReplacementError::Memory) => Err(GateError::Memory),
+    }
+}
+
+/// The same where a configuration asks for a table; another never looks at the bytes.
+fn check_table_for(alloc: Global, cfg: &ValidConfig, table: Option<&[u8]>) -> Result<(), GateError>
+    ensures ok { OnOk result (IsTableFor (policy_view cfg.now) (option_copied table.entry)) }
+    ensures err { IfErr result (IsTableCauseFor (policy_view cfg.now) (option_copied table.entry)) }
+{
+    if asks_for_table(cfg) {
+        check_table(alloc, table)
+    } else {
+        Ok(())
+    }
+}
+
 /// The findings of a configuration on a graph, and what is shown of duplicates.
 fn told<D: PackageFiles>(
     alloc: Global,
-    cfg: &ValidConfig,
-    krates: &Krates,
+    ctx: &CheckCtx<'_>,
     disk: &mut D,
 ) -> Result<(List<Finding>, List<DupEdges>), NoMemory>
-    requires { cfg.now.file_id ≡ 0 }
-    ensures told { IfOk result (λ told. IsToldOn (policy_view cfg.now) krates.now told.0 told.1) }
+    requires file { ctx.now.cfg.now.file_id ≡ 0 }
+    requires table { IsTableFor (policy_view ctx.now.cfg.now) (option_copied ctx.now.table) }
+    ensures told { IfOk result (λ told. IsToldOn (policy_view ctx.now.cfg.now) ctx.now.krates.now
+        (option_copied ctx.now.table) told.0 told.1) }
     ensures untouched { disk.new ≡ disk.old }
     ensures later { IsLater (D.seen disk.old) (D.seen disk.new) }
 {
     deny_codes::bans_alone();
     let mut packs = List::new(alloc);
-    let end = bans::check(alloc, &CheckCtx { cfg, krates }, disk, &mut packs)?;
+    let end = bans::check(alloc, ctx, disk, &mut packs)?;
     let findings = findings_in(alloc, packs)?;
     Ok((findings, end.dup_edges))
 }
@@ -77,17 +122,18 @@ fn told<D: PackageFiles>(
 fn report_on<D: PackageFiles>(
     alloc: Global,
     files: Files,
-    cfg: &ValidConfig,
-    krates: &Krates,
+    ctx: &CheckCtx<'_>,
     disk: &mut D,
 ) -> Result<Report, NoMemory>
-    requires { cfg.now.file_id ≡ 0 }
-    ensures report { IfOk result (IsReportSeen (policy_view cfg.now) krates.now) }
+    requires file { ctx.now.cfg.now.file_id ≡ 0 }
+    requires table { IsTableFor (policy_view ctx.now.cfg.now) (option_copied ctx.now.table) }
+    ensures report { IfOk result (IsReportSeen (policy_view ctx.now.cfg.now) ctx.now.krates.now
+        (option_copied ctx.now.table)) }
     ensures files { IfOk result (λ report. report.files ≡ files) }
     ensures untouched { disk.new ≡ disk.old }
     ensures later { IsLater (D.seen disk.old) (D.seen disk.new) }
 {
-    let (findings, dup_edges) = told(alloc, cfg, krates, disk)?;
+    let (findings, dup_edges) = told(alloc, ctx, disk)?;
     let verdict = verdict_of(findings.as_slice());
     Ok(Report {
         files,
@@ -97,43 +143,54 @@ fn report_on<D: PackageFiles>(
     })
 }
 
-/// The report of a configuration on the graph of metadata.
+/// The report of a configuration on the graph of metadata, with the table that it asks for.
 fn report_of<D: PackageFiles>(
     alloc: Global,
     files: Files,
     cfg: &ValidConfig,
     metadata: &[u8],
+    table: Option<&[u8]>,
     disk: &mut D,
 ) -> Result<Report, GateError>
     requires file { cfg.now.file_id ≡ 0 }
     requires small { length metadata.now < 2 ^ 28 }
-    ensures report { IfOk result (IsReportOn (policy_view cfg.now) metadata.now) }
+    ensures report { IfOk result
+        (IsReportOn (policy_view cfg.now) metadata.now (option_copied table.entry)) }
     ensures files { IfOk result (λ report. report.files ≡ files) }
-    ensures cause { IfErr result (IsMetadataCause metadata.now) }
+    ensures cause { IfErr result
+        (IsCauseBehind (policy_view cfg.now) metadata.now (option_copied table.entry)) }
     ensures untouched { disk.new ≡ disk.old }
     ensures later { IsLater (D.seen disk.old) (D.seen disk.new) }
 {
     let krates = read_graph(alloc, metadata)?;
-    Ok(report_on(alloc, files, cfg, &krates, disk)?)
+    check_table_for(alloc, cfg, table)?;
+    let ctx = CheckCtx {
+        cfg,
+        krates: &krates,
+        table,
+    };
+    Ok(report_on(alloc, files, &ctx, disk)?)
 }
 
-/// Reads a policy and cargo's metadata, and reports what stands.
+/// Reads a policy, cargo's metadata and, where the policy asks for one, a table of replacements, and
+/// reports what stands.
 ///
 /// Each text has to be under 2^28 bytes. `Config` comes exactly where the policy's text has faults,
 /// `Invalid` exactly where it has none and entries clash, `NotBuilt` exactly where there is a policy
-/// and it writes a rule that is not there yet, and `Metadata` exactly where none of these stands, and
-/// this is the first fault of the metadata. `Memory` can come at any point. Each label, be it of a
-/// finding or of a clash, lies on character boundaries in its file. Nothing is read from the disk.
+/// and it writes a rule that is not there yet, `Metadata` exactly where none of these stands, and
+/// this is the first fault of the metadata, and `Replacement` exactly where none of them stands, the
+/// policy asks for a table, and no bytes came (0) or they first break at this offset. `Memory` can
+/// come at any point. Each label, be it of a finding or of a clash, lies on character boundaries in
+/// its file. Nothing is read from the disk.
 pub fn gate<D: PackageFiles>(
     alloc: Global,
     inputs: &Inputs,
     disk: &mut D,
 ) -> Result<Report, GateError>
-    requires policy { length inputs.now.policy.items < 2 ^ 28 }
-    requires metadata { length inputs.now.metadata.items < 2 ^ 28 }
-    ensures report { IfOk result (IsReportOf inputs.now.policy.items inputs.now.metadata.items) }
-    ensures cause { IfErr result (IsCause inputs.now.policy.items inputs.now.metadata.items) }
-    ensures headline { IfOk result (IsHeadlineOf inputs.now.policy.items inputs.now.metadata.items) }
+    requires short { AreShort (texts_in inputs.now) }
+    ensures report { IfOk result (IsReportOf (texts_in inputs.now)) }
+    ensures cause { IfErr result (IsCause (texts_in inputs.now)) }
+    ensures headline { IfOk result (IsHeadlineOf (texts_in inputs.now)) }
     ensures labels { IfOk result (λ report. AreLabelled report.files report.findings) }
     ensures clash_labels { IfErr result (IsLabelledCause inputs.now.policy.items) }
     ensures untouched { disk.new ≡ disk.old }
@@ -141,5 +198,13 @@ pub fn gate<D: PackageFiles>(
 {
     let mut files = Files::new(alloc);
     let policy = built_policy(alloc, inputs.policy.as_slice(), &mut files)?;
-    report_of(alloc, files, &policy.bans, inputs.metadata.as_slice(), disk)
+    let table = inputs.replacements.as_deref();
+    report_of(
+        alloc,
+        files,
+        &policy.bans,
+        inputs.metadata.as_slice(),
+        table,
+        disk,
+    )
 }

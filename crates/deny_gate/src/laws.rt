@@ -1,37 +1,43 @@
 //! What follows from the words of the gate's contract.
-ghost use Rattle.std.specs.Prelude.{◌≡◌, ◌≢◌, ℕ, List};
+ghost use Rattle.std.specs.Prelude.{◌≡◌, ◌≢◌};
 ghost use Rattle.deny_codes.specs.Circumstances.{View};
-ghost use Rattle.deny_gate.specs.Gating.{AreOneCause, HasGraph, HasPolicy, IsCause, IsReportBy, IsReportOf};
+ghost use Rattle.deny_codes.specs.Saying.{HasTable};
+ghost use Rattle.deny_gate.specs.Gating.{AreOneCause, AsksForTable, HasGraph, HasPolicy, IsCause};
+ghost use Rattle.deny_gate.specs.Gating.{IsReportBy, IsReportOf, Texts};
 ghost use Rattle.deny_gate.specs.Headline.{IsHeadlineOf};
 ghost use Rattle.deny_gate.specs.declared.report.GateError.{GateError};
 ghost use Rattle.deny_gate.specs.declared.report.GateError.TheVariants as gate;
 ghost use Rattle.deny_gate.specs.declared.report.Report.{Report};
 
-/// Two texts have one answer, want of memory aside: a policy whose rules are there and a graph have
-/// no cause why there is no report, and other texts have one.
+/// Texts have one answer, want of memory aside: a policy whose rules are there, a graph and the
+/// table that the policy asks for have no cause why there is no report, and other texts have one.
 pub fn one_answer()
-    ensures cause { (policy metadata : List ℕ) → (a b : GateError) → a ≢ gate.Memory → b ≢ gate.Memory
-        → IsCause policy metadata a → IsCause policy metadata b → AreOneCause a b }
-    ensures valid { (policy metadata : List ℕ) → (error : GateError) → error ≢ gate.Memory
-        → HasPolicy policy → HasGraph metadata → IsCause policy metadata error → ⊥ }
+    ensures cause { (texts : Texts) → (a b : GateError) → a ≢ gate.Memory → b ≢ gate.Memory
+        → IsCause texts a → IsCause texts b → AreOneCause a b }
+    ensures valid { (texts : Texts) → (error : GateError) → error ≢ gate.Memory
+        → HasPolicy texts.policy → HasGraph texts.metadata
+        → (AsksForTable texts.policy → HasTable texts.replacements) → IsCause texts error → ⊥ }
 {
     deny_cfg::one_policy();
     deny_cfg::one_refusal();
 }
 
-/// Two texts and one view of files have one report, to each edge that is shown; as long as no rule that
+/// Texts and one view of files have one report, to each edge that is shown; as long as no rule that
 /// asks for files is there, by whatever view.
 pub fn one_report()
-    ensures by_view { (policy metadata : List ℕ) → (view : View) → (a b : Report)
-        → IsReportBy policy metadata view a → IsReportBy policy metadata view b → a ≡ b }
-    ensures unseen { (policy metadata : List ℕ) → (a b : Report)
-        → IsReportOf policy metadata a → IsReportOf policy metadata b → a ≡ b }
+    ensures by_view { (texts : Texts) → (view : View) → (a b : Report)
+        → IsReportBy texts view a → IsReportBy texts view b → a ≡ b }
+    ensures unseen { (texts : Texts) → (a b : Report)
+        → IsReportOf texts a → IsReportOf texts b → a ≡ b }
 {
-    deny_model::one_report();
+    deny_codes::one_report();
+    deny_codes::one_unseen();
+    deny_codes::words_unseen();
     deny_cfg::one_policy();
 }
 
-/// The report of two texts keeps the headline.
+/// The report of texts keeps the headline.
 pub fn headline()
-    ensures { (policy metadata : List ℕ) → (report : Report) → IsReportOf policy metadata report → IsHeadlineOf policy metadata report }
+    ensures { (texts : Texts) → (report : Report)
+        → IsReportOf texts report → IsHeadlineOf texts report }
 {}

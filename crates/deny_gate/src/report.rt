@@ -12,6 +12,8 @@ pub struct Inputs {
     pub policy: Vec<u8>,
     /// What `cargo metadata` printed.
     pub metadata: Vec<u8>,
+    /// A table of what the standard library replaces, for policies that ask for one.
+    pub replacements: Option<Vec<u8>>,
 }
 
 /// One thing that a report tells: what stands, and of which crate, if it is of one.
@@ -61,6 +63,9 @@ pub enum GateError {
     NotBuilt(Which),
     /// The metadata has no graph: its first fault, which is never want of memory.
     Metadata(MetadataFault),
+    /// The policy asks for a table of replacements, and there is none: no bytes came, and this is 0,
+    /// or it is the byte offset of the first break in them.
+    Replacement(usize),
     /// Memory ran out.
     Memory,
 }

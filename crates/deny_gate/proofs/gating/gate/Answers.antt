@@ -1,26 +1,33 @@
-use Rattle.deny_gate.proofs.CauseLaws.{cause_then, headline_then, report_then}
-use Rattle.deny_gate.proofs.ClashLabels.{metadata_cause_labelled, policy_cause_labelled}
+use Rattle.deny_cfg.specs.PolicyView.{policy_view}
+use Rattle.deny_gate.specs.Gating.{Texts}
+use Rattle.deny_gate.proofs.CauseLaws.{cause_then, headline_then, report_then, same_texts}
+use Rattle.deny_gate.proofs.ClashLabels.{cause_behind_labelled, policy_cause_labelled}
 use Rattle.deny_gate.proofs.PolicyLabels.{labels_then}
 use Rattle.deny_gate.proofs.gating.gate.Goals as goal
 
 pub returns-clause-cause : goal.returns-clause-cause
 returns-clause-cause g c =
-    cause_then _ _ _ _ c.as_slice.ensures.value c.as_slice-2.ensures.value c.in_ok-policy.policy c.report_of.result
-    c.in_ok-policy.ensures.ok c.report_of.ensures.cause
+    let read : Texts = record { policy = _; metadata = _; replacements = _ } in
+    let same = same_texts read _ c.as_slice.ensures.value c.as_slice-2.ensures.value c.as_deref-table.ensures.value in
+    cause_then read _ same c.in_ok-policy.policy c.in_ok-policy.ensures.ok c.report_of.result c.report_of.ensures.cause
 
 pub returns-clause-report : goal.returns-clause-report
 returns-clause-report g c =
-    report_then _ _ _ _ c.as_slice.ensures.value c.as_slice-2.ensures.value c.in_ok-policy.policy _ c.report_of.result
-    c.in_ok-policy.ensures.ok c.in_ok-policy.ensures.files c.report_of.ensures.report c.report_of.ensures.files
+    let read : Texts = record { policy = _; metadata = _; replacements = _ } in
+    let same = same_texts read _ c.as_slice.ensures.value c.as_slice-2.ensures.value c.as_deref-table.ensures.value in
+    report_then read _ same c.in_ok-policy.policy c.in_ok-policy.ensures.ok _ c.in_ok-policy.ensures.files
+    c.report_of.result c.report_of.ensures.report c.report_of.ensures.files
 
 pub returns-clause-headline : goal.returns-clause-headline
 returns-clause-headline g c =
-    headline_then _ _ _ _ c.as_slice.ensures.value c.as_slice-2.ensures.value c.in_ok-policy.policy _ c.report_of.result
-    c.in_ok-policy.ensures.ok c.in_ok-policy.ensures.files c.report_of.ensures.report c.report_of.ensures.files
+    let read : Texts = record { policy = _; metadata = _; replacements = _ } in
+    let same = same_texts read _ c.as_slice.ensures.value c.as_slice-2.ensures.value c.as_deref-table.ensures.value in
+    headline_then read _ same c.in_ok-policy.policy c.in_ok-policy.ensures.ok _ c.in_ok-policy.ensures.files
+    c.report_of.result c.report_of.ensures.report c.report_of.ensures.files
 
 pub returns-clause-labels : goal.returns-clause-labels
 returns-clause-labels g c =
-    labels_then _ _ c.in_ok-policy.policy _ c.report_of.result c.in_ok-policy.ensures.labels
+    labels_then _ _ _ c.in_ok-policy.policy _ c.report_of.result c.in_ok-policy.ensures.labels
     c.in_ok-policy.ensures.files c.report_of.ensures.report c.report_of.ensures.files
 
 pub returns-in_err-policy-clause-clash_labels : goal.returns-in_err-policy-clause-clash_labels
@@ -29,4 +36,5 @@ returns-in_err-policy-clause-clash_labels g c =
     c.from_residual.ensures.1 c.in_err-policy.ensures.err
 
 pub returns-clause-clash_labels : goal.returns-clause-clash_labels
-returns-clause-clash_labels g c = metadata_cause_labelled _ _ c.report_of.result c.report_of.ensures.cause
+returns-clause-clash_labels g c = cause_behind_labelled _ _ (policy_view c.in_ok-policy.policy.bans) _
+    c.report_of.result c.report_of.ensures.cause

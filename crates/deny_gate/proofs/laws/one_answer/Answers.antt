@@ -11,7 +11,7 @@ returns-clause-cause c =
       no_policy_with_faults = c.one_refusal.ensures.no_policy_with_faults;
       no_policy_with_clashes = c.one_refusal.ensures.no_policy_with_clashes;
     } in
-    λ policy metadata a b m n h k. one_cause laws policy metadata a b m n h k
+    λ texts a b m n h k. one_cause laws texts a b m n h k
 
 pub returns-clause-valid : goal.returns-clause-valid
 returns-clause-valid c =
@@ -23,4 +23,4 @@ returns-clause-valid c =
       no_policy_with_faults = c.one_refusal.ensures.no_policy_with_faults;
       no_policy_with_clashes = c.one_refusal.ensures.no_policy_with_clashes;
     } in
-    λ policy metadata error m there graph h. no_cause laws policy metadata error m there graph h
+    λ texts error m there graph table h. no_cause laws texts error m there graph table h
