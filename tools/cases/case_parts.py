@@ -65,6 +65,17 @@ def graph(text, members="app"):
     return lean(metadata(edges, packages=list(made.values()), members=in_order))
 
 
+def public_graph(text, members="app", rust=(), sources=()):
+    """The same, with crates that are no members from the registry; `rust` gives crates their version of Rust by name,
+    and `sources` other sources."""
+    value, rust, sources = graph(text, members), dict(rust), dict(sources)
+    for one in value["packages"]:
+        name = one["name"]
+        source = sources.get(name, None if one["id"] in value["workspace_members"] else REGISTRY)
+        one.update({"source": source} if source else {}, **({"rust_version": rust[name]} if name in rust else {}))
+    return value
+
+
 def lean(value):
     """Metadata without what may be left out: no source, no dependencies, a normal one's kind."""
     for package_ in value["packages"]:
@@ -86,12 +97,22 @@ TWO_X = compact(metadata([(APP, X), (APP, X2)]))
 DENY_X = '[bans]\ndeny = ["x"]\n'
 DENY_SEVERAL = '[bans]\nmultiple-versions = "deny"\n'
 WORDS = ["check", "deny.toml", "metadata.json"]
+TABLE = "std.bin"
 
 
-def case(name, policy="", text=ALONE, **more):
-    """A run over a policy and metadata. `by_hand` says what it tells, as `told` of check_cases.py puts it."""
+def case(name, policy="", text=ALONE, table=None, **more):
+    """A run over a policy and metadata, and over a table of replacements where there is one: its bytes, or a text.
+    `by_hand` says what the run tells, as `told` of check_cases.py puts it."""
     text = text if isinstance(text, (str, list)) else compact(text)
-    return dict({"name": name, "words": WORDS, "files": {WORDS[1]: policy, WORDS[2]: text}}, **more)
+    words, files = WORDS, {WORDS[1]: policy, WORDS[2]: text}
+    if table is not None:
+        words, files = WORDS + [TABLE], dict(files, **{TABLE: bytes_text(table)})
+    return dict({"name": name, "words": words, "files": files}, **more)
+
+
+def bytes_text(raw):
+    """Bytes as a text of a case."""
+    return {"hex": raw.hex()} if isinstance(raw, bytes) else raw
 
 
 MISSING = object()

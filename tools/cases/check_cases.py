@@ -2,10 +2,11 @@
 """Writes the cases of crates/deny_cases, and what each must print.
 
 The expected output comes from a reading of the rules that is written here anew: it shares nothing with the program
-that the cases try, and stands in tools/readings. The cases stand in metadata_cases, policy_cases and rule_cases.
+that the cases try, and stands in tools/readings. The cases stand in metadata_cases, policy_cases, rule_cases and
+std_cases.
 
-    check_cases.py cases FOLDER             writes the files stdin and stdout of crates/deny_cases
-    check_cases.py check POLICY METADATA    does what the program does with two files
+    check_cases.py cases FOLDER                             writes the files stdin and stdout of crates/deny_cases
+    check_cases.py check POLICY METADATA [REPLACEMENTS]     does what the program does with these files
 """
 
 import json
@@ -21,6 +22,7 @@ from readings.report import LIMIT, compact, report, run, stop_line
 from metadata_cases import metadata_cases
 from policy_cases import policy_cases
 from rule_cases import rule_cases
+from std_cases import long_tables, std_cases
 
 # ---- cases of words, files and outputs
 
@@ -28,6 +30,8 @@ from rule_cases import rule_cases
 def words():
     for list_ in (
         [], ["check"], ["check", "p"], ["check", "p", "m", "r"], ["check", "p", "m", "r", "s"],
+        ["check", "p", "m", "-r"], ["check", "p", "m", "r", ""], ["check", "p", "m", "r", "-s"],
+        ["check", "-p", "m", "r"],
         ["Check", "p", "m"], ["", "p", "m"], ["check", "", "m"], ["check", "-p", "m"],
         ["check", "p", ""], ["check", "p", "-"], ["check", "p", "--m", "r"], ["generate", "0"],
         ["check", "--home=/h", "p", "m"], ["checks", "p"], ["check", "p", "m", ""],
@@ -35,6 +39,7 @@ def words():
         yield {"name": "words %s" % compact(list_), "words": list_, "files": {"p": "", "m": ALONE}}
     yield {"name": "paths with spaces", "words": ["check", " ", "a b/ü"], "files": {" ": "", "a b/ü": ALONE}}
     yield {"name": "one path for both texts", "words": ["check", "m", "m"], "files": {"m": ALONE}}
+    yield {"name": "one path for all texts", "words": ["check", "m", "m", "m"], "files": {"m": ALONE}}
 
 
 def outside():
@@ -73,7 +78,7 @@ def long_texts():
 
 
 def cases():
-    for part in (words, outside, rule_cases, policy_cases, metadata_cases, long_texts):
+    for part in (words, outside, rule_cases, policy_cases, metadata_cases, std_cases, long_texts, long_tables):
         yield from filter(is_wanted, part())
 
 
@@ -128,7 +133,7 @@ def told_of(kind, fields):
         return ["%(kind)s %(start)d..%(end)d %(key)s" % fault for fault in fields["faults"]]
     if fields["stop"] == "invalid":
         return [places_of(one["fields"]["labels"]) for one in fields["diagnostics"]]
-    return [fields["stop"]]
+    return ["%s %d" % (fields["stop"], fields["offset"]) if "offset" in fields else fields["stop"]]
 
 
 def places_of(labels):
@@ -169,10 +174,9 @@ def write_cases(folder):
             stdout.write(compact(answer) + "\n")
 
 
-def check(policy, metadata):
-    """What the program writes on two files, and its status."""
-    read = lambda path: open(path, "rb").read()
-    written, status = report(read(policy), read(metadata))
+def check(*paths):
+    """What the program writes on these files, and its status."""
+    written, status = report(*(Path(path).read_bytes() for path in paths))
     (sys.stdout if status in (0, 2) else sys.stderr).write(written)
     return status
 
@@ -180,7 +184,7 @@ def check(policy, metadata):
 def main():
     if len(sys.argv) == 3 and sys.argv[1] == "cases":
         write_cases(sys.argv[2])
-    elif len(sys.argv) == 4 and sys.argv[1] == "check":
+    elif len(sys.argv) in (4, 5) and sys.argv[1] == "check":
         sys.exit(check(*sys.argv[2:]))
     else:
         sys.exit(__doc__)

@@ -1,9 +1,11 @@
 """Cases of policies: what each key takes, how an entry is written, what contradicts itself, what is not judged yet."""
 
-from case_parts import ALONE, DENY_X, TWO_X, WITH_X, case, graph
+from case_parts import ALONE, DENY_X, TWO_X, WITH_X, case, graph, public_graph
 from readings.report import compact
+from replacement_cases import WORKED
 
 BOTH_X = compact(graph("app -> x, app -> x@2.0.0"))
+PUBLIC_X = compact(public_graph("app -> x, app -> x@2.0.0, app -> y", rust={"app": "1.69"}))
 
 # ---- keys
 
@@ -92,11 +94,13 @@ def values_of(kind, good, bad):
 def each_key():
     """Each key with each value that it takes, with others of its kind, and with a value of each other kind."""
     for where, (written, keys) in TABLES.items():
-        metadata = BOTH_X if where in JUDGED else ALONE
+        metadata, more = BOTH_X if where in JUDGED else ALONE, {}
+        if where == "std-replacements":
+            metadata, more = PUBLIC_X, {"table": WORKED}
         for key, takes in keys.items():
             for value in values_of(*takes):
                 short = value if len(value) < 40 else "%s.. %d" % (value[:10], len(value))
-                yield case("%s: %s = %s" % (where, key, short), written % ("%s = %s" % (key, value)), metadata)
+                yield case("%s: %s = %s" % (where, key, short), written % ("%s = %s" % (key, value)), metadata, **more)
         yield case("%s: an unknown key" % where, written % "clarify = 1", metadata)
         yield case("%s: an unknown key in quotes, with a dot" % where, written % "'a.b' = [1]", metadata)
         yield case("%s: a key in another case" % where, written % (next(iter(keys)).upper() + " = 1"), metadata)
@@ -197,10 +201,12 @@ def entries():
         ("features of", "[bans]\nfeatures = [%s]\n"), ("a build script of", "[bans]\nallow-build-scripts = [%s]\n"),
         ("a build script, in its table, of", "[bans.build]\nallow-build-scripts = [%s]\n"),
         ("a bypass of", "[bans.build]\nbypass = [%s]\n"),
-        ("an ignored replacement of", "[bans.std-replacements]\nignore = [%s]\n"),
     ):
         for spec in FEW_SPECS:
             yield case("%s %s" % (what, spec), written % spec, BOTH_X)
+    for spec in FEW_SPECS:
+        written = "[bans.std-replacements]\nignore-rust-version = 'all'\nignore = [%s]\n" % spec
+        yield case("an ignored replacement of %s" % spec, written, PUBLIC_X, table=WORKED)
     yield case(
         "two entries, both faulty", '[bans]\nskip = ["x@", "", { name = "", reason = 1, more = 2 }]\n',
         by_hand="unreadable 16..18 bans.skip.0; "
@@ -379,7 +385,7 @@ def together(text, other):
 UNBUILT = [
     "features = []", "external-default-features = 'allow'", "workspace-default-features = 'allow'",
     "wildcards = 'allow'", "allow-wildcard-paths = false", "allow-build-scripts = []", "build = {}",
-    "workspace-dependencies = {}", "std-replacements = {}",
+    "workspace-dependencies = {}",
 ]
 
 
@@ -398,7 +404,7 @@ def unbuilt():
         "[licenses]\nallow = ['MIT']\n\n[bans]\ndeny = ['x']\n", "[licenses.private]\nignore = 1\n"
     ):
         yield case("not judged: %s" % compact(text), text, WITH_X, by_hand="not-built")
-    for table in ("build", "workspace-dependencies", "std-replacements"):
+    for table in ("build", "workspace-dependencies"):
         yield case("not judged: [bans.%s]" % table, "[bans.%s]\n" % table, by_hand="not-built")
     for text in (
         "[license]\n", "[bans]\ndeny = []\n[other.licenses]\n", "[graph]\nbuild = 1\n", "build = 5\nfeatures = 1\n"

@@ -32,6 +32,15 @@ def is_address(text):
     return bool(re.fullmatch(OTHER, text))
 
 
+# The public registry, in the two forms in which cargo knows it.
+CRATES_IO = ("registry+https://github.com/rust-lang/crates.io-index", "sparse+https://index.crates.io/")
+
+
+def minor_of(rust_version):
+    """The second number of a version of Rust, 0 where it has none; or None where there is no version."""
+    return None if rust_version is None else int((rust_version.split(".") + ["0"])[1])
+
+
 def is_source(text):
     """An address behind the word for how it is read."""
     kind, plus, address = text.partition("+")
@@ -261,6 +270,7 @@ class Crate:
         self.name, self.version = package["name"], package["version"]
         self.read_version = read_version(self.version)
         self.is_member, self.is_built = is_member, is_built
+        self.is_public, self.rust_minor = package["source"] in CRATES_IO, minor_of(package["rust_version"])
         self.needs, self.dependents = set(), set()
 
     def __str__(self):

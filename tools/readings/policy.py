@@ -281,7 +281,7 @@ BANS = {
 # What no rule reads yet: such a policy is not judged.
 UNBUILT = [
     "features", "external-default-features", "workspace-default-features", "wildcards", "allow-wildcard-paths",
-    "allow-build-scripts", "build", "workspace-dependencies", "std-replacements",
+    "allow-build-scripts", "build", "workspace-dependencies",
 ]
 
 

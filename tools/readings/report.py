@@ -1,10 +1,12 @@
-"""What a run of `check POLICY METADATA` writes, and its status."""
+"""What a run of `check POLICY METADATA [REPLACEMENTS]` writes, and its status."""
 
 import json
 
 from readings.metadata import Fault, read_metadata
 from readings.policy import Faults, clashes, read_policy
-from readings.rules import findings
+from readings.replaced import std_rules, table_for
+from readings.replacements import Bad
+from readings.rules import crate_rules, in_order
 
 LIMIT = 2**28  # a text that is read has fewer bytes than this
 
@@ -40,6 +42,8 @@ def with_labels(fields, text, labels):
 
 def finding_line(finding, text):
     fields = {"code": finding.code, "message": finding.message, "severity": finding.severity}
+    if finding.notes:
+        fields["notes"] = finding.notes
     return line("diagnostic", with_labels(fields, text, finding.labels))
 
 
@@ -56,8 +60,8 @@ def fault_value(fault):
 # ---- runs
 
 
-def report(policy_text, metadata_text):
-    """The lines of the report on two texts and its status, or the line of a stop and its status."""
+def report(policy_text, metadata_text, replacements=None):
+    """The lines of the report on these texts and its status, or the line of a stop and its status."""
     try:
         policy = read_policy(policy_text)
     except Faults as found:
@@ -71,7 +75,11 @@ def report(policy_text, metadata_text):
         graph = read_metadata(metadata_text)
     except Fault as fault:
         return stop_line("metadata", fault=fault.fault, detail=fault.detail), 21
-    found = findings(policy, graph)
+    try:
+        table = table_for(policy, replacements)
+    except Bad as bad:
+        return stop_line("replacement", offset=bad.args[0]), 22
+    found = in_order([*crate_rules(policy, graph), *std_rules(policy, graph, table)])
     fails = any(finding.severity == "error" for finding in found)
     bits = 2 if fails else 0
     verdict = line("verdict", {"bits": bits, "verdict": "fail" if fails else "pass"})
@@ -79,13 +87,13 @@ def report(policy_text, metadata_text):
 
 
 def usage_place(words):
-    """Where the words break off from `check POLICY METADATA`, or None."""
+    """Where the words break off from `check POLICY METADATA [REPLACEMENTS]`, or None."""
     is_path = lambda word: word != "" and not word.startswith("-")
-    tests = [lambda word: word == "check", is_path, is_path]
+    tests, fewest = [lambda word: word == "check", is_path, is_path, is_path], 3
     for place, word in enumerate(words):
         if place >= len(tests) or not tests[place](word):
             return place
-    return None if len(words) == len(tests) else len(words)
+    return len(words) if len(words) < fewest else None
 
 
 def run(words, texts, failing=()):
@@ -94,7 +102,7 @@ def run(words, texts, failing=()):
     if place is not None:
         return stop_line("usage", at=place), 16
     read = []
-    for file, path in (("policy", words[1]), ("metadata", words[2])):
+    for file, path in zip(("policy", "metadata", "replacements"), words[1:]):
         if path not in texts or path in failing:
             return stop_line("read", file=file), 17
         read.append(texts[path]())

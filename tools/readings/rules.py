@@ -2,20 +2,24 @@
 
 from readings.policy import Label
 
-SECTIONS = ["deprecated", "crates", "groups", "workspace", "unused"]
+SECTIONS = ["deprecated", "crates", "groups", "workspace", "unused", "std"]
 CODES = [
     "banned", "allowed", "not-allowed", "duplicate", "skipped", "wildcard", "unmatched-skip", "unnecessary-skip",
     "allowed-by-wrapper", "unmatched-wrapper", "skipped-by-root", "unmatched-skip-root", "unused-wrapper",
+    "replaced-in-std", "unmatched-replacement-ignore",
 ]
-SEVERITY = {"warn": "warning", "deny": "error"}
+SEVERITY = {"allow": "note", "warn": "warning", "deny": "error"}
 NO_ENTRY = (0, 0)
 
 
 class Finding:
     """What is told, and the key by which it is told once and in its place."""
 
-    def __init__(self, section, code, severity, message, labels=(), place=0, entry=NO_ENTRY, other=0, places=()):
-        self.code, self.severity, self.message, self.labels = code, severity, message, list(labels)
+    def __init__(
+        self, section, code, severity, message, labels=(), notes=(), place=0, entry=NO_ENTRY, other=0, places=()
+    ):
+        self.code, self.severity, self.message = code, severity, message
+        self.labels, self.notes = list(labels), list(notes)
         self.key = (SECTIONS.index(section), place, CODES.index(code), entry, "", other, tuple(places))
 
 
@@ -176,9 +180,14 @@ def duplicates(rules):
             yield Finding("groups", "duplicate", SEVERITY[level], message, place=places[0], places=places)
 
 
-def findings(policy, graph):
-    """All that stands, each once, ascending by key."""
+def crate_rules(policy, graph):
+    """What stands by the crate rules."""
     rules = Rules(policy, graph)
-    parts = (bans, unused_wrappers, allowances, skipped_crates, skipped_trees, duplicates)
-    found = {finding.key: finding for part in parts for finding in part(rules)}
+    for part in (bans, unused_wrappers, allowances, skipped_crates, skipped_trees, duplicates):
+        yield from part(rules)
+
+
+def in_order(findings):
+    """Findings, each once, ascending by key."""
+    found = {finding.key: finding for finding in findings}
     return [found[key] for key in sorted(found)]

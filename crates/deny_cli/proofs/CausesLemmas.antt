@@ -1,20 +1,26 @@
 -- What follows from the causes of a run's outcomes.
-use Rattle.std.proofs.Common.{◌∙◌, ◌≡◌, ◌≢◌, ℕ, Bool, true, false, List, Option, Some, ap, refl, sym, subst, rules, arith, if◌then◌else◌}
+use Rattle.std.proofs.Common.{◌∙◌, ◌≡◌, ◌≢◌, ◌<◌, ◌^◌, ℕ, IsTrue, Bool, true, false, List, length, Option, None, Some, ap, refl, sym, subst, rules, arith, if◌then◌else◌}
 use Rattle.std.specs.List.{list_any}
-use Rattle.std.specs.Prelude.{IfSome}
+use Rattle.std.specs.Prelude.{IfSome, option_map}
 use Rattle.deny_outside.specs.Count.{Rose}
 use Rattle.deny_outside.specs.Read.{IsWhole}
 use Rattle.deny_outside.specs.Disk.{Disk, Files, bytes_at}
 use Rattle.deny_base.specs.declared.check.Which.{Which}
 use Rattle.deny_base.specs.declared.check.Which.TheVariants.{Policy, Metadata, Replacements}
-use Rattle.deny_gate.specs.Gating.{AreOneCause, HasGraph, HasPolicy, IsReportOf, IsCause}
+use Rattle.deny_cfg.specs.PolicyText.{IsPolicyOf, TellsClashes}
+use Rattle.deny_cfg.specs.PolicyView.{policy_view}
+use Rattle.deny_cfg.specs.declared.policy.Policy as cfg
+use Rattle.deny_model.specs.Policy as model
+use Rattle.deny_codes.specs.Saying.{HasTable}
+use Rattle.deny_codes.specs.StdReplacements.{asks_for_table}
+use Rattle.deny_gate.specs.Gating.{AreOneCause, AreShort, AsksForTable, HasGraph, HasPolicy, IsReportOf, IsCause, Texts}
 use Rattle.deny_gate.specs.declared.report.GateError.{GateError}
 use Rattle.deny_gate.specs.declared.report.GateError.TheVariants as gate
 use Rattle.deny_gate.specs.Headline.{IsHeadlineOf}
-use Rattle.deny_gate.specs.Report.{has_error}
+use Rattle.deny_gate.specs.Report.{has_error, policy_id}
 use Rattle.deny_gate.specs.declared.report.Report.{Report}
 use Rattle.deny_gate.specs.declared.report.Verdict.TheVariants.{Pass, Fail}
-use Rattle.deny_cli.specs.Causes.{Texts, texts_at, texts_of, IsShort, IsFirstLong, AreTextsOf, AreTold, IsReportOn, IsStopOn, IsLongOn, IsReadFault, IsRefusedRun, IsValidRun, IsHeadlineOn, IsReadable, IsTextOfClashes, ComesBy, StopsAt}
+use Rattle.deny_cli.specs.Causes.{read_or_none, text_at, texts_at, texts_of, IsShort, IsFirstLong, IsLongThere, IsReadIfNamed, AreTextsOf, AreTold, IsReportOn, IsStopOn, IsLongOn, IsReadFault, IsRefusedRun, IsValidRun, IsHeadlineOn, IsReadable, IsTextOfClashes, ComesBy, StopsAt}
 use Rattle.deny_cli.specs.Outcome.{AreOneStop, IfDone, IfReported, IsUsage, IsDoneOrMemory, IsStopOrMemory, bits_of, status_of}
 use Rattle.deny_cli.specs.Outputs.{LeavesOut}
 use Rattle.deny_cli.specs.Stops.{IsTextOf}
@@ -30,35 +36,56 @@ IsNotWritten outcome = Unit {0}
 
 -- ---- of texts
 
--- short texts are not long
-not_long : (texts : Texts) (which : Which) → IsShort texts.policy → IsShort texts.metadata → IsFirstLong texts which → ⊥
-not_long texts Policy short also is = omega (arith, is)
-not_long texts Metadata short also is = omega (arith, is.1)
-not_long texts Replacements short also is = is
+-- a short text that is there is not long
+not_long_there : (text : Option (List ℕ)) → IfSome text (λ bytes. length bytes < 2 ^ 28) → IsLongThere text → ⊥
+not_long_there None short is = is
+not_long_there (Some text) short is = omega (arith, short, is)
+
+-- of short texts none is long
+not_long : (texts : Texts) (which : Which) → AreShort texts → IsFirstLong texts which → ⊥
+not_long texts Policy short is = omega (arith, short.policy, is)
+not_long texts Metadata short is = omega (arith, short.metadata, is.1)
+not_long texts Replacements short is = not_long_there texts.replacements short.replacements is.2
 
 -- at most one text is the first that is long
 one_long : (texts : Texts) (found which : Which) → IsFirstLong texts found → IsFirstLong texts which → found ≡ which
 one_long texts Policy Policy h k = refl
 one_long texts Policy Metadata h k = absurd (omega (arith, h, k.0))
-one_long texts Policy Replacements h k = absurd k
+one_long texts Policy Replacements h k = absurd (omega (arith, h, k.0))
 one_long texts Metadata Policy h k = absurd (omega (arith, h.0, k))
 one_long texts Metadata Metadata h k = refl
-one_long texts Metadata Replacements h k = absurd k
-one_long texts Replacements which h k = absurd h
+one_long texts Metadata Replacements h k = absurd (omega (arith, h.1, k.1))
+one_long texts Replacements Policy h k = absurd (omega (arith, h.0, k))
+one_long texts Replacements Metadata h k = absurd (omega (arith, h.1, k.1))
+one_long texts Replacements Replacements h k = refl
 
--- what is known of the gate's answers
+-- what is known of the gate's answers, and that policies of one text are one
 pub record AnswerLaws : Type 0 where
-  pub cause : (policy metadata : List ℕ) → (a b : GateError) → a ≢ gate.Memory → b ≢ gate.Memory
-      → IsCause policy metadata a → IsCause policy metadata b → AreOneCause a b
-  pub valid : (policy metadata : List ℕ) → (error : GateError) → error ≢ gate.Memory → HasPolicy policy
-      → HasGraph metadata → IsCause policy metadata error → ⊥
+  pub cause : (texts : Texts) → (a b : GateError) → a ≢ gate.Memory → b ≢ gate.Memory → IsCause texts a
+      → IsCause texts b → AreOneCause a b
+  pub valid : (texts : Texts) → (error : GateError) → error ≢ gate.Memory → HasPolicy texts.policy
+      → HasGraph texts.metadata → (AsksForTable texts.policy → HasTable texts.replacements) → IsCause texts error → ⊥
+  pub policies : (text : List ℕ) → (file : ℕ) → (a b : cfg.Policy) → IsPolicyOf text file a → IsPolicyOf text file b
+      → (policy_view a.bans ≡ policy_view b.bans) × (a.not_built ≡ b.not_built)
 
--- texts that have a report are a policy and metadata without fault
-has_policy : (policy metadata : List ℕ) (report : Report) → IsReportOf policy metadata report → HasPolicy policy
-has_policy policy metadata report of = record { said = of.by.said; is_said = of.by.is_said }
+-- texts that have a report are a policy, metadata without fault, and the table that the policy asks for
+has_policy : (texts : Texts) (report : Report) → IsReportOf texts report → HasPolicy texts.policy
+has_policy texts report of = record { said = of.by.said; is_said = of.by.is_said }
 
-has_graph : (policy metadata : List ℕ) (report : Report) → IsReportOf policy metadata report → HasGraph metadata
-has_graph policy metadata report of = record { read = of.by.is_graph.read; is_read = of.by.is_graph.is_read }
+has_graph : (texts : Texts) (report : Report) → IsReportOf texts report → HasGraph texts.metadata
+has_graph texts report of = record { read = of.by.is_graph.read; is_read = of.by.is_graph.is_read }
+
+has_table : AnswerLaws → (texts : Texts) (report : Report) → IsReportOf texts report → AsksForTable texts.policy
+    → HasTable texts.replacements
+has_table laws texts report of asked =
+    let one = laws.policies texts.policy policy_id asked.said of.by.said asked.is_said.is_policy of.by.is_said.is_policy
+    in of.by.table (subst (λ (p : model.Policy). IsTrue (asks_for_table p)) one.0 asked.asks)
+
+-- so no cause stands why they have none
+no_cause : AnswerLaws → (texts : Texts) (report : Report) (error : GateError) → IsReportOf texts report
+    → error ≢ gate.Memory → IsCause texts error → ⊥
+no_cause laws texts report error of other = laws.valid texts error other (has_policy texts report of)
+    (has_graph texts report of) (has_table laws texts report of)
 
 -- ---- of a run
 
@@ -68,36 +95,54 @@ read_there : (old : Disk) (files : Files) (path text : List ℕ) → old.files �
 read_there old files path text told whole =
     subst (λ (f : Option Files). IfSome f (λ files. text ≡ bytes_at files path)) told whole
 
+named_there : (old : Disk) (files : Files) (path text : Option (List ℕ)) → old.files ≡ Some files
+    → IsReadIfNamed old path text → text ≡ option_map (bytes_at files) path
+named_there old files None text told read = read
+named_there old files (Some path) None told read = absurd read
+named_there old files (Some path) (Some text) told read = ap Some (read_there old files path text told read.whole)
+
 -- so the texts of a run are those
 same_texts : (old : Disk) (words : List (List ℕ)) (named : AreTold old words) (command : Command) (texts : Texts)
     → Asks words command → AreTextsOf old command texts → texts ≡ texts_of named
 same_texts old words named command texts asks read =
-    let one = one_command words command named.command asks named.asks in
-    let policy : texts.policy ≡ (texts_of named).policy =
-    read_there old named.files (path_of command Policy) texts.policy named.told read.policy_read
-    ∙ ap (λ (c : Command). bytes_at named.files (path_of c Policy)) one in
+    let there : (which : Which) → (text : Option (List ℕ)) → IsReadIfNamed old (path_of command which) text
+    → text ≡ text_at named.files named.command which =
+    λ which text read. named_there old named.files (path_of command which) text named.told read
+    ∙ ap (λ (c : Command). text_at named.files c which) (one_command words command named.command asks named.asks) in
+    let policy : texts.policy ≡ (texts_of named).policy = ap read_or_none (there Policy (Some texts.policy) read.policy)
+    in
     let metadata : texts.metadata ≡ (texts_of named).metadata =
-    read_there old named.files (path_of command Metadata) texts.metadata named.told read.metadata_read
-    ∙ ap (λ (c : Command). bytes_at named.files (path_of c Metadata)) one in
-    λ i. record { policy = policy i; metadata = metadata i }
+    ap read_or_none (there Metadata (Some texts.metadata) read.metadata) in
+    let replacements : texts.replacements ≡ (texts_of named).replacements =
+    there Replacements texts.replacements read.replacements in
+    λ i. record { policy = policy i; metadata = metadata i; replacements = replacements i }
+
+-- a text that was read to its end is short
+short_read : (old : Disk) (path text : Option (List ℕ)) → IsReadIfNamed old path text → IfSome text IsShort
+short_read old None text read = subst (λ (t : Option (List ℕ)). IfSome t IsShort) (sym read) tt
+short_read old (Some path) None read = absurd read
+short_read old (Some path) (Some text) read = read.short
+
+pub are_short : (old : Disk) (command : Command) (texts : Texts) → AreTextsOf old command texts → AreShort texts
+are_short old command texts read = record {
+  policy = short_read old (path_of command Policy) (Some texts.policy) read.policy;
+  metadata = short_read old (path_of command Metadata) (Some texts.metadata) read.metadata;
+  replacements = short_read old (path_of command Replacements) texts.replacements read.replacements;
+}
 
 module _ (laws : AnswerLaws) (old new : Disk) (words : List (List ℕ)) where
   -- texts that have a report stop no run
   not_both : (stop : Outcome) (report : Report) → IsRefusedRun old words stop → IsReportOn old words report → ⊥
   not_both (Long which) report is on =
       let at = on.is_theirs in
-      let texts : Texts = record { policy = at.policy; metadata = at.metadata } in
-      let same = same_texts old words is.named on.command texts on.asks at.read in
-      not_long texts which at.read.policy_short at.read.metadata_short
+      let same = same_texts old words is.named on.command at.texts on.asks at.read in
+      not_long at.texts which (are_short old on.command at.texts at.read)
       (subst (λ (t : Texts). IsFirstLong t which) (sym same) is.refused)
   not_both (Gate error) report is on =
       let at = on.is_theirs in
-      let texts : Texts = record { policy = at.policy; metadata = at.metadata } in
-      let same = same_texts old words is.named on.command texts on.asks at.read in
-      laws.valid at.policy at.metadata error is.refused.0
-      (has_policy at.policy at.metadata report at.is_theirs)
-      (has_graph at.policy at.metadata report at.is_theirs)
-      (subst (λ (t : Texts). IsCause t.policy t.metadata error) (sym same) is.refused.3)
+      let same = same_texts old words is.named on.command at.texts on.asks at.read in
+      no_cause laws at.texts report error at.is_theirs is.refused.0
+      (subst (λ (t : Texts). IsCause t error) (sym same) is.refused.2)
   not_both (Done other) report is on = is.refused
   not_both (Usage at) report is on = is.refused
   not_both (Read which) report is on = is.refused
@@ -109,16 +154,14 @@ module _ (laws : AnswerLaws) (old new : Disk) (words : List (List ℕ)) where
       → error ≢ gate.Memory → AreOneStop stop (Gate error)
   same_gate (Long which) error is on other =
       let at = on.is_theirs in
-      let texts : Texts = record { policy = on.policy; metadata = at.metadata } in
-      let same = same_texts old words is.named on.command texts on.asks at.read in
-      absurd (not_long texts which at.read.policy_short at.read.metadata_short
+      let same = same_texts old words is.named on.command at.texts on.asks at.read in
+      absurd (not_long at.texts which (are_short old on.command at.texts at.read)
       (subst (λ (t : Texts). IsFirstLong t which) (sym same) is.refused))
   same_gate (Gate wanted) error is on other =
       let at = on.is_theirs in
-      let texts : Texts = record { policy = on.policy; metadata = at.metadata } in
-      let same = same_texts old words is.named on.command texts on.asks at.read in
-      laws.cause on.policy at.metadata wanted error is.refused.0 other
-      (subst (λ (t : Texts). IsCause t.policy t.metadata wanted) (sym same) is.refused.3) at.is_theirs
+      let same = same_texts old words is.named on.command at.texts on.asks at.read in
+      laws.cause at.texts wanted error is.refused.0 other
+      (subst (λ (t : Texts). IsCause t wanted) (sym same) is.refused.2) at.is_theirs
   same_gate (Done other) error is on differs = absurd is.refused
   same_gate (Usage at) error is on differs = absurd is.refused
   same_gate (Read which) error is on differs = absurd is.refused
@@ -138,8 +181,7 @@ module _ (laws : AnswerLaws) (old new : Disk) (words : List (List ℕ)) where
   same_long : (stop : Outcome) (found : Which) → (is : IsRefusedRun old words stop)
       → IsFirstLong (texts_of is.named) found → AreOneStop stop (Long found)
   same_long (Long which) found is first = ap Long (one_long (texts_of is.named) found which first is.refused)
-  same_long (Gate wanted) found is first =
-      absurd (not_long (texts_of is.named) found is.refused.1 is.refused.2 first)
+  same_long (Gate wanted) found is first = absurd (not_long (texts_of is.named) found is.refused.1 first)
   same_long (Done other) found is first = absurd is.refused
   same_long (Usage at) found is first = absurd is.refused
   same_long (Read which) found is first = absurd is.refused
@@ -148,7 +190,7 @@ module _ (laws : AnswerLaws) (old new : Disk) (words : List (List ℕ)) where
 
   -- a reading that was asked for and failed
   not_readable : (which : Which) → IsReadable old new words → IsReadFault old new words which → ⊥
-  not_readable which readable on = readable on.command on.asks which on.is_theirs.asked_for
+  not_readable which readable on = readable on.command on.asks which on.is_theirs.path on.is_theirs.asked_for
       on.is_theirs.failed.faults_at
 
   stop_or_memory : (stop : Outcome) (error : GateError) → (error ≢ gate.Memory → AreOneStop stop (Gate error))
@@ -157,6 +199,7 @@ module _ (laws : AnswerLaws) (old new : Disk) (words : List (List ℕ)) where
   stop_or_memory stop (gate.Invalid told) is = is (λ e. absurd (cc e))
   stop_or_memory stop (gate.NotBuilt which) is = is (λ e. absurd (cc e))
   stop_or_memory stop (gate.Metadata f) is = is (λ e. absurd (cc e))
+  stop_or_memory stop (gate.Replacement at) is = is (λ e. absurd (cc e))
   stop_or_memory stop gate.Memory is = search rules
 
   pub is_refused : (stop outcome : Outcome) → IsRefusedRun old words stop → IsReadable old new words
@@ -173,17 +216,16 @@ module _ (laws : AnswerLaws) (old new : Disk) (words : List (List ℕ)) where
   not_valid : (error : GateError) → IsValidRun old words → IsStopOn old words error → error ≢ gate.Memory → ⊥
   not_valid error is on other =
       let at = on.is_theirs in
-      let texts : Texts = record { policy = on.policy; metadata = at.metadata } in
-      let same = same_texts old words is.named on.command texts on.asks at.read in
-      laws.valid on.policy at.metadata error other
-      (subst (λ (t : Texts). HasPolicy t.policy) (sym same) is.policy)
-      (subst (λ (t : Texts). HasGraph t.metadata) (sym same) is.metadata) at.is_theirs
+      let same = same_texts old words is.named on.command at.texts on.asks at.read in
+      laws.valid (texts_of is.named) error other is.policy is.metadata is.table
+      (subst (λ (t : Texts). IsCause t error) same at.is_theirs)
 
   done_or_memory : (error : GateError) → (error ≢ gate.Memory → ⊥) → IsDoneOrMemory (Gate error)
   done_or_memory (gate.Config faults) no_other = absurd (no_other (λ e. absurd (cc e)))
   done_or_memory (gate.Invalid told) no_other = absurd (no_other (λ e. absurd (cc e)))
   done_or_memory (gate.NotBuilt which) no_other = absurd (no_other (λ e. absurd (cc e)))
   done_or_memory (gate.Metadata f) no_other = absurd (no_other (λ e. absurd (cc e)))
+  done_or_memory (gate.Replacement at) no_other = absurd (no_other (λ e. absurd (cc e)))
   done_or_memory gate.Memory no_other = tt
 
   pub completes : (outcome : Outcome) → IsValidRun old words → IsReadable old new words → IsNotWritten outcome
@@ -192,7 +234,7 @@ module _ (laws : AnswerLaws) (old new : Disk) (words : List (List ℕ)) where
   completes (Usage at) is readable written comes = absurd (comes.refused (is.named.command, is.named.asks))
   completes (Read which) is readable written comes = absurd (not_readable which readable comes)
   completes (Long which) is readable written comes = absurd
-      (not_long (texts_of is.named) which is.policy_short is.metadata_short (long_there is.named which comes))
+      (not_long (texts_of is.named) which is.short (long_there is.named which comes))
   completes (Gate error) is readable written comes = done_or_memory error (not_valid error is comes)
   completes (Write report) is readable written comes = absurd written
   completes Memory is readable written comes = tt
@@ -213,17 +255,19 @@ not_written written faults old new Memory left quiet = tt
 -- clashes are those of the text that was read
 pub text_of_clashes : (old new : Disk) (words : List (List ℕ)) (command : Command) (text : List ℕ) (outcome : Outcome)
     → Asks words command → StopsAt old new command outcome text → IsTextOfClashes old words outcome text
-text_of_clashes old new words command text (Gate (gate.Invalid told)) asks stops = record {
-  command = command;
-  asks = asks;
-  read = stops.read.policy_read;
-  short = stops.read.policy_short;
-  tells = stops.is_theirs;
-  labelled = stops.labelled;
-}
+text_of_clashes old new words command text (Gate (gate.Invalid told)) asks stops =
+    let same = stops.of_policy in
+    record {
+      command = command;
+      asks = asks;
+      read = subst (λ (t : List ℕ). IsReadIfNamed old (path_of command Policy) (Some t)) same stops.read.policy;
+      tells = subst (λ (t : List ℕ). TellsClashes t policy_id told) same stops.is_theirs;
+      labelled = stops.labelled;
+    }
 text_of_clashes old new words command text (Gate (gate.Config faults)) asks stops = tt
 text_of_clashes old new words command text (Gate (gate.NotBuilt which)) asks stops = tt
 text_of_clashes old new words command text (Gate (gate.Metadata f)) asks stops = tt
+text_of_clashes old new words command text (Gate (gate.Replacement at)) asks stops = tt
 text_of_clashes old new words command text (Gate gate.Memory) asks stops = tt
 text_of_clashes old new words command text (Done report) asks stops = tt
 text_of_clashes old new words command text (Usage at) asks stops = tt
@@ -235,10 +279,12 @@ text_of_clashes old new words command text Memory asks stops = tt
 pub is_text : (old : Disk) (words : List (List ℕ)) (policy text : List ℕ) (outcome : Outcome) → text ≡ policy
     → IsTextOfClashes old words outcome policy → IsTextOf outcome text
 is_text old words policy text (Gate (gate.Invalid told)) same is = subst
-    (λ (t : List ℕ). IsTextOf (Gate (gate.Invalid told)) t) (sym same) (is.tells.says.utf8, is.short)
+    (λ (t : List ℕ). IsTextOf (Gate (gate.Invalid told)) t) (sym same)
+    (is.tells.says.utf8, short_read old (path_of is.command Policy) (Some policy) is.read)
 is_text old words policy text (Gate (gate.Config faults)) same is = tt
 is_text old words policy text (Gate (gate.NotBuilt which)) same is = tt
 is_text old words policy text (Gate (gate.Metadata f)) same is = tt
+is_text old words policy text (Gate (gate.Replacement at)) same is = tt
 is_text old words policy text (Gate gate.Memory) same is = tt
 is_text old words policy text (Done report) same is = tt
 is_text old words policy text (Usage at) same is = tt
@@ -260,8 +306,7 @@ refused_words old new words Memory comes refused = absurd (refused comes)
 
 -- ---- the headline
 
-of_report : ((policy metadata : List ℕ) → (report : Report) → IsReportOf policy metadata report
-    → IsHeadlineOf policy metadata report)
+of_report : ((texts : Texts) → (report : Report) → IsReportOf texts report → IsHeadlineOf texts report)
     → (old : Disk) (words : List (List ℕ)) (report : Report) → IsReportOn old words report
     → IsHeadlineOn old words report
 of_report law old words report on =
@@ -269,14 +314,12 @@ of_report law old words report on =
     record {
       command = on.command;
       asks = on.asks;
-      policy = at.policy;
-      metadata = at.metadata;
+      texts = at.texts;
       read = at.read;
-      headline = law at.policy at.metadata report at.is_theirs;
+      headline = law at.texts report at.is_theirs;
     }
 
-pub headline_on : ((policy metadata : List ℕ) → (report : Report) → IsReportOf policy metadata report
-    → IsHeadlineOf policy metadata report)
+pub headline_on : ((texts : Texts) → (report : Report) → IsReportOf texts report → IsHeadlineOf texts report)
     → (old new : Disk) (words : List (List ℕ)) (outcome : Outcome) → ComesBy old new words outcome
     → IfReported outcome (IsHeadlineOn old words)
 headline_on law old new words (Done report) comes = of_report law old words report comes

@@ -2,16 +2,14 @@
 use Rattle.std.proofs.Common.{◌≡◌, ℕ, false, List, [], ◌∷◌, Option, Some, None, codes, refl}
 use Rattle.std.specs.Prelude.{map}
 use Rattle.std.proofs.lemmas.Bool.{or_from}
-use Rattle.serde_json.specs.Data.{Data, Members, array, member, no_members, object, string}
+use Rattle.serde_json.specs.Data.{Data, Members, array, member, no_members, string}
 use Rattle.serde_json.specs.View.{items_of}
 use Rattle.serde_json.specs.Written.{has_float, items_have_float, members_have_float}
-use Rattle.deny_base.specs.declared.check.Which.{Which}
 use Rattle.deny_base.specs.declared.code.DiagnosticCode.{DiagnosticCode}
 use Rattle.deny_base.specs.declared.files.File.{File}
 use Rattle.deny_base.specs.declared.finding.Diagnostic.{Diagnostic}
 use Rattle.deny_base.specs.declared.label.Label.{Label}
 use Rattle.deny_cfg.specs.PolicyText.{policy_file}
-use Rattle.deny_krates.specs.fault.MetadataFault.{MetadataFault}
 use Rattle.deny_toml.specs.declared.error.ConfigFault.{ConfigFault}
 use Rattle.deny_gate.specs.declared.report.GateError.TheVariants as gate
 use Rattle.deny_cli.specs.Diagnostics.{code_member, diagnostic_value, fields_after_code, fields_after_labels, fields_of, label_value, labels_member, notes_member, notes_of, severity_word, tells}
@@ -81,6 +79,7 @@ in_stop_fields policy (Gate (gate.Invalid told)) =
     (in_items (diagnostic_value (policy_file policy ∷ [])) (in_diagnostic (policy_file policy ∷ [])) told) refl
 in_stop_fields policy (Gate (gate.NotBuilt which)) = refl
 in_stop_fields policy (Gate (gate.Metadata fault)) = refl
+in_stop_fields policy (Gate (gate.Replacement at)) = refl
 in_stop_fields policy (Gate gate.Memory) = refl
 in_stop_fields policy (Write report) = refl
 in_stop_fields policy Memory = refl

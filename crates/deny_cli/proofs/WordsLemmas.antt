@@ -1,12 +1,12 @@
 -- Where lists of words break off, by the form that they fill.
-use Rattle.std.proofs.Common.{◌≡◌, ℕ, ◌+◌, ◌<◌, ◌≤◌, ◌++◌, ◌∙◌, IsTrue, List, [], ◌∷◌, Option, Some, None, length, take, drop, codes, ap, append_assoc, refl, sym, subst, take-take, arith}
+use Rattle.std.proofs.Common.{◌≡◌, ℕ, ◌+◌, ◌<◌, ◌≤◌, ◌++◌, ◌∙◌, List, [], ◌∷◌, Option, Some, None, length, take, drop, codes, ap, append_assoc, refl, sym, subst, take-take, arith}
 use Rattle.std.specs.Prelude.{String, option_and_then, slice_index_or, string_bytes}
 use Rattle.std.specs.declared.alloc.Global.{Global}
 use Rattle.std.proofs.Common.{add-one}
 use Rattle.std.proofs.Math.Seq.{take-suc}
 use Rattle.std.proofs.lemmas.List.{map-append, take-append-drop, take-map, take_all}
 use Rattle.std.proofs.lemmas.Option.{none-some}
-use Rattle.deny_cli.specs.Words.{AskedSoFar, Command, Form, nothing, checking, names_file, step, filled, command_of, asked_by, Asks, IsAccepted, GoesOn, IsUsageAt, texts}
+use Rattle.deny_cli.specs.Words.{Command, Form, nothing, checking, names_file, step, filled, command_of, asked_by, Asks, IsAccepted, GoesOn, IsUsageAt, texts}
 
 -- ---- each form can be filled
 
@@ -19,18 +19,18 @@ pub record IsFillable (form : Form) : Type 0 where
   pub command : Command
   pub fills : option_and_then command_of (filled (Some form) rest) ≡ Some command
 
-fillable_check : (policy metadata : Option (List ℕ))
-    → IsFillable (checking (record { policy = policy; metadata = metadata }))
+fillable_check : (policy metadata replacements : Option (List ℕ))
+    → IsFillable (checking (record { policy = policy; metadata = metadata; replacements = replacements }))
 unfolding step names_file
-fillable_check None None = record { rest = a_path ∷ a_path ∷ []; command = _; fills = refl }
-fillable_check None (Some metadata) = record { rest = a_path ∷ []; command = _; fills = refl }
-fillable_check (Some policy) None = record { rest = a_path ∷ []; command = _; fills = refl }
-fillable_check (Some policy) (Some metadata) = record { rest = []; command = _; fills = refl }
+fillable_check None None replacements = record { rest = a_path ∷ a_path ∷ []; command = _; fills = refl }
+fillable_check None (Some metadata) replacements = record { rest = a_path ∷ []; command = _; fills = refl }
+fillable_check (Some policy) None replacements = record { rest = a_path ∷ []; command = _; fills = refl }
+fillable_check (Some policy) (Some metadata) replacements = record { rest = []; command = _; fills = refl }
 
 pub fillable : (form : Form) → IsFillable form
 unfolding step names_file
 fillable nothing = record { rest = codes "check" ∷ a_path ∷ a_path ∷ []; command = _; fills = refl }
-fillable (checking asked) = fillable_check asked.policy asked.metadata
+fillable (checking asked) = fillable_check asked.policy asked.metadata asked.replacements
 
 -- ---- words one after another
 

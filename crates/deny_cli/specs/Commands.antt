@@ -1,5 +1,5 @@
 -- What contracts see of the commands that words are read to.
-use Rattle.std.specs.Prelude.{ℕ, List, Option, option_map}
+use Rattle.std.specs.Prelude.{ℕ, List, option_map}
 use Rattle.std.specs.Borrow.{Bor}
 use Rattle.deny_cli.specs.Words as word
 use Rattle.deny_cli.specs.declared.words.Asked.{Asked}
@@ -13,7 +13,11 @@ abbrev pub text_view : Bor (List ℕ) → List ℕ
 text_view text = text.now
 
 abbrev pub asked_view : Asked → word.Asked
-asked_view asked = record { policy = asked.policy.now; metadata = asked.metadata.now }
+asked_view asked = record {
+  policy = asked.policy.now;
+  metadata = asked.metadata.now;
+  replacements = option_map text_view asked.replacements;
+}
 
 abbrev pub command_view : Command → word.Command
 command_view (Check asked) = word.check (asked_view asked)
@@ -22,6 +26,7 @@ abbrev pub so_far_view : AskedSoFar → word.AskedSoFar
 so_far_view asked = record {
   policy = option_map text_view asked.policy;
   metadata = option_map text_view asked.metadata;
+  replacements = option_map text_view asked.replacements;
 }
 
 abbrev pub form_view : Form → word.Form

@@ -89,6 +89,12 @@ fault_fields fault =
     member (codes "detail") (string (fault_detail fault))
     (member (codes "fault") (string (fault_word fault)) (stop_word (codes "metadata")))
 
+-- ---- a table of replacements
+
+-- the offset of its first break, or 0 where there is none
+abbrev pub replacement_fields : ℕ → Members
+replacement_fields at = member (codes "offset") (number (unsigned at)) (stop_word (codes "replacement"))
+
 -- ---- all stops
 
 -- the policy's text is what the labels of clashes lie in; no other stop tells of it
@@ -101,6 +107,7 @@ stop_fields policy (Gate (gate.Config faults)) = config_fields faults
 stop_fields policy (Gate (gate.Invalid told)) = invalid_fields (policy_file policy ∷ []) told
 stop_fields policy (Gate (gate.NotBuilt which)) = stop_at_file (codes "not-built") which
 stop_fields policy (Gate (gate.Metadata fault)) = fault_fields fault
+stop_fields policy (Gate (gate.Replacement at)) = replacement_fields at
 stop_fields policy (Gate gate.Memory) = stop_word (codes "memory")
 stop_fields policy (Write report) = stop_word (codes "write")
 stop_fields policy Memory = stop_word (codes "memory")
@@ -125,6 +132,7 @@ IsTextOf (Gate (gate.Config faults)) policy = ⊤
 IsTextOf (Gate (gate.Invalid told)) policy = IsUtf8 policy × length policy < 2 ^ 28
 IsTextOf (Gate (gate.NotBuilt which)) policy = ⊤
 IsTextOf (Gate (gate.Metadata fault)) policy = ⊤
+IsTextOf (Gate (gate.Replacement at)) policy = ⊤
 IsTextOf (Gate gate.Memory) policy = ⊤
 IsTextOf (Write report) policy = ⊤
 IsTextOf Memory policy = ⊤

@@ -1,5 +1,5 @@
 -- The words of a run: what they ask for, which lists are accepted, and where the others break off.
-use Rattle.std.specs.Prelude.{◌≡◌, ℕ, ◌+◌, ◌<◌, ◌≤◌, ◌==◌, Bool, false, not, List, [], ◌∷◌, ◌++◌, Option, Some, None, option_map, option_and_then, length, take, map, codes, String, string_bytes, if◌then◌else◌}
+use Rattle.std.specs.Prelude.{◌≡◌, ℕ, ◌+◌, ◌<◌, ◌≤◌, ◌==◌, Bool, false, not, List, [], ◌∷◌, ◌++◌, Option, Some, None, is_none, option_map, option_and_then, length, take, map, codes, String, string_bytes, if◌then◌else◌}
 use Rattle.std.specs.declared.alloc.Global.{Global}
 use Rattle.deny_base.specs.declared.check.Which.{Which}
 use Rattle.deny_base.specs.declared.check.Which.TheVariants.{Policy, Metadata, Replacements}
@@ -16,25 +16,27 @@ names_file (byte ∷ bytes) = not (byte == 45)
 
 -- ---- what words ask for
 
--- what a check looks at: the paths of its texts
+-- what a check looks at: the paths of its texts, and of a table of replacements, if one is named
 pub record Asked : Type 0 where
   pub policy : List ℕ
   pub metadata : List ℕ
+  pub replacements : Option (List ℕ)
 
 pub data Command : Type 0 where
   check : Asked → Command
 
 -- the path of a text; none of a text that the command does not read
-abbrev pub path_of : Command → Which → List ℕ
-path_of (check asked) Policy = asked.policy
-path_of (check asked) Metadata = asked.metadata
-path_of (check asked) Replacements = []
+abbrev pub path_of : Command → Which → Option (List ℕ)
+path_of (check asked) Policy = Some asked.policy
+path_of (check asked) Metadata = Some asked.metadata
+path_of (check asked) Replacements = asked.replacements
 
 -- ---- the same as far as words were read
 
 pub record AskedSoFar : Type 0 where
   pub policy : Option (List ℕ)
   pub metadata : Option (List ℕ)
+  pub replacements : Option (List ℕ)
 
 pub data Form : Type 0 where
   nothing : Form
@@ -42,34 +44,37 @@ pub data Form : Type 0 where
 
 -- a check that asks for nothing yet
 abbrev pub begun : AskedSoFar
-begun = record { policy = None; metadata = None }
+begun = record { policy = None; metadata = None; replacements = None }
 
 -- a path is that of the first text that has none
-abbrev pub path_added : Option (List ℕ) → Option (List ℕ) → List ℕ → Option AskedSoFar
-path_added None metadata path = Some (record { policy = Some path; metadata = metadata })
-path_added (Some policy) None path = Some (record { policy = Some policy; metadata = Some path })
-path_added (Some policy) (Some metadata) path = None
+abbrev pub path_added : AskedSoFar → List ℕ → Option AskedSoFar
+path_added asked path =
+    if is_none asked.policy then Some (record asked { policy = Some path })
+    else if is_none asked.metadata then Some (record asked { metadata = Some path })
+    else if is_none asked.replacements then Some (record asked { replacements = Some path })
+    else None
 
 -- what a word adds; none where it may not stand here
 unfoldable pub step : Form → List ℕ → Option Form
 step nothing word = if same_text word (codes "check") then Some (checking begun) else None
 step (checking asked) word =
-    if names_file word then option_map checking (path_added asked.policy asked.metadata word) else None
+    if names_file word then option_map checking (path_added asked word) else None
 
 abbrev pub filled : Option Form → List (List ℕ) → Option Form
 filled form [] = form
 filled form (word ∷ words) = filled (option_and_then (λ before. step before word) form) words
 
--- a check whose texts have paths
-abbrev pub check_of : Option (List ℕ) → Option (List ℕ) → Option Command
-check_of None metadata = None
-check_of (Some policy) None = None
-check_of (Some policy) (Some metadata) = Some (check (record { policy = policy; metadata = metadata }))
+-- a check whose policy and metadata have paths
+abbrev pub check_of : Option (List ℕ) → Option (List ℕ) → Option (List ℕ) → Option Command
+check_of None metadata replacements = None
+check_of (Some policy) None replacements = None
+check_of (Some policy) (Some metadata) replacements =
+    Some (check (record { policy = policy; metadata = metadata; replacements = replacements }))
 
 -- none where something is missing
 abbrev pub command_of : Form → Option Command
 command_of nothing = None
-command_of (checking asked) = check_of asked.policy asked.metadata
+command_of (checking asked) = check_of asked.policy asked.metadata asked.replacements
 
 -- ---- which words are accepted
 

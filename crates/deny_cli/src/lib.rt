@@ -1,4 +1,4 @@
-//! The command line as a library call: from words to two texts, the gate, lines and a status.
+//! The command line as a library call: from words to texts, the gate, lines and a status.
 #![tactic(auto)]
 
 mod diagnostics;

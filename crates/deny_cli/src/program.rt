@@ -1,22 +1,22 @@
-ghost use Rattle.std.specs.Prelude.{◌≡◌, ◌<◌, ◌^◌, ℕ, List, length, IfOk, IfErr, if◌then◌else◌};
+ghost use Rattle.std.specs.Prelude.{◌≡◌, ℕ, List, [], IfOk, IfErr, if◌then◌else◌};
 ghost use Rattle.std.specs.List.{list_any};
 ghost use Rattle.deny_outside.specs.Count.{Rose};
 ghost use Rattle.deny_outside.specs.Disk.{IsLater};
-ghost use Rattle.deny_gate.specs.Gating.{IsReportOf};
+ghost use Rattle.deny_gate.specs.Gating.{AreShort, IsReportOf, texts_in};
 ghost use Rattle.deny_gate.specs.Labels.{AreLabelled};
 ghost use Rattle.deny_gate.specs.Report.{has_error};
-ghost use Rattle.deny_cli.specs.Causes.{Texts, ComesBy, StopsBy, StopsAt, IsHeadlineOn, IsReportAt, IsReportOn, IsValidRun, IsRefusedRun, IsReadable, IsGateStop, IsTextOfClashes, end_stop};
-ghost use Rattle.deny_cli.specs.Commands.{command_view};
+ghost use Rattle.deny_cli.specs.Causes.{AreTextsOf, ComesBy, StopsBy, StopsAt, IsHeadlineOn, IsReadAt, IsReadStop, IsReportAt, IsReportOn, IsValidRun, IsRefusedRun, IsReadable, IsGateStop, IsTextOfClashes, end_stop};
+ghost use Rattle.deny_cli.specs.Commands.{asked_view, command_view};
 ghost use Rattle.deny_cli.specs.Outcome.{IfDone, IfReported, IsUsage, IsDoneOrMemory, IsStopOrMemory, status_of};
 ghost use Rattle.deny_cli.specs.declared.outcome.Outcome.{Outcome};
 ghost use Rattle.deny_cli.specs.Stops.{IsTextOf};
 ghost use Rattle.deny_cli.specs.Outputs.{LeavesOut, LeavesErr, PutsLine, WritesReport};
-ghost use Rattle.deny_cli.specs.Words.{texts, IsAccepted};
+ghost use Rattle.deny_cli.specs.Words.{check, texts, IsAccepted};
 
 use crate::lines::lines;
 use crate::outcome::{Ended, Outcome};
 use crate::stops::{memory_line, stop_line};
-use crate::words::{Command, read_words};
+use crate::words::{Asked, Command, read_words};
 use deny_base::Which;
 use deny_gate::{Inputs, Report, gate};
 use deny_lists::NoMemory;
@@ -44,7 +44,8 @@ fn end_stop(which: Which, end: ReadEnd) -> Outcome
 
 /// An ending that does not tell of the policy's text.
 fn ends_by(alloc: Global, outcome: Outcome) -> Ending
-    ensures { result.outcome ≡ outcome }
+    ensures outcome { result.outcome ≡ outcome }
+    ensures policy { result.policy.items ≡ [] }
 {
     Ending {
         outcome,
@@ -52,14 +53,54 @@ fn ends_by(alloc: Global, outcome: Outcome) -> Ending
     }
 }
 
-/// The report on two texts, or why there is none.
+/// The text at a path of a command, or why it stops the run.
+fn read_text<D: PackageFiles>(
+    alloc: Global,
+    which: Which,
+    path: &str,
+    disk: &mut D,
+) -> Result<Vec<u8>, Outcome>
+    ensures read { IfOk result (λ text. IsReadAt (D.seen disk.old) path.now text.items) }
+    ensures stop { IfErr result (IsReadStop (D.seen disk.old) (D.seen disk.new) which path.now) }
+    ensures later { IsLater (D.seen disk.old) (D.seen disk.new) }
+{
+    match read_whole(alloc, disk, path) {
+        Ok(text) => Ok(text),
+        Err(end) => Err(end_stop(which, end)),
+    }
+}
+
+/// The texts of a check, or why there are none. A text is read once those before it are.
+fn read_inputs<D: PackageFiles>(
+    alloc: Global,
+    asked: Asked<'_>,
+    disk: &mut D,
+) -> Result<Inputs, Outcome>
+    ensures read { IfOk result (λ inputs.
+        AreTextsOf (D.seen disk.old) (check (asked_view asked.entry)) (texts_in inputs)) }
+    ensures stop { IfErr result (λ outcome.
+        StopsAt (D.seen disk.old) (D.seen disk.new) (check (asked_view asked.entry)) outcome []) }
+    ensures later { IsLater (D.seen disk.old) (D.seen disk.new) }
+{
+    let policy = read_text(alloc, Which::Policy, asked.policy, disk)?;
+    let metadata = read_text(alloc, Which::Metadata, asked.metadata, disk)?;
+    let replacements = match asked.replacements {
+        Some(path) => Some(read_text(alloc, Which::Replacements, path, disk)?),
+        None => None,
+    };
+    Ok(Inputs {
+        policy,
+        metadata,
+        replacements,
+    })
+}
+
+/// The report on texts, or why there is none.
 fn report_of<D: PackageFiles>(alloc: Global, inputs: Inputs, disk: &mut D) -> Result<Report, Ending>
-    requires policy { length inputs.policy.items < 2 ^ 28 }
-    requires metadata { length inputs.metadata.items < 2 ^ 28 }
-    ensures report { IfOk result (IsReportOf inputs.policy.items inputs.metadata.items) }
+    requires { AreShort (texts_in inputs) }
+    ensures report { IfOk result (IsReportOf (texts_in inputs)) }
     ensures labels { IfOk result (λ report. AreLabelled report.files report.findings) }
-    ensures stop { IfErr result (λ ending. IsGateStop
-        (record { policy = inputs.policy.items; metadata = inputs.metadata.items }) ending.outcome) }
+    ensures stop { IfErr result (λ ending. IsGateStop (texts_in inputs) ending.outcome) }
     ensures policy { IfErr result (λ ending. ending.policy.items ≡ inputs.policy.items) }
     ensures later { IsLater (D.seen disk.old) (D.seen disk.new) }
 {
@@ -72,7 +113,7 @@ fn report_of<D: PackageFiles>(alloc: Global, inputs: Inputs, disk: &mut D) -> Re
     }
 }
 
-/// The report on the texts of a command, or why there is none. A text is read once those before it are.
+/// The report on the texts of a command, or why there is none.
 fn report_at<D: PackageFiles>(
     alloc: Global,
     command: Command<'_>,
@@ -85,15 +126,10 @@ fn report_at<D: PackageFiles>(
     ensures later { IsLater (D.seen disk.old) (D.seen disk.new) }
 {
     let Command::Check(asked) = command;
-    let policy = match read_whole(alloc, disk, asked.policy) {
-        Ok(policy) => policy,
-        Err(end) => return Err(ends_by(alloc, end_stop(Which::Policy, end))),
-    };
-    let metadata = match read_whole(alloc, disk, asked.metadata) {
-        Ok(metadata) => metadata,
-        Err(end) => return Err(ends_by(alloc, end_stop(Which::Metadata, end))),
-    };
-    report_of(alloc, Inputs { policy, metadata }, disk)
+    match read_inputs(alloc, asked, disk) {
+        Ok(inputs) => report_of(alloc, inputs, disk),
+        Err(outcome) => Err(ends_by(alloc, outcome)),
+    }
 }
 
 /// The report on what the words ask for, or why there is none.
@@ -169,13 +205,15 @@ fn tell<E: Out>(alloc: Global, outcome: &Outcome, policy: &[u8], err: &mut E)
     }
 }
 
-/// Runs the program on these words, without the program's own name: `check POLICY METADATA`.
+/// Runs the program on these words, without the program's own name:
+/// `check POLICY METADATA [REPLACEMENTS]`.
 ///
-/// The two texts are read from `disk`. The lines of the report go to `out`, in one piece, and the
-/// one line that tells a stop to `err`; what a failing `err` makes of it changes nothing. The
-/// order of the causes is: words, reading the policy, its length, reading the metadata, its length,
-/// what the gate refuses in them (in the policy first), the output. Want of memory can come at any
-/// point but the first.
+/// The texts at these paths are read from `disk`, in this order. The lines of the report go to
+/// `out`, in one piece, and the one line that tells a stop to `err`; what a failing `err` makes of
+/// it changes nothing. The order of the causes is: words, reading the policy, its length, reading
+/// the metadata, its length, the same of the table of replacements where one is named, what the
+/// gate refuses in them (in the same order), the output. Want of memory can come at any point but
+/// the first.
 pub fn run<D: PackageFiles, W: Out, E: Out>(
     alloc: Global,
     words: &[String],
@@ -187,8 +225,9 @@ pub fn run<D: PackageFiles, W: Out, E: Out>(
     ensures cause { ComesBy (D.seen disk.old) (D.seen disk.new) (texts words.now) result.outcome }
     // Words that are not accepted always end so.
     ensures usage { (¬ IsAccepted (texts words.now)) → IsUsage result.outcome }
-    // Accepted words, a policy whose rules are there and metadata without fault end with a report,
-    // where no reading of a text that is asked for fails, nor the output.
+    // Accepted words, a policy whose rules are there, metadata without fault and the table that the
+    // policy asks for end with a report, where no reading of a text that is asked for fails, nor
+    // the output.
     ensures completes { IsValidRun (D.seen disk.old) (texts words.now)
         → IsReadable (D.seen disk.old) (D.seen disk.new) (texts words.now)
         → (¬ Rose (W.faults out.old) (W.faults out.new))
@@ -214,6 +253,7 @@ pub fn run<D: PackageFiles, W: Out, E: Out>(
         × LeavesErr E.written E.faults err.old err.new result.outcome policy }
     ensures later { IsLater (D.seen disk.old) (D.seen disk.new) }
 {
+    deny_cfg::one_policy();
     deny_gate::headline();
     deny_gate::one_answer();
     let ending = ending_of(alloc, words, disk, out);

@@ -3,7 +3,7 @@ ghost use Rattle.std.specs.Prelude.{◌≡◌, ◌<◌, ◌^◌, ◌∷◌, [], 
 ghost use Rattle.serde_json.specs.View.{view};
 ghost use Rattle.deny_cfg.specs.PolicyText.{policy_file};
 ghost use Rattle.deny_cli.specs.Diagnostics.{diagnostic_value, tells};
-ghost use Rattle.deny_cli.specs.Stops.{IsTextOf, config_fields, fault_value, fault_detail, fault_fields, fault_word, file_word, invalid_fields, kind_word, memory_line, stop_at_file, stop_fields, stop_line};
+ghost use Rattle.deny_cli.specs.Stops.{IsTextOf, config_fields, fault_value, fault_detail, fault_fields, fault_word, file_word, invalid_fields, kind_word, memory_line, replacement_fields, stop_at_file, stop_fields, stop_line};
 
 use crate::fields::diagnostic_value;
 use crate::lines::line;
@@ -179,6 +179,14 @@ fn metadata_value(alloc: Global, fault: &MetadataFault) -> Result<Value, AllocEr
     })
 }
 
+/// A stop that a table of replacements is the cause of, as JSON: its first break, or 0 where there is
+/// none.
+fn replacement_value(alloc: Global, offset: usize) -> Result<Value, AllocError>
+    ensures { IfOk result (λ value. view value ≡ tells (codes "stop") (replacement_fields offset)) }
+{
+    json!(in alloc; {"fields": {"offset": offset, "stop": "replacement"}, "type": "stop"})
+}
+
 /// Why a run stopped, as JSON. There is none of want of memory, which has a line of its own, and
 /// none of a run that is done.
 fn stop_value(alloc: Global, outcome: &Outcome, policy: &[u8]) -> Result<Value, NoMemory>
@@ -196,6 +204,7 @@ fn stop_value(alloc: Global, outcome: &Outcome, policy: &[u8]) -> Result<Value, 
         Outcome::Gate(GateError::Invalid(told)) => Ok(invalid_value(alloc, policy, told)?),
         Outcome::Gate(GateError::NotBuilt(which)) => Ok(stop_at_file(alloc, "not-built", *which)?),
         Outcome::Gate(GateError::Metadata(fault)) => Ok(metadata_value(alloc, fault)?),
+        Outcome::Gate(GateError::Replacement(at)) => Ok(replacement_value(alloc, *at)?),
         Outcome::Write(_) => Ok(json!(in alloc; {"fields": {"stop": "write"}, "type": "stop"})?),
         Outcome::Done(_) | Outcome::Gate(GateError::Memory) | Outcome::Memory => Err(NoMemory),
     }

@@ -2,11 +2,12 @@ ghost use Rattle.std.specs.Prelude.{◌≡◌, ◌↔◌, IsTrue, MatchResult, c
 ghost use Rattle.deny_cli.specs.Commands.{command_view, form_view, so_far_view};
 ghost use Rattle.deny_cli.specs.Words.{names_file, texts, Asks, IsUsageAt, command_of, path_added, step};
 
-/// What a check looks at: the paths of its texts.
+/// What a check looks at: the paths of its texts, and of a table of replacements, if one is named.
 #[derive(Debug, Clone, Copy)]
 pub struct Asked<'a> {
     pub policy: &'a str,
     pub metadata: &'a str,
+    pub replacements: Option<&'a str>,
 }
 
 /// What accepted words ask for.
@@ -20,6 +21,7 @@ pub enum Command<'a> {
 struct AskedSoFar<'a> {
     policy: Option<&'a str>,
     metadata: Option<&'a str>,
+    replacements: Option<&'a str>,
 }
 
 /// A command that is filled word by word.
@@ -42,19 +44,26 @@ fn names_file(word: &str) -> bool
 
 /// A check that asks for one text more; none where each has its path.
 fn with_path<'a>(asked: AskedSoFar<'a>, path: &'a str) -> Option<AskedSoFar<'a>>
-    ensures { option_map so_far_view result
-        ≡ path_added (so_far_view asked.entry).policy (so_far_view asked.entry).metadata path.now }
+    ensures { option_map so_far_view result ≡ path_added (so_far_view asked.entry) path.now }
 {
-    match (asked.policy, asked.metadata) {
-        (None, metadata) => Some(AskedSoFar {
-            policy: Some(path),
-            metadata,
-        }),
-        (policy, None) => Some(AskedSoFar {
-            policy,
-            metadata: Some(path),
-        }),
-        (Some(_), Some(_)) => None,
+    let path = Some(path);
+    if asked.policy.is_none() {
+        Some(AskedSoFar {
+            policy: path,
+            ..asked
+        })
+    } else if asked.metadata.is_none() {
+        Some(AskedSoFar {
+            metadata: path,
+            ..asked
+        })
+    } else if asked.replacements.is_none() {
+        Some(AskedSoFar {
+            replacements: path,
+            ..asked
+        })
+    } else {
+        None
     }
 }
 
@@ -67,6 +76,7 @@ fn step<'a>(form: Form<'a>, word: &'a str) -> Option<Form<'a>>
         Form::Nothing if word == "check" => Some(Form::Checking(AskedSoFar {
             policy: None,
             metadata: None,
+            replacements: None,
         })),
         Form::Checking(asked) if names_file(word) => {
             Some(Form::Checking(with_path(asked, word)?))
@@ -84,6 +94,7 @@ fn command_of(form: Form<'_>) -> Option<Command<'_>>
         Form::Checking(asked) => Some(Command::Check(Asked {
             policy: asked.policy?,
             metadata: asked.metadata?,
+            replacements: asked.replacements,
         })),
     }
 }

@@ -21,6 +21,7 @@ fn answer(rt: &HostRuntime) -> Result<Result<Report, GateError>, NoMemory> {
     let inputs = Inputs {
         policy: Vec::from_slice(rt.alloc(), policy)?,
         metadata: Vec::from_slice(rt.alloc(), GRAPH)?,
+        replacements: None,
     };
     let mut disk = MemoryDisk::new(rt.alloc(), 1);
     Ok(gate(rt.alloc(), &inputs, &mut disk))

@@ -15,7 +15,11 @@ returns-clause-usage g c refused = refused_words _ _ _ c.ending_of-ending.result
 
 pub returns-clause-completes : goal.returns-clause-completes
 returns-clause-completes g c valid readable quiet =
-    let laws : AnswerLaws = record { cause = c.one_answer.ensures.cause; valid = c.one_answer.ensures.valid } in
+    let laws : AnswerLaws = record {
+      cause = c.one_answer.ensures.cause;
+      valid = c.one_answer.ensures.valid;
+      policies = c.one_policy.ensures;
+    } in
     let made = c.ending_of-ending.ensures in
     completes laws _ _ _ c.ending_of-ending.result.outcome valid readable
     (not_written g.W.Out.written g.W.Out.faults c.args.out.now c.ending_of-ending.new.out
@@ -23,7 +27,11 @@ returns-clause-completes g c valid readable quiet =
 
 pub returns-clause-refuses : goal.returns-clause-refuses
 returns-clause-refuses g c stop refused readable =
-    let laws : AnswerLaws = record { cause = c.one_answer.ensures.cause; valid = c.one_answer.ensures.valid } in
+    let laws : AnswerLaws = record {
+      cause = c.one_answer.ensures.cause;
+      valid = c.one_answer.ensures.valid;
+      policies = c.one_policy.ensures;
+    } in
     is_refused laws _ _ _ stop _ refused readable c.ending_of-ending.ensures.cause
 
 pub returns-clause-headline : goal.returns-clause-headline

@@ -1,8 +1,8 @@
-use Rattle.std.proofs.Common.{◌≡◌, ◌∙◌, ℕ, Option, Some, None, List, ap, sym, subst, take, arith}
-use Rattle.std.specs.Prelude.{length, option_map, string_bytes}
+use Rattle.std.proofs.Common.{◌∙◌, ℕ, Option, Some, ap, sym, subst, take, arith}
+use Rattle.std.specs.Prelude.{option_map, string_bytes}
 use Rattle.std.proofs.lemmas.List.{length-map, take_all}
 use Rattle.deny_cli.specs.Commands.{command_view, form_view}
-use Rattle.deny_cli.specs.Words.{IsUsageAt, command_of, filled, nothing, step, texts}
+use Rattle.deny_cli.specs.Words.{IsUsageAt, filled, nothing, step, texts}
 use Rattle.deny_cli.specs.declared.words.Command.{Command}
 use Rattle.deny_cli.specs.declared.words.Form.{Form}
 use Rattle.deny_cli.proofs.WordsLemmas.{asks_by, filled_more, texts_more, usage_at_end, usage_here}
