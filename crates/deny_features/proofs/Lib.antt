@@ -1,0 +1,9 @@
+pub mod CrateLemmas
+pub mod FlatLemmas
+pub mod KeyLemmas
+pub mod ListedLemmas
+pub mod NameLemmas
+pub mod NotAllowedLemmas
+pub mod NumberLemmas
+pub mod ReachedAtLemmas
+pub mod ReachedLemmas

@@ -1,0 +1,2 @@
+pub mod FeatureKeys
+pub mod private

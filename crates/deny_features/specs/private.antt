@@ -1,0 +1,5 @@
+pub mod Crates
+pub mod Keys
+pub mod Listed
+pub mod Reached
+pub mod Steps

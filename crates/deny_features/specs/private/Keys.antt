@@ -1,0 +1,93 @@
+-- The keys of the crate at a place, by each rule.
+use Rattle.std.specs.Prelude.{◌≡◌, ◌&&◌, ◌||◌, ◌∷◌, ℕ, Bool, true, false, not, List, [], Contains, Some, filter, map, if◌then◌else◌}
+use Rattle.std.specs.List.{list_any}
+use Rattle.std.specs.Option.{option_map_or}
+use Rattle.deny_base.specs.declared.code.Code.TheVariants as code
+use Rattle.deny_base.specs.declared.key.Key.{Key}
+use Rattle.deny_base.specs.declared.level.LintLevel.{LintLevel}
+use Rattle.deny_base.specs.declared.level.LintLevel.TheVariants as level
+use Rattle.deny_base.specs.declared.span.Spanned.{Spanned}
+use Rattle.deny_model.specs.Graph.{Crate, Graph}
+use Rattle.deny_model.specs.Keys.{crate_key}
+use Rattle.deny_model.specs.Policy as policy
+use Rattle.deny_model.specs.Policy.{FeatureEntry, Policy}
+use Rattle.deny_model.specs.Text.{same_text}
+use Rattle.deny_model.specs.Told.{crate_at}
+use Rattle.deny_codes.specs.Features.{IsNotAllowedOf, Reaches, default_feature, names_feature, not_allowed_feature_key}
+use Rattle.deny_facts.specs.Marks.{mark_at}
+use Rattle.deny_features.specs.private.Crates.{default_level_at, enabled_at, has_feature_at}
+use Rattle.deny_features.specs.private.Listed.{is_among, is_mismatched_at, unlisted_at}
+
+-- what one of some elements gives
+pub record OfOne {X T : Type 0} (P : X → T → Type 0) (xs : List X) (y : T) : Type 0 where
+  pub one : X
+  pub member : Contains xs one
+  pub gives : P one y
+
+-- ---- denied features
+
+unfoldable pub banned_keys_at : Graph → List policy.Words → ℕ → List Key
+banned_keys_at g words place = map (λ w. crate_key code.FeatureBanned place w.span) (filter (is_among (enabled_at g place)) words)
+
+-- ---- unknown features
+
+unfoldable pub unknown_keys_at : Graph → List policy.Words → ℕ → List Key
+unknown_keys_at g words place = map (λ w. crate_key code.UnknownFeature place w.span)
+    (filter (λ w. not (has_feature_at g place w.value)) words)
+
+unfoldable pub tells_unknown_at : Policy → Graph → FeatureEntry → ℕ → Bool
+tells_unknown_at p g e place = not (e.exact.value && is_mismatched_at p g e place)
+
+-- ---- features that are not allowed
+
+-- a feature that the table of the crate at a place reaches from one of some words
+pub record IsReachedAt (g : Graph) (place : ℕ) (words : List policy.Words) (feature : List ℕ) : Type 0 where
+  pub krate : Crate
+  pub at : crate_at g place ≡ Some krate
+  pub word : policy.Words
+  pub one : Contains words word
+  pub reaches : Reaches krate word.value feature
+
+-- a feature of the crate at a place that an entry does not list, and that none of the allowed ones reaches
+pub record IsNotAllowedAt (p : Policy) (g : Graph) (e : FeatureEntry) (place : ℕ) (key : Key) : Type 0 where
+  pub feature : List ℕ
+  pub unlisted : Contains (unlisted_at p g e place) feature
+  pub unreached : IsReachedAt g place e.allow.value feature → ⊥
+  pub is : key ≡ not_allowed_feature_key place e.spec.range feature
+
+-- of one entry
+pub record IsNotAllowedBy (p : Policy) (g : Graph) (e : FeatureEntry) (key : Key) : Type 0 where
+  pub krate : Crate
+  pub known : Contains g.crates krate
+  pub feature : List ℕ
+  pub is_not_allowed : IsNotAllowedOf p g e krate feature
+  pub is : key ≡ not_allowed_feature_key krate.place e.spec.range feature
+
+-- ---- the feature `default`
+
+-- an entry leaves `default` open, whichever crates it speaks of
+unfoldable pub leaves_open : FeatureEntry → Bool
+leaves_open e = not e.exact.value
+    && (not (names_feature e.allow.value default_feature) && not (names_feature e.deny default_feature))
+
+-- a level minds `default`, where entries leave it open or not
+abbrev pub minds : LintLevel → Bool → Bool
+minds level.Allow unsettled = false
+minds level.Warn unsettled = true
+minds level.Deny unsettled = unsettled
+
+unfoldable pub is_default_enabled_at : Graph → ℕ → Bool
+is_default_enabled_at g place = list_any (same_text default_feature) (enabled_at g place)
+
+-- by marks for the crates that entries speak of, and for those that they leave open
+unfoldable pub is_left_at : List Bool → List Bool → ℕ → Bool
+is_left_at spoken unsettled place = not (mark_at spoken place) || mark_at unsettled place
+
+unfoldable pub default_keys_of : Graph → List Bool → List Bool → ℕ → Spanned LintLevel → List Key
+default_keys_of g spoken unsettled place at =
+    if is_default_enabled_at g place && minds at.value (is_left_at spoken unsettled place)
+    then crate_key code.DefaultFeatureEnabled place at.span ∷ [] else []
+
+unfoldable pub default_keys_at : Policy → Graph → List Bool → List Bool → ℕ → List Key
+default_keys_at p g spoken unsettled place =
+    option_map_or (default_keys_of g spoken unsettled place) (default_level_at p g place) []

@@ -1,0 +1,30 @@
+-- The features of a table by their numbers, and where plain entries lead.
+use Rattle.std.specs.Prelude.{◌≡◌, ◌↔◌, ℕ, IsTrue, is_some, List, [], Option, None, Some, Contains, filter, filter_map, slice_get, if◌then◌else◌}
+use Rattle.std.specs.FinMap as finite
+use Rattle.std.specs.Option.{option_map_or}
+use Rattle.deny_lists.specs.TextMap.{TextFinMap}
+use Rattle.deny_codes.specs.Features.{is_plain}
+
+-- what a feature enables; nothing, where the table does not have it
+abbrev pub enables : TextFinMap (List (List ℕ)) → List ℕ → List (List ℕ)
+enables features name = option_map_or (λ entries. entries) (finite.get features name) []
+
+abbrev pub plain_of : TextFinMap (List (List ℕ)) → List ℕ → List (List ℕ)
+plain_of features name = filter is_plain (enables features name)
+
+-- exactly the features of the table
+pub record AreNames (features : TextFinMap (List (List ℕ))) (names : List (List ℕ)) : Type 0 where
+  pub each : (name : List ℕ) → Contains names name ↔ IsTrue (is_some (finite.get features name))
+
+-- each name has a number, at which it stands
+pub record AreNumbers (names : List (List ℕ)) (numbers : TextFinMap ℕ) : Type 0 where
+  pub whole : (name : List ℕ) → Contains names name → IsTrue (is_some (finite.get numbers name))
+  pub sound : (name : List ℕ) (number : ℕ) → finite.get numbers name ≡ Some number → slice_get names number ≡ Some name
+
+-- the number of a plain entry
+unfoldable pub plain_number : TextFinMap ℕ → List ℕ → Option ℕ
+plain_number numbers entry = if is_plain entry then finite.get numbers entry else None
+
+-- the numbers of those to which a feature leads
+unfoldable pub row_of : TextFinMap (List (List ℕ)) → TextFinMap ℕ → List ℕ → List ℕ
+row_of features numbers name = filter_map (plain_number numbers) (enables features name)

@@ -1,0 +1,81 @@
+//! What stands of denied features.
+ghost use Rattle.std.specs.Prelude.{◌≡◌, ◌++◌, OnOk};
+ghost use Rattle.std.specs.List.{flat_map};
+ghost use Rattle.deny_cfg.specs.PolicyView.{feature_view, policy_view};
+ghost use Rattle.deny_codes.specs.Features.{feature_banned_keys, feature_banned_keys_of};
+ghost use Rattle.deny_features.specs.private.Keys.{banned_keys_at};
+
+use crate::crates::{crate_key, enabled_at, has};
+use deny_base::{Code, Key, Spanned};
+use deny_cfg::bans::cfg::{ValidConfig, ValidKrateFeatures};
+use deny_facts::{are_placed, matched};
+use deny_krates::Krates;
+use deny_lists::{List, NoMemory, Text};
+use std::alloc::Global;
+
+/// Adds the keys of the denied features that are enabled.
+pub fn add_banned_keys(
+    alloc: Global,
+    cfg: &ValidConfig,
+    krates: &Krates,
+    keys: &mut List<Key>,
+) -> Result<(), NoMemory>
+    ensures { OnOk result (keys.new ≡ keys.old ++ feature_banned_keys (policy_view cfg.now) krates.now) }
+{
+    let entries = cfg.features.as_slice();
+    for entry in entries {
+        add_banned_of(alloc, krates, entry, keys)?;
+    }
+    Ok(())
+}
+
+fn add_banned_of(
+    alloc: Global,
+    krates: &Krates,
+    entry: &ValidKrateFeatures,
+    keys: &mut List<Key>,
+) -> Result<(), NoMemory>
+    ensures { OnOk result (keys.new ≡ keys.old ++ feature_banned_keys_of krates.now (feature_view entry.now)) }
+{
+    are_placed(krates);
+    if entry.features.exact.value {
+        return Ok(());
+    }
+    let places = matched(alloc, krates, &entry.spec)?;
+    let denied = entry.features.deny.as_slice();
+    add_banned_among(alloc, krates, denied, places.as_slice(), keys)
+}
+
+fn add_banned_among(
+    alloc: Global,
+    krates: &Krates,
+    denied: &[Spanned<Text>],
+    places: &[u32],
+    keys: &mut List<Key>,
+) -> Result<(), NoMemory>
+    ensures { OnOk result (keys.new ≡ keys.old ++ flat_map (banned_keys_at krates.now denied.now) places.now) }
+{
+    for place in places {
+        add_banned_at(alloc, krates, denied, *place, keys)?;
+    }
+    Ok(())
+}
+
+#[tactic(auto, unfolding(crate::specs::private::Keys::banned_keys_at))]
+fn add_banned_at(
+    alloc: Global,
+    krates: &Krates,
+    denied: &[Spanned<Text>],
+    place: u32,
+    keys: &mut List<Key>,
+) -> Result<(), NoMemory>
+    ensures { OnOk result (keys.new ≡ keys.old ++ banned_keys_at krates.now denied.now place) }
+{
+    let enabled = enabled_at(krates, place);
+    for word in denied {
+        if has(enabled, &word.value) {
+            keys.push(crate_key(alloc, Code::FeatureBanned, place, word.span))?;
+        }
+    }
+    Ok(())
+}

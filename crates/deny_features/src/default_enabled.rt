@@ -1,0 +1,197 @@
+//! What stands of the feature `default`, by its level.
+ghost use Rattle.std.specs.Prelude.{◌≡◌, ◌++◌, ◌<◌, ◌^◌, IfOk, OnOk, length, map};
+ghost use Rattle.std.specs.List.{flat_map, list_any, range_with_len};
+ghost use Rattle.deny_cfg.specs.PolicyView.{feature_view, policy_view};
+ghost use Rattle.deny_cfg.specs.SpecView.{spec_view};
+ghost use Rattle.deny_codes.specs.Features.{default_enabled_keys, default_feature, leaves_default, names_feature};
+ghost use Rattle.deny_facts.specs.Marks.{AddsMarks};
+ghost use Rattle.deny_model.specs.Match.{matches};
+ghost use Rattle.deny_model.specs.Text.{same_text};
+ghost use Rattle.deny_features.specs.private.Keys.{default_keys_at, is_default_enabled_at, is_left_at, leaves_open, minds};
+
+use crate::crates::{crate_key, default_level_at, enabled_at, is_default};
+use deny_base::{Code, Key, LintLevel, Spanned};
+use deny_cfg::PackageSpec;
+use deny_cfg::bans::cfg::{ValidConfig, ValidKrateFeatures};
+use deny_facts::{are_placed, mark_at, mark_each, matched, no_marks};
+use deny_krates::Krates;
+use deny_lists::{List, NoMemory, Text};
+use std::alloc::Global;
+
+/// Adds the keys of the crates whose feature `default` is enabled, where its level minds it.
+pub fn add_default_keys(
+    alloc: Global,
+    cfg: &ValidConfig,
+    krates: &Krates,
+    keys: &mut List<Key>,
+) -> Result<(), NoMemory>
+    ensures { OnOk result (keys.new ≡ keys.old ++ default_enabled_keys (policy_view cfg.now) krates.now) }
+{
+    are_placed(krates);
+    let entries = cfg.features.as_slice();
+    let spoken = spoken_of(alloc, krates, entries)?;
+    let unsettled = left_open(alloc, krates, entries)?;
+    add_default_each(
+        alloc,
+        cfg,
+        krates,
+        spoken.as_slice(),
+        unsettled.as_slice(),
+        keys,
+    )
+}
+
+/// Marks for the crates that entries speak of.
+fn spoken_of(
+    alloc: Global,
+    krates: &Krates,
+    entries: &[ValidKrateFeatures],
+) -> Result<List<bool>, NoMemory>
+    ensures { IfOk result (λ marks. marks ≡ map (λ c. list_any (λ e. matches e.spec c)
+        (map feature_view entries.now)) krates.now.crates) }
+{
+    let mut marks = no_marks(alloc, krates)?;
+    for entry in entries {
+        mark_spec(alloc, krates, &entry.spec, &mut marks)?;
+    }
+    Ok(marks)
+}
+
+/// Marks for the crates that an entry speaks of which leaves `default` open.
+fn left_open(
+    alloc: Global,
+    krates: &Krates,
+    entries: &[ValidKrateFeatures],
+) -> Result<List<bool>, NoMemory>
+    ensures { IfOk result (λ marks. marks ≡ map (λ c. list_any (leaves_default c)
+        (map feature_view entries.now)) krates.now.crates) }
+{
+    let mut marks = no_marks(alloc, krates)?;
+    for entry in entries {
+        mark_open(alloc, krates, entry, &mut marks)?;
+    }
+    Ok(marks)
+}
+
+/// Marks the crates of which an entry leaves `default` open.
+fn mark_open(
+    alloc: Global,
+    krates: &Krates,
+    entry: &ValidKrateFeatures,
+    marks: &mut List<bool>,
+) -> Result<(), NoMemory>
+    requires { length marks.old ≡ length krates.now.crates }
+    ensures { OnOk result (AddsMarks krates.now.crates (λ c. leaves_default c (feature_view entry.now)) marks.old
+        marks.new) }
+{
+    if !leaves_open(entry) {
+        return Ok(());
+    }
+    mark_spec(alloc, krates, &entry.spec, marks)
+}
+
+/// Whether an entry does not say exactly which features a crate has, and names `default` nowhere.
+#[tactic(auto, unfolding(crate::specs::private::Keys::leaves_open))]
+fn leaves_open(entry: &ValidKrateFeatures) -> bool
+    ensures { result ≡ leaves_open (feature_view entry.now) }
+{
+    let features = &entry.features;
+    !features.exact.value
+        && !names_default(features.allow.value.as_slice())
+        && !names_default(features.deny.as_slice())
+}
+
+#[tactic(auto, unfolding(deny_codes::specs::Features::names_feature))]
+fn names_default(words: &[Spanned<Text>]) -> bool
+    ensures { result ≡ names_feature words.now default_feature }
+{
+    words.iter().any(|word| is_default(&word.value))
+}
+
+/// Marks the crates that a spec speaks of.
+fn mark_spec(
+    alloc: Global,
+    krates: &Krates,
+    spec: &PackageSpec,
+    marks: &mut List<bool>,
+) -> Result<(), NoMemory>
+    requires { length marks.old ≡ length krates.now.crates }
+    ensures { OnOk result (AddsMarks krates.now.crates (matches (spec_view spec.now)) marks.old marks.new) }
+{
+    are_placed(krates);
+    let places = matched(alloc, krates, spec)?;
+    mark_each(marks, places.as_slice());
+    Ok(())
+}
+
+/// Adds the keys of all crates, one by one.
+fn add_default_each(
+    alloc: Global,
+    cfg: &ValidConfig,
+    krates: &Krates,
+    spoken: &[bool],
+    unsettled: &[bool],
+    keys: &mut List<Key>,
+) -> Result<(), NoMemory>
+    ensures { OnOk result (keys.new ≡ keys.old ++ flat_map (default_keys_at (policy_view cfg.now) krates.now
+        spoken.now unsettled.now) (range_with_len 0 (length krates.now.crates))) }
+{
+    let end = krates.krates().len() as u32;
+    for place in 0..end {
+        add_default_at(alloc, cfg, krates, spoken, unsettled, place, keys)?;
+    }
+    Ok(())
+}
+
+#[tactic(auto, unfolding(crate::specs::private::Keys::default_keys_at, crate::specs::private::Keys::default_keys_of))]
+fn add_default_at(
+    alloc: Global,
+    cfg: &ValidConfig,
+    krates: &Krates,
+    spoken: &[bool],
+    unsettled: &[bool],
+    place: u32,
+    keys: &mut List<Key>,
+) -> Result<(), NoMemory>
+    ensures { OnOk result (keys.new
+        ≡ keys.old ++ default_keys_at (policy_view cfg.now) krates.now spoken.now unsettled.now place) }
+{
+    let Some(at) = default_level_at(cfg, krates, place) else {
+        return Ok(());
+    };
+    if is_default_enabled(krates, place) && minds(at.value, is_left(spoken, unsettled, place)) {
+        keys.push(crate_key(alloc, Code::DefaultFeatureEnabled, place, at.span))?;
+    }
+    Ok(())
+}
+
+/// Whether the feature `default` of the crate at a place is enabled.
+fn is_default_enabled(krates: &Krates, place: u32) -> bool
+    ensures { result ≡ is_default_enabled_at krates.now place }
+{
+    has_default(enabled_at(krates, place))
+}
+
+fn has_default(features: &[Text]) -> bool
+    ensures { result ≡ list_any (λ feature. same_text feature default_feature) features.now }
+{
+    features.iter().any(|feature| is_default(feature))
+}
+
+/// Whether no entry speaks of the crate at a place, or one leaves `default` open.
+#[tactic(auto, unfolding(crate::specs::private::Keys::is_left_at))]
+fn is_left(spoken: &[bool], unsettled: &[bool], place: u32) -> bool
+    ensures { result ≡ is_left_at spoken.now unsettled.now place }
+{
+    !mark_at(spoken, place) || mark_at(unsettled, place)
+}
+
+fn minds(level: LintLevel, left: bool) -> bool
+    ensures { result ≡ minds level left }
+{
+    match level {
+        LintLevel::Allow => false,
+        LintLevel::Warn => true,
+        LintLevel::Deny => left,
+    }
+}

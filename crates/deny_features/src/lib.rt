@@ -1,0 +1,16 @@
+//! The rules on features: which features of crates a policy does not allow, denies or does not
+//! know, and where it minds the feature `default`.
+#![tactic(auto)]
+
+mod banned;
+mod crates;
+mod default_enabled;
+mod feature_keys;
+mod listed;
+mod mismatched;
+mod not_allowed;
+mod reached;
+mod steps;
+mod unknown;
+
+pub use feature_keys::add_feature_keys;

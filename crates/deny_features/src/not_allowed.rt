@@ -1,0 +1,134 @@
+//! What stands of enabled features that an entry does not allow.
+ghost use Rattle.std.specs.Prelude.{◌≡◌, ◌++◌, IfOk, IsTrue, OnOk, filter, is_some, map, not, false, length, ◌==◌};
+ghost use Rattle.std.specs.FinMap as finite;
+ghost use Rattle.deny_lists.specs.Ascending.{Adds};
+ghost use Rattle.deny_cfg.specs.PolicyView.{feature_view, policy_view};
+ghost use Rattle.deny_codes.specs.Features.{IsFeatureNotAllowed, not_allowed_feature_key};
+ghost use Rattle.deny_facts.specs.Wrappers.{AreFirst};
+ghost use Rattle.deny_features.specs.private.Keys.{IsNotAllowedAt, IsNotAllowedBy, OfOne};
+ghost use Rattle.deny_features.specs.private.Reached.{AreReachedAt};
+
+use crate::crates::crate_key;
+use crate::listed::unlisted;
+use crate::reached::reached_at;
+use deny_base::{Code, Key, Span};
+use deny_cfg::bans::cfg::{ValidConfig, ValidKrateFeatures};
+use deny_facts::{are_placed, matched, ranges_by_name};
+use deny_krates::Krates;
+use deny_lists::{List, NoMemory, Text, TextMap};
+use std::alloc::Global;
+
+/// Adds the keys of the enabled features that an entry does not allow, and to which none of those
+/// that it allows leads.
+pub fn add_not_allowed_keys(
+    alloc: Global,
+    cfg: &ValidConfig,
+    krates: &Krates,
+    keys: &mut List<Key>,
+) -> Result<(), NoMemory>
+    ensures { OnOk result (Adds (IsFeatureNotAllowed (policy_view cfg.now) krates.now) keys.old keys.new) }
+{
+    let entries = cfg.features.as_slice();
+    for entry in entries {
+        add_not_allowed_of(alloc, cfg, krates, entry, keys)?;
+    }
+    Ok(())
+}
+
+fn add_not_allowed_of(
+    alloc: Global,
+    cfg: &ValidConfig,
+    krates: &Krates,
+    entry: &ValidKrateFeatures,
+    keys: &mut List<Key>,
+) -> Result<(), NoMemory>
+    ensures { OnOk result (Adds (IsNotAllowedBy (policy_view cfg.now) krates.now (feature_view entry.now)) keys.old
+        keys.new) }
+{
+    are_placed(krates);
+    let listed = entry.features.allow.value.as_slice();
+    if entry.features.exact.value {
+        return Ok(());
+    }
+    if listed.is_empty() {
+        return Ok(());
+    }
+    let allowed = ranges_by_name(alloc, listed)?;
+    let places = matched(alloc, krates, &entry.spec)?;
+    add_not_allowed_among(alloc, cfg, krates, entry, &allowed, places.as_slice(), keys)
+}
+
+fn add_not_allowed_among(
+    alloc: Global,
+    cfg: &ValidConfig,
+    krates: &Krates,
+    entry: &ValidKrateFeatures,
+    allowed: &TextMap<Span>,
+    places: &[u32],
+    keys: &mut List<Key>,
+) -> Result<(), NoMemory>
+    requires { AreFirst (feature_view entry.now).allow.value allowed.now }
+    ensures { OnOk result (Adds (OfOne (IsNotAllowedAt (policy_view cfg.now) krates.now (feature_view entry.now)) places.now)
+        keys.old keys.new) }
+{
+    for place in places {
+        add_not_allowed_at(alloc, cfg, krates, entry, allowed, *place, keys)?;
+    }
+    Ok(())
+}
+
+fn add_not_allowed_at(
+    alloc: Global,
+    cfg: &ValidConfig,
+    krates: &Krates,
+    entry: &ValidKrateFeatures,
+    allowed: &TextMap<Span>,
+    place: u32,
+    keys: &mut List<Key>,
+) -> Result<(), NoMemory>
+    requires { AreFirst (feature_view entry.now).allow.value allowed.now }
+    ensures { OnOk result (Adds (IsNotAllowedAt (policy_view cfg.now) krates.now (feature_view entry.now) place) keys.old
+        keys.new) }
+{
+    let others = unlisted(alloc, cfg, krates, entry, allowed, place)?;
+    if others.len() == 0 {
+        return Ok(());
+    }
+    let reached = reached_at(alloc, krates, place, entry.features.allow.value.as_slice())?;
+    let name = entry.spec.name.span;
+    add_unreached(alloc, others.as_slice(), &reached, place, name, keys)
+}
+
+/// Adds the keys of those of some features that are not reached.
+fn add_unreached(
+    alloc: Global,
+    features: &[Text],
+    reached: &TextMap<bool>,
+    place: u32,
+    entry: Span,
+    keys: &mut List<Key>,
+) -> Result<(), NoMemory>
+    ensures { OnOk result (keys.new ≡ keys.old ++ map (not_allowed_feature_key place entry)
+        (filter (λ feature. not (is_some (finite.get reached.now feature))) features.now)) }
+{
+    for feature in features {
+        if !reached.contains_key(feature.as_str()) {
+            keys.push(not_allowed_feature_key(alloc, place, entry, feature)?)?;
+        }
+    }
+    Ok(())
+}
+
+#[tactic(auto, unfolding(deny_codes::specs::Features::not_allowed_feature_key))]
+fn not_allowed_feature_key(
+    alloc: Global,
+    place: u32,
+    entry: Span,
+    feature: &Text,
+) -> Result<Key, NoMemory>
+    ensures { IfOk result (λ key. key ≡ not_allowed_feature_key place entry feature.now) }
+{
+    let text = feature.clone()?;
+    let key = crate_key(alloc, Code::FeatureNotExplicitlyAllowed, place, entry);
+    Ok(Key { text, ..key })
+}
