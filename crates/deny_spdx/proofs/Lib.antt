@@ -6,6 +6,8 @@ pub mod MeaningLemmas
 pub mod MeaningRows
 pub mod PrefixLemmas
 pub mod ReadingLemmas
+pub mod ReadsLemmas
+pub mod ReadsRows
 pub mod RunLemmas
 pub mod StepsLemmas
 pub mod TokenLemmas

@@ -75,10 +75,10 @@ at_drop (suc n) [] b e = cc
 at_drop (suc n) (x ∷ xs) b e = let h : (n < length xs) × (get_or xs n 0 ≡ b) = at_drop n xs b e in
     (omega (arith, h.0), h.1)
 
-no_plus_byte : (b : ℕ) → (b == 43) ≡ false → b ≢ 43
+pub no_plus_byte : (b : ℕ) → (b == 43) ≡ false → b ≢ 43
 no_plus_byte b e f = grind (arith, nat_tests, e, f)
 
-plus_byte : (b : ℕ) → (b == 43) ≡ true → b ≡ 43
+pub plus_byte : (b : ℕ) → (b == 43) ≡ true → b ≡ 43
 plus_byte b e = grind (arith, nat_tests, e)
 
 ends_at : (rest : List ℕ) → ((b : ℕ) → slice_get rest 0 ≡ Some b → is_word_byte b ≡ false)
@@ -181,12 +181,18 @@ one_byte b rest t small begins = record {
       → Type 0 = λ m. slice_index (b ∷ rest) m < 128 in let none : 0 ≡ k = omega arith in subst P none small;
 }
 
+-- a byte that is no mark and in no word begins no token
+pub no_token_byte : (b : ℕ) → is_word_byte b ≡ false → (b == 40) ≡ false → (b == 41) ≡ false → (b == 47) ≡ false
+    → begins_token b ≡ false
+unfolding begins_token
+no_token_byte b other e f g = ap (λ w. w || (b == 40) || (b == 41) || (b == 47)) other
+    ∙ (ap (λ w. w || (b == 41) || (b == 47)) e ∙ (ap (λ w. w || (b == 47)) f ∙ g))
+
 mark_at : (b : ℕ) (rest : List ℕ) (x y z : Bool) → (b == 40) ≡ x → (b == 41) ≡ y → (b == 47) ≡ z
     → is_word_byte b ≡ false
     → HasPrefix (b ∷ rest)
     (if x then prefix.Token token.Open 1
     else (if y then prefix.Token token.Close 1 else (if z then prefix.Token token.Or 1 else prefix.NoToken)))
-unfolding begins_token
 mark_at b rest true y z e f g other = let same : 40 ≡ b = grind (arith, nat_tests, e) in let P : ℕ
     → Type 0 = λ m. HasTokenPrefix (m ∷ rest) token.Open 1 in
     subst P same (one_byte 40 rest token.Open (omega arith) opening)
@@ -199,8 +205,7 @@ mark_at b rest false false false e f g other = (
   b,
   rest,
   refl,
-  ap (λ w. w || (b == 40) || (b == 41) || (b == 47)) other
-      ∙ (ap (λ w. w || (b == 41) || (b == 47)) e ∙ (ap (λ w. w || (b == 47)) f ∙ g)),
+  no_token_byte b other e f g,
 )
 
 -- a byte that is in no word

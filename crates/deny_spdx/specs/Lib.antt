@@ -4,6 +4,7 @@ pub mod Meaning
 pub mod Prefix
 pub mod Reader
 pub mod Reading
+pub mod Reads
 pub mod RequirementReader
 pub mod Tokens
 pub mod Truth

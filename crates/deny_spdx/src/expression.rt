@@ -4,6 +4,7 @@ ghost use Rattle.deny_spdx.specs.Truth.{truth};
 ghost use Rattle.deny_spdx.specs.Grammar.{IsExpression, all_of, any_of};
 ghost use Rattle.deny_lists.specs.Reader.{Answers};
 ghost use Rattle.deny_spdx.specs.Bad.{Spells, IsBadAt};
+ghost use Rattle.deny_spdx.specs.Reads.{IsReading};
 
 use crate::error::SpdxError;
 use crate::parse::read_expression;
@@ -39,6 +40,7 @@ impl Expression {
 
         ensures refused { (place : ℕ) → result ≡ Err (SpdxError.Bad place) → IsBadAt IsExpression text.now place }
         ensures bad { (place : ℕ) → IsBadAt IsExpression text.now place → Answers SpdxError.Memory (Err (SpdxError.Bad place)) result }
+        ensures meaning { IsReading text.now result }
     {
         read_expression(alloc, text)
     }

@@ -23,6 +23,7 @@
 
 mod error;
 mod expression;
+mod laws;
 mod level;
 mod parse;
 mod reader;
@@ -34,4 +35,5 @@ mod token_reader;
 
 pub use error::SpdxError;
 pub use expression::{Expression, Tree};
+pub use laws::one_reading;
 pub use requirement::Requirement;

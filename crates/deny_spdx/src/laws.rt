@@ -1,0 +1,12 @@
+ghost use Rattle.std.specs.Prelude.{◌≡◌, ℕ, List};
+ghost use Rattle.deny_spdx.specs.Bad.{IsBadAt, Spells};
+ghost use Rattle.deny_spdx.specs.Grammar.{IsExpression};
+ghost use Rattle.deny_spdx.specs.Reads.{BadAt, Read, reading_in};
+ghost use Rattle.deny_spdx.specs.declared.expression.Expression.{Expression};
+
+/// What a text is read as, as a function of the text, is what it spells by the grammar, or the place
+/// where it goes wrong first.
+pub fn one_reading()
+    ensures read { (text : List ℕ) → (e : Expression) → reading_in text ≡ Read e → Spells IsExpression text e }
+    ensures bad { (text : List ℕ) → (place : ℕ) → reading_in text ≡ BadAt place → IsBadAt IsExpression text place }
+{}
