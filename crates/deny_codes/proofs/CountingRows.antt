@@ -12,14 +12,14 @@ use Rattle.deny_model.specs.Match.{matches}
 use Rattle.deny_model.specs.Roots.{IsInTree}
 use Rattle.deny_codes.proofs.Cases.{app, crate, crate_of, dev_edge, edge, graph, range, root_of, spec_at}
 
-x_kept : Crate
+unfoldable pub x_kept : Crate
 x_kept = crate 1 (codes "x") 1
 
-y_kept : Crate
+unfoldable pub y_kept : Crate
 y_kept = crate 2 (codes "y") 1
 
 -- `app` needs `x` for its tests, and `x` needs `y`
-tested : Graph
+unfoldable pub tested : Graph
 tested = graph (x_kept ∷ y_kept ∷ []) (dev_edge 0 1 ∷ edge 1 2 ∷ [])
 
 for_the_build : Edge
@@ -76,7 +76,7 @@ members_of : (reached : IsReachedWithout Dev tested 1) → Contains (0 ∷ []) r
 unfolding tested graph
 members_of reached = reached.is_member
 
-x_does_not : Counts false tested x_kept → ⊥
+pub x_does_not : Counts false tested x_kept → ⊥
 unfolding x_kept crate crate_of
 x_does_not (inl asked) = absurd (cc asked)
 x_does_not (inr reached) = no_chain reached.member reached.length 0

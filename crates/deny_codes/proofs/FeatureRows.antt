@@ -1,14 +1,13 @@
 -- Small cases of features: the feature `default` at each level, what entries say of features, what allowed ones lead
 -- to, and what is told.
-use Rattle.std.proofs.Common.{◌≡◌, ℕ, List, [], ◌∷◌, ◌++◌, true, false, Option, Some, None, codes, refl, sym, ap, ◌∙◌, subst}
-use Rattle.std.specs.Prelude.{⊤, IsTrue, Contains, is_some, length}
+use Rattle.std.proofs.Common.{◌≡◌, ℕ, List, [], ◌∷◌, true, false, Option, Some, None, codes, refl, sym, ap, ◌∙◌, subst}
+use Rattle.std.specs.Prelude.{⊤, IsTrue, Contains, is_some}
 use Rattle.std.specs.Cmp.Lexicographic.{slice_cmp, nat_list_cmp_total}
 use Rattle.std.specs.Ordering.{nat_cmp}
 use Rattle.std.specs.FinMap as finite
 use Rattle.std.specs.Fmt.{digits}
 use Rattle.deny_base.specs.Level.{severity_of}
 use Rattle.deny_base.specs.declared.code.Code.TheVariants as code
-use Rattle.deny_base.specs.declared.finding.GraphNode.{GraphNode}
 use Rattle.deny_base.specs.declared.key.Key.{Key}
 use Rattle.deny_base.specs.declared.level.LintLevel.{LintLevel}
 use Rattle.deny_base.specs.declared.level.LintLevel.TheVariants.{Allow, Warn, Deny}
@@ -20,7 +19,7 @@ use Rattle.deny_model.specs.Match.{matches}
 use Rattle.deny_model.specs.Policy as policy
 use Rattle.deny_model.specs.Policy.{FeatureEntry, Policy}
 use Rattle.deny_model.specs.Told.{primary}
-use Rattle.deny_lists.proofs.Members.{Contains-by_cases, Contains-cases, Contains-first, Contains-rest, no_member}
+use Rattle.deny_lists.proofs.Members.{Contains-by_cases, Contains-first, Contains-rest, no_member}
 use Rattle.deny_codes.specs.Features.{LeadsTo, Reaches, step, on, IsNotAllowedOf, IsFeatureNotAllowed}
 use Rattle.deny_codes.specs.Features.{has_feature, is_enabled, default_feature, is_plain, default_level}
 use Rattle.deny_codes.specs.Features.{names_feature, leaves_default, minds_default, is_default_told, default_enabled_keys_of}

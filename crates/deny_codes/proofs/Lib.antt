@@ -7,6 +7,8 @@ pub mod FeatureRows
 pub mod Joined
 pub mod Kept
 pub mod KeyRows
+pub mod LicenceRows
+pub mod Licensed
 pub mod Made
 pub mod Parts
 pub mod Sections

@@ -1,16 +1,21 @@
 -- Keys bear the code of their rule, and stand in its section.
-use Rattle.std.proofs.Common.{◌≡◌, ℕ, List, [], None, Option, Some, map, not, refl, subst, sym}
-use Rattle.std.specs.Prelude.{Contains, filter}
+use Rattle.std.proofs.Common.{◌≡◌, ℕ, Bool, true, false, List, [], ◌∷◌, None, Option, Some, map, not, refl, subst, sym}
+use Rattle.std.specs.Prelude.{Contains, filter, if◌then◌else◌}
 use Rattle.std.specs.List.{flat_map}
 use Rattle.std.specs.Option.{option_map_or}
-use Rattle.deny_lists.proofs.Members.{Contains-from_flat_map, from_contains_map, no_member}
+use Rattle.deny_lists.proofs.Members.{Contains-by_cases, Contains-from_flat_map, from_contains_map, no_member}
 use Rattle.deny_base.specs.declared.code.Code.{Code}
 use Rattle.deny_base.specs.declared.code.Code.TheVariants as code
-use Rattle.deny_base.specs.declared.code.DiagnosticCode.TheVariants.{Bans}
+use Rattle.deny_base.specs.declared.code.DiagnosticCode.TheVariants.{Bans, License}
 use Rattle.deny_base.specs.declared.key.Key.{Key}
 use Rattle.deny_base.specs.declared.key.Section.{Section}
 use Rattle.deny_base.specs.declared.key.Section.TheVariants as section
+use Rattle.deny_base.specs.declared.level.LintLevel.{LintLevel}
+use Rattle.deny_base.specs.declared.license_code.LicenseCode.{LicenseCode}
+use Rattle.deny_base.specs.declared.license_code.LicenseCode.TheVariants as license
 use Rattle.deny_base.specs.declared.span.Span.{Span}
+use Rattle.deny_base.specs.declared.span.Spanned.{Spanned}
+use Rattle.deny_spdx.specs.declared.requirement.Requirement.{Requirement}
 use Rattle.deny_model.specs.Bans.{allowed_keys_of, is_not_allowed, not_allowed_keys, allowed_by_wrapper_keys_at}
 use Rattle.deny_model.specs.Bans.{allowed_by_wrapper_keys_of, banned_keys_of, is_banned, is_wrapped, is_wrapper}
 use Rattle.deny_model.specs.Bans.{unmatched_wrapper_keys_at, unmatched_wrapper_keys_of}
@@ -18,15 +23,25 @@ use Rattle.deny_model.specs.Facts as chains
 use Rattle.deny_model.specs.Duplicates.{IsDuplicate}
 use Rattle.deny_model.specs.Graph.{Crate, Graph, dependents}
 use Rattle.deny_model.specs.Keys.{crate_key, dependent_key, duplicate_key, key_of, no_span, unused_key}
+use Rattle.deny_model.specs.Licensing.{Exception, Licensing}
 use Rattle.deny_model.specs.Match.{matches}
 use Rattle.deny_model.specs.Policy as policy
-use Rattle.deny_model.specs.Policy.{Ban, Entry, Policy, Replacing, Root}
+use Rattle.deny_model.specs.Policy.{Ban, Entry, FeatureEntry, Policy, Replacing, Root}
 use Rattle.deny_model.specs.Skips.{has_root, is_skipped_by_root, skipped_by_root_keys_of, unmatched_skip_root_keys}
 use Rattle.deny_model.specs.Skips.{is_hit_skip, is_needless, is_skipped, skipped_keys_of, unmatched_skip_keys}
 use Rattle.deny_model.specs.Skips.{unnecessary_skip_keys}
 use Rattle.deny_model.specs.Wrappers.{is_hit_wrapper, unused_wrapper_keys_of}
 use Rattle.deny_codes.specs.AllowList.{allowed_keys}
 use Rattle.deny_codes.specs.Bans.{allowed_by_wrapper_keys, banned_keys, unmatched_wrapper_keys}
+use Rattle.deny_codes.specs.Features.{IsFeatureNotAllowed, banned_features, default_enabled_keys, default_enabled_keys_at}
+use Rattle.deny_codes.specs.Features.{default_enabled_keys_of, default_level, feature_banned_keys}
+use Rattle.deny_codes.specs.Features.{feature_banned_keys_at, feature_banned_keys_of, is_default_told, is_mismatch_told}
+use Rattle.deny_codes.specs.Features.{mismatched_keys, mismatched_keys_of, not_allowed_feature_key, spoken_of}
+use Rattle.deny_codes.specs.Features.{unknown_feature_keys, unknown_feature_keys_at, unknown_feature_keys_of}
+use Rattle.deny_codes.specs.Features.{unknown_features}
+use Rattle.deny_codes.specs.Licences.{allowance_range, exception_not_encountered_keys, exception_range}
+use Rattle.deny_codes.specs.Licences.{grants_by_allowance, grants_by_exception, is_hit_by, keys_where, license_key}
+use Rattle.deny_codes.specs.Licences.{licensed_key, not_encountered_keys}
 use Rattle.deny_codes.specs.SkippedTrees.{skipped_by_root_keys}
 use Rattle.deny_codes.specs.Skips.{skipped_keys}
 use Rattle.deny_codes.specs.Circumstances.{Circumstances}
@@ -238,3 +253,134 @@ unmatched_ignore_made c key is = by c.policy.replacing is
         → Made section.Unused code.UnmatchedReplacementIgnore key
     by None is = absurd (no_member key is)
     by (Some r) is = ignore_unmatched r c.graph (said_by c.table) key is
+
+-- ---- features
+
+mismatched_of : (p : Policy) (g : Graph) (key : Key) (e : FeatureEntry) → Contains (mismatched_keys_of p g e) key
+    → Made section.Crates code.ExactFeaturesMismatch key
+unfolding mismatched_keys_of
+mismatched_of p g key e is = made_map section.Crates code.ExactFeaturesMismatch
+    (λ (c : Crate). crate_key code.ExactFeaturesMismatch c.place e.spec.range)
+    (filter (is_mismatch_told p g e) g.crates) key
+    (λ c. made_key section.Crates code.ExactFeaturesMismatch c.place e.spec.range 0) is
+
+pub mismatched_made : (p : Policy) (g : Graph) (key : Key) → Contains (mismatched_keys p g) key
+    → Made section.Crates code.ExactFeaturesMismatch key
+mismatched_made p g key is = made_flat section.Crates code.ExactFeaturesMismatch (mismatched_keys_of p g) p.features key
+    (mismatched_of p g key) is
+
+not_allowed_feature_made : (place : ℕ) (entry : Span) (feature : List ℕ)
+    → Made section.Crates code.FeatureNotExplicitlyAllowed (not_allowed_feature_key place entry feature)
+unfolding not_allowed_feature_key key_of
+not_allowed_feature_made place entry feature = record { code_is = refl; section_is = refl }
+
+pub feature_not_allowed_made : (p : Policy) (g : Graph) (key : Key) → IsFeatureNotAllowed p g key
+    → Made section.Crates code.FeatureNotExplicitlyAllowed key
+feature_not_allowed_made p g key is = subst (Made section.Crates code.FeatureNotExplicitlyAllowed) (sym is.is)
+    (not_allowed_feature_made is.krate.place is.entry.spec.range is.feature)
+
+feature_banned_at : (key : Key) (e : FeatureEntry) (c : Crate) → Contains (feature_banned_keys_at e c) key
+    → Made section.Crates code.FeatureBanned key
+unfolding feature_banned_keys_at
+feature_banned_at key e c is = made_map section.Crates code.FeatureBanned
+    (λ (w : policy.Words). crate_key code.FeatureBanned c.place w.span) (banned_features e c) key
+    (λ w. made_key section.Crates code.FeatureBanned c.place w.span 0) is
+
+feature_banned_of : (g : Graph) (key : Key) (e : FeatureEntry) → Contains (feature_banned_keys_of g e) key
+    → Made section.Crates code.FeatureBanned key
+unfolding feature_banned_keys_of
+feature_banned_of g key e is = made_flat section.Crates code.FeatureBanned (feature_banned_keys_at e) (spoken_of g e) key
+    (feature_banned_at key e) is
+
+pub feature_banned_made : (p : Policy) (g : Graph) (key : Key) → Contains (feature_banned_keys p g) key
+    → Made section.Crates code.FeatureBanned key
+feature_banned_made p g key is = made_flat section.Crates code.FeatureBanned (feature_banned_keys_of g) p.features key
+    (feature_banned_of g key) is
+
+unknown_feature_at : (p : Policy) (g : Graph) (key : Key) (e : FeatureEntry) (c : Crate)
+    → Contains (unknown_feature_keys_at p g e c) key → Made section.Crates code.UnknownFeature key
+unfolding unknown_feature_keys_at
+unknown_feature_at p g key e c is = made_map section.Crates code.UnknownFeature
+    (λ (w : policy.Words). crate_key code.UnknownFeature c.place w.span) (unknown_features p g e c) key
+    (λ w. made_key section.Crates code.UnknownFeature c.place w.span 0) is
+
+unknown_feature_of : (p : Policy) (g : Graph) (key : Key) (e : FeatureEntry)
+    → Contains (unknown_feature_keys_of p g e) key → Made section.Crates code.UnknownFeature key
+unfolding unknown_feature_keys_of
+unknown_feature_of p g key e is = made_flat section.Crates code.UnknownFeature (unknown_feature_keys_at p g e)
+    (spoken_of g e) key (unknown_feature_at p g key e) is
+
+pub unknown_feature_made : (p : Policy) (g : Graph) (key : Key) → Contains (unknown_feature_keys p g) key
+    → Made section.Crates code.UnknownFeature key
+unknown_feature_made p g key is = made_flat section.Crates code.UnknownFeature (unknown_feature_keys_of p g) p.features
+    key (unknown_feature_of p g key) is
+
+default_enabled_of : (p : Policy) (c : Crate) (key : Key) (at : Spanned LintLevel)
+    → Contains (default_enabled_keys_of p c at) key → Made section.Crates code.DefaultFeatureEnabled key
+unfolding default_enabled_keys_of
+default_enabled_of p c key at is = by (is_default_told p c at) is
+  where
+    by : (b : Bool)
+        → Contains (if b then crate_key code.DefaultFeatureEnabled c.place at.span ∷ [] else []) key
+        → Made section.Crates code.DefaultFeatureEnabled key
+    by true is = Contains-by_cases (crate_key code.DefaultFeatureEnabled c.place at.span) [] key is
+        (λ same. subst (Made section.Crates code.DefaultFeatureEnabled) same
+        (made_key section.Crates code.DefaultFeatureEnabled c.place at.span 0))
+        (λ more. absurd (no_member key more))
+    by false is = absurd (no_member key is)
+
+default_enabled_at : (p : Policy) (g : Graph) (key : Key) (c : Crate) → Contains (default_enabled_keys_at p g c) key
+    → Made section.Crates code.DefaultFeatureEnabled key
+unfolding default_enabled_keys_at
+default_enabled_at p g key c is = by (default_level p g c) is
+  where
+    by : (o : Option (Spanned LintLevel)) → Contains (option_map_or (default_enabled_keys_of p c) o []) key
+        → Made section.Crates code.DefaultFeatureEnabled key
+    by None is = absurd (no_member key is)
+    by (Some at) is = default_enabled_of p c key at is
+
+pub default_enabled_made : (p : Policy) (g : Graph) (key : Key) → Contains (default_enabled_keys p g) key
+    → Made section.Crates code.DefaultFeatureEnabled key
+default_enabled_made p g key is = made_flat section.Crates code.DefaultFeatureEnabled (default_enabled_keys_at p g)
+    g.crates key (default_enabled_at p g key) is
+
+-- ---- licences
+
+pub record MadeLicensed (s : Section) (d : LicenseCode) (key : Key) : Type 0 where
+  pub code_is : key.code ≡ License d
+  pub section_is : key.section ≡ s
+
+made_license_key : (s : Section) (d : LicenseCode) (place : ℕ) (entry : Span)
+    → MadeLicensed s d (license_key s d place entry)
+made_license_key s d place entry = record { code_is = refl; section_is = refl }
+
+made_licensed : {X : Type 0} (s : Section) (d : LicenseCode) (f : X → Key) (xs : List X) (key : Key)
+    → ((x : X) → MadeLicensed s d (f x)) → Contains (map f xs) key → MadeLicensed s d key
+made_licensed s d f xs key each is =
+    let from = from_contains_map f xs key is in
+    subst (MadeLicensed s d) from.2 (each from.0)
+
+pub where_made : (d : LicenseCode) (is : Crate → Bool) (g : Graph) (key : Key) → Contains (keys_where d is g) key
+    → MadeLicensed section.Licenses d key
+unfolding keys_where
+where_made d is g key listed = made_licensed section.Licenses d (licensed_key d) (filter is g.crates) key
+    (λ c. made_license_key section.Licenses d c.place no_span) listed
+
+pub not_encountered_made : (counts : Crate → Bool) (l : Licensing) (g : Graph) (key : Key)
+    → Contains (not_encountered_keys counts l g) key
+    → MadeLicensed section.LicensesUnused license.LicenseNotEncountered key
+unfolding not_encountered_keys
+not_encountered_made counts l g key is = made_licensed section.LicensesUnused license.LicenseNotEncountered
+    (λ (a : Spanned Requirement). license_key section.LicensesUnused license.LicenseNotEncountered 0 (allowance_range a))
+    (filter (λ a. not (is_hit_by counts l g (grants_by_allowance l a))) l.allow) key
+    (λ a. made_license_key section.LicensesUnused license.LicenseNotEncountered 0 (allowance_range a)) is
+
+pub exception_not_encountered_made : (counts : Crate → Bool) (l : Licensing) (g : Graph) (key : Key)
+    → Contains (exception_not_encountered_keys counts l g) key
+    → MadeLicensed section.LicensesUnused license.LicenseExceptionNotEncountered key
+unfolding exception_not_encountered_keys
+exception_not_encountered_made counts l g key is = made_licensed section.LicensesUnused
+    license.LicenseExceptionNotEncountered
+    (λ (e : Exception). license_key section.LicensesUnused license.LicenseExceptionNotEncountered 0 (exception_range e))
+    (filter (λ e. not (is_hit_by counts l g (grants_by_exception l e))) l.exceptions) key
+    (λ e. made_license_key section.LicensesUnused license.LicenseExceptionNotEncountered 0 (exception_range e)) is

@@ -7,6 +7,7 @@ pub mod Facts
 pub mod Features
 pub mod FirstMatch
 pub mod Hits
+pub mod Licences
 pub mod Members
 pub mod Saying
 pub mod SkippedTrees

@@ -1,5 +1,5 @@
 -- What stands, code by code, and so what a report holds.
-use Rattle.std.specs.Prelude.{Bool, IsTrue, List, Contains}
+use Rattle.std.specs.Prelude.{Bool, IsTrue, List, Option, Contains}
 use Rattle.deny_lists.specs.Ascending.{Lists}
 use Rattle.deny_base.specs.KeyOrder.{key_cmp}
 use Rattle.deny_base.specs.declared.code.Code.{Code}
@@ -13,12 +13,16 @@ use Rattle.deny_base.specs.declared.license_code.LicenseCode.TheVariants as lice
 use Rattle.deny_model.specs.Bans.{not_allowed_keys}
 use Rattle.deny_model.specs.Duplicates.{IsDuplicate}
 use Rattle.deny_model.specs.Graph.{Graph}
-use Rattle.deny_model.specs.Policy.{Policy}
+use Rattle.deny_model.specs.Licensing.{Licensing}
 use Rattle.deny_model.specs.Skips.{unmatched_skip_root_keys, unmatched_skip_keys, unnecessary_skip_keys}
 use Rattle.deny_codes.specs.AllowList.{allowed_keys}
 use Rattle.deny_codes.specs.Bans.{banned_keys, allowed_by_wrapper_keys, unmatched_wrapper_keys}
 use Rattle.deny_codes.specs.Circumstances.{Circumstances}
 use Rattle.deny_codes.specs.Facts.{Facts, AreFacts}
+use Rattle.deny_codes.specs.Features.{IsFeatureNotAllowed, default_enabled_keys, feature_banned_keys, mismatched_keys}
+use Rattle.deny_codes.specs.Features.{unknown_feature_keys}
+use Rattle.deny_codes.specs.Licences.{IsOfLicences, accepted_keys, exception_not_encountered_keys, not_encountered_keys}
+use Rattle.deny_codes.specs.Licences.{parse_error_keys, rejected_keys, skipped_private_keys, unlicensed_keys}
 use Rattle.deny_codes.specs.SkippedTrees.{skipped_by_root_keys}
 use Rattle.deny_codes.specs.Skips.{skipped_keys}
 use Rattle.deny_codes.specs.StdReplacements.{replaced_keys_in, unmatched_ignore_keys_in}
@@ -39,11 +43,11 @@ StandsAs code.UnmatchedWrapper c facts key = Contains (unmatched_wrapper_keys c.
 StandsAs code.SkippedByRoot c facts key = Contains (skipped_by_root_keys c.policy c.graph facts.chains) key
 StandsAs code.UnmatchedSkipRoot c facts key = Contains (unmatched_skip_root_keys c.policy c.graph) key
 StandsAs code.BuildScriptNotAllowed c facts key = ⊥
-StandsAs code.ExactFeaturesMismatch c facts key = ⊥
-StandsAs code.FeatureNotExplicitlyAllowed c facts key = ⊥
-StandsAs code.FeatureBanned c facts key = ⊥
-StandsAs code.UnknownFeature c facts key = ⊥
-StandsAs code.DefaultFeatureEnabled c facts key = ⊥
+StandsAs code.ExactFeaturesMismatch c facts key = Contains (mismatched_keys c.policy c.graph) key
+StandsAs code.FeatureNotExplicitlyAllowed c facts key = IsFeatureNotAllowed c.policy c.graph key
+StandsAs code.FeatureBanned c facts key = Contains (feature_banned_keys c.policy c.graph) key
+StandsAs code.UnknownFeature c facts key = Contains (unknown_feature_keys c.policy c.graph) key
+StandsAs code.DefaultFeatureEnabled c facts key = Contains (default_enabled_keys c.policy c.graph) key
 StandsAs code.PathBypassed c facts key = ⊥
 StandsAs code.PathBypassedByGlob c facts key = ⊥
 StandsAs code.ChecksumMatch c facts key = ⊥
@@ -63,20 +67,22 @@ StandsAs code.UnusedWorkspaceDependency c facts key = ⊥
 StandsAs code.ReplacedInStd c facts key = Contains (replaced_keys_in c) key
 StandsAs code.UnmatchedReplacementIgnore c facts key = Contains (unmatched_ignore_keys_in c) key
 
--- the licence check asks no file and no chain
-abbrev pub StandsLicensed : LicenseCode → Policy → Graph → Key → Type 0
-StandsLicensed license.Accepted p g key = ⊥
-StandsLicensed license.Rejected p g key = ⊥
-StandsLicensed license.Unlicensed p g key = ⊥
-StandsLicensed license.ParseError p g key = ⊥
-StandsLicensed license.SkippedPrivateWorkspaceCrate p g key = ⊥
-StandsLicensed license.LicenseNotEncountered p g key = ⊥
-StandsLicensed license.LicenseExceptionNotEncountered p g key = ⊥
+-- the licence check asks no file
+abbrev pub StandsLicensed : LicenseCode → Option Licensing → Graph → Key → Type 0
+StandsLicensed license.Accepted licensing g key = IsOfLicences accepted_keys licensing g key
+StandsLicensed license.Rejected licensing g key = IsOfLicences rejected_keys licensing g key
+StandsLicensed license.Unlicensed licensing g key = IsOfLicences unlicensed_keys licensing g key
+StandsLicensed license.ParseError licensing g key = IsOfLicences parse_error_keys licensing g key
+StandsLicensed license.SkippedPrivateWorkspaceCrate licensing g key =
+    IsOfLicences skipped_private_keys licensing g key
+StandsLicensed license.LicenseNotEncountered licensing g key = IsOfLicences not_encountered_keys licensing g key
+StandsLicensed license.LicenseExceptionNotEncountered licensing g key =
+    IsOfLicences exception_not_encountered_keys licensing g key
 
 abbrev pub StandsBy : DiagnosticCode → Circumstances → Facts → Key → Type 0
 StandsBy Deprecated c facts key = ⊥
 StandsBy (Bans code) c facts key = StandsAs code c facts key
-StandsBy (License code) c facts key = StandsLicensed code c.policy c.graph key
+StandsBy (License code) c facts key = StandsLicensed code c.licensing c.graph key
 
 abbrev pub Stands : Circumstances → Facts → Key → Type 0
 Stands c facts key = StandsBy key.code c facts key

@@ -1,5 +1,5 @@
 -- What a report tells of a key, code by code: one finding for each key, whoever found it.
-use Rattle.std.specs.Prelude.{[], ◌∷◌, Some}
+use Rattle.std.specs.Prelude.{ℕ, [], ◌∷◌, Option, Some}
 use Rattle.deny_base.specs.declared.check.Check.{Check}
 use Rattle.deny_base.specs.declared.check.Check.TheVariants as check
 use Rattle.deny_base.specs.declared.code.Code.{Code}
@@ -12,11 +12,15 @@ use Rattle.deny_base.specs.declared.key.Key.{Key}
 use Rattle.deny_base.specs.declared.license_code.LicenseCode.{LicenseCode}
 use Rattle.deny_base.specs.declared.license_code.LicenseCode.TheVariants as license
 use Rattle.deny_model.specs.Graph.{Graph}
-use Rattle.deny_model.specs.Policy.{Policy}
+use Rattle.deny_model.specs.Licensing.{Licensing}
 use Rattle.deny_codes.specs.AllowList.{allowed_told, not_allowed_told}
 use Rattle.deny_codes.specs.Bans.{banned_told, allowed_by_wrapper_told, unmatched_wrapper_told}
 use Rattle.deny_codes.specs.Circumstances.{Circumstances}
 use Rattle.deny_codes.specs.Duplicates.{duplicate_told}
+use Rattle.deny_codes.specs.Features.{default_enabled_told, feature_banned_told, feature_not_allowed_told}
+use Rattle.deny_codes.specs.Features.{mismatched_told, unknown_feature_told}
+use Rattle.deny_codes.specs.Licences.{accepted_told, exception_not_encountered_told, not_encountered_told_in}
+use Rattle.deny_codes.specs.Licences.{parse_error_told, rejected_told_in, skipped_private_told, unlicensed_told}
 use Rattle.deny_codes.specs.SkippedTrees.{skipped_by_root_told, unmatched_skip_root_told}
 use Rattle.deny_codes.specs.Skips.{skipped_told, unmatched_skip_told, unnecessary_skip_told}
 use Rattle.deny_codes.specs.StdReplacements.{replaced_told_in, unmatched_ignore_told_in}
@@ -38,11 +42,11 @@ words_as code.UnmatchedWrapper c key = unmatched_wrapper_told c.policy c.graph c
 words_as code.SkippedByRoot c key = skipped_by_root_told c.policy c.graph c.files.policy key
 words_as code.UnmatchedSkipRoot c key = unmatched_skip_root_told c.files.policy key
 words_as code.BuildScriptNotAllowed c key = not_built
-words_as code.ExactFeaturesMismatch c key = not_built
-words_as code.FeatureNotExplicitlyAllowed c key = not_built
-words_as code.FeatureBanned c key = not_built
-words_as code.UnknownFeature c key = not_built
-words_as code.DefaultFeatureEnabled c key = not_built
+words_as code.ExactFeaturesMismatch c key = mismatched_told c.policy c.graph c.files.policy key
+words_as code.FeatureNotExplicitlyAllowed c key = feature_not_allowed_told c.policy c.graph c.files.policy key
+words_as code.FeatureBanned c key = feature_banned_told c.policy c.graph c.files.policy key
+words_as code.UnknownFeature c key = unknown_feature_told c.policy c.graph c.files.policy key
+words_as code.DefaultFeatureEnabled c key = default_enabled_told c.policy c.graph c.files.policy key
 words_as code.PathBypassed c key = not_built
 words_as code.PathBypassedByGlob c key = not_built
 words_as code.ChecksumMatch c key = not_built
@@ -62,19 +66,19 @@ words_as code.UnusedWorkspaceDependency c key = not_built
 words_as code.ReplacedInStd c key = replaced_told_in c key
 words_as code.UnmatchedReplacementIgnore c key = unmatched_ignore_told_in c key
 
-unfoldable pub words_licensed : LicenseCode → Policy → Graph → Key → Words
-words_licensed license.Accepted p g key = not_built
-words_licensed license.Rejected p g key = not_built
-words_licensed license.Unlicensed p g key = not_built
-words_licensed license.ParseError p g key = not_built
-words_licensed license.SkippedPrivateWorkspaceCrate p g key = not_built
-words_licensed license.LicenseNotEncountered p g key = not_built
-words_licensed license.LicenseExceptionNotEncountered p g key = not_built
+unfoldable pub words_licensed : LicenseCode → Option Licensing → Graph → ℕ → Key → Words
+words_licensed license.Accepted licensing g file key = accepted_told g key
+words_licensed license.Rejected licensing g file key = rejected_told_in licensing g key
+words_licensed license.Unlicensed licensing g file key = unlicensed_told g key
+words_licensed license.ParseError licensing g file key = parse_error_told g key
+words_licensed license.SkippedPrivateWorkspaceCrate licensing g file key = skipped_private_told g key
+words_licensed license.LicenseNotEncountered licensing g file key = not_encountered_told_in licensing file key
+words_licensed license.LicenseExceptionNotEncountered licensing g file key = exception_not_encountered_told file key
 
 abbrev pub words_by : DiagnosticCode → Circumstances → Key → Words
 words_by Deprecated c key = not_built
 words_by (Bans code) c key = words_as code c key
-words_by (License code) c key = words_licensed code c.policy c.graph key
+words_by (License code) c key = words_licensed code c.licensing c.graph c.files.policy key
 
 -- the words of a key as a finding
 unfoldable pub diag_of : Key → Words → Diag

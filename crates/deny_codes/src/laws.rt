@@ -1,19 +1,20 @@
-ghost use Rattle.std.specs.Prelude.{◌≡◌, ◌++◌, Bool, IsTrue, List};
+ghost use Rattle.std.specs.Prelude.{◌≡◌, ◌++◌, Bool, IsTrue, List, Option};
 ghost use Rattle.deny_lists.specs.Ascending.{Lists};
 ghost use Rattle.deny_base.specs.KeyOrder.{key_cmp};
 ghost use Rattle.deny_base.specs.declared.key.Key.{Key};
 ghost use Rattle.deny_base.specs.declared.key.Section.{Section};
 ghost use Rattle.deny_model.specs.Bans.{wrapper_of};
 ghost use Rattle.deny_model.specs.Graph.{Crate};
+ghost use Rattle.deny_model.specs.Licensing.{Licensing};
 ghost use Rattle.deny_model.specs.Policy as policy;
 ghost use Rattle.deny_model.specs.Wrappers.{wraps};
 ghost use Rattle.deny_codes.specs.Bans.{bears_name};
-ghost use Rattle.deny_codes.specs.Circumstances.{Circumstances, View, viewed};
+ghost use Rattle.deny_codes.specs.Circumstances.{Circumstances, View, licensed, viewed};
 ghost use Rattle.deny_codes.specs.Codes.{asks_no_file, is_of_bans, is_of_licenses, unseeing};
 ghost use Rattle.deny_codes.specs.Facts.{Facts};
 ghost use Rattle.deny_codes.specs.FirstMatch.{first_of, is_first};
 ghost use Rattle.deny_codes.specs.Standing.{AreKeys, AreOwnKeys, ListsOwn, Stands, StandsIn};
-ghost use Rattle.deny_codes.specs.Told.{words_told};
+ghost use Rattle.deny_codes.specs.Told.{pack_told, words_told};
 
 /// Circumstances have one report: no two lists of keys are both theirs.
 pub fn one_report()
@@ -52,11 +53,13 @@ pub fn joined_keys()
         → Lists key_cmp (Stands c facts) (xs ++ ys) }
 {}
 
-/// As long as no rule of the licence check is there, what stands in the sections of the bans check is
-/// all that stands.
-pub fn bans_alone()
-    ensures { (c : Circumstances) → (facts : Facts) → (keys : List Key)
-        → ListsOwn is_of_bans c facts keys → Lists key_cmp (Stands c facts) keys }
+/// Whatever a policy says of licences, in the sections of the bans check the same stands, and the same
+/// is told of it.
+pub fn bans_unlicensed()
+    ensures stands { (c : Circumstances) → (licensing : Option Licensing) → (facts : Facts) → (keys : List Key)
+        → ListsOwn is_of_bans c facts keys → ListsOwn is_of_bans (licensed c licensing) facts keys }
+    ensures told { (c : Circumstances) → (licensing : Option Licensing) → (facts : Facts) → (key : Key)
+        → StandsIn is_of_bans c facts key → pack_told (licensed c licensing) key ≡ pack_told c key }
 {}
 
 /// The wrapper of a crate's name is the first that bears it, and a wrapper wraps where it is that one.

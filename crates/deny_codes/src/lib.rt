@@ -6,6 +6,6 @@ mod laws;
 mod words;
 
 pub use laws::{
-    bans_alone, first_wrapper, joined_keys, one_check, one_report, one_unseen, words_unseen,
+    bans_unlicensed, first_wrapper, joined_keys, one_check, one_report, one_unseen, words_unseen,
 };
 pub use words::Words;

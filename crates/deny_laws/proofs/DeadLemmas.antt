@@ -1,44 +1,67 @@
 -- Dead entries have no hit, so that they are such as can go.
-use Rattle.std.proofs.Common.{◌≡◌, ◌≢◌, ◌⊎◌, List, inl, inr}
+use Rattle.std.proofs.Common.{◌≡◌, ◌≢◌, ◌⊎◌, Bool, List, false, inl, inr}
+use Rattle.std.specs.Prelude.{Contains}
 use Rattle.std.specs.FinMap.{IsAntisymmetric}
 use Rattle.deny_base.specs.Entry.{entry_cmp}
 use Rattle.deny_base.specs.declared.entry.EntryId.{EntryId}
 use Rattle.deny_base.specs.declared.entry.EntryKind.{EntryKind}
-use Rattle.deny_base.specs.declared.entry.EntryKind.TheVariants.{ReplacementIgnore, Skip, SkipRoot, Wrapper}
+use Rattle.deny_base.specs.declared.entry.EntryKind.TheVariants.{LicenseAllow, LicenseException, ReplacementIgnore}
+use Rattle.deny_base.specs.declared.entry.EntryKind.TheVariants.{Skip, SkipRoot, Wrapper}
 use Rattle.deny_base.specs.declared.entry.Hit.{Hit}
 use Rattle.deny_base.specs.declared.key.Key.{Key}
+use Rattle.deny_base.specs.declared.span.Span.{Span}
+use Rattle.deny_model.specs.Graph.{Crate}
 use Rattle.deny_codes.specs.Circumstances.{Circumstances}
 use Rattle.deny_codes.specs.Facts.{Facts}
-use Rattle.deny_codes.specs.Hits.{hits_in}
-use Rattle.deny_laws.specs.Dead.{AreAmong, AreDead, AreDeadIgnores, AreDeadSkips, AreDeadWrappers}
+use Rattle.deny_codes.specs.Hits.{TellsLicensed, both_hits, hits_in}
+use Rattle.deny_laws.specs.Dead.{AreAmong, AreDead, AreDeadIgnores, AreDeadLicences, AreDeadSkips}
+use Rattle.deny_laws.specs.Dead.{AreDeadWrappers}
 use Rattle.deny_laws.specs.IgnoreRemoval.{AreUnhitIgnores}
-use Rattle.deny_laws.specs.Removal.{HaveNoHit}
+use Rattle.deny_laws.specs.LicenceRemoval.{AreUnhitLicences}
+use Rattle.deny_laws.specs.Removal.{HaveNoHit, is_taken}
 use Rattle.deny_laws.specs.SkipRemoval.{AreUnhit}
 use Rattle.deny_laws.specs.WrapperRemoval.{AreUnhitWrappers}
 use Rattle.deny_laws.proofs.Taken.{entry, not_taken}
-use Rattle.deny_laws.proofs.UnhitLemmas.{ignore_stays, root_stays, skip_stays, wrapper_stays}
+use Rattle.deny_laws.proofs.UnhitLemmas.{ignore_stays, licences_stay, of_bans, root_stays, skip_stays, wrapper_stays}
 
 pub dead_unhit : (keys : List Key) (hits : List Hit) (dead taken : List EntryId) → AreDead keys hits dead
     → AreAmong dead taken → HaveNoHit hits taken
 dead_unhit keys hits dead taken are among = λ e is. (are.sound e (among e is)).unhit
 
-no_skip : (kind : EntryKind) → kind ≢ Skip → kind ≢ SkipRoot → (kind ≡ Skip) ⊎ (kind ≡ SkipRoot) → ⊥
-no_skip kind first second (inl e) = first e
-no_skip kind first second (inr e) = second e
+-- entries of two kinds are of no third
+none_of_other : IsAntisymmetric entry_cmp → (taken : List EntryId) (one other kind : EntryKind) → kind ≢ one
+    → kind ≢ other → ((e : EntryId) → Contains taken e → (e.kind ≡ one) ⊎ (e.kind ≡ other))
+    → (range : Span) → is_taken taken kind range ≡ false
+none_of_other exact taken one other kind first second each range = not_taken exact taken kind range (λ is.
+    neither (each (entry kind range) is))
+  where
+    neither : (kind ≡ one) ⊎ (kind ≡ other) → ⊥
+    neither (inl e) = first e
+    neither (inr e) = second e
 
-module _ (exact : IsAntisymmetric entry_cmp) (c : Circumstances) (facts : Facts) (keys : List Key)
-    (dead taken : List EntryId) (are : AreDead keys (hits_in c facts) dead) where
+module _ (exact : IsAntisymmetric entry_cmp) (c : Circumstances) (facts : Facts) (counts : Crate → Bool)
+    (keys : List Key) (dead taken : List EntryId) (are : AreDead keys (both_hits c facts counts) dead) where
+  none_of_both : AreAmong dead taken → HaveNoHit (both_hits c facts counts) taken
+  none_of_both among = dead_unhit keys (both_hits c facts counts) dead taken are among
+
   none_hit : AreAmong dead taken → HaveNoHit (hits_in c facts) taken
-  none_hit among = dead_unhit keys (hits_in c facts) dead taken are among
+  none_hit among = of_bans c facts counts taken (none_of_both among)
+
+  abbrev none_of_two : (kind : EntryKind) → kind ≢ Skip → kind ≢ SkipRoot
+      → ((e : EntryId) → Contains taken e → (e.kind ≡ Skip) ⊎ (e.kind ≡ SkipRoot))
+      → (range : Span) → is_taken taken kind range ≡ false
+  none_of_two = none_of_other exact taken Skip SkipRoot
 
   pub dead_skips : AreDeadSkips dead taken → AreUnhit c.policy c.graph facts.chains taken
   dead_skips these = let none = none_hit these.dead_each in record {
     skips = skip_stays exact c facts taken none;
     roots = root_stays exact c facts taken none;
-    no_wrapper = λ range. not_taken exact taken Wrapper range (λ is. no_skip Wrapper
-        (λ e. absurd (cc e)) (λ e. absurd (cc e)) (these.kind (entry Wrapper range) is));
-    no_ignore = λ range. not_taken exact taken ReplacementIgnore range (λ is. no_skip ReplacementIgnore
-        (λ e. absurd (cc e)) (λ e. absurd (cc e)) (these.kind (entry ReplacementIgnore range) is));
+    no_wrapper = none_of_two Wrapper (λ e. absurd (cc e)) (λ e. absurd (cc e)) these.kind;
+    no_ignore = none_of_two ReplacementIgnore (λ e. absurd (cc e)) (λ e. absurd (cc e)) these.kind;
+    no_licence = record {
+      allowances = none_of_two LicenseAllow (λ e. absurd (cc e)) (λ e. absurd (cc e)) these.kind;
+      exceptions = none_of_two LicenseException (λ e. absurd (cc e)) (λ e. absurd (cc e)) these.kind;
+    };
   }
 
   pub dead_wrappers : AreDeadWrappers c.policy dead taken → AreUnhitWrappers c.policy c.graph taken
@@ -49,6 +72,12 @@ module _ (exact : IsAntisymmetric entry_cmp) (c : Circumstances) (facts : Facts)
     no_root = λ range. not_taken exact taken SkipRoot range (λ is. absurd (cc (these.kind (entry SkipRoot range) is)));
     no_ignore = λ range. not_taken exact taken ReplacementIgnore range (λ is.
         absurd (cc (these.kind (entry ReplacementIgnore range) is)));
+    no_licence = record {
+      allowances = λ range. not_taken exact taken LicenseAllow range (λ is.
+          absurd (cc (these.kind (entry LicenseAllow range) is)));
+      exceptions = λ range. not_taken exact taken LicenseException range (λ is.
+          absurd (cc (these.kind (entry LicenseException range) is)));
+    };
   }
 
   pub dead_ignores : AreDeadIgnores dead taken → AreUnhitIgnores c taken
@@ -57,4 +86,23 @@ module _ (exact : IsAntisymmetric entry_cmp) (c : Circumstances) (facts : Facts)
     no_skip = λ range. not_taken exact taken Skip range (λ is. absurd (cc (these.kind (entry Skip range) is)));
     no_root = λ range. not_taken exact taken SkipRoot range (λ is. absurd (cc (these.kind (entry SkipRoot range) is)));
     no_wrapper = λ range. not_taken exact taken Wrapper range (λ is. absurd (cc (these.kind (entry Wrapper range) is)));
+    no_licence = record {
+      allowances = λ range. not_taken exact taken LicenseAllow range (λ is.
+          absurd (cc (these.kind (entry LicenseAllow range) is)));
+      exceptions = λ range. not_taken exact taken LicenseException range (λ is.
+          absurd (cc (these.kind (entry LicenseException range) is)));
+    };
+  }
+
+  pub dead_licences : TellsLicensed c.licensing c.graph counts → AreDeadLicences dead taken → AreUnhitLicences c taken
+  dead_licences tells these = record {
+    licences = licences_stay exact c facts counts taken tells (none_of_both these.dead_each);
+    no_skip = none_of_other exact taken LicenseAllow LicenseException Skip (λ e. absurd (cc e)) (λ e. absurd (cc e))
+        these.kind;
+    no_root = none_of_other exact taken LicenseAllow LicenseException SkipRoot (λ e. absurd (cc e))
+        (λ e. absurd (cc e)) these.kind;
+    no_wrapper = none_of_other exact taken LicenseAllow LicenseException Wrapper (λ e. absurd (cc e))
+        (λ e. absurd (cc e)) these.kind;
+    no_ignore = none_of_other exact taken LicenseAllow LicenseException ReplacementIgnore (λ e. absurd (cc e))
+        (λ e. absurd (cc e)) these.kind;
   }

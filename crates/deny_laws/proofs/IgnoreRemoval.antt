@@ -17,8 +17,6 @@ use Rattle.deny_base.specs.declared.entry.EntryKind.TheVariants.{ReplacementIgno
 use Rattle.deny_base.specs.declared.entry.Hit.{Hit}
 use Rattle.deny_base.specs.declared.entry.Witness.TheVariants.{Krate}
 use Rattle.deny_base.specs.declared.key.Key.{Key}
-use Rattle.deny_base.specs.declared.license_code.LicenseCode.{LicenseCode}
-use Rattle.deny_base.specs.declared.license_code.LicenseCode.TheVariants as license
 use Rattle.deny_model.specs.Bans.{allowed_by_wrapper_keys_of, banned_keys_of, concerns, is_banned, is_exempt}
 use Rattle.deny_model.specs.Bans.{is_not_allowed, is_wrapped, not_allowed_keys, unmatched_wrapper_keys_of}
 use Rattle.deny_model.specs.Duplicates.{IsDuplicate, duplicate_level, is_denied_multiple}
@@ -38,7 +36,7 @@ use Rattle.deny_codes.specs.FirstMatch.{first_of, is_first}
 use Rattle.deny_codes.specs.Hits.{hits_in}
 use Rattle.deny_codes.specs.Saying.{Saying, said_by}
 use Rattle.deny_codes.specs.SkippedTrees.{skipped_by_root_keys}
-use Rattle.deny_codes.specs.Standing.{StandsAs, StandsBy, StandsLicensed, Stands}
+use Rattle.deny_codes.specs.Standing.{StandsAs, StandsBy, Stands}
 use Rattle.deny_codes.specs.StdReplacements.{counting_version, hits_ignore, ignore_hit, ignore_hits, ignore_hits_in}
 use Rattle.deny_codes.specs.StdReplacements.{ignore_of, ignore_range, ignores, is_hit_ignore, is_replaced}
 use Rattle.deny_codes.specs.StdReplacements.{is_told_replaced, is_unmatched_ignore, looks_at_none, may_replace}
@@ -49,7 +47,8 @@ use Rattle.deny_codes.proofs.Kept.{fails_if_gone, filter_map_kept, find_none_on,
 use Rattle.deny_laws.specs.IgnoreRemoval.{AreUnhitIgnores, without_ignores, without_ignores_in}
 use Rattle.deny_laws.specs.Removal.{AreGone, cut_replacing, is_taken, names, names_as, stays_ignore}
 use Rattle.deny_laws.proofs.FirstMatch.{first_stays, is_first_stays, same_itself}
-use Rattle.deny_laws.proofs.KeyParts.{from_part, kept_part, moved}
+use Rattle.deny_laws.proofs.FeatureRemoval.{features_back, features_there, is_of_features}
+use Rattle.deny_laws.proofs.KeyParts.{from_part, kept_part, moved, no_licence_named}
 
 -- ---- bans, wrappers, skips, skipped trees, groups and the allow list read no ignore
 
@@ -253,6 +252,16 @@ module _ (c : Circumstances) (taken : List EntryId) (unhit : AreUnhitIgnores c t
 -- ---- code by code
 
 module _ (c : Circumstances) (facts : Facts) (taken : List EntryId) (unhit : AreUnhitIgnores c taken) (key : Key) where
+  features_stay : (d : Code) → is_of_features d ≡ true → StandsAs d c facts key
+      → StandsAs d (without_ignores_in c taken) facts key
+  features_stay d of is = features_there c facts c.policy.deny c.policy.skip c.policy.skip_tree
+      (option_map (cut_replacing taken) c.policy.replacing) key d of is
+
+  features_from : (d : Code) → is_of_features d ≡ true → StandsAs d (without_ignores_in c taken) facts key
+      → StandsAs d c facts key
+  features_from d of is = features_back c facts c.policy.deny c.policy.skip c.policy.skip_tree
+      (option_map (cut_replacing taken) c.policy.replacing) key d of is
+
   there_as : (d : Code) → names_as taken (Bans d) key ≡ false → StandsAs d c facts key
       → StandsAs d (without_ignores_in c taken) facts key
   there_as code.Banned unnamed is = moved (banned_keys c.policy c.graph)
@@ -290,6 +299,11 @@ module _ (c : Circumstances) (facts : Facts) (taken : List EntryId) (unhit : Are
   there_as code.Allowed unnamed is = is
   there_as code.Skipped unnamed is = is
   there_as code.Duplicate unnamed is = duplicates_there c.policy c.graph facts.chains taken key is
+  there_as code.ExactFeaturesMismatch unnamed is = features_stay code.ExactFeaturesMismatch refl is
+  there_as code.FeatureNotExplicitlyAllowed unnamed is = features_stay code.FeatureNotExplicitlyAllowed refl is
+  there_as code.FeatureBanned unnamed is = features_stay code.FeatureBanned refl is
+  there_as code.UnknownFeature unnamed is = features_stay code.UnknownFeature refl is
+  there_as code.DefaultFeatureEnabled unnamed is = features_stay code.DefaultFeatureEnabled refl is
   there_as _ unnamed is = absurd is
 
   back_as : (d : Code) → StandsAs d (without_ignores_in c taken) facts key → StandsAs d c facts key
@@ -351,23 +365,24 @@ module _ (c : Circumstances) (facts : Facts) (taken : List EntryId) (unhit : Are
   back_as code.Allowed is = (is, refl)
   back_as code.Skipped is = (is, refl)
   back_as code.Duplicate is = (duplicates_back c.policy c.graph facts.chains taken key is, refl)
+  back_as code.ExactFeaturesMismatch is = (features_from code.ExactFeaturesMismatch refl is, refl)
+  back_as code.FeatureNotExplicitlyAllowed is = (features_from code.FeatureNotExplicitlyAllowed refl is, refl)
+  back_as code.FeatureBanned is = (features_from code.FeatureBanned refl is, refl)
+  back_as code.UnknownFeature is = (features_from code.UnknownFeature refl is, refl)
+  back_as code.DefaultFeatureEnabled is = (features_from code.DefaultFeatureEnabled refl is, refl)
   back_as _ is = absurd is
-
-  licensed : (d : LicenseCode) (p q : Policy) → StandsLicensed d p c.graph key → ⊥
-  licensed license.Accepted p q is = is
-  licensed _ p q is = is
 
   there_by : (d : DiagnosticCode) → names_as taken d key ≡ false → StandsBy d c facts key
       → StandsBy d (without_ignores_in c taken) facts key
   there_by Deprecated unnamed is = absurd is
   there_by (Bans d) unnamed is = there_as d unnamed is
-  there_by (License d) unnamed is = absurd (licensed d c.policy c.policy is)
+  there_by (License d) unnamed is = is
 
   back_by : (d : DiagnosticCode) → StandsBy d (without_ignores_in c taken) facts key → StandsBy d c facts key
       × (names_as taken d key ≡ false)
   back_by Deprecated is = absurd is
   back_by (Bans d) is = back_as d is
-  back_by (License d) is = absurd (licensed d (without_ignores c.policy taken) c.policy is)
+  back_by (License d) is = (is, no_licence_named taken key unhit.no_licence d)
 
   there_key : names taken key ≡ false → Stands c facts key → Stands (without_ignores_in c taken) facts key
   there_key unnamed is = there_by key.code unnamed is
@@ -394,4 +409,5 @@ ignores_gone c facts taken keys are unhit listed = record {
         there_key c facts taken unhit key (not-true (names taken key) kept.1) (listed.sound key kept.0);
   };
   hits = all_hits_stay c taken unhit facts;
+  licence_hits = λ counts tells. refl;
 }

@@ -1,11 +1,15 @@
 pub mod Anew
 pub mod BanRenaming
 pub mod DeadLemmas
+pub mod FeatureRemoval
+pub mod FeatureRenaming
 pub mod FirstMatch
 pub mod IgnoreCases
 pub mod IgnoreRemoval
 pub mod IgnoreRenaming
 pub mod KeyParts
+pub mod LicenceRemoval
+pub mod LicenceRenaming
 pub mod PremiseRows
 pub mod Removal
 pub mod RemovalRows

@@ -1,15 +1,22 @@
 -- Why no entry may lose its last wrapper: a crate without dependents is lifted by any wrapper, though none is hit, and
 -- is banned anew without one. And why what is hit has to stay: without an ignore that is hit another is hit in its
--- place, and without any the crate is told.
+-- place, and without any the crate is told; without an exception that is hit a licence is, and without any the crate is
+-- rejected.
 use Rattle.std.proofs.Common.{◌≡◌, [], ◌∷◌, codes, refl}
 use Rattle.deny_base.specs.Entry.{entry_kind_number}
 use Rattle.deny_base.specs.declared.code.Code.TheVariants as code
-use Rattle.deny_base.specs.declared.entry.EntryKind.TheVariants.{Wrapper}
+use Rattle.deny_base.specs.declared.entry.EntryId.{EntryId}
+use Rattle.deny_base.specs.declared.entry.EntryKind.TheVariants.{LicenseAllow, LicenseException, Wrapper}
+use Rattle.deny_base.specs.declared.license_code.LicenseCode.TheVariants as license
+use Rattle.deny_spdx.proofs.TruthLemmas.{truth-requirement}
 use Rattle.deny_model.specs.Keys.{crate_key, unused_key}
 use Rattle.deny_model.specs.Policy.{Policy}
+use Rattle.deny_codes.specs.Licences.{licence_hits, not_encountered_keys, rejected_keys}
 use Rattle.deny_codes.specs.StdReplacements.{replaced_key}
 use Rattle.deny_codes.proofs.Cases.{ban_at, ban_keys, bans_on_cases, one_x, plain, range, words_at}
-use Rattle.deny_laws.specs.Removal.{is_taken, without}
+use Rattle.deny_codes.proofs.LicenceRows.{alone, every, excepted_by, hit_by, licences_on_cases, mit_in_both, of_x}
+use Rattle.deny_codes.proofs.LicenceRows.{unmet}
+use Rattle.deny_laws.specs.Removal.{cut_licensing, is_taken, without}
 use Rattle.deny_laws.specs.WrapperRemoval.{without_wrappers}
 use Rattle.deny_laws.proofs.IgnoreCases.{hit_by_x, hits_by, ignore, ignores_on_cases, replaced_by, two_ignores}
 
@@ -34,3 +41,25 @@ another_is_hit = refl
 told_anew : replaced_by (without two_ignores (ignore (range 29) ∷ ignore (range 39) ∷ [])) ≡ replaced_key 1 ∷ []
 unfolding ignores_on_cases is_taken entry_kind_number
 told_anew = refl
+
+-- ---- an exception that is hit
+
+abbrev of_mit : EntryId
+of_mit = record { kind = LicenseException; range = range 40 }
+
+by_exception : (licence_hits every mit_in_both (alone (codes "MIT")) ≡ excepted_by (codes "x") 40 ∷ [])
+    × (not_encountered_keys every mit_in_both (alone (codes "MIT")) ≡ unmet 20 ∷ [])
+unfolding licences_on_cases mit_in_both
+by_exception = (refl, refl)
+
+licence_is_hit : (licence_hits every (cut_licensing (of_mit ∷ []) mit_in_both) (alone (codes "MIT"))
+    ≡ hit_by (codes "x") 20 ∷ [])
+    × (not_encountered_keys every (cut_licensing (of_mit ∷ []) mit_in_both) (alone (codes "MIT")) ≡ [])
+unfolding licences_on_cases mit_in_both is_taken entry_kind_number
+licence_is_hit = (refl, refl)
+
+rejected_anew : rejected_keys every
+    (cut_licensing (of_mit ∷ record { kind = LicenseAllow; range = range 20 } ∷ []) mit_in_both) (alone (codes "MIT"))
+    ≡ of_x license.Rejected ∷ []
+unfolding licences_on_cases mit_in_both is_taken entry_kind_number
+rejected_anew = simp truth-requirement refl

@@ -1,17 +1,21 @@
 -- Small cases of what is taken out of a policy: what stands and what is hit before and behind.
-use Rattle.std.proofs.Common.{◌≡◌, [], ◌∷◌, codes, refl}
+use Rattle.std.proofs.Common.{◌≡◌, ℕ, [], ◌∷◌, codes, refl}
 use Rattle.std.specs.Prelude.{filter_map}
 use Rattle.deny_base.specs.Entry.{entry_kind_number}
 use Rattle.deny_base.specs.declared.code.Code.TheVariants as code
 use Rattle.deny_base.specs.declared.entry.EntryId.{EntryId}
-use Rattle.deny_base.specs.declared.entry.EntryKind.TheVariants.{Skip, Wrapper}
+use Rattle.deny_base.specs.declared.entry.EntryKind.TheVariants.{LicenseAllow, LicenseException, Skip, Wrapper}
 use Rattle.deny_model.specs.Hits.{all_hits, wrapper_hit}
 use Rattle.deny_model.specs.Keys.{crate_key, unused_key}
+use Rattle.deny_model.specs.Licensing.{Licensing}
 use Rattle.deny_model.specs.Policy.{Policy}
-use Rattle.deny_codes.proofs.Cases.{all_count, ban_at, ban_keys, bans_on_cases, entry_at, one_x, plain, range}
-use Rattle.deny_codes.proofs.Cases.{skip_keys, skips_on_cases, words_at}
+use Rattle.deny_codes.specs.Licences.{exception_not_encountered_keys, licence_hits, not_encountered_keys}
+use Rattle.deny_codes.proofs.Cases.{all_count, ban_at, ban_keys, bans_on_cases, entry_at, on_cases, one_x, plain}
+use Rattle.deny_codes.proofs.Cases.{range, skip_keys, skips_on_cases, words_at}
+use Rattle.deny_codes.proofs.LicenceRows.{allowed_at, alone, every, exception_at, granting, hit_by, licences_on_cases}
+use Rattle.deny_codes.proofs.LicenceRows.{mit, unmet, unmet_exception}
 use Rattle.deny_laws.specs.Dead.{unused_entry}
-use Rattle.deny_laws.specs.Removal.{is_taken, unnaming, without}
+use Rattle.deny_laws.specs.Removal.{cut_licensing, is_taken, unnaming, without}
 use Rattle.deny_laws.proofs.IgnoreCases.{hit_by_x, hits_by, ignore, ignores_on_cases, replaced_by, two_ignores}
 use Rattle.deny_laws.proofs.IgnoreCases.{unmatched_by}
 
@@ -107,3 +111,40 @@ other_kind : unmatched_by (without two_ignores (record { kind = Skip; range = ra
     ≡ unused_key code.UnmatchedReplacementIgnore (range 39) ∷ []
 unfolding ignores_on_cases is_taken entry_kind_number
 other_kind = refl
+
+-- ---- of two licences that are the same the second is dead, and an exception for a crate that is not there
+
+abbrev allowance : ℕ → EntryId
+allowance start = record { kind = LicenseAllow; range = range start }
+
+abbrev exception : ℕ → EntryId
+exception start = record { kind = LicenseException; range = range start }
+
+unfoldable mit_twice : Licensing
+mit_twice = granting (allowed_at mit 20 ∷ allowed_at mit 27 ∷ []) (exception_at (codes "q") 40 mit ∷ [])
+
+unmet_two : (not_encountered_keys every mit_twice (alone (codes "MIT")) ≡ unmet 27 ∷ [])
+    × (exception_not_encountered_keys every mit_twice (alone (codes "MIT")) ≡ unmet_exception 40 ∷ [])
+unfolding licences_on_cases mit_twice
+unmet_two = (refl, refl)
+
+dead_licences : (filter_map unused_entry (unmet 27 ∷ unmet_exception 40 ∷ []) ≡ allowance 27 ∷ exception 40 ∷ [])
+    × (unnaming (allowance 27 ∷ exception 40 ∷ []) (unmet 27 ∷ unmet_exception 40 ∷ []) ≡ [])
+unfolding on_cases unused_entry is_taken entry_kind_number
+dead_licences = (refl, refl)
+
+-- without both nothing is unmatched, and the first is hit as before
+unfoldable mit_once : Licensing
+mit_once = cut_licensing (allowance 27 ∷ exception 40 ∷ []) mit_twice
+
+none_unmet : (not_encountered_keys every mit_once (alone (codes "MIT")) ≡ [])
+    × (exception_not_encountered_keys every mit_once (alone (codes "MIT")) ≡ [])
+    × (licence_hits every mit_once (alone (codes "MIT")) ≡ hit_by (codes "x") 20 ∷ [])
+    × (licence_hits every mit_twice (alone (codes "MIT")) ≡ hit_by (codes "x") 20 ∷ [])
+unfolding licences_on_cases mit_twice mit_once is_taken entry_kind_number
+none_unmet = (refl, refl, refl, refl)
+
+-- an exception is no licence of its range, nor a licence an exception
+kinds_apart : cut_licensing (exception 27 ∷ allowance 40 ∷ []) mit_twice ≡ mit_twice
+unfolding licences_on_cases mit_twice is_taken entry_kind_number
+kinds_apart = refl

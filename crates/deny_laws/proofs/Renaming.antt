@@ -9,32 +9,35 @@ use Rattle.deny_base.specs.declared.code.DiagnosticCode.{DiagnosticCode}
 use Rattle.deny_base.specs.declared.code.DiagnosticCode.TheVariants.{Deprecated, Bans, License}
 use Rattle.deny_base.specs.declared.entry.Hit.{Hit}
 use Rattle.deny_base.specs.declared.key.Key.{Key}
-use Rattle.deny_base.specs.declared.license_code.LicenseCode.{LicenseCode}
-use Rattle.deny_base.specs.declared.license_code.LicenseCode.TheVariants as license
 use Rattle.deny_model.specs.Bans.{not_allowed_keys}
 use Rattle.deny_model.specs.Hits.{all_hits, root_hit, skip_hit}
-use Rattle.deny_model.specs.Policy.{Policy}
 use Rattle.deny_model.specs.Skips.{unmatched_skip_keys, unmatched_skip_root_keys, unnecessary_skip_keys}
 use Rattle.deny_codes.specs.AllowList.{allowed_keys}
 use Rattle.deny_codes.specs.Bans.{allowed_by_wrapper_keys, banned_keys, unmatched_wrapper_keys}
 use Rattle.deny_codes.specs.Circumstances.{Circumstances}
 use Rattle.deny_codes.specs.Facts.{Facts, AreFacts}
+use Rattle.deny_codes.specs.Features.{default_enabled_keys, feature_banned_keys, mismatched_keys}
+use Rattle.deny_codes.specs.Features.{unknown_feature_keys}
 use Rattle.deny_codes.specs.Hits.{hits_in}
 use Rattle.deny_codes.specs.SkippedTrees.{skipped_by_root_keys}
 use Rattle.deny_codes.specs.Skips.{skipped_keys}
-use Rattle.deny_codes.specs.Standing.{StandsAs, StandsBy, StandsLicensed, Stands}
+use Rattle.deny_codes.specs.Standing.{StandsAs, StandsBy, Stands}
 use Rattle.deny_codes.specs.StdReplacements.{ignore_hits_in, replaced_keys_in, unmatched_ignore_keys_in}
 use Rattle.deny_codes.specs.Wrappers.{unused_wrapper_keys, wrapper_hits_of}
-use Rattle.deny_laws.specs.Renaming.{AreRenamed, KeepsApart, Renaming, renamed, renamed_as, renamed_ban}
+use Rattle.deny_laws.specs.Renaming.{AreRenamed, KeepsApart, KeepsLicencesApart, Renaming, renamed, renamed_as}
+use Rattle.deny_laws.specs.Renaming.{renamed_ban}
 use Rattle.deny_laws.specs.Renaming.{renamed_hit, renamed_in, renamed_key, renamed_root}
 use Rattle.deny_laws.proofs.Anew.{keys_back, keys_there}
 use Rattle.deny_laws.proofs.BanRenaming as bans
+use Rattle.deny_laws.proofs.FeatureRenaming as features
 use Rattle.deny_laws.proofs.IgnoreRenaming as ignores
 use Rattle.deny_laws.proofs.KeyParts.{moved}
+use Rattle.deny_laws.proofs.LicenceRenaming as licences
 use Rattle.deny_laws.proofs.SkipRenaming as skips
 
 module _ (r : Renaming) (c : Circumstances) (these those : Facts) (are : AreFacts c these)
-    (are_new : AreFacts (renamed_in r c) those) (apart : KeepsApart r c.policy) (key : Key) where
+    (are_new : AreFacts (renamed_in r c) those) (apart : KeepsApart r c.policy)
+    (apart_too : KeepsLicencesApart r c.licensing) (key : Key) where
   there_as : (d : Code) → StandsAs d c these key → StandsAs d (renamed_in r c) those (renamed_as r (Bans d) key)
   there_as code.Banned is = keys_there r (banned_keys c.policy c.graph) (banned_keys (renamed r c.policy) c.graph) key
       (bans.banned_anew r c.policy c.graph) is
@@ -69,6 +72,15 @@ module _ (r : Renaming) (c : Circumstances) (these those : Facts) (are : AreFact
       (sym (ignores.replaced_in_stay r c)) is
   there_as code.UnmatchedReplacementIgnore is = keys_there r (unmatched_ignore_keys_in c)
       (unmatched_ignore_keys_in (renamed_in r c)) key (ignores.unmatched_in_anew r c apart) is
+  there_as code.ExactFeaturesMismatch is = keys_there r (mismatched_keys c.policy c.graph)
+      (mismatched_keys (renamed r c.policy) c.graph) key (features.mismatched_anew r c.policy c.graph) is
+  there_as code.FeatureBanned is = keys_there r (feature_banned_keys c.policy c.graph)
+      (feature_banned_keys (renamed r c.policy) c.graph) key (features.banned_anew r c.policy c.graph) is
+  there_as code.UnknownFeature is = keys_there r (unknown_feature_keys c.policy c.graph)
+      (unknown_feature_keys (renamed r c.policy) c.graph) key (features.unknown_anew r c.policy c.graph) is
+  there_as code.DefaultFeatureEnabled is = keys_there r (default_enabled_keys c.policy c.graph)
+      (default_enabled_keys (renamed r c.policy) c.graph) key (features.default_anew r c.policy c.graph) is
+  there_as code.FeatureNotExplicitlyAllowed is = features.not_allowed_there r c.policy c.graph key is
   there_as _ is = absurd is
 
   back_as : (d : Code) → StandsAs d (renamed_in r c) those key
@@ -116,22 +128,27 @@ module _ (r : Renaming) (c : Circumstances) (these those : Facts) (are : AreFact
   )
   back_as code.UnmatchedReplacementIgnore is = keys_back r (unmatched_ignore_keys_in c)
       (unmatched_ignore_keys_in (renamed_in r c)) key (ignores.unmatched_in_anew r c apart) is
+  back_as code.ExactFeaturesMismatch is = keys_back r (mismatched_keys c.policy c.graph)
+      (mismatched_keys (renamed r c.policy) c.graph) key (features.mismatched_anew r c.policy c.graph) is
+  back_as code.FeatureBanned is = keys_back r (feature_banned_keys c.policy c.graph)
+      (feature_banned_keys (renamed r c.policy) c.graph) key (features.banned_anew r c.policy c.graph) is
+  back_as code.UnknownFeature is = keys_back r (unknown_feature_keys c.policy c.graph)
+      (unknown_feature_keys (renamed r c.policy) c.graph) key (features.unknown_anew r c.policy c.graph) is
+  back_as code.DefaultFeatureEnabled is = keys_back r (default_enabled_keys c.policy c.graph)
+      (default_enabled_keys (renamed r c.policy) c.graph) key (features.default_anew r c.policy c.graph) is
+  back_as code.FeatureNotExplicitlyAllowed is = features.not_allowed_back r c.policy c.graph key is
   back_as _ is = absurd is
-
-  licensed : (d : LicenseCode) (p : Policy) (k : Key) → StandsLicensed d p c.graph k → ⊥
-  licensed license.Accepted p k is = is
-  licensed _ p k is = is
 
   there_by : (d : DiagnosticCode) → StandsBy d c these key → StandsBy d (renamed_in r c) those (renamed_as r d key)
   there_by Deprecated is = absurd is
   there_by (Bans d) is = there_as d is
-  there_by (License d) is = absurd (licensed d c.policy key is)
+  there_by (License d) is = licences.licensed_there r c.licensing c.graph key apart_too d is
 
   back_by : (d : DiagnosticCode) → StandsBy d (renamed_in r c) those key
       → (old : Key) × StandsBy d c these old × (key ≡ renamed_as r d old)
   back_by Deprecated is = absurd is
   back_by (Bans d) is = back_as d is
-  back_by (License d) is = absurd (licensed d (renamed r c.policy) key is)
+  back_by (License d) is = licences.licensed_back r c.licensing c.graph key apart_too d is
 
   back_key : Stands (renamed_in r c) those key → (old : Key) × Stands c these old × (key ≡ renamed_key r old)
   back_key is =
@@ -145,7 +162,8 @@ module _ (r : Renaming) (c : Circumstances) (these those : Facts) (are : AreFact
 -- ---- hits
 
 module _ (r : Renaming) (c : Circumstances) (these those : Facts) (are : AreFacts c these)
-    (are_new : AreFacts (renamed_in r c) those) (apart : KeepsApart r c.policy) where
+    (are_new : AreFacts (renamed_in r c) those) (apart : KeepsApart r c.policy)
+    (apart_too : KeepsLicencesApart r c.licensing) where
   crate_hits_anew : all_hits (renamed r c.policy) c.graph those.chains ≡ map (renamed_hit r)
       (all_hits c.policy c.graph these.chains)
   crate_hits_anew =
@@ -174,7 +192,8 @@ module _ (r : Renaming) (c : Circumstances) (these those : Facts) (are : AreFact
 
   pub all_renamed : AreRenamed r c these those
   all_renamed = record {
-    whole = λ key is. there_by r c these those are are_new apart key key.code is;
-    sound = λ key is. back_key r c these those are are_new apart key is;
+    whole = λ key is. there_by r c these those are are_new apart apart_too key key.code is;
+    sound = λ key is. back_key r c these those are are_new apart apart_too key is;
     hits = hits_anew;
+    licence_hits = λ counts. licences.licensed_hits r c.licensing c.graph counts apart_too;
   }

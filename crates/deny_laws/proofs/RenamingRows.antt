@@ -1,12 +1,20 @@
--- Small cases of ranges in whose place others stand; and why two wrappers of one entry must keep two, and two ignores.
+-- Small cases of ranges in whose place others stand; and why two wrappers of one entry must keep two, and two ignores,
+-- two licences and two exceptions.
 use Rattle.std.proofs.Common.{◌≡◌, ◌+◌, ℕ, [], ◌∷◌, Some, codes, map, refl, true}
 use Rattle.deny_base.specs.declared.code.Code.TheVariants as code
 use Rattle.deny_base.specs.declared.level.LintLevel.TheVariants.{Warn}
-use Rattle.deny_model.specs.Keys.{crate_key, dependent_key, no_span, unused_key}
+use Rattle.deny_model.specs.Keys.{crate_key, dependent_key, key_of, no_span, unused_key}
+use Rattle.deny_model.specs.Licensing.{Licensing}
+use Rattle.deny_model.specs.Match.{matches}
 use Rattle.deny_model.specs.Policy.{FeatureEntry, Policy}
+use Rattle.deny_codes.specs.Features.{is_enabled, is_mismatch_told, is_mismatched, mismatched_keys, mismatched_keys_of}
+use Rattle.deny_codes.specs.Features.{missing, unlisted}
+use Rattle.deny_codes.specs.Licences.{exception_not_encountered_keys, licence_hits, not_encountered_keys}
 use Rattle.deny_codes.proofs.Cases.{ban_at, ban_keys, bans_on_cases, by_two, entry_at, on_cases, one_x, plain, range}
 use Rattle.deny_codes.proofs.Cases.{spec_at, words_at}
-use Rattle.deny_laws.specs.Renaming.{Renaming, renamed, renamed_key}
+use Rattle.deny_codes.proofs.LicenceRows.{allowed_at, alone, every, exception_at, excepted_by, gpl, granting, hit_by}
+use Rattle.deny_codes.proofs.LicenceRows.{licences_on_cases, mit, unmet, unmet_exception}
+use Rattle.deny_laws.specs.Renaming.{Renaming, renamed, renamed_key, renamed_licensing}
 use Rattle.deny_laws.proofs.IgnoreCases.{hit_by_x, hits_by, ignores_on_cases, two_ignores, unmatched_by}
 
 farther : Renaming
@@ -78,3 +86,37 @@ levels_farther : (renamed farther (record plain {
 })).workspace_default ≡ Some (record { value = Warn; span = range 120 })
 unfolding on_cases farther
 levels_farther = refl
+
+-- `x` lacks a feature that its entry says it has: told at the entry's new range
+mismatched_farther : mismatched_keys (renamed farther (record plain { features = feature_at 20 ∷ [] })) one_x
+    ≡ crate_key code.ExactFeaturesMismatch 1 (range 120) ∷ []
+unfolding on_cases feature_at farther mismatched_keys_of is_mismatch_told is_mismatched unlisted missing is_enabled
+    matches key_of
+mismatched_farther = refl
+
+-- ---- licences and exceptions
+
+unfoldable mit_twice : Licensing
+mit_twice = granting (allowed_at mit 20 ∷ allowed_at mit 27 ∷ [])
+    (exception_at (codes "x") 40 gpl ∷ exception_at (codes "x") 50 gpl ∷ [])
+
+licences_farther : (not_encountered_keys every (renamed_licensing farther mit_twice) (alone (codes "MIT OR GPL-2.0"))
+    ≡ unmet 127 ∷ [])
+    × (exception_not_encountered_keys every (renamed_licensing farther mit_twice) (alone (codes "MIT OR GPL-2.0"))
+    ≡ unmet_exception 150 ∷ [])
+    × (licence_hits every (renamed_licensing farther mit_twice) (alone (codes "MIT OR GPL-2.0"))
+    ≡ hit_by (codes "x") 120 ∷ excepted_by (codes "x") 140 ∷ [])
+unfolding licences_on_cases mit_twice farther
+licences_farther = (refl, refl, refl)
+
+-- an exception's own licences have new ranges too
+excepted_farther : (renamed_licensing farther mit_twice).exceptions
+    ≡ exception_at (codes "x") 140 gpl ∷ exception_at (codes "x") 150 gpl ∷ []
+unfolding licences_on_cases mit_twice farther
+excepted_farther = refl
+
+-- where two get one range, the second is hit with the first
+licences_not_apart : licence_hits every (renamed_licensing all_at_once mit_twice) (alone (codes "MIT OR GPL-2.0"))
+    ≡ hit_by (codes "x") 7 ∷ hit_by (codes "x") 7 ∷ excepted_by (codes "x") 7 ∷ excepted_by (codes "x") 7 ∷ []
+unfolding licences_on_cases mit_twice all_at_once
+licences_not_apart = refl

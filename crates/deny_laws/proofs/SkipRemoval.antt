@@ -18,8 +18,6 @@ use Rattle.deny_base.specs.declared.entry.EntryKind.TheVariants.{Skip, SkipRoot}
 use Rattle.deny_base.specs.declared.entry.Hit.{Hit}
 use Rattle.deny_base.specs.declared.entry.Witness.TheVariants.{Krate}
 use Rattle.deny_base.specs.declared.key.Key.{Key}
-use Rattle.deny_base.specs.declared.license_code.LicenseCode.{LicenseCode}
-use Rattle.deny_base.specs.declared.license_code.LicenseCode.TheVariants as license
 use Rattle.deny_model.specs.Hits.{all_hits, hit_of, root_hit, skip_hit, wrapper_hit}
 use Rattle.deny_model.specs.Bans.{is_not_allowed, not_allowed_keys, allowed_by_wrapper_keys_of, banned_keys_of}
 use Rattle.deny_model.specs.Bans.{concerns, is_banned, is_exempt, is_wrapped, unmatched_wrapper_keys_of}
@@ -41,14 +39,15 @@ use Rattle.deny_codes.specs.Circumstances.{Circumstances}
 use Rattle.deny_codes.specs.Facts.{Facts, AreFacts}
 use Rattle.deny_codes.specs.SkippedTrees.{skipped_by_root_keys}
 use Rattle.deny_codes.specs.Skips.{skipped_keys}
-use Rattle.deny_codes.specs.Standing.{StandsAs, StandsBy, StandsLicensed, Stands}
+use Rattle.deny_codes.specs.Standing.{StandsAs, StandsBy, Stands}
 use Rattle.deny_codes.specs.StdReplacements.{ignore_hits_in}
 use Rattle.deny_codes.specs.Wrappers.{unused_wrapper_keys, wrapper_hits_of}
 use Rattle.deny_codes.proofs.Kept.{fails_if_gone, filter_fails_on, filter_kept, filter_map_kept, filter_none_on}
 use Rattle.deny_codes.proofs.Kept.{find_none_on, flat_map_kept, guarded, list_any_kept, told_kept}
 use Rattle.deny_laws.specs.Removal.{AreGone, is_taken, names, names_as, stays_root, stays_skip, unnaming}
 use Rattle.deny_laws.specs.SkipRemoval.{AreUnhit, without_skips, without_skips_in}
-use Rattle.deny_laws.proofs.KeyParts.{from_part, kept_part, moved}
+use Rattle.deny_laws.proofs.FeatureRemoval.{features_back, features_there, is_of_features}
+use Rattle.deny_laws.proofs.KeyParts.{from_part, kept_part, moved, no_licence_named}
 
 -- ---- bans and the allow list read neither
 
@@ -301,6 +300,16 @@ module _ (p : Policy) (g : Graph) (f : chains.Facts) (taken : List EntryId) (are
 module _ (c : Circumstances) (facts : Facts) (taken : List EntryId)
     (are : chains.AreFacts c.policy c.graph facts.chains)
     (unhit : AreUnhit c.policy c.graph facts.chains taken) (key : Key) where
+  features_stay : (d : Code) → is_of_features d ≡ true → StandsAs d c facts key
+      → StandsAs d (without_skips_in c taken) facts key
+  features_stay d of is = features_there c facts c.policy.deny (filter (stays_skip taken) c.policy.skip)
+      (filter (stays_root taken) c.policy.skip_tree) c.policy.replacing key d of is
+
+  features_from : (d : Code) → is_of_features d ≡ true → StandsAs d (without_skips_in c taken) facts key
+      → StandsAs d c facts key
+  features_from d of is = features_back c facts c.policy.deny (filter (stays_skip taken) c.policy.skip)
+      (filter (stays_root taken) c.policy.skip_tree) c.policy.replacing key d of is
+
   there_as : (d : Code) → names_as taken (Bans d) key ≡ false → StandsAs d c facts key
       → StandsAs d (without_skips_in c taken) facts key
   there_as code.Banned unnamed is = moved (banned_keys c.policy c.graph)
@@ -335,6 +344,11 @@ module _ (c : Circumstances) (facts : Facts) (taken : List EntryId)
   there_as code.Duplicate unnamed is = duplicates_there c.policy c.graph facts.chains taken are unhit key is
   there_as code.ReplacedInStd unnamed is = is
   there_as code.UnmatchedReplacementIgnore unnamed is = is
+  there_as code.ExactFeaturesMismatch unnamed is = features_stay code.ExactFeaturesMismatch refl is
+  there_as code.FeatureNotExplicitlyAllowed unnamed is = features_stay code.FeatureNotExplicitlyAllowed refl is
+  there_as code.FeatureBanned unnamed is = features_stay code.FeatureBanned refl is
+  there_as code.UnknownFeature unnamed is = features_stay code.UnknownFeature refl is
+  there_as code.DefaultFeatureEnabled unnamed is = features_stay code.DefaultFeatureEnabled refl is
   there_as _ unnamed is = absurd is
 
   back_as : (d : Code) → StandsAs d (without_skips_in c taken) facts key → StandsAs d c facts key
@@ -394,23 +408,24 @@ module _ (c : Circumstances) (facts : Facts) (taken : List EntryId)
       (unmatched_skip_root_keys (without_skips c.policy taken) c.graph)
       (unmatched_skip_root_keys c.policy c.graph) key (unmatched_root_part c.policy c.graph facts.chains taken are
       unhit) is
+  back_as code.ExactFeaturesMismatch is = (features_from code.ExactFeaturesMismatch refl is, refl)
+  back_as code.FeatureNotExplicitlyAllowed is = (features_from code.FeatureNotExplicitlyAllowed refl is, refl)
+  back_as code.FeatureBanned is = (features_from code.FeatureBanned refl is, refl)
+  back_as code.UnknownFeature is = (features_from code.UnknownFeature refl is, refl)
+  back_as code.DefaultFeatureEnabled is = (features_from code.DefaultFeatureEnabled refl is, refl)
   back_as _ is = absurd is
-
-  licensed : (d : LicenseCode) (p q : Policy) → StandsLicensed d p c.graph key → ⊥
-  licensed license.Accepted p q is = is
-  licensed _ p q is = is
 
   there_by : (d : DiagnosticCode) → names_as taken d key ≡ false → StandsBy d c facts key
       → StandsBy d (without_skips_in c taken) facts key
   there_by Deprecated unnamed is = absurd is
   there_by (Bans d) unnamed is = there_as d unnamed is
-  there_by (License d) unnamed is = absurd (licensed d c.policy c.policy is)
+  there_by (License d) unnamed is = is
 
   back_by : (d : DiagnosticCode) → StandsBy d (without_skips_in c taken) facts key → StandsBy d c facts key
       × (names_as taken d key ≡ false)
   back_by Deprecated is = absurd is
   back_by (Bans d) is = back_as d is
-  back_by (License d) is = absurd (licensed d (without_skips c.policy taken) c.policy is)
+  back_by (License d) is = (is, no_licence_named taken key unhit.no_licence d)
 
   there_key : names taken key ≡ false → Stands c facts key → Stands (without_skips_in c taken) facts key
   there_key unnamed is = there_by key.code unnamed is
@@ -450,4 +465,5 @@ skips_gone c facts taken keys are unhit listed = record {
   listed = listed_without c facts taken keys are unhit listed;
   hits = ap (λ (hits : List Hit). hits ++ ignore_hits_in c)
       (hits_stay c.policy c.graph facts.chains taken are.chains unhit);
+  licence_hits = λ counts tells. refl;
 }

@@ -1,24 +1,29 @@
 -- What is hit has a hit, so that it stays where what goes has none.
-use Rattle.std.proofs.Common.{◌≡◌, ◌++◌, ◌∙◌, List, None, Option, Some, [], ap, not, refl, subst, sym, true}
+use Rattle.std.proofs.Common.{◌≡◌, ◌&&◌, Bool, ◌++◌, ◌∙◌, List, None, Option, Some, [], ap, not, refl, subst, sym, true}
 use Rattle.std.specs.Prelude.{Contains, filter_map, find, is_some, option_and_then, option_map}
 use Rattle.std.specs.List.{flat_map, list_any}
 use Rattle.std.specs.FinMap.{IsAntisymmetric}
 use Rattle.std.specs.Option.{option_map_or}
 use Rattle.std.proofs.lemmas.Bool.{and_parts}
 use Rattle.std.proofs.lemmas.List.Elements.{Contains-append_left, Contains-append_right}
+use Rattle.deny_lists.proofs.Agreement.{list_any_on, same_test}
 use Rattle.deny_lists.proofs.Filters.{find-any}
 use Rattle.deny_lists.proofs.Members.{Contains-filter_map, Contains-flat_map}
 use Rattle.deny_base.specs.Entry.{entry_cmp}
 use Rattle.deny_base.specs.declared.entry.EntryId.{EntryId}
 use Rattle.deny_base.specs.declared.entry.EntryKind.{EntryKind}
-use Rattle.deny_base.specs.declared.entry.EntryKind.TheVariants.{ReplacementIgnore, Skip, SkipRoot, Wrapper}
+use Rattle.deny_base.specs.declared.entry.EntryKind.TheVariants.{LicenseAllow, LicenseException, ReplacementIgnore}
+use Rattle.deny_base.specs.declared.entry.EntryKind.TheVariants.{Skip, SkipRoot, Wrapper}
 use Rattle.deny_base.specs.declared.entry.Hit.{Hit}
 use Rattle.deny_base.specs.declared.entry.Witness.TheVariants.{Krate, Parent}
 use Rattle.deny_base.specs.declared.span.Span.{Span}
+use Rattle.deny_base.specs.declared.span.Spanned.{Spanned}
+use Rattle.deny_spdx.specs.declared.requirement.Requirement.{Requirement}
 use Rattle.deny_model.specs.Hits.{all_hits, hit_of, root_hit, skip_hit, wrapper_hit, wrapper_hit_at}
 use Rattle.deny_model.specs.Bans.{concerns}
 use Rattle.deny_model.specs.Facts as chains
 use Rattle.deny_model.specs.Graph.{Crate, Graph, dependents, kid_of}
+use Rattle.deny_model.specs.Licensing.{Exception, Licensing}
 use Rattle.deny_model.specs.Match.{matches}
 use Rattle.deny_model.specs.Policy as policy
 use Rattle.deny_model.specs.Policy.{Ban, Entry, Policy, Replacing, Root}
@@ -26,13 +31,18 @@ use Rattle.deny_model.specs.Skips.{has_root, is_hit_skip, is_skipped}
 use Rattle.deny_model.specs.Wrappers.{hits_wrapper, is_hit_wrapper, wraps}
 use Rattle.deny_codes.specs.Circumstances.{Circumstances}
 use Rattle.deny_codes.specs.Facts.{Facts}
-use Rattle.deny_codes.specs.Hits.{hits_in}
+use Rattle.deny_codes.specs.Hits.{TellsLicensed, both_hits, hits_in, licence_hits_in}
+use Rattle.deny_codes.specs.Licences.{Asked, TellsCounting, allowance_hit, allowance_range, asked_in, exception_hit}
+use Rattle.deny_codes.specs.Licences.{exception_range, first_hit, grants_by_allowance, grants_by_exception, hits_by}
+use Rattle.deny_codes.specs.Licences.{is_hit_by, is_looked_at, is_passed_over, licence_hits}
 use Rattle.deny_codes.specs.Saying.{Saying, said_by}
 use Rattle.deny_codes.specs.StdReplacements.{hits_ignore, ignore_hit, ignore_hits, ignore_hits_in, ignore_range}
 use Rattle.deny_codes.specs.StdReplacements.{is_hit_ignore}
 use Rattle.deny_codes.specs.Wrappers.{wrapper_hits_of}
 use Rattle.deny_codes.proofs.Kept.{found_passes}
-use Rattle.deny_laws.specs.Removal.{HaveNoHit, is_taken, stays_ignore, stays_root, stays_skip, stays_wrapper}
+use Rattle.deny_laws.specs.LicenceRemoval.{LicencesStay}
+use Rattle.deny_laws.specs.Removal.{HaveNoHit, is_taken, stays_ignore}
+use Rattle.deny_laws.specs.Removal.{stays_root, stays_skip, stays_wrapper}
 use Rattle.deny_laws.proofs.Taken.{entry, not_taken}
 
 -- the hit of an entry that is hit
@@ -66,6 +76,32 @@ hit_of_ignore : (s : Replacing) (g : Graph) (said : Saying) (e : Entry) → is_h
 unfolding is_hit_ignore ignore_hit
 hit_of_ignore s g said e is = by_found ReplacementIgnore (ignore_range e) (find (hits_ignore s g said e) g.crates)
     (sym (find-any (hits_ignore s g said e) g.crates) ∙ is)
+
+-- ---- licences and exceptions: by a crate that asks for what they grant
+
+hit_of_allowance : (counts : Crate → Bool) (l : Licensing) (g : Graph) (a : Spanned Requirement)
+    → is_hit_by counts l g (grants_by_allowance l a) ≡ true
+    → HasHit (allowance_hit counts l g a) (entry LicenseAllow (allowance_range a))
+unfolding is_hit_by allowance_hit first_hit
+hit_of_allowance counts l g a is = by_found LicenseAllow (allowance_range a)
+    (find (hits_by counts l (grants_by_allowance l a)) g.crates)
+    (sym (find-any (hits_by counts l (grants_by_allowance l a)) g.crates) ∙ is)
+
+hit_of_exception : (counts : Crate → Bool) (l : Licensing) (g : Graph) (e : Exception)
+    → is_hit_by counts l g (grants_by_exception l e) ≡ true
+    → HasHit (exception_hit counts l g e) (entry LicenseException (exception_range e))
+unfolding is_hit_by exception_hit first_hit
+hit_of_exception counts l g e is = by_found LicenseException (exception_range e)
+    (find (hits_by counts l (grants_by_exception l e)) g.crates)
+    (sym (find-any (hits_by counts l (grants_by_exception l e)) g.crates) ∙ is)
+
+-- tests that tell which crates count agree on the crates of the graph, and so on what is hit
+tests_same : (l : Licensing) (g : Graph) (one other : Crate → Bool) → TellsCounting l g one → TellsCounting l g other
+    → (grants : Asked → Bool) → is_hit_by one l g grants ≡ is_hit_by other l g grants
+unfolding is_hit_by hits_by is_looked_at
+tests_same l g one other tells tells_too grants = list_any_on (hits_by one l grants) (hits_by other l grants) g.crates
+    (λ c known. ap (λ b. (b && not (is_passed_over l c)) && list_any grants (asked_in c))
+    (same_test (one c) (other c) (tells c known) (tells_too c known)))
 
 -- ---- wrappers: by a crate and a dependent
 
@@ -153,3 +189,59 @@ module _ (exact : IsAntisymmetric entry_cmp) (c : Circumstances) (facts : Facts)
       (subst (λ (hits : List Hit). Contains hits of.hit)
       (sym (ap (λ (o : Option Replacing). option_map_or (λ r. ignore_hits r c.graph (said_by c.table)) o []) minded))
       (Contains-filter_map (ignore_hit s c.graph (said_by c.table)) s.ignore e of.hit written of.gives))) of.is
+
+-- ---- of the hits of both checks
+
+-- none of these has a hit of the bans check
+pub of_bans : (c : Circumstances) (facts : Facts) (counts : Crate → Bool) (taken : List EntryId)
+    → HaveNoHit (both_hits c facts counts) taken → HaveNoHit (hits_in c facts) taken
+of_bans c facts counts taken none = λ e is h hit. none e is h
+    (Contains-append_left (hits_in c facts) (licence_hits_in counts c) h hit)
+
+-- nor one of the licence check
+of_licences : (c : Circumstances) (facts : Facts) (counts : Crate → Bool) (taken : List EntryId)
+    → HaveNoHit (both_hits c facts counts) taken → HaveNoHit (licence_hits_in counts c) taken
+of_licences c facts counts taken none = λ e is h hit. none e is h
+    (Contains-append_right (hits_in c facts) (licence_hits_in counts c) h hit)
+
+module _ (exact : IsAntisymmetric entry_cmp) (counts : Crate → Bool) (l : Licensing) (g : Graph) (taken : List EntryId)
+    (none : HaveNoHit (licence_hits counts l g) taken) where
+  stays_where : (kind : EntryKind) (range : Span) (h : Hit) → Contains (licence_hits counts l g) h
+      → h.entry ≡ entry kind range → not (is_taken taken kind range) ≡ true
+  stays_where kind range h hit is = ap (λ b. not b)
+      (not_taken exact taken kind range (λ gone. none (entry kind range) gone h hit is))
+
+  stay_by : LicencesStay counts l g taken
+  stay_by = record {
+    allowances = λ a written hit. let of = hit_of_allowance counts l g a hit in
+        stays_where LicenseAllow (allowance_range a) of.hit
+        (Contains-append_left (filter_map (allowance_hit counts l g) l.allow)
+        (filter_map (exception_hit counts l g) l.exceptions) of.hit
+        (Contains-filter_map (allowance_hit counts l g) l.allow a of.hit written of.gives)) of.is;
+    exceptions = λ e written hit. let of = hit_of_exception counts l g e hit in
+        stays_where LicenseException (exception_range e) of.hit
+        (Contains-append_right (filter_map (allowance_hit counts l g) l.allow)
+        (filter_map (exception_hit counts l g) l.exceptions) of.hit
+        (Contains-filter_map (exception_hit counts l g) l.exceptions e of.hit written of.gives)) of.is;
+  }
+
+-- by another test the same stays
+stay_too : (l : Licensing) (g : Graph) (taken : List EntryId) (one other : Crate → Bool) → TellsCounting l g one
+    → TellsCounting l g other → LicencesStay one l g taken → LicencesStay other l g taken
+stay_too l g taken one other tells tells_too stay = record {
+  allowances = λ a written hit. stay.allowances a written
+      (tests_same l g one other tells tells_too (grants_by_allowance l a) ∙ hit);
+  exceptions = λ e written hit. stay.exceptions e written
+      (tests_same l g one other tells tells_too (grants_by_exception l e) ∙ hit);
+}
+
+pub licences_stay : IsAntisymmetric entry_cmp → (c : Circumstances) (facts : Facts) (counts : Crate → Bool)
+    (taken : List EntryId) → TellsLicensed c.licensing c.graph counts → HaveNoHit (both_hits c facts counts) taken
+    → (l : Licensing) → c.licensing ≡ Some l → (other : Crate → Bool) → TellsCounting l c.graph other
+    → LicencesStay other l c.graph taken
+licences_stay exact c facts counts taken tells none l spoken other tells_too =
+    stay_too l c.graph taken counts other
+    (subst (λ (o : Option Licensing). TellsLicensed o c.graph counts) spoken tells) tells_too
+    (stay_by exact counts l c.graph taken
+    (subst (λ (o : Option Licensing). HaveNoHit (option_map_or (λ x. licence_hits counts x c.graph) o []) taken) spoken
+    (of_licences c facts counts taken none)))

@@ -19,8 +19,6 @@ use Rattle.deny_base.specs.declared.entry.EntryKind.TheVariants.{Wrapper}
 use Rattle.deny_base.specs.declared.entry.Hit.{Hit}
 use Rattle.deny_base.specs.declared.entry.Witness.TheVariants.{Parent}
 use Rattle.deny_base.specs.declared.key.Key.{Key}
-use Rattle.deny_base.specs.declared.license_code.LicenseCode.{LicenseCode}
-use Rattle.deny_base.specs.declared.license_code.LicenseCode.TheVariants as license
 use Rattle.deny_model.specs.Hits.{all_hits, hit_of, root_hit, skip_hit, wrapper_hit, wrapper_hit_at}
 use Rattle.deny_model.specs.Bans.{is_not_allowed, not_allowed_keys, allowed_by_wrapper_keys_at}
 use Rattle.deny_model.specs.Bans.{allowed_by_wrapper_keys_of, banned_keys_of, concerns, has_wrappers, is_banned}
@@ -41,7 +39,7 @@ use Rattle.deny_codes.specs.Circumstances.{Circumstances}
 use Rattle.deny_codes.specs.Facts.{Facts, AreFacts}
 use Rattle.deny_codes.specs.FirstMatch.{first_of}
 use Rattle.deny_codes.specs.SkippedTrees.{skipped_by_root_keys}
-use Rattle.deny_codes.specs.Standing.{StandsAs, StandsBy, StandsLicensed, Stands}
+use Rattle.deny_codes.specs.Standing.{StandsAs, StandsBy, Stands}
 use Rattle.deny_codes.specs.StdReplacements.{ignore_hits_in}
 use Rattle.deny_codes.specs.Wrappers.{unused_wrapper_keys, wrapper_hits_of}
 use Rattle.deny_codes.proofs.Kept.{filter-flat_map, found_member, list_all_on, fails_if_gone}
@@ -49,7 +47,8 @@ use Rattle.deny_codes.proofs.Kept.{filter_map_kept, find_none_on, guarded, told_
 use Rattle.deny_laws.specs.Removal.{AreGone, cut, is_taken, names, names_as, stays_wrapper}
 use Rattle.deny_laws.specs.WrapperRemoval.{AreUnhitWrappers, without_wrappers, without_wrappers_in}
 use Rattle.deny_laws.proofs.FirstMatch.{first_stays, is_first_stays, same_itself}
-use Rattle.deny_laws.proofs.KeyParts.{from_part, kept_part, moved}
+use Rattle.deny_laws.proofs.FeatureRemoval.{features_back, features_there, is_of_features}
+use Rattle.deny_laws.proofs.KeyParts.{from_part, kept_part, moved, no_licence_named}
 
 module _ (p : Policy) (g : Graph) (taken : List EntryId) (unhit : AreUnhitWrappers p g taken) where
   -- ---- at a crate that an entry concerns
@@ -329,6 +328,16 @@ module _ (p : Policy) (g : Graph) (f : chains.Facts) (taken : List EntryId) wher
 
 module _ (c : Circumstances) (facts : Facts) (taken : List EntryId) (unhit : AreUnhitWrappers c.policy c.graph taken)
     (key : Key) where
+  features_stay : (d : Code) → is_of_features d ≡ true → StandsAs d c facts key
+      → StandsAs d (without_wrappers_in c taken) facts key
+  features_stay d of is = features_there c facts (map (cut taken) c.policy.deny) c.policy.skip
+      c.policy.skip_tree c.policy.replacing key d of is
+
+  features_from : (d : Code) → is_of_features d ≡ true → StandsAs d (without_wrappers_in c taken) facts key
+      → StandsAs d c facts key
+  features_from d of is = features_back c facts (map (cut taken) c.policy.deny) c.policy.skip
+      c.policy.skip_tree c.policy.replacing key d of is
+
   there_as : (d : Code) → names_as taken (Bans d) key ≡ false → StandsAs d c facts key
       → StandsAs d (without_wrappers_in c taken) facts key
   there_as code.Banned unnamed is = moved (banned_keys c.policy c.graph)
@@ -362,6 +371,11 @@ module _ (c : Circumstances) (facts : Facts) (taken : List EntryId) (unhit : Are
   there_as code.Duplicate unnamed is = duplicates_there c.policy c.graph facts.chains taken key is
   there_as code.ReplacedInStd unnamed is = is
   there_as code.UnmatchedReplacementIgnore unnamed is = is
+  there_as code.ExactFeaturesMismatch unnamed is = features_stay code.ExactFeaturesMismatch refl is
+  there_as code.FeatureNotExplicitlyAllowed unnamed is = features_stay code.FeatureNotExplicitlyAllowed refl is
+  there_as code.FeatureBanned unnamed is = features_stay code.FeatureBanned refl is
+  there_as code.UnknownFeature unnamed is = features_stay code.UnknownFeature refl is
+  there_as code.DefaultFeatureEnabled unnamed is = features_stay code.DefaultFeatureEnabled refl is
   there_as _ unnamed is = absurd is
 
   back_as : (d : Code) → StandsAs d (without_wrappers_in c taken) facts key → StandsAs d c facts key
@@ -416,23 +430,24 @@ module _ (c : Circumstances) (facts : Facts) (taken : List EntryId) (unhit : Are
   back_as code.Duplicate is = (duplicates_back c.policy c.graph facts.chains taken key is, refl)
   back_as code.ReplacedInStd is = (is, refl)
   back_as code.UnmatchedReplacementIgnore is = (is, unhit.no_ignore key.entry)
+  back_as code.ExactFeaturesMismatch is = (features_from code.ExactFeaturesMismatch refl is, refl)
+  back_as code.FeatureNotExplicitlyAllowed is = (features_from code.FeatureNotExplicitlyAllowed refl is, refl)
+  back_as code.FeatureBanned is = (features_from code.FeatureBanned refl is, refl)
+  back_as code.UnknownFeature is = (features_from code.UnknownFeature refl is, refl)
+  back_as code.DefaultFeatureEnabled is = (features_from code.DefaultFeatureEnabled refl is, refl)
   back_as _ is = absurd is
-
-  licensed : (d : LicenseCode) (p q : Policy) → StandsLicensed d p c.graph key → ⊥
-  licensed license.Accepted p q is = is
-  licensed _ p q is = is
 
   there_by : (d : DiagnosticCode) → names_as taken d key ≡ false → StandsBy d c facts key
       → StandsBy d (without_wrappers_in c taken) facts key
   there_by Deprecated unnamed is = absurd is
   there_by (Bans d) unnamed is = there_as d unnamed is
-  there_by (License d) unnamed is = absurd (licensed d c.policy c.policy is)
+  there_by (License d) unnamed is = is
 
   back_by : (d : DiagnosticCode) → StandsBy d (without_wrappers_in c taken) facts key → StandsBy d c facts key
       × (names_as taken d key ≡ false)
   back_by Deprecated is = absurd is
   back_by (Bans d) is = back_as d is
-  back_by (License d) is = absurd (licensed d (without_wrappers c.policy taken) c.policy is)
+  back_by (License d) is = (is, no_licence_named taken key unhit.no_licence d)
 
   there_key : names taken key ≡ false → Stands c facts key → Stands (without_wrappers_in c taken) facts key
   there_key unnamed is = there_by key.code unnamed is
@@ -460,4 +475,5 @@ wrappers_gone c facts taken keys are unhit listed = record {
   };
   hits = ap (λ (hits : List Hit). hits ++ ignore_hits_in c)
       (hits_stay c.policy c.graph taken unhit facts.chains);
+  licence_hits = λ counts tells. refl;
 }

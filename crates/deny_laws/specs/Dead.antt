@@ -1,19 +1,22 @@
 -- Dead entries: those that a finding names as unused and that nothing hits.
-use Rattle.std.specs.Prelude.{◌≡◌, ◌≢◌, ◌⊎◌, List, Option, Contains, filter_map, option_map}
+use Rattle.std.specs.Prelude.{◌≡◌, ◌≢◌, ◌⊎◌, Bool, List, Option, Contains, filter_map, option_map}
 use Rattle.deny_lists.specs.Ascending.{Lists}
 use Rattle.deny_base.specs.Entry.{entry_cmp}
 use Rattle.deny_base.specs.KeyOrder.{key_cmp}
 use Rattle.deny_base.specs.declared.entry.EntryId.{EntryId}
-use Rattle.deny_base.specs.declared.entry.EntryKind.TheVariants.{ReplacementIgnore, Skip, SkipRoot, Wrapper}
+use Rattle.deny_base.specs.declared.entry.EntryKind.TheVariants.{LicenseAllow, LicenseException, ReplacementIgnore}
+use Rattle.deny_base.specs.declared.entry.EntryKind.TheVariants.{Skip, SkipRoot, Wrapper}
 use Rattle.deny_base.specs.declared.entry.Hit.{Hit}
 use Rattle.deny_base.specs.declared.key.Key.{Key}
+use Rattle.deny_model.specs.Graph.{Crate}
 use Rattle.deny_model.specs.Policy.{Policy}
 use Rattle.deny_codes.specs.Circumstances.{Circumstances}
 use Rattle.deny_codes.specs.Codes.{unused_kind}
 use Rattle.deny_codes.specs.Facts.{Facts, AreFacts}
-use Rattle.deny_codes.specs.Hits.{hits_in}
+use Rattle.deny_codes.specs.Hits.{TellsLicensed, both_hits}
 use Rattle.deny_codes.specs.Standing.{Stands}
 use Rattle.deny_laws.specs.IgnoreRemoval.{without_ignores_in}
+use Rattle.deny_laws.specs.LicenceRemoval.{without_licences_in}
 use Rattle.deny_laws.specs.Removal.{AreGone, EmptyNone, without_in}
 use Rattle.deny_laws.specs.SkipRemoval.{without_skips_in}
 use Rattle.deny_laws.specs.WrapperRemoval.{without_wrappers_in}
@@ -45,6 +48,11 @@ pub record AreDeadWrappers (p : Policy) (dead taken : List EntryId) : Type 0 whe
   pub kind : (e : EntryId) → Contains taken e → e.kind ≡ Wrapper
   pub not_emptied : EmptyNone p taken
 
+-- each of these is dead, and a licence that all may ask for or an exception
+pub record AreDeadLicences (dead taken : List EntryId) : Type 0 where
+  pub dead_each : AreAmong dead taken
+  pub kind : (e : EntryId) → Contains taken e → (e.kind ≡ LicenseAllow) ⊎ (e.kind ≡ LicenseException)
+
 -- each of these is dead, and an ignore
 pub record AreDeadIgnores (dead taken : List EntryId) : Type 0 where
   pub dead_each : AreAmong dead taken
@@ -53,25 +61,31 @@ pub record AreDeadIgnores (dead taken : List EntryId) : Type 0 where
 -- ---- the laws
 
 abbrev pub DeadCanGo : Type 0
-DeadCanGo = (c : Circumstances) → (facts : Facts) → (keys : List Key) → (dead taken : List EntryId)
-    → AreFacts c facts → Lists key_cmp (Stands c facts) keys
-    → AreDead keys (hits_in c facts) dead
+DeadCanGo = (c : Circumstances) → (facts : Facts) → (counts : Crate → Bool) → (keys : List Key)
+    → (dead taken : List EntryId) → AreFacts c facts → TellsLicensed c.licensing c.graph counts
+    → Lists key_cmp (Stands c facts) keys → AreDead keys (both_hits c facts counts) dead
     → AreAmong dead taken → EmptyNone c.policy taken → AreGone c (without_in c taken) facts taken keys
 
 abbrev pub DeadSkipsCanGo : Type 0
-DeadSkipsCanGo = (c : Circumstances) → (facts : Facts) → (keys : List Key) → (dead taken : List EntryId)
-    → AreFacts c facts → Lists key_cmp (Stands c facts) keys
-    → AreDead keys (hits_in c facts) dead
+DeadSkipsCanGo = (c : Circumstances) → (facts : Facts) → (counts : Crate → Bool) → (keys : List Key)
+    → (dead taken : List EntryId) → AreFacts c facts
+    → Lists key_cmp (Stands c facts) keys → AreDead keys (both_hits c facts counts) dead
     → AreDeadSkips dead taken → AreGone c (without_skips_in c taken) facts taken keys
 
 abbrev pub DeadWrappersCanGo : Type 0
-DeadWrappersCanGo = (c : Circumstances) → (facts : Facts) → (keys : List Key) → (dead taken : List EntryId)
-    → AreFacts c facts → Lists key_cmp (Stands c facts) keys
-    → AreDead keys (hits_in c facts) dead
+DeadWrappersCanGo = (c : Circumstances) → (facts : Facts) → (counts : Crate → Bool) → (keys : List Key)
+    → (dead taken : List EntryId) → AreFacts c facts
+    → Lists key_cmp (Stands c facts) keys → AreDead keys (both_hits c facts counts) dead
     → AreDeadWrappers c.policy dead taken → AreGone c (without_wrappers_in c taken) facts taken keys
 
 abbrev pub DeadIgnoresCanGo : Type 0
-DeadIgnoresCanGo = (c : Circumstances) → (facts : Facts) → (keys : List Key) → (dead taken : List EntryId)
-    → AreFacts c facts → Lists key_cmp (Stands c facts) keys
-    → AreDead keys (hits_in c facts) dead
+DeadIgnoresCanGo = (c : Circumstances) → (facts : Facts) → (counts : Crate → Bool) → (keys : List Key)
+    → (dead taken : List EntryId) → AreFacts c facts
+    → Lists key_cmp (Stands c facts) keys → AreDead keys (both_hits c facts counts) dead
     → AreDeadIgnores dead taken → AreGone c (without_ignores_in c taken) facts taken keys
+
+abbrev pub DeadLicencesCanGo : Type 0
+DeadLicencesCanGo = (c : Circumstances) → (facts : Facts) → (counts : Crate → Bool) → (keys : List Key)
+    → (dead taken : List EntryId) → AreFacts c facts → TellsLicensed c.licensing c.graph counts
+    → Lists key_cmp (Stands c facts) keys → AreDead keys (both_hits c facts counts) dead
+    → AreDeadLicences dead taken → AreGone c (without_licences_in c taken) facts taken keys

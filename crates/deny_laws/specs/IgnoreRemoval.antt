@@ -12,7 +12,7 @@ use Rattle.deny_codes.specs.Facts.{Facts, AreFacts}
 use Rattle.deny_codes.specs.Saying.{said_by}
 use Rattle.deny_codes.specs.Standing.{Stands}
 use Rattle.deny_codes.specs.StdReplacements.{is_hit_ignore}
-use Rattle.deny_laws.specs.Removal.{AreGone, cut_replacing, is_taken, stays_ignore}
+use Rattle.deny_laws.specs.Removal.{AreGone, NoLicences, cut_replacing, is_taken, stays_ignore}
 
 -- the policy without the ignores among these
 abbrev pub without_ignores : Policy → List EntryId → Policy
@@ -21,13 +21,14 @@ without_ignores p taken = record p { replacing = option_map (cut_replacing taken
 abbrev pub without_ignores_in : Circumstances → List EntryId → Circumstances
 without_ignores_in c taken = record c { policy = without_ignores c.policy taken }
 
--- what is hit stays, and none of these is a skip or a wrapper
+-- what is hit stays, and none of these is of another kind
 pub record AreUnhitIgnores (c : Circumstances) (taken : List EntryId) : Type 0 where
   pub ignores : (s : Replacing) → c.policy.replacing ≡ Some s → (e : Entry) → Contains s.ignore e
       → is_hit_ignore s c.graph (said_by c.table) e ≡ true → stays_ignore taken e ≡ true
   pub no_skip : (range : Span) → is_taken taken Skip range ≡ false
   pub no_root : (range : Span) → is_taken taken SkipRoot range ≡ false
   pub no_wrapper : (range : Span) → is_taken taken Wrapper range ≡ false
+  pub no_licence : NoLicences taken
 
 -- ---- the law
 

@@ -1,5 +1,6 @@
 pub mod Dead
 pub mod IgnoreRemoval
+pub mod LicenceRemoval
 pub mod Removal
 pub mod Renaming
 pub mod SkipRemoval

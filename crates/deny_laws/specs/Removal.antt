@@ -1,5 +1,6 @@
 -- Entries of any kind that are taken out of a policy, and what that comes to.
-use Rattle.std.specs.Prelude.{◌≡◌, ◌≢◌, Bool, false, not, List, Contains, filter, map, option_map}
+use Rattle.std.specs.Prelude.{◌≡◌, ◌≢◌, Bool, false, not, List, Contains, filter, map}
+use Rattle.std.specs.Prelude.{option_map}
 use Rattle.std.specs.List.{list_any}
 use Rattle.std.specs.Option.{option_map_or}
 use Rattle.std.specs.Ordering.{eq_by_cmp}
@@ -9,17 +10,23 @@ use Rattle.deny_base.specs.KeyOrder.{key_cmp}
 use Rattle.deny_base.specs.declared.code.DiagnosticCode.{DiagnosticCode}
 use Rattle.deny_base.specs.declared.entry.EntryId.{EntryId}
 use Rattle.deny_base.specs.declared.entry.EntryKind.{EntryKind}
-use Rattle.deny_base.specs.declared.entry.EntryKind.TheVariants.{ReplacementIgnore, Skip, SkipRoot, Wrapper}
+use Rattle.deny_base.specs.declared.entry.EntryKind.TheVariants.{LicenseAllow, LicenseException, ReplacementIgnore}
+use Rattle.deny_base.specs.declared.entry.EntryKind.TheVariants.{Skip, SkipRoot, Wrapper}
 use Rattle.deny_base.specs.declared.entry.Hit.{Hit}
 use Rattle.deny_base.specs.declared.key.Key.{Key}
 use Rattle.deny_base.specs.declared.span.Span.{Span}
+use Rattle.deny_base.specs.declared.span.Spanned.{Spanned}
+use Rattle.deny_spdx.specs.declared.requirement.Requirement.{Requirement}
 use Rattle.deny_model.specs.Bans.{has_wrappers}
+use Rattle.deny_model.specs.Graph.{Crate}
+use Rattle.deny_model.specs.Licensing.{Exception, Licensing}
 use Rattle.deny_model.specs.Policy as policy
 use Rattle.deny_model.specs.Policy.{Ban, Entry, Policy, Replacing, Root}
 use Rattle.deny_codes.specs.Circumstances.{Circumstances}
 use Rattle.deny_codes.specs.Codes.{unused_kind}
 use Rattle.deny_codes.specs.Facts.{Facts, AreFacts}
-use Rattle.deny_codes.specs.Hits.{hits_in}
+use Rattle.deny_codes.specs.Hits.{TellsLicensed, both_hits, hits_in, licence_hits_in}
+use Rattle.deny_codes.specs.Licences.{allowance_range, exception_range}
 use Rattle.deny_codes.specs.Standing.{Stands}
 use Rattle.deny_codes.specs.StdReplacements.{ignore_range}
 
@@ -47,6 +54,19 @@ cut taken ban = record ban { wrappers = filter (stays_wrapper taken) ban.wrapper
 abbrev pub cut_replacing : List EntryId → Replacing → Replacing
 cut_replacing taken s = record s { ignore = filter (stays_ignore taken) s.ignore }
 
+-- what is said of licences, without those among these: licences that all may ask for, and exceptions
+abbrev pub stays_allowance : List EntryId → Spanned Requirement → Bool
+stays_allowance taken a = not (is_taken taken LicenseAllow (allowance_range a))
+
+abbrev pub stays_exception : List EntryId → Exception → Bool
+stays_exception taken e = not (is_taken taken LicenseException (exception_range e))
+
+abbrev pub cut_licensing : List EntryId → Licensing → Licensing
+cut_licensing taken l = record l {
+  allow = filter (stays_allowance taken) l.allow;
+  exceptions = filter (stays_exception taken) l.exceptions;
+}
+
 -- the policy without these; all others keep their ranges and their order
 abbrev pub without : Policy → List EntryId → Policy
 without p taken = record p {
@@ -57,7 +77,10 @@ without p taken = record p {
 }
 
 abbrev pub without_in : Circumstances → List EntryId → Circumstances
-without_in c taken = record c { policy = without c.policy taken }
+without_in c taken = record c {
+  policy = without c.policy taken;
+  licensing = option_map (cut_licensing taken) c.licensing;
+}
 
 -- a finding of this code names one of these as unused
 abbrev pub names_as : List EntryId → DiagnosticCode → Key → Bool
@@ -78,16 +101,24 @@ HaveNoHit hits taken = (e : EntryId) → Contains taken e → (h : Hit) → Cont
 abbrev pub EmptyNone : Policy → List EntryId → Type 0
 EmptyNone p taken = (ban : Ban) → Contains p.deny ban → has_wrappers (cut taken ban) ≡ has_wrappers ban
 
+-- none of these is a licence that all may ask for, or an exception
+pub record NoLicences (taken : List EntryId) : Type 0 where
+  pub allowances : (range : Span) → is_taken taken LicenseAllow range ≡ false
+  pub exceptions : (range : Span) → is_taken taken LicenseException range ≡ false
+
 -- where these are taken out there stands what stood, but for the keys that name them
 pub record AreGone (c rest : Circumstances) (facts : Facts) (taken : List EntryId) (keys : List Key) : Type 0 where
   pub facts_hold : AreFacts rest facts
   pub listed : Lists key_cmp (Stands rest facts) (unnaming taken keys)
   -- and the hits are the same, of the same entries
   pub hits : hits_in rest facts ≡ hits_in c facts
+  pub licence_hits : (counts : Crate → Bool) → TellsLicensed c.licensing c.graph counts
+      → licence_hits_in counts rest ≡ licence_hits_in counts c
 
 -- ---- the law
 
 abbrev pub EntriesCanGo : Type 0
-EntriesCanGo = (c : Circumstances) → (facts : Facts) → (taken : List EntryId) → (keys : List Key)
-    → AreFacts c facts → HaveNoHit (hits_in c facts) taken → EmptyNone c.policy taken
+EntriesCanGo = (c : Circumstances) → (facts : Facts) → (counts : Crate → Bool) → (taken : List EntryId)
+    → (keys : List Key) → AreFacts c facts → TellsLicensed c.licensing c.graph counts
+    → HaveNoHit (both_hits c facts counts) taken → EmptyNone c.policy taken
     → Lists key_cmp (Stands c facts) keys → AreGone c (without_in c taken) facts taken keys

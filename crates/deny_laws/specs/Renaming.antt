@@ -1,5 +1,5 @@
 -- Ranges of a policy in whose place others stand, as where its text is printed anew, and what that comes to.
-use Rattle.std.specs.Prelude.{◌≡◌, ℕ, Contains, Some, if◌then◌else◌, map, option_map}
+use Rattle.std.specs.Prelude.{◌≡◌, ℕ, Bool, Contains, Option, Some, if◌then◌else◌, map, option_map}
 use Rattle.deny_base.specs.declared.code.DiagnosticCode.{DiagnosticCode}
 use Rattle.deny_base.specs.declared.entry.EntryId.{EntryId}
 use Rattle.deny_base.specs.declared.entry.Hit.{Hit}
@@ -7,12 +7,16 @@ use Rattle.deny_base.specs.declared.key.Key.{Key}
 use Rattle.deny_base.specs.declared.level.LintLevel.{LintLevel}
 use Rattle.deny_base.specs.declared.span.Span.{Span}
 use Rattle.deny_base.specs.declared.span.Spanned.{Spanned}
+use Rattle.deny_spdx.specs.declared.requirement.Requirement.{Requirement}
+use Rattle.deny_model.specs.Graph.{Crate}
+use Rattle.deny_model.specs.Licensing.{Exception, Licensing}
 use Rattle.deny_model.specs.Policy as policy
 use Rattle.deny_model.specs.Policy.{Ban, Entry, FeatureEntry, Policy, Replacing, Root, Spec}
 use Rattle.deny_codes.specs.Circumstances.{Circumstances}
 use Rattle.deny_codes.specs.Codes.{has_entry}
 use Rattle.deny_codes.specs.Facts.{Facts, AreFacts}
-use Rattle.deny_codes.specs.Hits.{hits_in}
+use Rattle.deny_codes.specs.Hits.{hits_in, licence_hits_in}
+use Rattle.deny_codes.specs.Licences.{allowance_range, exception_range}
 use Rattle.deny_codes.specs.Standing.{Stands}
 use Rattle.deny_codes.specs.StdReplacements.{ignore_range}
 
@@ -75,8 +79,21 @@ renamed r p = record p {
   replacing = option_map (renamed_replacing r) p.replacing;
 }
 
+abbrev pub renamed_allowance : Renaming → Spanned Requirement → Spanned Requirement
+renamed_allowance r a = record a { span = r.range a.span }
+
+abbrev pub renamed_exception : Renaming → Exception → Exception
+renamed_exception r e = record { spec = renamed_spec r e.spec; allow = map (renamed_allowance r) e.allow }
+
+-- what the policy says of licences, each of whose ranges is another
+abbrev pub renamed_licensing : Renaming → Licensing → Licensing
+renamed_licensing r l = record l {
+  allow = map (renamed_allowance r) l.allow;
+  exceptions = map (renamed_exception r) l.exceptions;
+}
+
 abbrev pub renamed_in : Renaming → Circumstances → Circumstances
-renamed_in r c = record c { policy = renamed r c.policy }
+renamed_in r c = record c { policy = renamed r c.policy; licensing = option_map (renamed_licensing r) c.licensing }
 
 -- the key of the same finding: another range where it shows an entry of the policy
 abbrev pub renamed_as : Renaming → DiagnosticCode → Key → Key
@@ -100,16 +117,28 @@ pub record KeepsApart (r : Renaming) (p : Policy) : Type 0 where
       → (d e : Entry) → Contains s.ignore d → Contains s.ignore e
       → r.range (ignore_range d) ≡ r.range (ignore_range e) → ignore_range d ≡ ignore_range e
 
+-- and so do ranges of licences that all crates may ask for, and of exceptions
+pub record KeepsLicencesApart (r : Renaming) (licensing : Option Licensing) : Type 0 where
+  pub allowances : (l : Licensing) → licensing ≡ Some l
+      → (a b : Spanned Requirement) → Contains l.allow a → Contains l.allow b
+      → r.range (allowance_range a) ≡ r.range (allowance_range b) → allowance_range a ≡ allowance_range b
+  pub exceptions : (l : Licensing) → licensing ≡ Some l
+      → (d e : Exception) → Contains l.exceptions d → Contains l.exceptions e
+      → r.range (exception_range d) ≡ r.range (exception_range e) → exception_range d ≡ exception_range e
+
 -- each finding that stood stands with the new range, and no other; and the hits are those of the same entries
 pub record AreRenamed (r : Renaming) (c : Circumstances) (these those : Facts) : Type 0 where
   pub whole : (key : Key) → Stands c these key → Stands (renamed_in r c) those (renamed_key r key)
   pub sound : (key : Key) → Stands (renamed_in r c) those key
       → (old : Key) × Stands c these old × (key ≡ renamed_key r old)
   pub hits : hits_in (renamed_in r c) those ≡ map (renamed_hit r) (hits_in c these)
+  pub licence_hits : (counts : Crate → Bool)
+      → licence_hits_in counts (renamed_in r c) ≡ map (renamed_hit r) (licence_hits_in counts c)
 
 -- ---- the law
 
 -- whatever the order of the new ranges; each policy has facts of its own, and nothing ties them
 abbrev pub RangesCanBeReplaced : Type 0
 RangesCanBeReplaced = (r : Renaming) → (c : Circumstances) → (these those : Facts)
-    → AreFacts c these → AreFacts (renamed_in r c) those → KeepsApart r c.policy → AreRenamed r c these those
+    → AreFacts c these → AreFacts (renamed_in r c) those → KeepsApart r c.policy
+    → KeepsLicencesApart r c.licensing → AreRenamed r c these those

@@ -13,7 +13,7 @@ use Rattle.deny_model.specs.Wrappers.{is_hit_wrapper}
 use Rattle.deny_codes.specs.Circumstances.{Circumstances}
 use Rattle.deny_codes.specs.Facts.{Facts, AreFacts}
 use Rattle.deny_codes.specs.Standing.{Stands}
-use Rattle.deny_laws.specs.Removal.{AreGone, EmptyNone, cut, is_taken, stays_wrapper}
+use Rattle.deny_laws.specs.Removal.{AreGone, EmptyNone, NoLicences, cut, is_taken, stays_wrapper}
 
 -- the policy without the wrappers among these
 abbrev pub without_wrappers : Policy → List EntryId → Policy
@@ -22,7 +22,7 @@ without_wrappers p taken = record p { deny = map (cut taken) p.deny }
 abbrev pub without_wrappers_in : Circumstances → List EntryId → Circumstances
 without_wrappers_in c taken = record c { policy = without_wrappers c.policy taken }
 
--- what is hit stays, no entry loses its last wrapper, and none of these is a skip or an ignore
+-- what is hit stays, no entry loses its last wrapper, and none of these is of another kind
 pub record AreUnhitWrappers (p : Policy) (g : Graph) (taken : List EntryId) : Type 0 where
   pub wrappers : (ban : Ban) → Contains p.deny ban → (w : policy.Words) → Contains ban.wrappers w
       → is_hit_wrapper p g ban w ≡ true → stays_wrapper taken w ≡ true
@@ -30,6 +30,7 @@ pub record AreUnhitWrappers (p : Policy) (g : Graph) (taken : List EntryId) : Ty
   pub no_skip : (range : Span) → is_taken taken Skip range ≡ false
   pub no_root : (range : Span) → is_taken taken SkipRoot range ≡ false
   pub no_ignore : (range : Span) → is_taken taken ReplacementIgnore range ≡ false
+  pub no_licence : NoLicences taken
 
 -- ---- the law
 

@@ -2,17 +2,18 @@
 //! ranges are replaced. Each is a function with an empty body, whose contract is the law.
 #![tactic(auto)]
 
-ghost use Rattle.deny_laws.specs.Dead.{DeadCanGo, DeadIgnoresCanGo, DeadSkipsCanGo};
-ghost use Rattle.deny_laws.specs.Dead.{DeadWrappersCanGo};
+ghost use Rattle.deny_laws.specs.Dead.{DeadCanGo, DeadIgnoresCanGo, DeadLicencesCanGo};
+ghost use Rattle.deny_laws.specs.Dead.{DeadSkipsCanGo, DeadWrappersCanGo};
 ghost use Rattle.deny_laws.specs.IgnoreRemoval.{IgnoresCanGo};
+ghost use Rattle.deny_laws.specs.LicenceRemoval.{LicencesCanGo};
 ghost use Rattle.deny_laws.specs.Removal.{EntriesCanGo};
 ghost use Rattle.deny_laws.specs.Renaming.{RangesCanBeReplaced};
 ghost use Rattle.deny_laws.specs.SkipRemoval.{SkipsCanGo};
 ghost use Rattle.deny_laws.specs.WrapperRemoval.{WrappersCanGo};
 
-/// Entries of any kind without a hit can go, all at once, where no entry loses its last wrapper:
-/// what stood stands, but for the findings that named them as unused, and each entry that is hit is
-/// hit as before.
+/// Entries of any kind without a hit of either check can go, all at once, where no entry loses its
+/// last wrapper: what stood stands, but for the findings that named them as unused, and each entry
+/// that is hit is hit as before.
 pub fn entries_can_go()
     ensures { EntriesCanGo }
 {
@@ -41,6 +42,12 @@ pub fn ignores_can_go()
     ensures { IgnoresCanGo }
 {}
 
+/// Licences that all crates may ask for, and exceptions for some, can go by themselves where nothing
+/// hits them.
+pub fn licences_can_go()
+    ensures { LicencesCanGo }
+{}
+
 /// Dead skips and skipped trees can go by themselves.
 pub fn dead_skips_can_go()
     ensures { DeadSkipsCanGo }
@@ -62,9 +69,17 @@ pub fn dead_ignores_can_go()
     deny_base::entry_order();
 }
 
+/// Dead licences and exceptions can go by themselves.
+pub fn dead_licences_can_go()
+    ensures { DeadLicencesCanGo }
+{
+    deny_base::entry_order();
+}
+
 /// Where a policy is printed anew, others stand in the place of its ranges, in whatever order: the
 /// same findings stand, each with the new range, and the same entries are hit, as long as two
-/// wrappers of one entry keep two ranges, and so do two ignores.
+/// wrappers of one entry keep two ranges, and so do two ignores, two licences that all crates may ask
+/// for, and two exceptions.
 pub fn ranges_can_be_replaced()
     ensures { RangesCanBeReplaced }
 {}

@@ -7,6 +7,7 @@ pub mod Graph
 pub mod Groups
 pub mod Hits
 pub mod Keys
+pub mod Licensing
 pub mod Match
 pub mod Policy
 pub mod Resolution

@@ -2,4 +2,4 @@ use Rattle.deny_laws.proofs.Renaming.{all_renamed}
 use Rattle.deny_laws.proofs.ranges_can_be_replaced.Goals as goal
 
 pub returns : goal.returns
-returns c = λ r d these those are are_new apart. all_renamed r d these those are are_new apart
+returns c = λ r d these those are are_new apart apart_too. all_renamed r d these those are are_new apart apart_too

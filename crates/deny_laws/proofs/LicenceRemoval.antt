@@ -1,0 +1,457 @@
+-- What stands of a policy without some licences and exceptions that nothing hits.
+use Rattle.std.proofs.Common.{◌≡◌, ◌&&◌, ◌∙◌, ◌++◌, ◌||◌, Bool, List, None, Option, Some, [], ap, false, map, not, refl}
+use Rattle.std.proofs.Common.{subst, sym, true}
+use Rattle.std.specs.Prelude.{Contains, filter, filter_map, is_none, is_some, option_map}
+use Rattle.std.specs.List.{list_any}
+use Rattle.std.specs.Option.{option_map_or}
+use Rattle.std.proofs.lemmas.Bool.{and_from, not-true}
+use Rattle.std.proofs.lemmas.List.Kept.{IsStrictlySortedBy-filter}
+use Rattle.deny_lists.proofs.Agreement.{filter_map_on, filter_on, find_on, list_any_on, map_on}
+use Rattle.deny_lists.proofs.Filters.{find-any}
+use Rattle.deny_lists.proofs.Members.{Contains-filter, Contains-from_filter, any_from, contains_map}
+use Rattle.deny_lists.specs.Ascending.{Lists}
+use Rattle.deny_base.specs.KeyOrder.{key_cmp}
+use Rattle.deny_base.specs.declared.code.Code.{Code}
+use Rattle.deny_base.specs.declared.code.Code.TheVariants as code
+use Rattle.deny_base.specs.declared.code.DiagnosticCode.{DiagnosticCode}
+use Rattle.deny_base.specs.declared.code.DiagnosticCode.TheVariants.{Deprecated, Bans, License}
+use Rattle.deny_base.specs.declared.entry.EntryId.{EntryId}
+use Rattle.deny_base.specs.declared.entry.EntryKind.TheVariants.{LicenseAllow, LicenseException}
+use Rattle.deny_base.specs.declared.entry.Hit.{Hit}
+use Rattle.deny_base.specs.declared.entry.Witness.TheVariants.{Krate}
+use Rattle.deny_base.specs.declared.key.Key.{Key}
+use Rattle.deny_base.specs.declared.key.Section.TheVariants as section
+use Rattle.deny_base.specs.declared.license_code.LicenseCode.{LicenseCode}
+use Rattle.deny_base.specs.declared.license_code.LicenseCode.TheVariants as license
+use Rattle.deny_base.specs.declared.span.Spanned.{Spanned}
+use Rattle.deny_spdx.specs.Truth.{truth}
+use Rattle.deny_spdx.specs.declared.expression.Expression.{Expression}
+use Rattle.deny_spdx.specs.declared.requirement.Requirement.{Requirement}
+use Rattle.deny_model.specs.Graph.{Crate, Graph, kid_of}
+use Rattle.deny_model.specs.Hits.{hit_of}
+use Rattle.deny_model.specs.Licensing.{Exception, Licensing}
+use Rattle.deny_model.specs.Wrappers.{same_span}
+use Rattle.deny_codes.specs.Circumstances.{Circumstances}
+use Rattle.deny_codes.specs.Facts.{Facts, AreFacts}
+use Rattle.deny_codes.specs.FirstMatch.{first_of, is_first}
+use Rattle.deny_codes.specs.Hits.{TellsLicensed}
+use Rattle.deny_codes.specs.Licences.{Asked, TellsCounting, accepted_keys, allowance_hit, allowance_range}
+use Rattle.deny_codes.specs.Licences.{allows, asked_in, asked_of, exception_hit, exception_not_encountered_keys}
+use Rattle.deny_codes.specs.Licences.{exception_of, exception_range, excepts, expression_of, first_hit}
+use Rattle.deny_codes.specs.Licences.{grants_by_allowance, grants_by_exception, hits_by, holds, is_accepted, is_granted}
+use Rattle.deny_codes.specs.Licences.{is_hit_by, is_looked_at, is_passed_over, is_rejected, is_skipped_private}
+use Rattle.deny_codes.specs.Licences.{is_unlicensed, is_unreadable, keys_where, licence_hits, license_key, licensed_key}
+use Rattle.deny_codes.specs.Licences.{not_encountered_keys, parse_error_keys, rejected_keys, skipped_private_keys}
+use Rattle.deny_codes.specs.Licences.{unlicensed_keys}
+use Rattle.deny_codes.specs.Standing.{StandsAs, StandsBy, StandsLicensed, Stands}
+use Rattle.deny_codes.proofs.Kept.{fails_if_gone, filter_map_kept, find_none_on, found_member, guarded, told_kept}
+use Rattle.deny_codes.proofs.Licensed.{code_back, code_there}
+use Rattle.deny_laws.specs.LicenceRemoval.{AreUnhitLicences, LicencesStay, without_licences_in}
+use Rattle.deny_laws.specs.Removal.{AreGone, cut_licensing, is_taken, names, names_as}
+use Rattle.deny_laws.specs.Removal.{stays_allowance, stays_exception}
+use Rattle.deny_laws.proofs.FirstMatch.{first_stays, is_first_stays, same_itself}
+use Rattle.deny_laws.proofs.KeyParts.{by_counting, from_part, kept_part, moved}
+
+-- a requirement of the expression of a crate's licence is asked for
+asked_by : (c : Crate) (e : Expression) (r : Requirement) → expression_of c ≡ Some e → Contains e.requirements r
+    → Contains (asked_in c) (asked_of c r)
+unfolding asked_in
+asked_by c e r read is = subst
+    (λ (o : Option Expression). Contains (option_map_or (λ x. map (asked_of c) x.requirements) o []) (asked_of c r))
+    (sym read) (contains_map (asked_of c) e.requirements r is)
+
+-- ---- of a policy that speaks of licences, by a test that tells which crates count
+
+module _ (counts : Crate → Bool) (l : Licensing) (g : Graph) (taken : List EntryId)
+    (stay : LicencesStay counts l g taken) where
+  abbrev rest : Licensing
+  rest = cut_licensing taken l
+
+  hit_where : (grants : Asked → Bool) (c : Crate) (asked : Asked) → Contains g.crates c
+      → is_looked_at counts l c ≡ true → Contains (asked_in c) asked → grants asked ≡ true
+      → is_hit_by counts l g grants ≡ true
+  unfolding is_hit_by hits_by
+  hit_where grants c asked known looked of is = any_from (hits_by counts l grants) g.crates c known
+      (and_from (is_looked_at counts l c) (list_any grants (asked_in c)) looked
+      (any_from grants (asked_in c) asked of is))
+
+  -- the first exception that speaks of what is asked for is hit
+  exception_stays : (c : Crate) (asked : Asked) (e : Exception) → Contains g.crates c
+      → is_looked_at counts l c ≡ true → Contains (asked_in c) asked → first_of excepts l.exceptions asked ≡ Some e
+      → stays_exception taken e ≡ true
+  unfolding grants_by_exception
+  exception_stays c asked e known looked of is = stay.exceptions e
+      (found_member (λ x. excepts x asked) l.exceptions e is)
+      (hit_where (grants_by_exception l e) c asked known looked of
+      (ap (λ (o : Option Exception). option_map_or (λ first. same_span (exception_range first) (exception_range e)) o
+      false) is ∙ same_itself (exception_range e)))
+
+  exception_same : (c : Crate) (asked : Asked) → Contains g.crates c → is_looked_at counts l c ≡ true
+      → Contains (asked_in c) asked → exception_of rest asked ≡ exception_of l asked
+  unfolding exception_of
+  exception_same c asked known looked of = first_stays excepts (stays_exception taken) l.exceptions asked
+      (λ e is. exception_stays c asked e known looked of is)
+
+  -- and where there is none, the first licence
+  allowance_stays : (c : Crate) (asked : Asked) (a : Spanned Requirement) → Contains g.crates c
+      → is_looked_at counts l c ≡ true → Contains (asked_in c) asked → is_none (exception_of l asked) ≡ true
+      → first_of allows l.allow asked ≡ Some a → stays_allowance taken a ≡ true
+  unfolding grants_by_allowance
+  allowance_stays c asked a known looked of none is = stay.allowances a
+      (found_member (λ x. allows x asked) l.allow a is)
+      (hit_where (grants_by_allowance l a) c asked known looked of
+      (and_from (is_none (exception_of l asked)) (is_first allowance_range allows l.allow a asked) none
+      (ap (λ (o : Option (Spanned Requirement)). option_map_or
+      (λ first. same_span (allowance_range first) (allowance_range a)) o false) is ∙ same_itself (allowance_range a))))
+
+  allowance_same : (c : Crate) (asked : Asked) → Contains g.crates c → is_looked_at counts l c ≡ true
+      → Contains (asked_in c) asked → is_none (exception_of l asked) ≡ true
+      → first_of allows rest.allow asked ≡ first_of allows l.allow asked
+  allowance_same c asked known looked of none = first_stays allows (stays_allowance taken) l.allow asked
+      (λ a is. allowance_stays c asked a known looked of none is)
+
+  granted_same : (c : Crate) (asked : Asked) → Contains g.crates c → is_looked_at counts l c ≡ true
+      → Contains (asked_in c) asked → is_granted rest asked ≡ is_granted l asked
+  unfolding is_granted
+  granted_same c asked known looked of =
+      ap (λ (o : Option Exception). is_some o || list_any (λ a. allows a asked) rest.allow)
+      (exception_same c asked known looked of)
+      ∙ by (exception_of l asked) refl
+    where
+      by : (o : Option Exception) → exception_of l asked ≡ o
+          → (is_some o || list_any (λ a. allows a asked) rest.allow)
+          ≡ (is_some o || list_any (λ a. allows a asked) l.allow)
+      by (Some e) at = refl
+      by None at =
+          find-any (λ a. allows a asked) rest.allow
+          ∙ (ap (λ (o : Option (Spanned Requirement)). is_some o)
+          (allowance_same c asked known looked of (ap (λ (o : Option Exception). is_none o) at))
+          ∙ sym (find-any (λ a. allows a asked) l.allow))
+
+  -- ---- what is found of crates
+
+  holds_same : (c : Crate) (e : Expression) → Contains g.crates c → is_looked_at counts l c ≡ true
+      → expression_of c ≡ Some e → holds rest c e ≡ holds l c e
+  unfolding holds
+  holds_same c e known looked read = ap (λ (granted : List Bool). truth granted e.tree)
+      (map_on (λ r. is_granted rest (asked_of c r)) (λ r. is_granted l (asked_of c r)) e.requirements
+      (λ r is. granted_same c (asked_of c r) known looked (asked_by c e r read is)))
+
+  accepted_same : (c : Crate) → Contains g.crates c → is_accepted counts rest c ≡ is_accepted counts l c
+  unfolding is_accepted is_looked_at is_passed_over
+  accepted_same c known = guarded (is_looked_at counts l c) (option_map_or (holds rest c) (expression_of c) false)
+      (option_map_or (holds l c) (expression_of c) false) (λ looked. by looked (expression_of c) refl)
+    where
+      by : is_looked_at counts l c ≡ true → (o : Option Expression) → expression_of c ≡ o
+          → option_map_or (holds rest c) o false ≡ option_map_or (holds l c) o false
+      by looked None at = refl
+      by looked (Some e) at = holds_same c e known looked at
+
+  rejected_same : (c : Crate) → Contains g.crates c → is_rejected counts rest c ≡ is_rejected counts l c
+  unfolding is_rejected is_looked_at is_passed_over
+  rejected_same c known = guarded (is_looked_at counts l c)
+      (option_map_or (λ e. not (holds rest c e)) (expression_of c) false)
+      (option_map_or (λ e. not (holds l c e)) (expression_of c) false)
+      (λ looked. by looked (expression_of c) refl)
+    where
+      by : is_looked_at counts l c ≡ true → (o : Option Expression) → expression_of c ≡ o
+          → option_map_or (λ e. not (holds rest c e)) o false ≡ option_map_or (λ e. not (holds l c e)) o false
+      by looked None at = refl
+      by looked (Some e) at = ap (λ b. not b) (holds_same c e known looked at)
+
+  accepted_stay : accepted_keys counts rest g ≡ accepted_keys counts l g
+  unfolding keys_where
+  accepted_stay = ap (map (licensed_key license.Accepted))
+      (filter_on (is_accepted counts rest) (is_accepted counts l) g.crates accepted_same)
+
+  rejected_stay : rejected_keys counts rest g ≡ rejected_keys counts l g
+  unfolding keys_where
+  rejected_stay = ap (map (licensed_key license.Rejected))
+      (filter_on (is_rejected counts rest) (is_rejected counts l) g.crates rejected_same)
+
+  unlicensed_stay : unlicensed_keys counts rest g ≡ unlicensed_keys counts l g
+  unfolding keys_where is_unlicensed is_looked_at is_passed_over
+  unlicensed_stay = refl
+
+  parse_error_stay : parse_error_keys counts rest g ≡ parse_error_keys counts l g
+  unfolding keys_where is_unreadable is_looked_at is_passed_over
+  parse_error_stay = refl
+
+  skipped_stay : skipped_private_keys counts rest g ≡ skipped_private_keys counts l g
+  unfolding keys_where is_skipped_private is_passed_over
+  skipped_stay = refl
+
+  -- ---- what is hit
+
+  by_exception_same : (e : Exception) (c : Crate) (asked : Asked) → Contains g.crates c
+      → is_looked_at counts l c ≡ true → Contains (asked_in c) asked
+      → grants_by_exception rest e asked ≡ grants_by_exception l e asked
+  unfolding grants_by_exception
+  by_exception_same e c asked known looked of = is_first_stays exception_range excepts (stays_exception taken)
+      l.exceptions e asked (λ x is. exception_stays c asked x known looked of is)
+
+  by_allowance_same : (a : Spanned Requirement) (c : Crate) (asked : Asked) → Contains g.crates c
+      → is_looked_at counts l c ≡ true → Contains (asked_in c) asked
+      → grants_by_allowance rest a asked ≡ grants_by_allowance l a asked
+  unfolding grants_by_allowance
+  by_allowance_same a c asked known looked of =
+      ap (λ (o : Option Exception). is_none o && is_first allowance_range allows rest.allow a asked)
+      (exception_same c asked known looked of)
+      ∙ guarded (is_none (exception_of l asked)) (is_first allowance_range allows rest.allow a asked)
+      (is_first allowance_range allows l.allow a asked)
+      (λ none. is_first_stays allowance_range allows (stays_allowance taken) l.allow a asked
+      (λ x is. allowance_stays c asked x known looked of none is))
+
+  -- two ways of granting agree on whatever is asked for
+  abbrev Agree : (Asked → Bool) → (Asked → Bool) → Type 0
+  Agree new old = (c : Crate) → (asked : Asked) → Contains g.crates c → is_looked_at counts l c ≡ true
+      → Contains (asked_in c) asked → new asked ≡ old asked
+
+  hits_same : (new old : Asked → Bool) → Agree new old → (c : Crate) → Contains g.crates c
+      → hits_by counts rest new c ≡ hits_by counts l old c
+  unfolding hits_by is_looked_at is_passed_over
+  hits_same new old same c known = guarded (is_looked_at counts l c) (list_any new (asked_in c))
+      (list_any old (asked_in c))
+      (λ looked. list_any_on new old (asked_in c) (λ asked of. same c asked known looked of))
+
+  is_hit_same : (new old : Asked → Bool) → Agree new old → is_hit_by counts rest g new ≡ is_hit_by counts l g old
+  unfolding is_hit_by
+  is_hit_same new old same = list_any_on (hits_by counts rest new) (hits_by counts l old) g.crates
+      (λ c known. hits_same new old same c known)
+
+  allowance_is_hit : (a : Spanned Requirement) → is_hit_by counts rest g (grants_by_allowance rest a)
+      ≡ is_hit_by counts l g (grants_by_allowance l a)
+  allowance_is_hit a = is_hit_same (grants_by_allowance rest a) (grants_by_allowance l a) (by_allowance_same a)
+
+  exception_is_hit : (e : Exception) → is_hit_by counts rest g (grants_by_exception rest e)
+      ≡ is_hit_by counts l g (grants_by_exception l e)
+  exception_is_hit e = is_hit_same (grants_by_exception rest e) (grants_by_exception l e) (by_exception_same e)
+
+  allowances_part : not_encountered_keys counts rest g
+      ≡ filter (λ key. not (is_taken taken LicenseAllow key.entry)) (not_encountered_keys counts l g)
+  unfolding not_encountered_keys
+  allowances_part =
+      ap (map (λ (a : Spanned Requirement).
+      license_key section.LicensesUnused license.LicenseNotEncountered 0 (allowance_range a)))
+      (filter_on (λ a. not (is_hit_by counts rest g (grants_by_allowance rest a)))
+      (λ a. not (is_hit_by counts l g (grants_by_allowance l a))) rest.allow
+      (λ a is. ap (λ b. not b) (allowance_is_hit a)))
+      ∙ told_kept (stays_allowance taken) (λ a. not (is_hit_by counts l g (grants_by_allowance l a)))
+      (λ a. license_key section.LicensesUnused license.LicenseNotEncountered 0 (allowance_range a))
+      (λ key. not (is_taken taken LicenseAllow key.entry)) l.allow (λ a. refl)
+
+  exceptions_part : exception_not_encountered_keys counts rest g
+      ≡ filter (λ key. not (is_taken taken LicenseException key.entry)) (exception_not_encountered_keys counts l g)
+  unfolding exception_not_encountered_keys
+  exceptions_part =
+      ap (map (λ (e : Exception).
+      license_key section.LicensesUnused license.LicenseExceptionNotEncountered 0 (exception_range e)))
+      (filter_on (λ e. not (is_hit_by counts rest g (grants_by_exception rest e)))
+      (λ e. not (is_hit_by counts l g (grants_by_exception l e))) rest.exceptions
+      (λ e is. ap (λ b. not b) (exception_is_hit e)))
+      ∙ told_kept (stays_exception taken) (λ e. not (is_hit_by counts l g (grants_by_exception l e)))
+      (λ e. license_key section.LicensesUnused license.LicenseExceptionNotEncountered 0 (exception_range e))
+      (λ key. not (is_taken taken LicenseException key.entry)) l.exceptions (λ e. refl)
+
+  -- ---- hits
+
+  allowance_hit_same : (a : Spanned Requirement) → allowance_hit counts rest g a ≡ allowance_hit counts l g a
+  unfolding allowance_hit first_hit
+  allowance_hit_same a = ap (option_map (λ (c : Crate). hit_of LicenseAllow (allowance_range a) (Krate (kid_of c))))
+      (find_on (hits_by counts rest (grants_by_allowance rest a)) (hits_by counts l (grants_by_allowance l a)) g.crates
+      (hits_same (grants_by_allowance rest a) (grants_by_allowance l a) (by_allowance_same a)))
+
+  no_allowance_hit : (a : Spanned Requirement) → is_hit_by counts l g (grants_by_allowance l a) ≡ false
+      → allowance_hit counts l g a ≡ None
+  unfolding is_hit_by allowance_hit first_hit
+  no_allowance_hit a none = ap (option_map (λ (c : Crate). hit_of LicenseAllow (allowance_range a) (Krate (kid_of c))))
+      (find_none_on (hits_by counts l (grants_by_allowance l a)) g.crates none)
+
+  allowance_hits_stay : filter_map (allowance_hit counts rest g) rest.allow
+      ≡ filter_map (allowance_hit counts l g) l.allow
+  allowance_hits_stay =
+      filter_map_on (allowance_hit counts rest g) (allowance_hit counts l g) rest.allow (λ a is. allowance_hit_same a)
+      ∙ filter_map_kept (stays_allowance taken) (allowance_hit counts l g) l.allow
+      (λ a written gone. no_allowance_hit a (fails_if_gone (stays_allowance taken a)
+      (is_hit_by counts l g (grants_by_allowance l a)) (stay.allowances a written) gone))
+
+  exception_hit_same : (e : Exception) → exception_hit counts rest g e ≡ exception_hit counts l g e
+  unfolding exception_hit first_hit
+  exception_hit_same e =
+      ap (option_map (λ (c : Crate). hit_of LicenseException (exception_range e) (Krate (kid_of c))))
+      (find_on (hits_by counts rest (grants_by_exception rest e)) (hits_by counts l (grants_by_exception l e)) g.crates
+      (hits_same (grants_by_exception rest e) (grants_by_exception l e) (by_exception_same e)))
+
+  no_exception_hit : (e : Exception) → is_hit_by counts l g (grants_by_exception l e) ≡ false
+      → exception_hit counts l g e ≡ None
+  unfolding is_hit_by exception_hit first_hit
+  no_exception_hit e none =
+      ap (option_map (λ (c : Crate). hit_of LicenseException (exception_range e) (Krate (kid_of c))))
+      (find_none_on (hits_by counts l (grants_by_exception l e)) g.crates none)
+
+  exception_hits_stay : filter_map (exception_hit counts rest g) rest.exceptions
+      ≡ filter_map (exception_hit counts l g) l.exceptions
+  exception_hits_stay =
+      filter_map_on (exception_hit counts rest g) (exception_hit counts l g) rest.exceptions
+      (λ e is. exception_hit_same e)
+      ∙ filter_map_kept (stays_exception taken) (exception_hit counts l g) l.exceptions
+      (λ e written gone. no_exception_hit e (fails_if_gone (stays_exception taken e)
+      (is_hit_by counts l g (grants_by_exception l e)) (stay.exceptions e written) gone))
+
+  hits_stay : licence_hits counts rest g ≡ licence_hits counts l g
+  hits_stay =
+      ap (λ (hits : List Hit). hits ++ filter_map (exception_hit counts rest g) rest.exceptions) allowance_hits_stay
+      ∙ ap (λ (hits : List Hit). filter_map (allowance_hit counts l g) l.allow ++ hits) exception_hits_stay
+
+-- ---- code by code
+
+module _ (l : Licensing) (g : Graph) (taken : List EntryId)
+    (stay : (counts : Crate → Bool) → TellsCounting l g counts → LicencesStay counts l g taken) (key : Key) where
+  abbrev rest_of_it : Licensing
+  rest_of_it = cut_licensing taken l
+
+  there : (d : LicenseCode) → names_as taken (License d) key ≡ false → StandsLicensed d (Some l) g key
+      → StandsLicensed d (Some rest_of_it) g key
+  there license.Accepted unnamed is = by_counting accepted_keys l rest_of_it g key key refl
+      (λ counts tells. moved (accepted_keys counts l g) (accepted_keys counts rest_of_it g) key
+      (sym (accepted_stay counts l g taken (stay counts tells)))) is
+  there license.Rejected unnamed is = by_counting rejected_keys l rest_of_it g key key refl
+      (λ counts tells. moved (rejected_keys counts l g) (rejected_keys counts rest_of_it g) key
+      (sym (rejected_stay counts l g taken (stay counts tells)))) is
+  there license.Unlicensed unnamed is = by_counting unlicensed_keys l rest_of_it g key key refl
+      (λ counts tells. moved (unlicensed_keys counts l g) (unlicensed_keys counts rest_of_it g) key
+      (sym (unlicensed_stay counts l g taken (stay counts tells)))) is
+  there license.ParseError unnamed is = by_counting parse_error_keys l rest_of_it g key key refl
+      (λ counts tells. moved (parse_error_keys counts l g) (parse_error_keys counts rest_of_it g) key
+      (sym (parse_error_stay counts l g taken (stay counts tells)))) is
+  there license.SkippedPrivateWorkspaceCrate unnamed is = by_counting skipped_private_keys l rest_of_it g key key refl
+      (λ counts tells. moved (skipped_private_keys counts l g) (skipped_private_keys counts rest_of_it g) key
+      (sym (skipped_stay counts l g taken (stay counts tells)))) is
+  there license.LicenseNotEncountered unnamed is = by_counting not_encountered_keys l rest_of_it g key key refl
+      (λ counts tells listed. kept_part (λ k. is_taken taken LicenseAllow k.entry)
+      (not_encountered_keys counts rest_of_it g) (not_encountered_keys counts l g) key
+      (allowances_part counts l g taken (stay counts tells)) listed unnamed) is
+  there license.LicenseExceptionNotEncountered unnamed is = by_counting exception_not_encountered_keys l rest_of_it g
+      key key refl
+      (λ counts tells listed. kept_part (λ k. is_taken taken LicenseException k.entry)
+      (exception_not_encountered_keys counts rest_of_it g) (exception_not_encountered_keys counts l g) key
+      (exceptions_part counts l g taken (stay counts tells)) listed unnamed) is
+
+  back : (d : LicenseCode) → StandsLicensed d (Some rest_of_it) g key → StandsLicensed d (Some l) g key
+      × (names_as taken (License d) key ≡ false)
+  back license.Accepted is = (
+    by_counting accepted_keys rest_of_it l g key key refl
+        (λ counts tells. moved (accepted_keys counts rest_of_it g) (accepted_keys counts l g) key
+        (accepted_stay counts l g taken (stay counts tells))) is,
+    refl,
+  )
+  back license.Rejected is = (
+    by_counting rejected_keys rest_of_it l g key key refl
+        (λ counts tells. moved (rejected_keys counts rest_of_it g) (rejected_keys counts l g) key
+        (rejected_stay counts l g taken (stay counts tells))) is,
+    refl,
+  )
+  back license.Unlicensed is = (
+    by_counting unlicensed_keys rest_of_it l g key key refl
+        (λ counts tells. moved (unlicensed_keys counts rest_of_it g) (unlicensed_keys counts l g) key
+        (unlicensed_stay counts l g taken (stay counts tells))) is,
+    refl,
+  )
+  back license.ParseError is = (
+    by_counting parse_error_keys rest_of_it l g key key refl
+        (λ counts tells. moved (parse_error_keys counts rest_of_it g) (parse_error_keys counts l g) key
+        (parse_error_stay counts l g taken (stay counts tells))) is,
+    refl,
+  )
+  back license.SkippedPrivateWorkspaceCrate is = (
+    by_counting skipped_private_keys rest_of_it l g key key refl
+        (λ counts tells. moved (skipped_private_keys counts rest_of_it g) (skipped_private_keys counts l g) key
+        (skipped_stay counts l g taken (stay counts tells))) is,
+    refl,
+  )
+  back license.LicenseNotEncountered is =
+      let old = from_part (λ k. is_taken taken LicenseAllow k.entry)
+      (not_encountered_keys is.counts rest_of_it g) (not_encountered_keys is.counts l g) key
+      (allowances_part is.counts l g taken (stay is.counts is.tells)) is.listed in
+      (record { counts = is.counts; tells = is.tells; listed = old.0 }, old.1)
+  back license.LicenseExceptionNotEncountered is =
+      let old = from_part (λ k. is_taken taken LicenseException k.entry)
+      (exception_not_encountered_keys is.counts rest_of_it g)
+      (exception_not_encountered_keys is.counts l g) key
+      (exceptions_part is.counts l g taken (stay is.counts is.tells)) is.listed in
+      (record { counts = is.counts; tells = is.tells; listed = old.0 }, old.1)
+
+-- of a policy that may speak of licences
+abbrev Stay : Option Licensing → Graph → List EntryId → Type 0
+Stay o g taken = (l : Licensing) → o ≡ Some l → (counts : Crate → Bool) → TellsCounting l g counts
+    → LicencesStay counts l g taken
+
+licensed_there : (o : Option Licensing) (g : Graph) (taken : List EntryId) (key : Key) → Stay o g taken
+    → (d : LicenseCode) → names_as taken (License d) key ≡ false → StandsLicensed d o g key
+    → StandsLicensed d (option_map (cut_licensing taken) o) g key
+licensed_there None g taken key stay license.Accepted unnamed is = is
+licensed_there None g taken key stay _ unnamed is = absurd is
+licensed_there (Some l) g taken key stay d unnamed is = there l g taken (stay l refl) key d unnamed is
+
+licensed_back : (o : Option Licensing) (g : Graph) (taken : List EntryId) (key : Key) → Stay o g taken
+    → (d : LicenseCode) → StandsLicensed d (option_map (cut_licensing taken) o) g key
+    → StandsLicensed d o g key × (names_as taken (License d) key ≡ false)
+licensed_back None g taken key stay license.Accepted is = absurd is
+licensed_back None g taken key stay _ is = absurd is
+licensed_back (Some l) g taken key stay d is = back l g taken (stay l refl) key d is
+
+licensed_hits : (o : Option Licensing) (g : Graph) (taken : List EntryId) (counts : Crate → Bool) → Stay o g taken
+    → TellsLicensed o g counts
+    → option_map_or (λ l. licence_hits counts l g) (option_map (cut_licensing taken) o) []
+    ≡ option_map_or (λ l. licence_hits counts l g) o []
+licensed_hits None g taken counts stay tells = refl
+licensed_hits (Some l) g taken counts stay tells = hits_stay counts l g taken (stay l refl counts tells)
+
+module _ (c : Circumstances) (facts : Facts) (taken : List EntryId) (unhit : AreUnhitLicences c taken) (key : Key) where
+  -- a finding of the bans check names none of these
+  none_named : (d : Code) → StandsAs d c facts key → names_as taken (Bans d) key ≡ false
+  none_named code.UnmatchedSkip is = unhit.no_skip key.entry
+  none_named code.UnmatchedSkipRoot is = unhit.no_root key.entry
+  none_named code.UnusedWrapper is = unhit.no_wrapper key.entry
+  none_named code.UnmatchedReplacementIgnore is = unhit.no_ignore key.entry
+  none_named code.UnmatchedBypass is = absurd is
+  none_named code.UnmatchedPathBypass is = absurd is
+  none_named code.UnmatchedGlob is = absurd is
+  none_named _ is = refl
+
+  there_by : (d : DiagnosticCode) → names_as taken d key ≡ false → StandsBy d c facts key
+      → StandsBy d (without_licences_in c taken) facts key
+  there_by Deprecated unnamed is = absurd is
+  there_by (Bans d) unnamed is = code_there d c (option_map (cut_licensing taken) c.licensing) facts key is
+  there_by (License d) unnamed is = licensed_there c.licensing c.graph taken key unhit.licences d unnamed is
+
+  back_by : (d : DiagnosticCode) → StandsBy d (without_licences_in c taken) facts key → StandsBy d c facts key
+      × (names_as taken d key ≡ false)
+  back_by Deprecated is = absurd is
+  back_by (Bans d) is =
+      let old = code_back d c (option_map (cut_licensing taken) c.licensing) facts key is in (old, none_named d old)
+  back_by (License d) is = licensed_back c.licensing c.graph taken key unhit.licences d is
+
+  there_key : names taken key ≡ false → Stands c facts key → Stands (without_licences_in c taken) facts key
+  there_key unnamed is = there_by key.code unnamed is
+
+  back_key : Stands (without_licences_in c taken) facts key → Stands c facts key × (names taken key ≡ false)
+  back_key is = back_by key.code is
+
+-- ---- all together
+
+pub licences_gone : (c : Circumstances) (facts : Facts) (taken : List EntryId) (keys : List Key) → AreFacts c facts
+    → AreUnhitLicences c taken
+    → Lists key_cmp (Stands c facts) keys → AreGone c (without_licences_in c taken) facts taken keys
+licences_gone c facts taken keys are unhit listed = record {
+  facts_hold = record { chains = record { counts = are.chains.counts; in_tree = are.chains.in_tree } };
+  listed = record {
+    ascending = IsStrictlySortedBy-filter key_cmp (λ key. not (names taken key)) keys listed.ascending;
+    whole = λ key is. let old = back_key c facts taken unhit key is in
+        Contains-filter (λ k. not (names taken k)) keys key (listed.whole key old.0) (ap (λ t. not t) old.1);
+    sound = λ key is. let kept = Contains-from_filter (λ k. not (names taken k)) keys key is in
+        there_key c facts taken unhit key (not-true (names taken key) kept.1) (listed.sound key kept.0);
+  };
+  hits = refl;
+  licence_hits = λ counts tells. licensed_hits c.licensing c.graph taken counts unhit.licences tells;
+}
