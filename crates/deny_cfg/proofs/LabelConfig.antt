@@ -40,7 +40,7 @@ use Rattle.deny_entries.specs.declared.policy_key.PolicyKey.TheVariants as key
 use Rattle.deny_entries.specs.declared.reason.Reason.{Reason}
 use Rattle.deny_entries.specs.declared.spec_or_extended.PackageSpecOrExtended.{PackageSpecOrExtended}
 use Rattle.deny_cfg.proofs.LabelLaws.{◌▸◌, Lie, StandsAt, Within, WithinKey, WithinKeys, at_stands, entries_stand, key_at, keys_within, list_within, no_entries_stand, no_keys, no_more, one_key, optional_within, or_within, starts, table_within}
-use Rattle.deny_cfg.proofs.LabelReads.{entry_keys_within, entry_within, flag_within, level_within, reason_within, word_within, words_within}
+use Rattle.deny_cfg.proofs.LabelReads.{entry_keys_within, entry_within, flag_within, meaning_within, reason_within, word_within, words_within}
 
 wrappers_within : (text : List ℕ) (v : Value) (wrappers : Spanned (List Words)) → ReadsSpanned ReadsTexts v wrappers
     → Within text v (word_ranges wrappers.value)
@@ -138,7 +138,7 @@ config_within : (text : List ℕ) (entries : Entries) (config : Config) → Read
 unfolding name_of config_labels
 config_within text entries config reads =
     let reasoned = list_within text (with_spec reason_range) ReadsReasoned (reasoned_within text) in
-    let level = optional_within text own_range (ReadsSpanned (ReadsAs level_of)) (level_within text) in
+    let level = optional_within text own_range (ReadsSpanned (ReadsAs level_of)) (meaning_within text level_of) in
     keys_within text entries (
     or_within text (flat_map (with_spec crate_ban_ranges)) [] (ReadsList ReadsBanEntry) refl
     (list_within text (with_spec crate_ban_ranges) ReadsBanEntry (ban_entry_within text))
@@ -210,10 +210,16 @@ are_labels text spans places lie part distinct = record {
   apart = apart_spans spans (apart_part (starts spans) places distinct part);
 }
 
+-- ranges within what the root holds at a key
+pub key_are_labels : (text name : List ℕ) (tree : Value) (spans : List Span) → StandsIn text tree → AreApart tree
+    → WithinKey text (below_name name tree) spans → AreLabels text spans
+key_are_labels text name tree spans stands apart within =
+    are_labels text spans (starts_in tree) (within.lie (name_stands text name tree stands))
+    (part_of_part (starts spans) (starts_of (below_name name tree)) (starts_in tree) within.part
+    (below_part name tree)) apart
+
 pub config_are_labels : (text : List ℕ) (tree : Value) (config : Config) → StandsIn text tree → AreApart tree
     → ReadsBans (below_name bans_name tree) config → AreLabels text (config_labels config)
 config_are_labels text tree config stands apart reads =
-    let within = bans_within text (below_name bans_name tree) config reads in
-    are_labels text (config_labels config) (starts_in tree) (within.lie (name_stands text bans_name tree stands))
-    (part_of_part (starts (config_labels config)) (starts_of (below_name bans_name tree)) (starts_in tree) within.part
-    (below_part bans_name tree)) apart
+    key_are_labels text bans_name tree (config_labels config) stands apart
+    (bans_within text (below_name bans_name tree) config reads)

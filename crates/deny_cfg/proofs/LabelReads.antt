@@ -12,7 +12,6 @@ use Rattle.std.proofs.lemmas.List.Sums.{passes_at_first, prefix_len-le-length}
 use Rattle.std.proofs.lemmas.Str.{IsCharBoundary-before_ascii}
 use Rattle.deny_base.specs.declared.span.Span.{Span}
 use Rattle.deny_base.specs.declared.span.Spanned.{Spanned}
-use Rattle.deny_base.specs.declared.level.LintLevel.{LintLevel}
 use Rattle.deny_model.specs.Policy.{Words}
 use Rattle.deny_toml.proofs.ApartLaws.{starts_by_layer, starts_of_layer}
 use Rattle.deny_toml.proofs.ApartParts.{IsPartOf, part_itself, starts_of_text}
@@ -31,7 +30,7 @@ use Rattle.deny_entries.proofs.RowLaws.{says_of}
 use Rattle.deny_entries.specs.PolicyKey.{name_of}
 use Rattle.deny_entries.specs.Spec.{ReadsName, ReadsSpecBy, ReadsSpecKeys, ReadsSpecOf, ReadsSpecText, crate_fields, divided, divided_at, name_fields, name_in, name_span, or_else, parts_or, spec_fields, spec_in}
 use Rattle.deny_entries.specs.Table.{DependsOn, Entries, Field, ReadsThere, are_apart, at_key}
-use Rattle.deny_entries.specs.Words.{ReadsAs, ReadsBool, ReadsSpanned, ReadsText, ReadsTexts, level_of}
+use Rattle.deny_entries.specs.Words.{ReadsAs, ReadsBool, ReadsSpanned, ReadsText, ReadsTexts}
 use Rattle.deny_entries.specs.declared.package_spec.PackageSpec.{PackageSpec}
 use Rattle.deny_entries.specs.declared.policy_key.PolicyKey.TheVariants as key
 use Rattle.deny_entries.specs.declared.reason.Reason.{Reason}
@@ -84,12 +83,12 @@ flag_within text v flag reads =
     let there = scalar_there bool_of (scalar_of (layer_in v)) flag.value reads.1 in own_within text v flag there.0
     reads.0 there.1
 
-pub level_within : (text : List ℕ) (v : Value) (level : Spanned LintLevel) → ReadsSpanned (ReadsAs level_of) v level
-    → Within text v (own_range level)
-level_within text v level reads =
-    let word = text_there level_of (text_in v) level.value reads.1 in
+pub meaning_within : {A : Type 0} (text : List ℕ) (meaning : List ℕ → Option A) (v : Value) (read : Spanned A)
+    → ReadsSpanned (ReadsAs meaning) v read → Within text v (own_range read)
+meaning_within text meaning v read reads =
+    let word = text_there meaning (text_in v) read.value reads.1 in
     let there = scalar_there text_of (scalar_of (layer_in v)) word.0 word.1 in
-    own_within text v level there.0 reads.0 there.1
+    own_within text v read there.0 reads.0 there.1
 
 pub words_within : (text : List ℕ) (v : Value) (words : List Words) → ReadsTexts v words
     → Within text v (word_ranges words)

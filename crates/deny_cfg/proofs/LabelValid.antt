@@ -62,7 +62,7 @@ among_both xs ys zs ws one other = record {
   part = λ x. omega (arith, one.part x, other.part x, times_both xs ys x, times_both zs ws x);
 }
 
-among_rest : (xs ys : List Span) → Among ys (xs ++ ys)
+pub among_rest : (xs ys : List Span) → Among ys (xs ++ ys)
 among_rest xs ys = record { lie = λ text lie. lie_rest text xs ys lie; part = λ x. omega (arith, times_both xs ys x) }
 
 -- ---- bans without their flags, beside the other entries

@@ -1,15 +1,20 @@
 -- The ranges that tell entries apart are among those of labels, so no two of them are one.
-use Rattle.std.proofs.Common.{◌++◌, ℕ, List, [], ◌∷◌, Option, Some, None, ap, arith}
+use Rattle.std.proofs.Common.{◌≡◌, ◌≢◌, ◌++◌, ℕ, List, [], ◌∷◌, map, Option, Some, None, refl, ap, subst, arith}
+use Rattle.std.specs.Prelude.{AllPairs, IfSome}
 use Rattle.std.specs.List.{flat_map}
 use Rattle.deny_base.specs.declared.span.Span.{Span}
-use Rattle.deny_cfg.specs.LabelRanges.{AreLabels, ban_ranges, feature_ranges, feature_ranges_by, of_some, own_range, reason_range, root_ranges, spec_range, std_ranges, std_ranges_by, with_spec, word_labels, word_ranges}
-use Rattle.deny_cfg.specs.Lawful.{IsLawful, entry_spans, no_range, wrapper_ranges}
+use Rattle.deny_base.specs.declared.span.Spanned.{Spanned}
+use Rattle.deny_spdx.specs.declared.requirement.Requirement.{Requirement}
+use Rattle.deny_tables.specs.declared.licenses.config.Config.{Config}
+use Rattle.deny_tables.specs.declared.licenses.exception.Exception.{Exception}
+use Rattle.deny_cfg.specs.LabelRanges.{AreLabels, ban_ranges, exception_range, feature_ranges, feature_ranges_by, licence_labels, licence_ranges, of_some, own_range, reason_range, root_ranges, spec_range, std_ranges, std_ranges_by, with_spec, word_labels, word_ranges}
+use Rattle.deny_cfg.specs.Lawful.{IsLawful, IsLawfulLicensing, entry_spans, no_range, wrapper_ranges}
 use Rattle.deny_cfg.specs.declared.bans.cfg.valid.KrateBan.{KrateBan}
 use Rattle.deny_cfg.specs.declared.bans.cfg.valid.ValidConfig.{ValidConfig}
 use Rattle.deny_cfg.specs.declared.bans.cfg.valid.ValidKrateFeatures.{ValidKrateFeatures}
 use Rattle.deny_entries.specs.declared.reason.Reason.{Reason}
 use Rattle.deny_entries.specs.declared.spec_or_extended.PackageSpecOrExtended.{PackageSpecOrExtended}
-use Rattle.deny_cfg.proofs.LabelValid.{Among, among_both, among_itself, among_joined, labels_among, lie_prefix, times_both}
+use Rattle.deny_cfg.proofs.LabelValid.{Among, among_both, among_itself, among_joined, among_rest, labels_among, lie_prefix, times_both}
 
 among_prefix : (xs ys : List Span) → Among xs (xs ++ ys)
 among_prefix xs ys = record {
@@ -107,7 +112,41 @@ entries_among valid =
       ),
     )
 
+distinct_labels : (text : List ℕ) (spans : List Span) → AreLabels text spans → AllPairs (λ one other. one ≢ other) spans
+distinct_labels text spans labels = λ i j d below within same.
+    labels.apart i j d below within (ap (λ (span : Span). span.start) same)
+
 pub lawful : (text : List ℕ) (valid : ValidConfig) → AreLabels text (word_labels valid) → IsLawful valid
 lawful text valid labels =
-    let entries = labels_among text (entry_spans valid) (word_labels valid) (entries_among valid) labels in
-    λ i j d below within same. entries.apart i j d below within (ap (λ (span : Span). span.start) same)
+    distinct_labels text (entry_spans valid)
+    (labels_among text (entry_spans valid) (word_labels valid) (entries_among valid) labels)
+
+-- ---- licences
+
+one_range_each : {T : Type 0} (range : T → Span) (xs : List T) → flat_map (λ x. range x ∷ []) xs ≡ map range xs
+one_range_each range [] = refl
+one_range_each range (x ∷ xs) = ap (λ spans. range x ∷ spans) (one_range_each range xs)
+
+lawful_config : (text : List ℕ) (config : Config) → AreLabels text (licence_labels config) → IsLawfulLicensing config
+unfolding licence_labels
+lawful_config text config labels =
+    let allow = flat_map own_range config.allow in
+    let exceptions = flat_map exception_range config.exceptions in
+    let first = labels_among text allow (licence_labels config) (among_prefix allow (exceptions ++ [])) labels in
+    let rest =
+    labels_among text (exceptions ++ []) (licence_labels config) (among_rest allow (exceptions ++ [])) labels in
+    let second = labels_among text exceptions (exceptions ++ []) (among_prefix exceptions []) rest in
+    record {
+      allow =
+          subst (AllPairs (λ one other. one ≢ other))
+          (one_range_each (λ (a : Spanned Requirement). a.span) config.allow) (distinct_labels text allow first);
+      exceptions =
+          subst (AllPairs (λ one other. one ≢ other))
+          (one_range_each (λ (e : Exception). e.spec.name.span) config.exceptions)
+          (distinct_labels text exceptions second);
+    }
+
+pub lawful_licences : (text : List ℕ) (licensing : Option Config) → AreLabels text (licence_ranges licensing)
+    → IfSome licensing IsLawfulLicensing
+lawful_licences text None labels = tt
+lawful_licences text (Some config) labels = lawful_config text config labels

@@ -4,8 +4,11 @@ pub mod LabelValid
 pub mod LabelConfig
 pub mod LabelLaws
 pub mod LabelReads
+pub mod LabelLicenses
 pub mod PolicyLaws
 pub mod FirstPlacesLaws
 pub mod ClashLaws
 pub mod ViewLaws
+pub mod LicensingLaws
+pub mod RootLaws
 pub mod OnePolicyLaws

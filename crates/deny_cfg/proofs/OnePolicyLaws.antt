@@ -1,6 +1,6 @@
 -- What a text says as a policy is one, and so is why it says none.
 use Rattle.std.proofs.Common.{◌≡◌, ◌⊎◌, inl, inr, ℕ, List, [], ◌∷◌, map, refl, sym, ap, subst, arith, ◌∙◌}
-use Rattle.std.specs.Prelude.{Contains, None, Some}
+use Rattle.std.specs.Prelude.{Contains, Option, None, Some}
 use Rattle.std.specs.Cmp.{IsTotalOrder, nat_cmp_total, on_total, then_total}
 use Rattle.deny_lists.specs.Ascending.{Lists}
 use Rattle.deny_base.specs.declared.finding.Diagnostic.{Diagnostic}
@@ -20,14 +20,17 @@ use Rattle.deny_toml.specs.declared.error.TomlKind.TheVariants as toml
 use Rattle.deny_toml.specs.Expression.{Expression}
 use Rattle.deny_toml.specs.declared.value.Value.{Value}
 use Rattle.deny_cfg.specs.Clashes.{clash_cmp, clash_told, clashes_in, kind_number}
-use Rattle.deny_cfg.specs.PolicyText.{AreFaults, IsPolicyOf, ListsFaults, ReadsBans, Says, TellsClashes, bans_name, faults_of_tree, kind_of, writes_unbuilt}
+use Rattle.deny_cfg.specs.LicensingView.{licensing_of}
+use Rattle.deny_cfg.specs.PolicyText.{AreFaults, IsPolicyOf, ListsFaults, ReadsBans, ReadsLicensing, Says, TellsClashes, bans_name, faults_of_tree, kind_of, licenses_name, writes_unbuilt}
 use Rattle.deny_cfg.specs.PolicyView.{policy_view}
 use Rattle.deny_tables.specs.declared.bans.cfg.config.Config.{Config}
+use Rattle.deny_tables.specs.declared.licenses.config.Config as licenses
 use Rattle.deny_cfg.specs.declared.clash.Clash.{Clash}
 use Rattle.deny_cfg.specs.declared.policy.Policy.{Policy}
 use Rattle.deny_entries.proofs.ReadsLaws.{ReadsAlike, alike_table}
 use Rattle.deny_tables.proofs.ConfigLaws.{ConfigsAlike, configs_alike}
 use Rattle.deny_tables.specs.Config.{ReadsConfig}
+use Rattle.deny_cfg.proofs.LicensingLaws.{licensing_alike, unbuilt_alike}
 use Rattle.deny_cfg.proofs.ViewLaws.{same_clashes, same_view}
 
 -- what a text writes is one, and so is its tree
@@ -41,22 +44,41 @@ bans_alike : ReadsAlike ReadsBans ConfigsAlike
 bans_alike None a b one two = configs_alike [] a b one two
 bans_alike (Some v) a b one two = alike_table ReadsConfig ConfigsAlike configs_alike v a b one two
 
-pub says_alike : (text : List ℕ) (a b : Config) → Says text a → Says text b → ConfigsAlike a b
-says_alike text a b one two =
-    bans_alike (below_name bans_name one.tree) a b one.reads
-    (subst (λ v. ReadsBans (below_name bans_name v) b) (one_tree text two.tree one.tree two.is_tree one.is_tree)
-    two.reads)
+-- what two texts say is read from one tree
+module _ (text : List ℕ) (a b : Config) (l m : Option licenses.Config) (one : Says text a l) (two : Says text b m) where
+  bans_of_one : ReadsBans (below_name bans_name one.tree) b
+  bans_of_one =
+      subst (λ v. ReadsBans (below_name bans_name v) b) (one_tree text two.tree one.tree two.is_tree one.is_tree)
+      two.reads
+
+  licensing_of_one : ReadsLicensing (below_name licenses_name one.tree) m
+  licensing_of_one =
+      subst (λ v. ReadsLicensing (below_name licenses_name v) m)
+      (one_tree text two.tree one.tree two.is_tree one.is_tree) two.reads_licenses
+
+  pub says_alike : ConfigsAlike a b
+  says_alike = bans_alike (below_name bans_name one.tree) a b one.reads bans_of_one
+
+  same_unbuilt : writes_unbuilt a ≡ writes_unbuilt b
+  same_unbuilt = unbuilt_alike (below_name bans_name one.tree) a b one.reads bans_of_one
+
+  same_licensing : licensing_of l ≡ licensing_of m
+  same_licensing = licensing_alike (below_name licenses_name one.tree) l m one.reads_licenses licensing_of_one
 
 pub same_policy : (text : List ℕ) (file : ℕ) (a b : Policy) → IsPolicyOf text file a → IsPolicyOf text file b
     → (policy_view a.bans ≡ policy_view b.bans) × (a.not_built ≡ b.not_built)
 same_policy text file a b one two = (
   same_view one.config two.config file file a.bans b.bans
-      (says_alike text one.config two.config one.says.says two.says.says) one.valid two.valid,
+      (says_alike text one.config two.config a.licenses b.licenses one.says.says two.says.says) one.valid two.valid,
   one.says.unbuilt_is
-      ∙ ap writes_unbuilt
-      (one_tree text one.says.says.tree two.says.says.tree one.says.says.is_tree two.says.says.is_tree)
+      ∙ same_unbuilt text one.config two.config a.licenses b.licenses one.says.says two.says.says
       ∙ sym two.says.unbuilt_is,
 )
+
+pub same_licences : (text : List ℕ) (file : ℕ) (a b : Policy) → IsPolicyOf text file a → IsPolicyOf text file b
+    → licensing_of a.licenses ≡ licensing_of b.licenses
+same_licences text file a b one two =
+    same_licensing text one.config two.config a.licenses b.licenses one.says.says two.says.says
 
 -- the one fault of a text outside the grammar
 abbrev pub IsGrammarFault : List ConfigFault → Type 0
@@ -103,16 +125,18 @@ pub same_faults : (text : List ℕ) (xs ys : List ConfigFault) → ListsFaults t
 same_faults text xs ys one two = one_faults text xs ys one.are two.are
 
 -- a text that says something has no fault
-no_faults : (text : List ℕ) (config : Config) (xs : List ConfigFault) → Says text config → AreFaults text xs → xs ≡ []
-no_faults text config xs says (AreFaults.not_utf8 other) = absurd (other says.utf8)
-no_faults text config xs says (AreFaults.no_toml of span utf8 fault range) =
+no_faults : (text : List ℕ) (config : Config) (licensing : Option licenses.Config) (xs : List ConfigFault)
+    → Says text config licensing → AreFaults text xs → xs ≡ []
+no_faults text config licensing xs says (AreFaults.not_utf8 other) = absurd (other says.utf8)
+no_faults text config licensing xs says (AreFaults.no_toml of span utf8 fault range) =
     absurd (no_toml_fault text of span says.tree fault says.is_tree)
-no_faults text config xs says (AreFaults.of_tree v utf8 is_tree) =
+no_faults text config licensing xs says (AreFaults.of_tree v utf8 is_tree) =
     ap faults_of_tree (one_tree text v says.tree is_tree says.is_tree) ∙ says.faultless
 
-pub says_without_faults : (text : List ℕ) (config : Config) (faults : List ConfigFault) → Says text config
-    → ListsFaults text faults → ⊥
-says_without_faults text config faults says lists = lists.some (no_faults text config faults says lists.are)
+pub says_without_faults : (text : List ℕ) (config : Config) (licensing : Option licenses.Config)
+    (faults : List ConfigFault) → Says text config licensing → ListsFaults text faults → ⊥
+says_without_faults text config licensing faults says lists =
+    lists.some (no_faults text config licensing faults says lists.are)
 
 -- what clashes in a text is one, and told one way
 clash_cmp-total : IsTotalOrder clash_cmp
@@ -126,7 +150,8 @@ clash_cmp-total =
 pub same_told : (text : List ℕ) (file : ℕ) (xs ys : List Diagnostic) → TellsClashes text file xs
     → TellsClashes text file ys → xs ≡ ys
 same_told text file xs ys one two =
-    let clashes = same_clashes two.config one.config (says_alike text two.config one.config two.says one.says) in
+    let alike = says_alike text two.config one.config two.licensing one.licensing two.says one.says in
+    let clashes = same_clashes two.config one.config alike in
     let listed = subst (λ found. Lists clash_cmp (Contains found) two.are.clashes) clashes two.are.listed in
     one.are.is ∙ ap (map (clash_told file))
     (one_list clash_cmp-total one.are.clashes two.are.clashes one.are.listed listed) ∙ sym two.are.is
@@ -140,8 +165,7 @@ none_listed (c ∷ clashes) found none listed =
 pub policy_without_clashes : (text : List ℕ) (file number : ℕ) (told : List Diagnostic) (policy : Policy)
     → TellsClashes text file told → IsPolicyOf text number policy → ⊥
 policy_without_clashes text file number told policy tells is =
-    let none =
-    same_clashes tells.config is.config (says_alike text tells.config is.config tells.says is.says.says)
-    ∙ is.no_clash in
+    let alike = says_alike text tells.config is.config tells.licensing policy.licenses tells.says is.says.says in
+    let none = same_clashes tells.config is.config alike ∙ is.no_clash in
     tells.some (tells.are.is
     ∙ ap (map (clash_told file)) (none_listed tells.are.clashes (clashes_in tells.config) none tells.are.listed))

@@ -10,6 +10,8 @@ use Rattle.deny_tables.specs.declared.bans.cfg.config.Config.{Config}
 use Rattle.deny_tables.specs.declared.bans.cfg.features.CrateFeatures.{CrateFeatures}
 use Rattle.deny_tables.specs.declared.bans.cfg.std_replacements.StdReplacementConfig.{StdReplacementConfig}
 use Rattle.deny_tables.specs.declared.bans.cfg.tree_skip.TreeSkipExtended.{TreeSkipExtended}
+use Rattle.deny_tables.specs.declared.licenses.config.Config as licenses
+use Rattle.deny_tables.specs.declared.licenses.exception.Exception.{Exception}
 use Rattle.deny_cfg.specs.declared.bans.cfg.valid.KrateBan.{KrateBan}
 use Rattle.deny_cfg.specs.declared.bans.cfg.valid.ValidConfig.{ValidConfig}
 use Rattle.deny_cfg.specs.declared.bans.cfg.valid.ValidKrateFeatures.{ValidKrateFeatures}
@@ -108,6 +110,16 @@ config_labels config = joined (
     ∷ of_some std_ranges config.std_replacements
     ∷ []
     )
+
+abbrev pub exception_range : Exception → List Span
+exception_range e = spec_range e.spec
+
+-- of each licence that every crate may ask for, and of each exception's name: what findings on licences point at
+unfoldable pub licence_labels : licenses.Config → List Span
+licence_labels config = joined (flat_map own_range config.allow ∷ flat_map exception_range config.exceptions ∷ [])
+
+abbrev pub licence_ranges : Option licenses.Config → List Span
+licence_ranges licensing = of_some licence_labels licensing
 
 -- These ranges lie in the text, and no two of them begin at one place.
 pub record AreLabels (text : List ℕ) (spans : List Span) : Type 0 where

@@ -2,6 +2,7 @@ pub mod Clashes
 pub mod FirstPlaces
 pub mod LabelRanges
 pub mod Lawful
+pub mod LicensingView
 pub mod PolicyText
 pub mod PolicyView
 pub mod Valid
@@ -21,6 +22,7 @@ pub use Rattle.deny_tables.specs.Checksum
 pub use Rattle.deny_tables.specs.Config
 pub use Rattle.deny_tables.specs.Features
 pub use Rattle.deny_tables.specs.Highlight
+pub use Rattle.deny_tables.specs.Licenses
 pub use Rattle.deny_tables.specs.StdReplacements
 pub use Rattle.deny_tables.specs.Workspace
 pub use Rattle.deny_entries.specs.declared.reason.Reason
@@ -29,3 +31,5 @@ pub use Rattle.deny_entries.specs.declared.scope.Scope
 pub use Rattle.deny_entries.specs.declared.spec_or_extended.PackageSpecOrExtended
 pub use Rattle.deny_tables.specs.declared.bans.cfg.tree_skip.TreeSkipExtended
 pub use Rattle.deny_tables.specs.declared.bans.cfg.std_replacements.StdReplacementConfig
+pub use Rattle.deny_tables.specs.declared.licenses.config.Config as LicensesConfig
+pub use Rattle.deny_tables.specs.declared.licenses.exception.Exception as LicensesException

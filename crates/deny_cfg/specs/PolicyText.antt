@@ -1,14 +1,14 @@
 -- What a text says as a policy: its faults, what clashes in it, and the policy where there is neither.
-use Rattle.std.specs.Prelude.{◌≡◌, ◌≢◌, ◌++◌, ◌⊎◌, ◌||◌, ⊤, ℕ, All, Bool, false, List, [], ◌∷◌, Option, None, Some, codes, is_some, IsUtf8}
-use Rattle.std.specs.List.{list_any}
+use Rattle.std.specs.Prelude.{◌≡◌, ◌≢◌, ◌++◌, ◌⊎◌, ◌||◌, ⊤, ℕ, All, Bool, false, true, List, [], ◌∷◌, Option, None, Some, codes, is_some, IsUtf8}
 use Rattle.std.specs.List.Sorted.{IsStrictlySortedBy}
-use Rattle.std.specs.Option.{option_map_or}
 use Rattle.deny_base.specs.declared.files.File.{File}
 use Rattle.deny_base.specs.declared.finding.Diagnostic.{Diagnostic}
+use Rattle.deny_base.specs.declared.level.LintLevel.{LintLevel}
+use Rattle.deny_base.specs.declared.level.LintLevel.TheVariants as level
 use Rattle.deny_base.specs.declared.span.Span.{Span}
 use Rattle.deny_model.specs.Keys.{no_span}
 use Rattle.deny_toml.specs.Calls.{below_name}
-use Rattle.deny_toml.specs.Faults.{fault_at, fault_cmp}
+use Rattle.deny_toml.specs.Faults.{fault_at, fault_cmp, in_order}
 use Rattle.deny_toml.specs.Parser.{IsFaultOf, IsTreeOf}
 use Rattle.deny_toml.specs.Ranges.{IsRange}
 use Rattle.deny_toml.specs.TableHelper.{optional_faults}
@@ -20,23 +20,29 @@ use Rattle.deny_toml.specs.declared.error.TomlKind.TheVariants as toml
 use Rattle.deny_toml.specs.declared.value.Value.{Value}
 use Rattle.deny_cfg.specs.Clashes.{AreClashes, clashes_in}
 use Rattle.deny_tables.specs.Config.{ReadsConfig, faults_of_config}
+use Rattle.deny_tables.specs.Licenses.{ReadsLicenses, faults_of_licenses}
 use Rattle.deny_cfg.specs.LabelRanges.{told_ranges}
-use Rattle.deny_entries.specs.PolicyKey.{name_of}
-use Rattle.deny_entries.specs.Table.{ReadsTable}
+use Rattle.deny_entries.specs.Table.{ReadsIfThere, ReadsTable}
 use Rattle.deny_cfg.specs.Valid.{IsValidOf}
 use Rattle.deny_tables.specs.declared.bans.cfg.config.Config.{Config}
+use Rattle.deny_tables.specs.declared.licenses.config.Config as licenses
 use Rattle.deny_cfg.specs.declared.policy.Policy.{Policy}
 use Rattle.deny_cfg.specs.declared.policy.PolicyError.{PolicyError}
 use Rattle.deny_cfg.specs.declared.policy.PolicyError.TheVariants as error
-use Rattle.deny_entries.specs.declared.policy_key.PolicyKey.{PolicyKey}
-use Rattle.deny_entries.specs.declared.policy_key.PolicyKey.TheVariants as key
 
 abbrev pub bans_name : List ℕ
 bans_name = codes "bans"
 
--- the faults of a tree as a policy: those of its table `bans`; other keys of the root pass unread
+abbrev pub licenses_name : List ℕ
+licenses_name = codes "licenses"
+
+-- the faults of a tree as a policy: those of its tables `bans` and `licenses`, in ascending order, each once; other
+-- keys of the root pass unread
 unfoldable pub faults_of_tree : Value → List ConfigFault
-faults_of_tree v = optional_faults faults_of_config bans_name (below_name bans_name v)
+faults_of_tree v = in_order (
+    optional_faults faults_of_config bans_name (below_name bans_name v)
+    ++ optional_faults faults_of_licenses licenses_name (below_name licenses_name v)
+    )
 
 abbrev pub kind_of : TomlKind → FaultKind
 kind_of toml.Grammar = kind.Grammar
@@ -60,45 +66,42 @@ abbrev pub ReadsBans : Option Value → Config → Type 0
 ReadsBans None config = ReadsConfig [] config
 ReadsBans (Some v) config = ReadsTable ReadsConfig v config
 
--- The text is TOML, its tree has no fault, and its table `bans` says this.
-pub record Says (text : List ℕ) (config : Config) : Type 0 where
+-- what is read from the table `licenses`: nothing exactly where it is not written
+abbrev pub ReadsLicensing : Option Value → Option licenses.Config → Type 0
+ReadsLicensing = ReadsIfThere (ReadsTable ReadsLicenses)
+
+-- The text is TOML, its tree has no fault, and its tables `bans` and `licenses` say this.
+pub record Says (text : List ℕ) (config : Config) (licensing : Option licenses.Config) : Type 0 where
   pub utf8 : IsUtf8 text
   pub tree : Value
   pub is_tree : IsTreeOf text tree
   pub faultless : faults_of_tree tree ≡ []
   pub reads : ReadsBans (below_name bans_name tree) config
+  pub reads_licenses : ReadsLicensing (below_name licenses_name tree) licensing
 
--- the keys of `bans` whose rules are not there yet
-abbrev pub not_built : List PolicyKey
-not_built =
-    key.Features
-    ∷ key.ExternalDefaultFeatures
-    ∷ key.WorkspaceDefaultFeatures
-    ∷ key.Wildcards
-    ∷ key.AllowWildcardPaths
-    ∷ key.AllowBuildScripts
-    ∷ key.Build
-    ∷ key.WorkspaceDependencies
-    ∷ []
+-- whether a rule at this level finds anything that counts: at `allow` nothing stands by it
+abbrev pub is_minded : LintLevel → Bool
+is_minded level.Allow = false
+is_minded level.Warn = true
+is_minded level.Deny = true
 
-abbrev pub writes_key : Value → PolicyKey → Bool
-writes_key bans k = is_some (below_name (name_of k) bans)
-
--- a tree writes `licenses`, or in `bans` one of these keys
-unfoldable pub writes_unbuilt : Value → Bool
-writes_unbuilt v =
-    is_some (below_name (codes "licenses") v)
-    || option_map_or (λ bans. list_any (writes_key bans) not_built) (below_name bans_name v) false
+-- Whether `bans` writes a key whose rule is not there yet. The rule on wildcards stands by nothing where they are
+-- allowed, and `allow-wildcard-paths` says nothing without it.
+unfoldable pub writes_unbuilt : Config → Bool
+writes_unbuilt config =
+    is_minded config.wildcards
+    || (is_some config.allow_build_scripts || (is_some config.build || is_some config.workspace_dependencies))
 
 -- the same, and whether the text writes a key whose rule is not there yet
-pub record SaysOf (text : List ℕ) (config : Config) (unbuilt : Bool) : Type 0 where
-  pub says : Says text config
-  pub unbuilt_is : unbuilt ≡ writes_unbuilt says.tree
+pub record SaysOf (text : List ℕ) (config : Config) (licensing : Option licenses.Config) (unbuilt : Bool)
+    : Type 0 where
+  pub says : Says text config licensing
+  pub unbuilt_is : unbuilt ≡ writes_unbuilt config
 
 -- The policy of a text: it is TOML without faults and without clashes, and this is what it says.
 pub record IsPolicyOf (text : List ℕ) (file : ℕ) (policy : Policy) : Type 0 where
   pub config : Config
-  pub says : SaysOf text config policy.not_built
+  pub says : SaysOf text config policy.licenses policy.not_built
   pub no_clash : clashes_in config ≡ []
   pub valid : IsValidOf config file policy.bans
   pub no_warning : policy.warnings ≡ []
@@ -106,7 +109,8 @@ pub record IsPolicyOf (text : List ℕ) (file : ℕ) (policy : Policy) : Type 0 
 -- What clashes in a text without faults. All labels lie in the text.
 pub record TellsClashes (text : List ℕ) (file : ℕ) (told : List Diagnostic) : Type 0 where
   pub config : Config
-  pub says : Says text config
+  pub licensing : Option licenses.Config
+  pub says : Says text config licensing
   pub some : told ≢ []
   pub are : AreClashes config file told
   pub placed : All (IsRange text) (told_ranges told)

@@ -5,6 +5,7 @@ ghost use Rattle.deny_base.specs.declared.span.Span.{Span};
 ghost use Rattle.deny_toml.specs.Faults.{fault_at};
 ghost use Rattle.deny_toml.specs.declared.error.ConfigFault.{ConfigFault};
 ghost use Rattle.deny_toml.specs.declared.error.FaultKind.TheVariants.{Grammar};
+ghost use Rattle.deny_cfg.specs.LicensingView.{licensing_of};
 ghost use Rattle.deny_cfg.specs.PolicyText.{IsPolicyOf, ListsFaults, TellsClashes};
 ghost use Rattle.deny_cfg.specs.PolicyView.{policy_view};
 ghost use Rattle.deny_cfg.specs.declared.policy.Policy.{Policy};
@@ -12,8 +13,10 @@ ghost use Rattle.deny_cfg.specs.declared.policy.Policy.{Policy};
 /// Two policies of one text are one in all that the rules that are built look at, and agree on whether the
 /// text writes a key whose rule is not there yet.
 pub fn one_policy()
-    ensures { (text : List ℕ) → (file : ℕ) → (a b : Policy) → IsPolicyOf text file a → IsPolicyOf text file b
+    ensures bans { (text : List ℕ) → (file : ℕ) → (a b : Policy) → IsPolicyOf text file a → IsPolicyOf text file b
         → (policy_view a.bans ≡ policy_view b.bans) × (a.not_built ≡ b.not_built) }
+    ensures licences { (text : List ℕ) → (file : ℕ) → (a b : Policy) → IsPolicyOf text file a → IsPolicyOf text file b
+        → licensing_of a.licenses ≡ licensing_of b.licenses }
 {}
 
 /// Why a text has no policy is one: its faults, or else what clashes in it. Of a text outside the

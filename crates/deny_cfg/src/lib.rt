@@ -7,6 +7,7 @@ mod clash_told;
 mod clashes;
 mod first_places;
 mod laws;
+pub mod licenses;
 mod matching;
 mod policy;
 mod validate;

@@ -1,24 +1,23 @@
 //! The text of a policy.
-ghost use Rattle.std.specs.Prelude.{◌≡◌, ◌<◌, ◌^◌, ◌∷◌, [], All, IfOk, IfErr, OnOk, length};
-ghost use Rattle.std.specs.List.{list_any};
-ghost use Rattle.std.specs.Option.{option_copied};
+ghost use Rattle.std.specs.Prelude.{◌≡◌, ◌<◌, ◌^◌, ◌∷◌, [], All, IfOk, IfErr, IfSome, None, OnOk, length};
 ghost use Rattle.deny_toml.specs.Apart.{AreApart};
 ghost use Rattle.deny_toml.specs.Calls.{below_name};
 ghost use Rattle.deny_toml.specs.Faults.{Reports, fault_at};
 ghost use Rattle.deny_toml.specs.Parser.{IsTreeOf};
 ghost use Rattle.deny_toml.specs.Ranges.{IsRange, StandsIn};
-ghost use Rattle.deny_cfg.specs.LabelRanges.{AreLabels, config_labels, list_ranges, word_labels};
-ghost use Rattle.deny_cfg.specs.Lawful.{IsLawful};
-ghost use Rattle.deny_cfg.specs.PolicyText.{IsConfig, IsNoPolicy, IsPolicyOf, Keeps, KeepsOnError, ListsFaults, ReadsBans, SaysOf, bans_name, faults_of_tree, kind_of, not_built, writes_key, writes_unbuilt};
+ghost use Rattle.deny_cfg.specs.LabelRanges.{AreLabels, config_labels, licence_ranges, list_ranges, word_labels};
+ghost use Rattle.deny_cfg.specs.Lawful.{IsLawful, IsLawfulLicensing};
+ghost use Rattle.deny_cfg.specs.PolicyText.{IsConfig, IsNoPolicy, IsPolicyOf, Keeps, KeepsOnError, ListsFaults, ReadsBans, ReadsLicensing, Says, bans_name, faults_of_tree, is_minded, kind_of, licenses_name, writes_unbuilt};
 
 use crate::bans::cfg::ValidConfig;
+use crate::licenses;
 use crate::validate::{UnvalidatedConfig, ValidationContext};
-use deny_base::{Diagnostic, FileId, Files, Span};
-use deny_entries::PolicyKey;
+use deny_base::{Diagnostic, FileId, Files, LintLevel, Span};
 use deny_lists::{List, NoMemory, Text};
 use deny_tables::bans::cfg::Config;
 use deny_toml::{
     ConfigFault, DeserError, FaultKind, TableHelper, TomlError, TomlKind, Value, parse,
+    put_faults_in_order,
 };
 use std::alloc::Global;
 use thiserror::Error;
@@ -28,9 +27,12 @@ use thiserror::Error;
 pub struct Policy {
     /// The table `bans`; its defaults where the text has none.
     pub bans: ValidConfig,
+    /// The table `licenses`; none exactly where the text does not write it.
+    pub licenses: Option<licenses::ValidConfig>,
     /// Warnings about the policy itself; there are none yet.
     pub warnings: List<Diagnostic>,
-    /// Whether the policy writes a key whose rule is not there yet.
+    /// Whether the policy writes a key whose rule is not there yet: `build`, `allow-build-scripts`,
+    /// `workspace-dependencies`, or `wildcards` above `allow`.
     pub not_built: bool,
 }
 
@@ -101,74 +103,90 @@ fn fault_kind(kind: TomlKind) -> FaultKind
     }
 }
 
-/// What the tree holds at `bans`.
-fn bans_in<'v, 't>(tree: &'v Value<'t>) -> Option<&'v Value<'t>>
-    ensures { option_copied result ≡ below_name bans_name tree.now }
-{
-    match tree.as_table()?.get_key_value("bans") {
-        Some((_, bans)) => Some(bans),
-        None => None,
+/// What the tables of a policy say, before it is known whether that clashes.
+#[derive(Drop)]
+struct Tables {
+    /// The table `bans`; its defaults where the text has none.
+    bans: Config,
+    /// The table `licenses`, if the text has one.
+    licenses: Option<licenses::Config>,
+}
+
+impl Tables {
+    /// What holds where a policy has neither table.
+    fn none(alloc: Global) -> Tables
+        ensures bans { ReadsBans None result.bans }
+        ensures licenses { result.licenses ≡ None }
+    {
+        Tables {
+            bans: Config::new(alloc),
+            licenses: None,
+        }
     }
 }
 
-/// Whether `bans` has a key whose rule is not there yet.
-fn has_unbuilt(bans: &Value<'_>) -> bool
-    ensures { result ≡ list_any (writes_key bans.now) not_built }
-{
-    bans.has_key(PolicyKey::Features.name())
-        || bans.has_key(PolicyKey::ExternalDefaultFeatures.name())
-        || bans.has_key(PolicyKey::WorkspaceDefaultFeatures.name())
-        || bans.has_key(PolicyKey::Wildcards.name())
-        || bans.has_key(PolicyKey::AllowWildcardPaths.name())
-        || bans.has_key(PolicyKey::AllowBuildScripts.name())
-        || bans.has_key(PolicyKey::Build.name())
-        || bans.has_key(PolicyKey::WorkspaceDependencies.name())
-}
-
-/// Whether a policy writes a key whose rule is not there yet.
-#[tactic(auto, unfolding(crate::specs::PolicyText::writes_unbuilt))]
-fn writes_unbuilt(tree: &Value<'_>) -> bool
-    ensures { result ≡ writes_unbuilt tree.now }
-{
-    if tree.has_key("licenses") {
-        return true;
-    }
-    match bans_in(tree) {
-        Some(bans) => has_unbuilt(bans),
-        None => false,
-    }
-}
-
-/// Reads the table `bans` of a tree.
+/// Reads the tables of a tree, whose other keys pass unread.
 #[tactic(auto, unfolding(crate::specs::PolicyText::faults_of_tree))]
-fn read_bans(alloc: Global, tree: &mut Value<'_>) -> Result<Config, DeserError>
-    ensures faultless { IfOk result (λ config. faults_of_tree tree.old ≡ []) }
-    ensures reads { IfOk result (ReadsBans (below_name bans_name tree.old)) }
+fn read_tables(alloc: Global, tree: &mut Value<'_>) -> Result<Tables, DeserError>
+    ensures faultless { IfOk result (λ tables. faults_of_tree tree.old ≡ []) }
+    ensures bans { IfOk result (λ tables. ReadsBans (below_name bans_name tree.old) tables.bans) }
+    ensures licenses { IfOk result (λ tables. ReadsLicensing (below_name licenses_name tree.old) tables.licenses) }
     ensures faults { IfErr result (Reports (faults_of_tree tree.old)) }
 {
-    if !tree.has_key("bans") {
-        return Ok(Config::new(alloc));
+    if tree.as_table().is_none() {
+        return Ok(Tables::none(alloc));
     }
     let mut root = TableHelper::new(alloc, tree)?;
-    root.required("bans")
+    let bans = root.optional::<Config>("bans")?;
+    let licenses = root.optional::<licenses::Config>("licenses")?;
+    let mut faults = root.faults;
+    put_faults_in_order(&mut faults)?;
+    if faults.len() == 0 {
+        Ok(Tables {
+            bans: bans.unwrap_or(Config::new(alloc)),
+            licenses,
+        })
+    } else {
+        Err(DeserError::Faults(faults))
+    }
 }
 
-/// What a text says, before it is known whether that clashes, and whether a rule of it is not there
-/// yet.
-fn config_of(alloc: Global, text: &str) -> Result<(Config, bool), PolicyError>
+/// What a text says, before it is known whether that clashes.
+fn tables_of(alloc: Global, text: &str) -> Result<Tables, PolicyError>
     requires small { length text.now < 2 ^ 28 }
-    ensures says { IfOk result (λ read. SaysOf text.now read.0 read.1) }
-    ensures labels { IfOk result (λ read. AreLabels text.now (config_labels read.0)) }
-    ensures lists { IfOk result (λ read. All (IsRange text.now) (list_ranges read.0)) }
+    ensures says { IfOk result (λ tables. Says text.now tables.bans tables.licenses) }
+    ensures labels { IfOk result (λ tables. AreLabels text.now (config_labels tables.bans)) }
+    ensures lists { IfOk result (λ tables. All (IsRange text.now) (list_ranges tables.bans)) }
+    ensures licence_labels { IfOk result (λ tables. AreLabels text.now (licence_ranges tables.licenses)) }
     ensures faults { IfErr result (IsConfig (ListsFaults text.now)) }
 {
     let mut tree = tree_of(alloc, text)?;
-    let not_built = writes_unbuilt(&tree);
-    match read_bans(alloc, &mut tree) {
-        Ok(config) => Ok((config, not_built)),
+    match read_tables(alloc, &mut tree) {
+        Ok(tables) => Ok(tables),
         Err(DeserError::Faults(faults)) => Err(PolicyError::Config(faults)),
         Err(DeserError::Memory) => Err(PolicyError::Memory),
     }
+}
+
+/// Whether a rule at this level finds anything that counts.
+fn is_minded(level: LintLevel) -> bool
+    ensures { result ≡ is_minded level }
+{
+    match level {
+        LintLevel::Allow => false,
+        LintLevel::Warn | LintLevel::Deny => true,
+    }
+}
+
+/// Whether `bans` writes a key whose rule is not there yet.
+#[tactic(auto, unfolding(crate::specs::PolicyText::writes_unbuilt))]
+fn writes_unbuilt(bans: &Config) -> bool
+    ensures { result ≡ writes_unbuilt bans.now }
+{
+    is_minded(bans.wildcards)
+        || bans.allow_build_scripts.is_some()
+        || bans.build.is_some()
+        || bans.workspace_dependencies.is_some()
 }
 
 /// The policy of a text that stands as the file of that number.
@@ -183,12 +201,15 @@ fn policy_of(
     ensures policy { IfOk result (IsPolicyOf text.now file) }
     ensures labels { IfOk result (λ policy. AreLabels text.now (word_labels policy.bans)) }
     ensures lawful { IfOk result (λ policy. IsLawful policy.bans) }
+    ensures licence_labels { IfOk result (λ policy. AreLabels text.now (licence_ranges policy.licenses)) }
+    ensures lawful_licences { IfOk result (λ policy. IfSome policy.licenses IsLawfulLicensing) }
     ensures cause { IfErr result (IsNoPolicy text.now file) }
     ensures files_stay { files.new ≡ files.old }
 {
-    let (config, not_built) = config_of(alloc, text)?;
+    let tables = tables_of(alloc, text)?;
+    let not_built = writes_unbuilt(&tables.bans);
     let mut clashes = List::new(alloc);
-    let bans = config.validate(ValidationContext {
+    let bans = tables.bans.validate(ValidationContext {
         alloc,
         cfg_id: file,
         files,
@@ -197,6 +218,7 @@ fn policy_of(
     if clashes.len() == 0 {
         Ok(Policy {
             bans,
+            licenses: tables.licenses,
             warnings: List::new(alloc),
             not_built,
         })
@@ -217,6 +239,8 @@ pub fn read_policy(alloc: Global, bytes: &[u8], files: &mut Files) -> Result<Pol
     ensures policy { IfOk result (IsPolicyOf bytes.now (length files.old)) }
     ensures labels { IfOk result (λ policy. AreLabels bytes.now (word_labels policy.bans)) }
     ensures lawful { IfOk result (λ policy. IsLawful policy.bans) }
+    ensures licence_labels { IfOk result (λ policy. AreLabels bytes.now (licence_ranges policy.licenses)) }
+    ensures lawful_licences { IfOk result (λ policy. IfSome policy.licenses IsLawfulLicensing) }
     ensures cause { IfErr result (IsNoPolicy bytes.now (length files.old)) }
     ensures kept { OnOk result (Keeps bytes.now files.old files.new) }
     ensures kept_too { IfErr result (λ e. KeepsOnError e bytes.now files.old files.new) }

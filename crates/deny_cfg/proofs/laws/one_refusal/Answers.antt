@@ -9,11 +9,11 @@ returns-clause-clashes c = same_told
 
 pub returns-clause-faults_alone : goal.returns-clause-faults_alone
 returns-clause-faults_alone c =
-    λ text file faults told lists tells. says_without_faults text tells.config faults tells.says lists
+    λ text file faults told lists tells. says_without_faults text tells.config tells.licensing faults tells.says lists
 
 pub returns-clause-no_policy_with_faults : goal.returns-clause-no_policy_with_faults
 returns-clause-no_policy_with_faults c =
-    λ text file faults policy lists is. says_without_faults text is.config faults is.says.says lists
+    λ text file faults policy lists is. says_without_faults text is.config policy.licenses faults is.says.says lists
 
 pub returns-clause-no_policy_with_clashes : goal.returns-clause-no_policy_with_clashes
 returns-clause-no_policy_with_clashes c = policy_without_clashes

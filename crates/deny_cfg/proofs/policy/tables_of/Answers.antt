@@ -2,21 +2,19 @@ use Rattle.std.proofs.Common.{subst}
 use Rattle.deny_toml.specs.Faults.{Reports}
 use Rattle.deny_cfg.specs.PolicyText.{faults_of_tree}
 use Rattle.deny_cfg.proofs.LabelConfig.{config_are_labels}
+use Rattle.deny_cfg.proofs.LabelLicenses.{licensing_are_labels}
 use Rattle.deny_cfg.proofs.ToldLaws.{lists_lie}
 use Rattle.deny_cfg.proofs.PolicyLaws.{tree_listed}
-use Rattle.deny_cfg.proofs.policy.config_of.Goals as goal
+use Rattle.deny_cfg.proofs.policy.tables_of.Goals as goal
 
 pub returns-in-Ok-clause-says : goal.returns-in-Ok-clause-says
 returns-in-Ok-clause-says c = record {
-  says =
-      record {
-        utf8 = c.utf8.text;
-        tree = c.in_ok-tree.tree;
-        is_tree = c.in_ok-tree.ensures.tree;
-        faultless = c.in-Ok.ensures.faultless;
-        reads = c.in-Ok.ensures.reads;
-      };
-  unbuilt_is = c.writes_unbuilt-not_built.ensures;
+  utf8 = c.utf8.text;
+  tree = c.in_ok-tree.tree;
+  is_tree = c.in_ok-tree.ensures.tree;
+  faultless = c.in-Ok.ensures.faultless;
+  reads = c.in-Ok.ensures.bans;
+  reads_licenses = c.in-Ok.ensures.licenses;
 }
 
 pub returns-in-Err-Faults-clause-faults : goal.returns-in-Err-Faults-clause-faults
@@ -26,9 +24,14 @@ returns-in-Err-Faults-clause-faults c =
 
 pub returns-in-Ok-clause-labels : goal.returns-in-Ok-clause-labels
 returns-in-Ok-clause-labels c =
-    config_are_labels c.args.text.now c.in_ok-tree.tree c.in-Ok.config c.in_ok-tree.ensures.stands
-    c.in_ok-tree.ensures.apart c.in-Ok.ensures.reads
+    config_are_labels c.args.text.now c.in_ok-tree.tree c.in-Ok.tables.bans c.in_ok-tree.ensures.stands
+    c.in_ok-tree.ensures.apart c.in-Ok.ensures.bans
 
 pub returns-in-Ok-clause-lists : goal.returns-in-Ok-clause-lists
 returns-in-Ok-clause-lists c =
-    lists_lie c.args.text.now c.in_ok-tree.tree c.in-Ok.config c.in_ok-tree.ensures.stands c.in-Ok.ensures.reads
+    lists_lie c.args.text.now c.in_ok-tree.tree c.in-Ok.tables.bans c.in_ok-tree.ensures.stands c.in-Ok.ensures.bans
+
+pub returns-in-Ok-clause-licence_labels : goal.returns-in-Ok-clause-licence_labels
+returns-in-Ok-clause-licence_labels c =
+    licensing_are_labels c.args.text.now c.in_ok-tree.tree c.in-Ok.tables.licenses c.in_ok-tree.ensures.stands
+    c.in_ok-tree.ensures.apart c.in-Ok.ensures.licenses

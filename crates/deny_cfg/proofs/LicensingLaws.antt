@@ -1,0 +1,148 @@
+-- What a tree says of licences is one in all that the rules see, and so is whether it writes a key whose rule is not
+-- there yet.
+use Rattle.std.proofs.Common.{◌≡◌, ◌||◌, false, [], Option, None, Some, refl, sym, ap, ◌∙◌}
+use Rattle.std.specs.Prelude.{is_some}
+use Rattle.std.specs.List.{each_same}
+use Rattle.deny_base.specs.declared.level.LintLevel.TheVariants as level
+use Rattle.deny_spdx.specs.Meaning.{requirement_in}
+use Rattle.deny_toml.specs.declared.value.Value.{Value}
+use Rattle.deny_lists.proofs.Alike.{same_map}
+use Rattle.deny_entries.specs.Entry.{ReadsEntryKeys}
+use Rattle.deny_entries.specs.Licence.{ReadsLicences}
+use Rattle.deny_entries.specs.PolicyKey.{name_of}
+use Rattle.deny_entries.specs.Spec.{ReadsSpec}
+use Rattle.deny_entries.specs.Table.{Entries, ReadsIfThere, ReadsTable, ReadsThere, at_key}
+use Rattle.deny_entries.specs.Words.{ReadsAs, ReadsBool, ReadsList, ReadsSpanned, ReadsText, level_of}
+use Rattle.deny_entries.specs.declared.policy_key.PolicyKey.TheVariants as key
+use Rattle.deny_entries.proofs.ReadsLaws.{ReadsAlike, ReadsOne, SpecsAlike, alike_list, alike_list_or, alike_table, keys_alike, one_as, one_bool, one_or, one_spanned, one_text}
+use Rattle.deny_entries.proofs.RowLaws.{says_of}
+use Rattle.deny_tables.specs.Build.{a_build}
+use Rattle.deny_tables.specs.Config.{ReadsConfig}
+use Rattle.deny_tables.specs.Licenses.{ReadsException, ReadsExceptionKeys, ReadsLicenses, ReadsPrivate, none_private, private_in}
+use Rattle.deny_tables.specs.Workspace.{a_workspace}
+use Rattle.deny_tables.specs.declared.bans.cfg.config.Config as bans
+use Rattle.deny_tables.specs.declared.licenses.config.Config.{Config}
+use Rattle.deny_tables.specs.declared.licenses.exception.Exception.{Exception}
+use Rattle.deny_cfg.specs.LicensingView.{exception_view, licensing_of, licensing_view}
+use Rattle.deny_cfg.specs.PolicyText.{ReadsBans, ReadsLicensing, is_minded, writes_unbuilt}
+
+one_list : {T : Type 0} (Reads : Value → T → Type 0) → ReadsOne Reads → ReadsOne (ReadsList Reads)
+one_list Reads same v xs ys one two =
+    sym (each_same xs ys (alike_list Reads (λ x y. y ≡ x) (λ w x y here there. same w y x there here) v xs ys one two))
+
+one_licences : ReadsOne ReadsLicences
+one_licences =
+    one_list (ReadsSpanned (ReadsAs requirement_in)) (one_spanned (ReadsAs requirement_in) (one_as requirement_in))
+
+one_there : {T : Type 0} (Reads : Value → T → Type 0) → ReadsOne Reads → ReadsOne (ReadsThere Reads)
+one_there Reads same None x y one two = absurd one
+one_there Reads same (Some v) x y one two = same v x y one two
+
+-- two exceptions are alike where their specs are, and they list the same
+abbrev ExceptionsAlike : Exception → Exception → Type 0
+ExceptionsAlike a b = SpecsAlike a.spec b.spec × (a.allow ≡ b.allow)
+
+abbrev ReadsExceptionIn : Entries → Exception → Type 0
+ReadsExceptionIn entries read = ReadsEntryKeys ReadsExceptionKeys entries read.spec (record { allow = read.allow })
+
+exception_keys_alike : ReadsAlike ReadsExceptionIn ExceptionsAlike
+unfolding name_of
+exception_keys_alike entries a b one two = (
+  keys_alike entries a.spec b.spec one.of_spec two.of_spec,
+  one_there ReadsLicences one_licences (at_key key.Allow entries) a.allow b.allow (says_of key.Allow one.besides)
+      (says_of key.Allow two.besides),
+)
+
+exceptions_alike : ReadsAlike ReadsException ExceptionsAlike
+exceptions_alike v a b one two = alike_table ReadsExceptionIn ExceptionsAlike exception_keys_alike v a b one two
+
+same_exception : (a b : Exception) → ExceptionsAlike a b → exception_view a ≡ exception_view b
+same_exception a b alike = λ i. record { spec = alike.0 i; allow = alike.1 i }
+
+one_private : ReadsOne ReadsPrivate
+unfolding name_of
+one_private entries x y one two =
+    let ignore =
+    one_or false ReadsBool one_bool (at_key key.Ignore entries) x.ignore y.ignore (says_of key.Ignore one)
+    (says_of key.Ignore two) in
+    let registries =
+    one_or [] (ReadsList ReadsText) (one_list ReadsText one_text) (at_key key.Registries entries) x.registries
+    y.registries (says_of key.Registries one) (says_of key.Registries two) in
+    λ i. record { ignore = ignore i; registries = registries i }
+
+one_view : (entries : Entries) (a b : Config) → ReadsLicenses entries a → ReadsLicenses entries b
+    → licensing_view a ≡ licensing_view b
+unfolding name_of
+one_view entries a b one two =
+    let allow =
+    one_or [] ReadsLicences one_licences (at_key key.Allow entries) a.allow b.allow (says_of key.Allow one)
+    (says_of key.Allow two) in
+    let exceptions =
+    same_map ExceptionsAlike exception_view exception_view same_exception a.exceptions b.exceptions
+    (alike_list_or ReadsException ExceptionsAlike exceptions_alike (at_key key.Exceptions entries) a.exceptions
+    b.exceptions (says_of key.Exceptions one) (says_of key.Exceptions two)) in
+    let private =
+    one_or none_private (ReadsTable ReadsPrivate) (alike_table ReadsPrivate (λ x y. x ≡ y) one_private)
+    (at_key key.Private entries) (private_in a) (private_in b) (says_of key.Private one) (says_of key.Private two) in
+    let include_dev =
+    one_or false ReadsBool one_bool (at_key key.IncludeDev entries) a.include_dev b.include_dev
+    (says_of key.IncludeDev one) (says_of key.IncludeDev two) in
+    let unused =
+    one_or level.Warn (ReadsAs level_of) (one_as level_of) (at_key key.UnusedAllowedLicense entries) a.unused_allowed
+    b.unused_allowed (says_of key.UnusedAllowedLicense one) (says_of key.UnusedAllowedLicense two) in
+    λ i. record {
+      allow = allow i;
+      exceptions = exceptions i;
+      ignores_private = (private i).ignore;
+      registries = (private i).registries;
+      include_dev = include_dev i;
+      unused_allowed = unused i;
+    }
+
+one_view_of : (v : Value) (a b : Config) → ReadsTable ReadsLicenses v a → ReadsTable ReadsLicenses v b
+    → licensing_view a ≡ licensing_view b
+one_view_of v a b one two =
+    alike_table ReadsLicenses (λ x y. licensing_view x ≡ licensing_view y) one_view v a b one two
+
+pub licensing_alike : (o : Option Value) (a b : Option Config) → ReadsLicensing o a → ReadsLicensing o b
+    → licensing_of a ≡ licensing_of b
+licensing_alike None a b one two = ap licensing_of (one ∙ sym two)
+licensing_alike (Some v) None b one two = absurd one
+licensing_alike (Some v) (Some a) None one two = absurd two
+licensing_alike (Some v) (Some a) (Some b) one two = ap Some (one_view_of v a b one two)
+
+-- ---- keys whose rules are not there yet
+
+is_there : {T : Type 0} (Reads : Value → T → Type 0) (v : Option Value) (x : Option T) → ReadsIfThere Reads v x
+    → is_some x ≡ is_some v
+is_there {T} Reads None x reads = ap (λ (o : Option T). is_some o) reads
+is_there Reads (Some v) None reads = absurd reads
+is_there Reads (Some v) (Some x) reads = refl
+
+both_there : {T : Type 0} (Reads : Value → T → Type 0) (v : Option Value) (x y : Option T) → ReadsIfThere Reads v x
+    → ReadsIfThere Reads v y → is_some x ≡ is_some y
+both_there Reads v x y one two = is_there Reads v x one ∙ sym (is_there Reads v y two)
+
+unbuilt_in : (entries : Entries) (a b : bans.Config) → ReadsConfig entries a → ReadsConfig entries b
+    → writes_unbuilt a ≡ writes_unbuilt b
+unfolding name_of writes_unbuilt
+unbuilt_in entries a b one two =
+    let wildcards =
+    one_or level.Allow (ReadsAs level_of) (one_as level_of) (at_key key.Wildcards entries) a.wildcards b.wildcards
+    (says_of key.Wildcards one) (says_of key.Wildcards two) in
+    let scripts =
+    both_there (ReadsSpanned (ReadsList ReadsSpec)) (at_key key.AllowBuildScripts entries) a.allow_build_scripts
+    b.allow_build_scripts (says_of key.AllowBuildScripts one) (says_of key.AllowBuildScripts two) in
+    let build =
+    both_there a_build.Reads (at_key key.Build entries) a.build b.build (says_of key.Build one)
+    (says_of key.Build two) in
+    let workspace =
+    both_there a_workspace.Reads (at_key key.WorkspaceDependencies entries) a.workspace_dependencies
+    b.workspace_dependencies (says_of key.WorkspaceDependencies one) (says_of key.WorkspaceDependencies two) in
+    λ i. is_minded (wildcards i) || (scripts i || (build i || workspace i))
+
+pub unbuilt_alike : (o : Option Value) (a b : bans.Config) → ReadsBans o a → ReadsBans o b
+    → writes_unbuilt a ≡ writes_unbuilt b
+unbuilt_alike None a b one two = unbuilt_in [] a b one two
+unbuilt_alike (Some v) a b one two =
+    alike_table ReadsConfig (λ x y. writes_unbuilt x ≡ writes_unbuilt y) unbuilt_in v a b one two

@@ -1,0 +1,133 @@
+-- What is read from a root, whose tables are taken out one after the other.
+use Rattle.std.proofs.Common.{◌≡◌, ◌++◌, ℕ, false, List, [], Option, None, Some, Bor, refl, sym, ap, subst, ◌∙◌}
+use Rattle.std.specs.List.Sorted.{IsStrictlySortedBy}
+use Rattle.std.specs.Prelude.{is_some, option_and_then, option_copied, unwrap_or}
+use Rattle.deny_toml.proofs.FaultLaws.{in_order-empty, in_order-none, in_order_ascends}
+use Rattle.deny_toml.specs.Calls.{below_name, table_in, value_at, without}
+use Rattle.deny_toml.specs.Faults.{fault_cmp, in_order}
+use Rattle.deny_toml.specs.TableHelper.{optional_faults}
+use Rattle.deny_toml.specs.TableHelper as helper
+use Rattle.deny_toml.specs.Value.{entries_in, table_with}
+use Rattle.deny_toml.specs.declared.error.ConfigFault.{ConfigFault}
+use Rattle.deny_toml.specs.declared.value.Table.{Table}
+use Rattle.deny_toml.specs.declared.value.Value.{Value}
+use Rattle.deny_entries.proofs.TableLaws.{none_first, none_rest, optional_read, read_in, value_at-without}
+use Rattle.deny_entries.specs.Table.{Entries, ReadsIn, ReadsIfThere, ReadsTable}
+use Rattle.deny_tables.specs.Config.{ReadsConfig, faults_of_config}
+use Rattle.deny_tables.specs.Licenses.{ReadsLicenses, faults_of_licenses}
+use Rattle.deny_tables.specs.declared.bans.cfg.config.Config.{Config}
+use Rattle.deny_tables.specs.declared.licenses.config.Config as licenses
+use Rattle.deny_cfg.specs.PolicyText.{ReadsBans, ReadsLicensing, bans_name, faults_of_tree, licenses_name}
+
+named_in : (name : List ℕ) (t : Option Table) (o : Option Value)
+    → ReadsIn (λ entries found. value_at name entries ≡ found) t o
+    → option_and_then (λ u. value_at name (entries_in u)) t ≡ o
+named_in name None o reads = absurd reads
+named_in name (Some t) o reads = reads
+
+-- what a value that is this table holds at a name
+below_with : (name : List ℕ) (v : Value) (entries : Entries) → table_in v ≡ Some (table_with entries)
+    → below_name name v ≡ value_at name entries
+below_with name v entries table =
+    named_in name (table_in v) (value_at name entries)
+    (read_in (λ es found. value_at name es ≡ found) v entries (value_at name entries) table refl)
+
+-- the faults of the two tables, by what the root holds at their names
+faults_at : Option Value → Option Value → List ConfigFault
+faults_at bans licensing =
+    optional_faults faults_of_config bans_name bans ++ optional_faults faults_of_licenses licenses_name licensing
+
+of_root : (v : Value) → faults_of_tree v ≡ in_order (faults_at (below_name bans_name v) (below_name licenses_name v))
+unfolding faults_of_tree faults_at
+of_root v = refl
+
+-- a value that is no table has no fault
+no_table : (v : Value) → table_in v ≡ None → faults_of_tree v ≡ []
+unfolding faults_at
+no_table v none =
+    of_root v ∙ in_order-none (faults_at (below_name bans_name v) (below_name licenses_name v))
+    (λ i. faults_at (option_and_then (λ t. value_at bans_name (entries_in t)) (none i))
+    (option_and_then (λ t. value_at licenses_name (entries_in t)) (none i)))
+
+pub no_root : (v : Value) (table : Option (Bor Table)) → option_copied table ≡ table_in v → is_some table ≡ false
+    → faults_of_tree v ≡ []
+no_root v None copied none = no_table v (sym copied)
+no_root v (Some t) copied none = cc none
+
+-- a table that is left out gives its defaults
+bans_or : (o : Option Value) (read : Option Config) (default x : Config) → ReadsIfThere (ReadsTable ReadsConfig) o read
+    → ReadsConfig [] default → x ≡ unwrap_or read default → ReadsBans o x
+bans_or None read default x reads defaults is =
+    subst (ReadsConfig []) (sym (is ∙ ap (λ o. unwrap_or o default) reads)) defaults
+bans_or (Some v) None default x reads defaults is = absurd reads
+bans_or (Some v) (Some y) default x reads defaults is = subst (ReadsTable ReadsConfig v) (sym is) reads
+
+-- `bans` was taken out of the root first
+module _ (v : Value) (entries : Entries) (table : table_in v ≡ Some (table_with entries)) where
+  bans_at : below_name bans_name v ≡ value_at bans_name entries
+  bans_at = below_with bans_name v entries table
+
+  licensing_at : below_name licenses_name v ≡ value_at licenses_name (without bans_name entries)
+  licensing_at =
+      below_with licenses_name v entries table ∙ sym (value_at-without licenses_name bans_name entries refl)
+
+  at_root : faults_at (below_name bans_name v) (below_name licenses_name v)
+      ≡ faults_at (value_at bans_name entries) (value_at licenses_name (without bans_name entries))
+  at_root = λ i. faults_at (bans_at i) (licensing_at i)
+
+  -- the faults that were kept of the tables, put in order
+  pub root_faults : (kept found end listed : List ConfigFault) (rest : Entries) → kept ≡ []
+      → found ≡ kept ++ optional_faults faults_of_config bans_name (value_at bans_name entries)
+      → rest ≡ without bans_name entries
+      → end ≡ found ++ optional_faults faults_of_licenses licenses_name (value_at licenses_name rest)
+      → listed ≡ in_order end → listed ≡ faults_of_tree v
+  unfolding faults_at
+  root_faults kept found end listed rest none bans left licensing order =
+      let first =
+      bans ∙ ap (λ fs. fs ++ optional_faults faults_of_config bans_name (value_at bans_name entries)) none in
+      order
+      ∙ (ap in_order (licensing ∙ λ i. first i
+      ++ optional_faults faults_of_licenses licenses_name (value_at licenses_name (left i)))
+      ∙ sym (of_root v ∙ ap in_order at_root))
+
+  none_at : faults_of_tree v ≡ []
+      → faults_at (value_at bans_name entries) (value_at licenses_name (without bans_name entries)) ≡ []
+  none_at none =
+      sym at_root
+      ∙ in_order-empty (faults_at (below_name bans_name v) (below_name licenses_name v)) (sym (of_root v) ∙ none)
+
+  -- what was read of them where there are none
+  pub root_bans : (read : Option Config) (default x : Config) → faults_of_tree v ≡ []
+      → helper.ReadsOptional faults_of_config (ReadsTable ReadsConfig) (value_at bans_name entries) read
+      → ReadsConfig [] default → x ≡ unwrap_or read default → ReadsBans (below_name bans_name v) x
+  unfolding faults_at
+  root_bans read default x none says defaults is =
+      let first =
+      none_first (optional_faults faults_of_config bans_name (value_at bans_name entries))
+      (optional_faults faults_of_licenses licenses_name (value_at licenses_name (without bans_name entries)))
+      (none_at none) in
+      subst (λ o. ReadsBans o x) (sym bans_at)
+      (bans_or (value_at bans_name entries) read default x
+      (optional_read faults_of_config (ReadsTable ReadsConfig) bans_name (value_at bans_name entries) read says first)
+      defaults is)
+
+  pub root_licensing : (read : Option licenses.Config) (rest : Entries) → faults_of_tree v ≡ []
+      → rest ≡ without bans_name entries
+      → helper.ReadsOptional faults_of_licenses (ReadsTable ReadsLicenses) (value_at licenses_name rest) read
+      → ReadsLicensing (below_name licenses_name v) read
+  unfolding faults_at
+  root_licensing read rest none left says =
+      let second =
+      none_rest (optional_faults faults_of_config bans_name (value_at bans_name entries))
+      (optional_faults faults_of_licenses licenses_name (value_at licenses_name (without bans_name entries)))
+      (none_at none) in
+      let here = value_at licenses_name (without bans_name entries) in
+      subst (λ o. ReadsLicensing o read) (sym licensing_at)
+      (optional_read faults_of_licenses (ReadsTable ReadsLicenses) licenses_name here read
+      (subst (λ es. helper.ReadsOptional faults_of_licenses (ReadsTable ReadsLicenses) (value_at licenses_name es) read)
+      left says) second)
+
+pub root_ascends : (v : Value) → IsStrictlySortedBy fault_cmp (faults_of_tree v)
+root_ascends v =
+    subst (IsStrictlySortedBy fault_cmp) (sym (of_root v))
+    (in_order_ascends (faults_at (below_name bans_name v) (below_name licenses_name v)))
