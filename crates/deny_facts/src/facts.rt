@@ -33,8 +33,9 @@ pub fn marks_of(alloc: Global, cfg: &ValidConfig, krates: &Krates) -> Result<Mar
     Ok(Marks { counts, trees })
 }
 
-/// Marks for the crates that count.
-fn counts_of(alloc: Global, include_dev: bool, krates: &Krates) -> Result<Vec<bool>, NoMemory>
+/// Marks for the crates that count: all, or those to which a chain without dev edges leads from a
+/// member.
+pub fn counts_of(alloc: Global, include_dev: bool, krates: &Krates) -> Result<Vec<bool>, NoMemory>
     ensures { IfOk result (λ marks. AreCounted include_dev krates.now marks.items) }
 {
     let size = krates.krates().len();

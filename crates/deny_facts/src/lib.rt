@@ -15,7 +15,7 @@ mod wrappers;
 
 pub use distances::distances_from;
 pub use exempt::exempt_marks;
-pub use facts::{Marks, marks_of};
+pub use facts::{Marks, counts_of, marks_of};
 pub use groups::{Groups, groups_of, reduced_len, spoken_of};
 pub use marking::{mark_at, mark_each, marked, no_marks, unmarked};
 pub use matching::matched;

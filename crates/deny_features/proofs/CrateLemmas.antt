@@ -15,7 +15,7 @@ use Rattle.deny_krates.specs.Ids.{crate_of}
 use Rattle.deny_krates.specs.Orderly.{IsOrderly}
 use Rattle.deny_model.specs.Graph.{Crate, Graph}
 use Rattle.deny_model.specs.Told.{crate_at}
-use Rattle.deny_features.specs.private.Crates.{enabled_at}
+use Rattle.deny_features.specs.Crates.{enabled_at}
 use Rattle.deny_model.specs.Text.{same_text}
 
 -- whether a search finds something is whether it is there

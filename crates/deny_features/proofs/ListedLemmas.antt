@@ -13,8 +13,9 @@ use Rattle.deny_model.specs.Policy.{FeatureEntry, Policy}
 use Rattle.deny_model.specs.Text.{same_text}
 use Rattle.deny_codes.specs.Features.{default_feature, names_feature}
 use Rattle.deny_facts.specs.Wrappers.{AreFirst, first_of}
-use Rattle.deny_features.specs.private.Crates.{enabled_at}
-use Rattle.deny_features.specs.private.Listed.{has_default_apart_at, is_unlisted_at, is_unlisted_by, unlisted_at}
+use Rattle.deny_features.specs.Crates.{enabled_at}
+use Rattle.deny_features.specs.Listed.{has_default_apart_at, is_unlisted_at, unlisted_at}
+use Rattle.deny_features.specs.private.Listed.{is_unlisted_by}
 
 some_mapped : {X Y : Type 0} (f : X → Y) (o : Option X) → is_some (option_map f o) ≡ is_some o
 some_mapped f None = refl

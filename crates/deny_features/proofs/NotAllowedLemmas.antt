@@ -16,7 +16,7 @@ use Rattle.deny_codes.specs.Features.{IsFeatureNotAllowed, Reaches, not_allowed_
 use Rattle.deny_facts.specs.Placed.{ArePlaced}
 use Rattle.deny_facts.proofs.PlaceLemmas.{place_of}
 use Rattle.deny_features.specs.private.Keys.{IsNotAllowedAt, IsNotAllowedBy, OfOne}
-use Rattle.deny_features.specs.private.Listed.{unlisted_at}
+use Rattle.deny_features.specs.Listed.{unlisted_at}
 use Rattle.deny_features.specs.private.Reached.{AreReachedAt}
 use Rattle.deny_features.proofs.KeyLemmas.{unlisted_is}
 

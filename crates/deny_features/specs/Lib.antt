@@ -1,2 +1,4 @@
+pub mod Crates
 pub mod FeatureKeys
+pub mod Listed
 pub mod private

@@ -1,4 +1,3 @@
-pub mod Crates
 pub mod Keys
 pub mod Listed
 pub mod Reached

@@ -10,7 +10,7 @@ ghost use Rattle.deny_codes.specs.Features.{default_feature};
 ghost use Rattle.deny_krates.specs.Ids.{crate_of};
 ghost use Rattle.deny_model.specs.Keys.{crate_key};
 ghost use Rattle.deny_model.specs.Text.{same_text};
-ghost use Rattle.deny_features.specs.private.Crates.{default_level_at, enabled_at, has_feature_at, is_member_at};
+ghost use Rattle.deny_features.specs.Crates.{default_level_at, enabled_at, has_feature_at, is_member_at};
 
 use deny_base::{Code, DiagnosticCode, Key, Kid, LintLevel, Section, Span, Spanned};
 use deny_cfg::bans::cfg::ValidConfig;

@@ -13,4 +13,6 @@ mod reached;
 mod steps;
 mod unknown;
 
+pub use crates::{default_level_at, enabled_at, has};
 pub use feature_keys::add_feature_keys;
+pub use listed::unlisted;

@@ -7,7 +7,8 @@ ghost use Rattle.std.specs.Ordering.{nat_cmp};
 ghost use Rattle.deny_cfg.specs.PolicyView.{feature_view, policy_view};
 ghost use Rattle.deny_codes.specs.Features.{denies};
 ghost use Rattle.deny_facts.specs.Wrappers.{AreFirst};
-ghost use Rattle.deny_features.specs.private.Listed.{has_default_apart_at, is_among, is_mismatched_at, is_unlisted_by, unlisted_at};
+ghost use Rattle.deny_features.specs.Listed.{has_default_apart_at, unlisted_at};
+ghost use Rattle.deny_features.specs.private.Listed.{is_among, is_mismatched_at, is_unlisted_by};
 
 use crate::crates::{default_level_at, enabled_at, has, is_default};
 use deny_base::{LintLevel, Span, Spanned};
@@ -42,7 +43,7 @@ pub fn unlisted(
 }
 
 /// Whether `default` is judged by its level alone: one is written, and does not deny.
-#[tactic(auto, unfolding(crate::specs::private::Listed::has_default_apart_at))]
+#[tactic(auto, unfolding(crate::specs::Listed::has_default_apart_at))]
 fn has_default_apart(cfg: &ValidConfig, krates: &Krates, place: u32) -> bool
     ensures { result ≡ has_default_apart_at (policy_view cfg.now) krates.now place }
 {

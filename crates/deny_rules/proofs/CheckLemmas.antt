@@ -1,4 +1,4 @@
--- What the bans check hands out: first what the crate rules give, and then what stands of replaced crates.
+-- What the bans check hands out: first what the other rules give, and then what stands of replaced crates.
 use Rattle.std.proofs.Common.{List, [], None, Option, Some, ap, append-nil, false, inl, inr, length, map, refl, suc, sym, take, zero, ℕ, ◌++◌, ◌+◌, ◌∙◌, ◌∷◌, ◌≡◌}
 use Rattle.std.proofs.Math.Seq.{take-append-add}
 use Rattle.std.proofs.lemmas.List.{append_assoc, map-append}

@@ -21,12 +21,15 @@ use Rattle.deny_codes.specs.Facts.{Facts}
 use Rattle.deny_codes.specs.Standing.{ListsOwn, StandsAs, StandsBy, StandsIn}
 use Rattle.deny_lists.proofs.Adding.{adds_then}
 use Rattle.deny_lists.proofs.Members.{Contains-flat_map, Contains-from_flat_map, at_member}
-use Rattle.deny_codes.proofs.Made.{Made, allowed_by_wrapper_made, allowed_made, banned_made, duplicate_made}
+use Rattle.deny_codes.proofs.Made.{Made, allowed_by_wrapper_made, allowed_made, banned_made, default_enabled_made}
+use Rattle.deny_codes.proofs.Made.{duplicate_made, feature_banned_made, feature_not_allowed_made, mismatched_made}
 use Rattle.deny_codes.proofs.Made.{not_allowed_made, replaced_made, skipped_by_root_made, skipped_made}
-use Rattle.deny_codes.proofs.Made.{unmatched_ignore_made, unmatched_skip_made, unmatched_skip_root_made}
-use Rattle.deny_codes.proofs.Made.{unmatched_wrapper_made, unnecessary_skip_made, unused_wrapper_made}
+use Rattle.deny_codes.proofs.Made.{unknown_feature_made, unmatched_ignore_made, unmatched_skip_made}
+use Rattle.deny_codes.proofs.Made.{unmatched_skip_root_made, unmatched_wrapper_made, unnecessary_skip_made}
+use Rattle.deny_codes.proofs.Made.{unused_wrapper_made}
 use Rattle.deny_codes.proofs.Parts.{lists_append, lists_same}
-use Rattle.deny_codes.proofs.Sections.{none_licensed}
+use Rattle.deny_codes.proofs.Sections.{not_licensed}
+use Rattle.deny_features.specs.FeatureKeys.{IsOfFeatures}
 use Rattle.deny_std.specs.Found.{IsOfStd}
 use Rattle.deny_rules.proofs.StdLastLemmas.{rules_first}
 use Rattle.deny_rules.specs.private.OwnRules.{IsByRule, ban_rules, keys_of_rules, skip_rules}
@@ -96,11 +99,24 @@ module _ (c : Circumstances) (facts : Facts) where
       let from = Contains-from_flat_map (λ (keys : List Key). keys) rules key is in
       at_member IsSound rules from.from all from.member key from.of
 
+  features_sound : (key : Key) → IsOfFeatures c.policy c.graph key → IsOwn key
+  features_sound key (inl is) = own section.Crates code.ExactFeaturesMismatch key refl
+      (mismatched_made c.policy c.graph key is) is
+  features_sound key (inr (inl is)) = own section.Crates code.FeatureNotExplicitlyAllowed key refl
+      (feature_not_allowed_made c.policy c.graph key is) is
+  features_sound key (inr (inr (inl is))) = own section.Crates code.FeatureBanned key refl
+      (feature_banned_made c.policy c.graph key is) is
+  features_sound key (inr (inr (inr (inl is)))) = own section.Crates code.UnknownFeature key refl
+      (unknown_feature_made c.policy c.graph key is) is
+  features_sound key (inr (inr (inr (inr is)))) = own section.Crates code.DefaultFeatureEnabled key refl
+      (default_enabled_made c.policy c.graph key is) is
+
   sound : (key : Key) → ByRule key → IsOwn key
   sound key (inl is) = in_rules (ban_rules c.policy c.graph) bans_sound key is
   sound key (inr (inl is)) = in_rules (skip_rules c.policy c.graph facts.chains) skips_sound key is
-  sound key (inr (inr is)) = own section.Groups code.Duplicate key refl
+  sound key (inr (inr (inl is))) = own section.Groups code.Duplicate key refl
       (duplicate_made c.policy c.graph facts.chains key is) is
+  sound key (inr (inr (inr is))) = features_sound key is
 
   std_sound : (key : Key) → IsOfStd c key → IsOwn key
   std_sound key (inl is) = own section.Unused code.UnmatchedReplacementIgnore key refl
@@ -128,6 +144,9 @@ module _ (c : Circumstances) (facts : Facts) (key : Key) where
   skip n keys within at is = inl (inr
       (inl (of_rule (skip_rules c.policy c.graph facts.chains) n keys key within at is)))
 
+  feature : IsOfFeatures c.policy c.graph key → IsEither
+  feature is = inl (inr (inr (inr is)))
+
 whole_as : (d : Code) (c : Circumstances) (facts : Facts) (key : Key) → StandsAs d c facts key → IsEither c facts key
 whole_as code.Banned c facts key is = ban c facts key 0 _ (omega arith) refl is
 whole_as code.AllowedByWrapper c facts key is = ban c facts key 1 _ (omega arith) refl is
@@ -140,29 +159,37 @@ whole_as code.SkippedByRoot c facts key is = skip c facts key 1 _ (omega arith) 
 whole_as code.UnmatchedSkip c facts key is = skip c facts key 2 _ (omega arith) refl is
 whole_as code.UnnecessarySkip c facts key is = skip c facts key 3 _ (omega arith) refl is
 whole_as code.UnmatchedSkipRoot c facts key is = skip c facts key 4 _ (omega arith) refl is
-whole_as code.Duplicate c facts key is = inl (inr (inr is))
+whole_as code.Duplicate c facts key is = inl (inr (inr (inl is)))
+whole_as code.ExactFeaturesMismatch c facts key is = feature c facts key (inl is)
+whole_as code.FeatureNotExplicitlyAllowed c facts key is = feature c facts key (inr (inl is))
+whole_as code.FeatureBanned c facts key is = feature c facts key (inr (inr (inl is)))
+whole_as code.UnknownFeature c facts key is = feature c facts key (inr (inr (inr (inl is))))
+whole_as code.DefaultFeatureEnabled c facts key is = feature c facts key (inr (inr (inr (inr is))))
 whole_as code.UnmatchedReplacementIgnore c facts key is = inr (inl is)
 whole_as code.ReplacedInStd c facts key is = inr (inr is)
 whole_as _ c facts key is = absurd is
 
-whole_by : (d : DiagnosticCode) (c : Circumstances) (facts : Facts) (key : Key) → StandsBy d c facts key
-    → IsEither c facts key
-whole_by Deprecated c facts key is = absurd is
-whole_by (Bans d) c facts key is = whole_as d c facts key is
-whole_by (License d) c facts key is = absurd (none_licensed d c.policy c.graph key is)
+whole_by : (d : DiagnosticCode) (c : Circumstances) (facts : Facts) (key : Key) → IsTrue (is_of_bans key.section)
+    → StandsBy d c facts key → IsEither c facts key
+whole_by Deprecated c facts key mine is = absurd is
+whole_by (Bans d) c facts key mine is = whole_as d c facts key is
+whole_by (License d) c facts key mine is = absurd (not_licensed d c.licensing c.graph key mine is)
 
 -- what all rules add
-pub adds_by_rule : (p : Policy) (g : Graph) (facts : chains.Facts) (old one two new : List Key)
+pub adds_by_rule : (p : Policy) (g : Graph) (facts : chains.Facts) (old one two three new : List Key)
     → Adds (Contains (keys_of_rules (ban_rules p g))) old one
     → Adds (Contains (keys_of_rules (skip_rules p g facts))) one two
-    → Adds (IsDuplicate p g facts) two new
+    → Adds (IsDuplicate p g facts) two three
+    → Adds (IsOfFeatures p g) three new
     → Adds (IsByRule p g facts) old new
-adds_by_rule p g facts old one two new bans skips duplicates =
+adds_by_rule p g facts old one two three new bans skips duplicates features =
     let banned = Contains (keys_of_rules (ban_rules p g)) in
     let skipped = Contains (keys_of_rules (skip_rules p g facts)) in
     let doubled = IsDuplicate p g facts in
-    adds_then banned (λ key. skipped key ⊎ doubled key) old one new bans
-    (adds_then skipped doubled one two new skips duplicates)
+    let featured = IsOfFeatures p g in
+    adds_then banned (λ key. skipped key ⊎ (doubled key ⊎ featured key)) old one new bans
+    (adds_then skipped (λ key. doubled key ⊎ featured key) one two new skips
+    (adds_then doubled featured two three new duplicates features))
 
 -- the keys that rules give and then those of replaced crates are what stands in the sections of the bans check
 pub lists_own : (c : Circumstances) (facts : Facts) (rules std : List Key)
@@ -174,4 +201,4 @@ lists_own c facts rules std these those =
     (λ x y is there. rules_first c.policy c.graph facts.chains x is c y there))
     (λ key is. elim is as (λ _. StandsIn is_of_bans c facts key)
     [ inl by_rule ↦ sound c facts key by_rule | inr of_std ↦ std_sound c facts key of_std ])
-    (λ key is. whole_by key.code c facts key is.1)
+    (λ key is. whole_by key.code c facts key is.0 is.1)

@@ -1,4 +1,4 @@
--- What stands of replaced crates comes behind all that the crate rules give, whose keys are told beside the rules.
+-- What stands of replaced crates comes behind all that the other rules give, whose keys are told beside the rules.
 use Rattle.std.proofs.Common.{List, [], ap, inl, inr, map, refl, subst, sym, ◌∙◌, ◌≡◌}
 use Rattle.std.specs.List.{AllByRecursion}
 use Rattle.std.specs.Option.{option_map_or}
@@ -31,9 +31,11 @@ use Rattle.deny_codes.specs.StdReplacements.{ignore_range, is_unmatched_ignore, 
 use Rattle.deny_codes.specs.StdReplacements.{unmatched_ignore_keys_in}
 use Rattle.deny_codes.specs.Wrappers.{unused_wrapper_keys}
 use Rattle.deny_lists.proofs.Members.{Contains-from_flat_map, at_member, from_contains_map, no_member}
-use Rattle.deny_codes.proofs.Made.{Made, allowed_by_wrapper_made, allowed_made, banned_made, duplicate_made}
+use Rattle.deny_codes.proofs.Made.{Made, allowed_by_wrapper_made, allowed_made, banned_made, default_enabled_made}
+use Rattle.deny_codes.proofs.Made.{duplicate_made, feature_banned_made, feature_not_allowed_made, mismatched_made}
 use Rattle.deny_codes.proofs.Made.{not_allowed_made, replaced_made, skipped_by_root_made, skipped_made}
-use Rattle.deny_codes.proofs.Made.{unmatched_ignore_made, unmatched_wrapper_made}
+use Rattle.deny_codes.proofs.Made.{unknown_feature_made, unmatched_ignore_made, unmatched_wrapper_made}
+use Rattle.deny_features.specs.FeatureKeys.{IsOfFeatures}
 use Rattle.deny_std.specs.Found.{IsOfStd}
 use Rattle.deny_telling.specs.Here.{is_told_here}
 use Rattle.deny_rules.specs.private.OwnRules.{IsByRule, ban_rules, keys_of_rules, skip_rules}
@@ -217,6 +219,19 @@ module _ (p : Policy) (g : Graph) (facts : chains.Facts) where
   duplicates_first key is = of_section section.Groups code.Duplicate key refl refl refl
       (duplicate_made p g facts key is)
 
+  features_first : (key : Key) → IsOfFeatures p g key → IsFirst key
+  unfolding section_number
+  features_first key (inl is) = of_section section.Crates code.ExactFeaturesMismatch key refl refl refl
+      (mismatched_made p g key is)
+  features_first key (inr (inl is)) = of_section section.Crates code.FeatureNotExplicitlyAllowed key refl refl refl
+      (feature_not_allowed_made p g key is)
+  features_first key (inr (inr (inl is))) = of_section section.Crates code.FeatureBanned key refl refl refl
+      (feature_banned_made p g key is)
+  features_first key (inr (inr (inr (inl is)))) = of_section section.Crates code.UnknownFeature key refl refl refl
+      (unknown_feature_made p g key is)
+  features_first key (inr (inr (inr (inr is)))) = of_section section.Crates code.DefaultFeatureEnabled key refl refl refl
+      (default_enabled_made p g key is)
+
   in_rules : (rules : List (List Key)) → AllByRecursion AreFirst rules → AreFirst (keys_of_rules rules)
   in_rules rules all key is =
       let from = Contains-from_flat_map (λ (keys : List Key). keys) rules key is in
@@ -225,7 +240,8 @@ module _ (p : Policy) (g : Graph) (facts : chains.Facts) where
   each_first : (key : Key) → IsByRule p g facts key → IsFirst key
   each_first key (inl is) = in_rules (ban_rules p g) bans_first key is
   each_first key (inr (inl is)) = in_rules (skip_rules p g facts) skips_first key is
-  each_first key (inr (inr is)) = duplicates_first key is
+  each_first key (inr (inr (inl is))) = duplicates_first key is
+  each_first key (inr (inr (inr is))) = features_first key is
 
   pub rules_here : (key : Key) → IsByRule p g facts key → IsTrue (is_told_here key.code)
   rules_here key is = (each_first key is).here

@@ -17,6 +17,7 @@ use deny_base::{Hit, Key, Pack, key_order};
 use deny_cfg::bans::cfg::ValidConfig;
 use deny_dup_edges::{DupEdges, dup_edges_of};
 use deny_facts::{Marks, marks_of};
+use deny_features::add_feature_keys;
 use deny_krates::Krates;
 use deny_lists::{List, NoMemory, put_in_order};
 use deny_outside::PackageFiles;
@@ -41,7 +42,8 @@ pub struct BansEnd {
     pub dup_edges: List<DupEdges>,
 }
 
-/// The keys of what stands by the crate rules and these facts, ascending, each once.
+/// The keys of what stands by the rules on crates and their features, and by these facts, ascending,
+/// each once.
 fn keys_of(
     alloc: Global,
     cfg: &ValidConfig,
@@ -56,12 +58,13 @@ fn keys_of(
     add_ban_keys(alloc, cfg, krates, &mut keys)?;
     add_skip_keys(alloc, cfg, krates, marks, &mut keys)?;
     add_duplicate_keys(alloc, cfg, krates, marks, &mut keys)?;
+    add_feature_keys(alloc, cfg, krates, &mut keys)?;
     put_in_order(&mut keys)?;
     Ok(keys)
 }
 
-/// Appends the findings of the crate rules, and of what the standard library replaces, one a pack, in
-/// the order of their keys.
+/// Appends the findings of the rules on crates and their features, and of what the standard library
+/// replaces, one a pack, in the order of their keys.
 ///
 /// A policy that asks for a table of replacements needs one; its bytes are not looked at otherwise.
 /// Where memory runs out, `sink` holds what it held before and then a prefix of what stands, which may

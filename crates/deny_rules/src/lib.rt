@@ -1,5 +1,5 @@
-//! The bans check: which keys stand of a policy on a graph by the crate rules, which entries are hit,
-//! and with them what the standard library replaces.
+//! The bans check: which keys stand of a policy on a graph by the rules on crates and their features,
+//! which entries are hit, and with them what the standard library replaces.
 #![tactic(auto)]
 
 mod allowed;

@@ -1,2 +1,3 @@
+pub mod FeatureLemmas
 pub mod TableLemmas
 pub mod ToldLemmas

@@ -31,18 +31,21 @@ pub seen : {X Y : Type 0} (p : Y → Bool) (f : X → Y) (xs : List X) (r : Opti
 seen p f xs r is = sym (option_map-map f (λ x. x.now) r) ∙ (ap (option_map f) is ∙ sym (find-map p f xs))
 
 -- a skipped tree that was found, at some number
+abbrev name_range : PackageSpecOrExtended TreeSkipExtended → Span
+name_range e = e.spec.name.span
+
 IsRootAt : Span → List Root → Option (PackageSpecOrExtended TreeSkipExtended) → Type 0
 IsRootAt range roots o = MatchOption o (find (λ t. same_span t.spec.range range) roots ≡ None)
     (λ e. (number : ℕ) × (find (λ t. same_span t.spec.range range) roots ≡ Some (root_view number e)))
 
 root_found : (range : Span) (n : ℕ) (es : List (PackageSpecOrExtended TreeSkipExtended))
-    → IsRootAt range (roots_from n es) (first_of range es)
+    → IsRootAt range (roots_from n es) (first_of name_range range es)
 unfolding IsRootAt
 root_found range n [] = refl
 root_found range n (e ∷ es) = by_test (same_span e.spec.name.span range) (root_found range (n + 1) es)
   where
-    by_test : (b : Bool) → IsRootAt range (roots_from (n + 1) es) (first_of range es)
-        → MatchOption (cond b (Some e) (first_of range es))
+    by_test : (b : Bool) → IsRootAt range (roots_from (n + 1) es) (first_of name_range range es)
+        → MatchOption (cond b (Some e) (first_of name_range range es))
         (cond b (Some (root_view n e)) (find (λ t. same_span t.spec.range range) (roots_from (n + 1) es)) ≡ None)
         (λ d. (number : ℕ) × (cond b (Some (root_view n e))
         (find (λ t. same_span t.spec.range range) (roots_from (n + 1) es)) ≡ Some (root_view number d)))
@@ -50,7 +53,7 @@ root_found range n (e ∷ es) = by_test (same_span e.spec.name.span range) (root
     by_test false rest = rest
 
 pub root_seen : (range : Span) (es : List (PackageSpecOrExtended TreeSkipExtended))
-    (r : Option (Bor (PackageSpecOrExtended TreeSkipExtended))) → option_map (λ e. e.now) r ≡ first_of range es
+    (r : Option (Bor (PackageSpecOrExtended TreeSkipExtended))) → option_map (λ e. e.now) r ≡ first_of name_range range es
     → MatchOption r (find (λ t. same_span t.spec.range range) (roots_from 0 es) ≡ None)
     (λ e. (number : ℕ) × (find (λ t. same_span t.spec.range range) (roots_from 0 es) ≡ Some
     (root_view number e.now)))

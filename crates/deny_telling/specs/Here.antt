@@ -1,4 +1,5 @@
--- Which codes are told here: all but those of what the standard library replaces, which are told where they are found.
+-- Which codes are told here: all but those of what the standard library replaces and those of licences, which are told
+-- where they are found.
 use Rattle.std.specs.Prelude.{Bool, true, false, IsTrue, List, All}
 use Rattle.deny_base.specs.declared.code.Code.{Code}
 use Rattle.deny_base.specs.declared.code.Code.TheVariants as code
@@ -47,13 +48,13 @@ bans_told_here code.ReplacedInStd = false
 bans_told_here code.UnmatchedReplacementIgnore = false
 
 abbrev pub license_told_here : LicenseCode → Bool
-license_told_here license.Accepted = true
-license_told_here license.Rejected = true
-license_told_here license.Unlicensed = true
-license_told_here license.ParseError = true
-license_told_here license.SkippedPrivateWorkspaceCrate = true
-license_told_here license.LicenseNotEncountered = true
-license_told_here license.LicenseExceptionNotEncountered = true
+license_told_here license.Accepted = false
+license_told_here license.Rejected = false
+license_told_here license.Unlicensed = false
+license_told_here license.ParseError = false
+license_told_here license.SkippedPrivateWorkspaceCrate = false
+license_told_here license.LicenseNotEncountered = false
+license_told_here license.LicenseExceptionNotEncountered = false
 
 abbrev pub is_told_here : DiagnosticCode → Bool
 is_told_here Deprecated = true

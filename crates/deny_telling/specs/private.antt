@@ -1,3 +1,4 @@
 pub mod ByRange
+pub mod Features
 pub mod Teller
 pub mod WrapperRanges

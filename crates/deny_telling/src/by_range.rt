@@ -1,51 +1,129 @@
-//! The entries of a list of the policy by the ranges of their names.
-ghost use Rattle.std.specs.Prelude.{◌≡◌, ◌==◌, IfOk, OnOk, option_map, if◌then◌else◌};
+//! Entries of the policy, and words in them, by their ranges.
+ghost use Rattle.std.specs.Prelude.{◌≡◌, ◌==◌, [], IfOk, OnOk, map, option_map, if◌then◌else◌};
+ghost use Rattle.std.specs.List.{flat_map};
 ghost use Rattle.deny_base.specs.declared.span.Span.{Span};
+ghost use Rattle.deny_cfg.specs.PolicyView.{feature_view};
+ghost use Rattle.deny_codes.specs.Features.{features_of};
 ghost use Rattle.deny_model.specs.Wrappers.{same_span};
-ghost use Rattle.deny_telling.specs.private.ByRange.{IsByRange, found_at};
+ghost use Rattle.deny_telling.specs.private.ByRange.{IsByRange, PutsBefore, found_at};
 
-use deny_base::Span;
+use deny_base::{Span, Spanned};
 use deny_cfg::PackageSpecOrExtended;
-use deny_lists::NoMemory;
+use deny_cfg::bans::cfg::ValidKrateFeatures;
+use deny_lists::{NoMemory, Text};
 use std::alloc::Global;
 use std::collections::BTreeMap;
 
-/// Finds entries by the ranges of their names: of those of one range the first.
-#[derive(Drop)]
-pub struct ByRange<'c, T> {
-    pub tree: BTreeMap<Span, &'c PackageSpecOrExtended<T>>,
+/// What stands in the policy's text, and is found by its range: an entry by that of its name, a word
+/// by its own.
+pub trait Ranged {
+    ghost use Rattle.std.specs.Prelude.{◌≡◌};
+    ghost use Rattle.deny_base.specs.declared.span.Span.{Span};
+
+    ghost range: { Self → Span };
+
+    fn range(&self) -> Span
+        ensures { result ≡ range self.now };
 }
 
-impl<'c, T> ByRange<'c, T> {
-    /// Finds the entries of a list.
-    pub fn new(
-        alloc: Global,
-        entries: &'c [PackageSpecOrExtended<T>],
-    ) -> Result<ByRange<'c, T>, NoMemory>
-        ensures { IfOk result (λ found. IsByRange entries.now found) }
+impl<T> Ranged for PackageSpecOrExtended<T> {
+    ghost range = { λ e. e.spec.name.span };
+
+    fn range(&self) -> Span {
+        self.spec.name.span
+    }
+}
+
+impl Ranged for ValidKrateFeatures {
+    ghost range = { λ e. e.spec.name.span };
+
+    fn range(&self) -> Span {
+        self.spec.name.span
+    }
+}
+
+impl Ranged for Spanned<Text> {
+    ghost range = { λ w. w.span };
+
+    fn range(&self) -> Span {
+        self.span
+    }
+}
+
+/// Finds items by their ranges: of those of one range the first.
+#[derive(Drop)]
+pub struct ByRange<'c, T> {
+    pub tree: BTreeMap<Span, &'c T>,
+}
+
+impl<'c, T: Ranged> ByRange<'c, T> {
+    /// Finds the items of a list.
+    pub fn new(alloc: Global, items: &'c [T]) -> Result<ByRange<'c, T>, NoMemory>
+        ensures { IfOk result (IsByRange T.range items.now) }
     {
-        let mut found = ByRange {
-            tree: BTreeMap::new(alloc),
-        };
-        for number in (0..entries.len()).rev() {
-            found.put(&entries[number])?;
-        }
+        let mut found = ByRange::of_none(alloc);
+        found.put_before(items)?;
         Ok(found)
     }
 
-    // Puts an entry in the place of the one of its range.
-    fn put(&mut self, entry: &'c PackageSpecOrExtended<T>) -> Result<(), NoMemory>
-        ensures { OnOk result ((range : Span) → found_at self.new range ≡
-            (if same_span entry.entry.now.spec.name.span range then Some entry.entry.now else found_at self.old range)) }
+    // Finds nothing.
+    fn of_none(alloc: Global) -> ByRange<'c, T>
+        ensures { IsByRange T.range [] result }
     {
-        self.tree.insert(entry.spec.name.span, entry)?;
+        ByRange {
+            tree: BTreeMap::new(alloc),
+        }
+    }
+
+    // Puts items before those that are found.
+    fn put_before(&mut self, items: &'c [T]) -> Result<(), NoMemory>
+        ensures { OnOk result (PutsBefore T.range items.now self.old self.new) }
+    {
+        for number in (0..items.len()).rev() {
+            self.put(&items[number])?;
+        }
         Ok(())
     }
 
-    /// The entry of a range.
-    pub fn at(&self, range: Span) -> Option<&'c PackageSpecOrExtended<T>>
+    // Puts an item in the place of the one of its range.
+    fn put(&mut self, item: &'c T) -> Result<(), NoMemory>
+        ensures { OnOk result ((range : Span) → found_at self.new range ≡
+            (if same_span (T.range item.entry.now) range then Some item.entry.now else found_at self.old range)) }
+    {
+        self.tree.insert(item.range(), item)?;
+        Ok(())
+    }
+
+    /// The item of a range.
+    pub fn at(&self, range: Span) -> Option<&'c T>
         ensures { option_map (λ e. e.now) result ≡ found_at self.now range }
     {
         self.tree.get(&range).copied()
     }
+}
+
+/// Finds the features that entries allow and deny, in the order in which the entries list them.
+pub fn features_by_range<'c>(
+    alloc: Global,
+    entries: &'c [ValidKrateFeatures],
+) -> Result<ByRange<'c, Spanned<Text>>, NoMemory>
+    ensures { IfOk result (IsByRange (λ w. w.span) (flat_map features_of (map feature_view entries.now))) }
+{
+    let mut found = ByRange::of_none(alloc);
+    for number in (0..entries.len()).rev() {
+        put_features(&mut found, &entries[number])?;
+    }
+    Ok(found)
+}
+
+// Puts the features of an entry before those that are found.
+fn put_features<'c>(
+    found: &mut ByRange<'c, Spanned<Text>>,
+    entry: &'c ValidKrateFeatures,
+) -> Result<(), NoMemory>
+    ensures { OnOk result (PutsBefore (λ w. w.span) (features_of (feature_view entry.entry.now)) found.old
+        found.new) }
+{
+    found.put_before(entry.features.deny.as_slice())?;
+    found.put_before(entry.features.allow.value.as_slice())
 }

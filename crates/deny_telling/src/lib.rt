@@ -7,6 +7,7 @@ mod allow_list;
 mod bans;
 mod by_range;
 mod duplicates;
+mod features;
 mod skipped_trees;
 mod skips;
 mod teller;

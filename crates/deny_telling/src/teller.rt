@@ -1,21 +1,23 @@
 //! What findings are told from.
-ghost use Rattle.std.specs.Prelude.{◌≡◌, IfOk, map, option_map, MatchOption, ℕ, None};
-ghost use Rattle.std.specs.List.{list_any};
-ghost use Rattle.deny_cfg.specs.PolicyView.{ban_view, entry_view, policy_view, root_view};
+ghost use Rattle.std.specs.Prelude.{◌≡◌, IfOk, find, map, option_map, MatchOption, ℕ, None};
+ghost use Rattle.std.specs.List.{flat_map, list_any};
+ghost use Rattle.deny_cfg.specs.PolicyView.{ban_view, entry_view, feature_view, policy_view, root_view};
+ghost use Rattle.deny_codes.specs.Features.{feature_entry_at, features_of};
 ghost use Rattle.deny_model.specs.Duplicates.{is_denied_multiple};
 ghost use Rattle.deny_model.specs.Told.{allow_at, ban_at, crates_at, root_at, skip_at};
+ghost use Rattle.deny_model.specs.Wrappers.{same_span};
 ghost use Rattle.deny_telling.specs.private.ByRange.{IsByRange};
 ghost use Rattle.deny_facts.specs.Marks.{mark_at};
 ghost use Rattle.deny_telling.specs.private.WrapperRanges.{FindsWrappers, wrapper_range};
 
-use crate::by_range::ByRange;
+use crate::by_range::{ByRange, features_by_range};
 use crate::wrapper_ranges::WrapperRanges;
-use deny_base::{FileId, Span};
-use deny_cfg::bans::cfg::{KrateBan, TreeSkipExtended, ValidConfig};
+use deny_base::{FileId, Span, Spanned};
+use deny_cfg::bans::cfg::{KrateBan, TreeSkipExtended, ValidConfig, ValidKrateFeatures};
 use deny_cfg::{PackageSpecOrExtended, Reason};
 use deny_facts::{mark_at, spoken_of};
 use deny_krates::Krates;
-use deny_lists::{List, NoMemory};
+use deny_lists::{List, NoMemory, Text};
 use std::alloc::Global;
 
 /// A configuration and a graph, with what finds the policy's entries by their ranges.
@@ -23,16 +25,20 @@ use std::alloc::Global;
 pub struct Teller<'c> {
     pub cfg: &'c ValidConfig,
     pub krates: &'c Krates,
-    banned: ByRange<'c, KrateBan>,
-    allowed: ByRange<'c, Reason>,
-    skipped: ByRange<'c, Reason>,
-    roots: ByRange<'c, TreeSkipExtended>,
+    banned: ByRange<'c, PackageSpecOrExtended<KrateBan>>,
+    allowed: ByRange<'c, PackageSpecOrExtended<Reason>>,
+    skipped: ByRange<'c, PackageSpecOrExtended<Reason>>,
+    roots: ByRange<'c, PackageSpecOrExtended<TreeSkipExtended>>,
+    feature_entries: ByRange<'c, ValidKrateFeatures>,
+    features: ByRange<'c, Spanned<Text>>,
     wrappers: WrapperRanges,
     several: List<bool>,
-    ghost banned_found: { IsByRange cfg.now.denied banned },
-    ghost allowed_found: { IsByRange cfg.now.allowed allowed },
-    ghost skipped_found: { IsByRange cfg.now.skipped skipped },
-    ghost roots_found: { IsByRange cfg.now.tree_skipped roots },
+    ghost banned_found: { IsByRange (λ e. e.spec.name.span) cfg.now.denied banned },
+    ghost allowed_found: { IsByRange (λ e. e.spec.name.span) cfg.now.allowed allowed },
+    ghost skipped_found: { IsByRange (λ e. e.spec.name.span) cfg.now.skipped skipped },
+    ghost roots_found: { IsByRange (λ e. e.spec.name.span) cfg.now.tree_skipped roots },
+    ghost entries_found: { IsByRange (λ e. e.spec.name.span) cfg.now.features feature_entries },
+    ghost features_found: { IsByRange (λ w. w.span) (flat_map features_of (map feature_view cfg.now.features)) features },
     ghost wrappers_found: { FindsWrappers (map ban_view cfg.now.denied) wrappers },
     ghost several_marked: { several ≡ map (is_denied_multiple (policy_view cfg.now)) krates.now.crates },
 }
@@ -54,6 +60,8 @@ impl<'c> Teller<'c> {
             allowed: ByRange::new(alloc, cfg.allowed.as_slice())?,
             skipped: ByRange::new(alloc, cfg.skipped.as_slice())?,
             roots: ByRange::new(alloc, cfg.tree_skipped.as_slice())?,
+            feature_entries: ByRange::new(alloc, cfg.features.as_slice())?,
+            features: features_by_range(alloc, cfg.features.as_slice())?,
             wrappers: WrapperRanges::new(alloc, cfg.denied.as_slice())?,
             several: spoken_of(alloc, krates, cfg.denied_multiple_versions.as_slice())?,
         })
@@ -93,6 +101,21 @@ impl<'c> Teller<'c> {
             (λ e. (number : ℕ) × (root_at (policy_view self.now.cfg.now) range ≡ Some (root_view number e.now))) }
     {
         self.roots.at(range)
+    }
+
+    /// The entry on features of a range.
+    pub fn feature_entry(&self, range: Span) -> Option<&'c ValidKrateFeatures>
+        ensures { option_map (λ e. feature_view e.now) result ≡ feature_entry_at (policy_view self.now.cfg.now) range }
+    {
+        self.feature_entries.at(range)
+    }
+
+    /// The feature of a range, of those that entries allow or deny.
+    pub fn feature(&self, range: Span) -> Option<&'c Spanned<Text>>
+        ensures { option_map (λ w. w.now) result ≡ find (λ w. same_span w.span range)
+            (flat_map features_of (policy_view self.now.cfg.now).features) }
+    {
+        self.features.at(range)
     }
 
     /// The range of the first wrapper of a name, of the ban of a range.

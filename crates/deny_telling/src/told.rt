@@ -10,6 +10,10 @@ ghost use Rattle.deny_telling.specs.private.Teller.{told_from};
 use crate::allow_list::{allowed_told, not_allowed_told};
 use crate::bans::{allowed_by_wrapper_told, banned_told, unmatched_wrapper_told};
 use crate::duplicates::duplicate_told;
+use crate::features::{
+    default_enabled_told, feature_banned_told, feature_not_allowed_told, mismatched_told,
+    unknown_feature_told,
+};
 use crate::skipped_trees::{skipped_by_root_told, unmatched_skip_root_told};
 use crate::skips::{skipped_told, unmatched_skip_told, unnecessary_skip_told};
 use crate::teller::Teller;
@@ -23,8 +27,8 @@ use deny_lists::{List, NoMemory};
 use std::alloc::Global;
 
 /// Appends what is told of keys, in their order, one pack a key: of every code but those of what the
-/// standard library replaces. Where memory runs out, it has appended what is told of the first of
-/// them, or nothing.
+/// standard library replaces and those of licences. Where memory runs out, it has appended what is
+/// told of the first of them, or nothing.
 pub fn tell_all(
     alloc: Global,
     cfg: &ValidConfig,
@@ -82,7 +86,7 @@ fn words_told(alloc: Global, teller: &Teller<'_>, key: &Key) -> Result<Words, No
             | LicenseCode::ParseError
             | LicenseCode::SkippedPrivateWorkspaceCrate
             | LicenseCode::LicenseNotEncountered
-            | LicenseCode::LicenseExceptionNotEncountered => Ok(not_built(alloc)),
+            | LicenseCode::LicenseExceptionNotEncountered => unreachable!(),
         },
     }
 }
@@ -104,14 +108,14 @@ fn words_as(alloc: Global, teller: &Teller<'_>, code: Code, key: &Key) -> Result
         Code::UnmatchedWrapper => unmatched_wrapper_told(alloc, teller, key),
         Code::SkippedByRoot => skipped_by_root_told(alloc, teller, key),
         Code::UnmatchedSkipRoot => unmatched_skip_root_told(alloc, teller, key),
+        Code::ExactFeaturesMismatch => mismatched_told(alloc, teller, key),
+        Code::FeatureNotExplicitlyAllowed => feature_not_allowed_told(alloc, teller, key),
+        Code::FeatureBanned => feature_banned_told(alloc, teller, key),
+        Code::UnknownFeature => unknown_feature_told(alloc, teller, key),
+        Code::DefaultFeatureEnabled => default_enabled_told(alloc, teller, key),
         Code::UnusedWrapper => unused_wrapper_told(alloc, teller, key),
         Code::Wildcard
         | Code::BuildScriptNotAllowed
-        | Code::ExactFeaturesMismatch
-        | Code::FeatureNotExplicitlyAllowed
-        | Code::FeatureBanned
-        | Code::UnknownFeature
-        | Code::DefaultFeatureEnabled
         | Code::PathBypassed
         | Code::PathBypassedByGlob
         | Code::ChecksumMatch

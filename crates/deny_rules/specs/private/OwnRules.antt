@@ -1,4 +1,4 @@
--- The rules of the bans check whose keys are lists, each by the keys of all its entries.
+-- The rules of the bans check: those whose keys are lists, each by the keys of all its entries, and the others.
 use Rattle.std.specs.Prelude.{◌⊎◌, List, [], ◌∷◌, Contains}
 use Rattle.std.specs.List.{flat_map}
 use Rattle.deny_base.specs.declared.key.Key.{Key}
@@ -13,6 +13,7 @@ use Rattle.deny_codes.specs.Bans.{banned_keys, allowed_by_wrapper_keys, unmatche
 use Rattle.deny_codes.specs.SkippedTrees.{skipped_by_root_keys}
 use Rattle.deny_codes.specs.Skips.{skipped_keys}
 use Rattle.deny_codes.specs.Wrappers.{unused_wrapper_keys}
+use Rattle.deny_features.specs.FeatureKeys.{IsOfFeatures}
 
 -- those on bans, their wrappers, and the allow list
 abbrev pub ban_rules : Policy → Graph → List (List Key)
@@ -35,8 +36,9 @@ skip_rules p g facts = skipped_keys p g facts
 abbrev pub keys_of_rules : List (List Key) → List Key
 keys_of_rules rules = flat_map (λ keys. keys) rules
 
--- what stands by one of the crate rules
+-- what stands by one of the rules on crates and their features
 abbrev pub IsByRule : Policy → Graph → chains.Facts → Key → Type 0
 IsByRule p g facts key = Contains (keys_of_rules (ban_rules p g)) key
     ⊎ (Contains (keys_of_rules (skip_rules p g facts)) key
-    ⊎ IsDuplicate p g facts key)
+    ⊎ (IsDuplicate p g facts key
+    ⊎ IsOfFeatures p g key))

@@ -16,8 +16,9 @@ returns c =
     let g = c.args.krates.now in
     let facts = facts_of c.args.marks.now in
     let bans = Contains (keys_of_rules (ban_rules p g)) in
-    lists_added key_cmp (IsByRule p g facts) c.add_duplicate_keys.new.keys c.put_in_order.new.list
+    lists_added key_cmp (IsByRule p g facts) c.add_feature_keys.new.keys c.put_in_order.new.list
     (adds_by_rule p g facts [] c.add_ban_keys.new.keys c.add_skip_keys.new.keys c.add_duplicate_keys.new.keys
+    c.add_feature_keys.new.keys
     (subst (λ (old : List Key). Adds bans old c.add_ban_keys.new.keys) c.new-keys.ensures c.in_ok-add_ban_keys.ensures)
-    c.in_ok-add_skip_keys.ensures c.in_ok-add_duplicate_keys.ensures)
+    c.in_ok-add_skip_keys.ensures c.in_ok-add_duplicate_keys.ensures c.in_ok-add_feature_keys.ensures)
     c.in_ok-put_in_order.ensures.ok

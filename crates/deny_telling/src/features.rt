@@ -1,0 +1,393 @@
+//! What is told of features.
+ghost use Rattle.std.specs.Prelude.{◌≡◌, ◌++◌, ◌∷◌, [], IfOk, OnOk, codes, filter, map, not};
+ghost use Rattle.std.specs.Cmp.Lexicographic.{slice_cmp};
+ghost use Rattle.std.specs.List.{list_any};
+ghost use Rattle.std.specs.List.Sorted.{IsStrictlySortedBy};
+ghost use Rattle.std.specs.Option.{option_map_or};
+ghost use Rattle.std.specs.Ordering.{nat_cmp};
+ghost use Rattle.deny_cfg.specs.PolicyView.{feature_view};
+ghost use Rattle.deny_codes.specs.Features.{default_enabled_told, default_severity, entry_and_crate, feature_at};
+ghost use Rattle.deny_codes.specs.Features.{feature_banned_told, feature_entry_at, feature_nodes_at};
+ghost use Rattle.deny_codes.specs.Features.{feature_not_allowed_told, mismatch_labels, mismatch_nodes, mismatched_told};
+ghost use Rattle.deny_codes.specs.Features.{of_feature, unknown_feature_told, unlisted, unlisted_note, with_features};
+ghost use Rattle.deny_model.specs.Text.{same_text};
+ghost use Rattle.deny_model.specs.Told.{crate_at, node_of, primary};
+ghost use Rattle.deny_telling.specs.private.Features.{feature_node};
+ghost use Rattle.deny_telling.specs.private.Teller.{told_from};
+
+use crate::teller::Teller;
+use crate::telling::{Labels, kid_at, lone_label, of_crate, plainly, primary};
+use deny_base::{FileId, GraphNode, Key, Kid, Label, Severity, Span};
+use deny_cfg::bans::cfg::ValidKrateFeatures;
+use deny_codes::Words;
+use deny_facts::{are_placed, krate_at, krate_text, ranges_by_name};
+use deny_features::{default_level_at, enabled_at, has, unlisted};
+use deny_lists::{List, NoMemory, Text};
+use std::alloc::Global;
+
+/// What is told of a crate whose features are not exactly those of an entry.
+#[tactic(auto, unfolding(deny_codes::specs::Features::mismatched_told))]
+pub fn mismatched_told(alloc: Global, teller: &Teller<'_>, key: &Key) -> Result<Words, NoMemory>
+    ensures { IfOk result (λ words. let c = told_from teller.now in
+        words ≡ mismatched_told c.policy c.graph c.files.policy key.now) }
+{
+    let message = of_crate(
+        alloc,
+        teller,
+        "feature set for crate '",
+        key,
+        "' did not match exactly",
+    )?;
+    let features = unlisted_of(alloc, teller, key)?;
+    let labels = mismatch_labels(alloc, teller, key)?;
+    let notes = unlisted_notes(alloc, features.as_slice())?;
+    let nodes = mismatch_nodes(alloc, teller, key, features.as_slice())?;
+    let krate = kid_at(teller, key.place)?;
+    Ok(Words {
+        severity: Severity::Error,
+        message,
+        labels,
+        notes,
+        nodes,
+        with_features: true,
+        krate,
+    })
+}
+
+// The enabled features of the crate of a key that its entry does not list.
+fn unlisted_of(alloc: Global, teller: &Teller<'_>, key: &Key) -> Result<List<Text>, NoMemory>
+    ensures { IfOk result (λ features. let c = told_from teller.now in
+        features ≡ entry_and_crate c.policy c.graph key.now (unlisted c.policy c.graph) []) }
+{
+    are_placed(teller.krates);
+    let Some(entry) = teller.feature_entry(key.entry) else {
+        return Ok(List::new(alloc));
+    };
+    let allowed = ranges_by_name(alloc, entry.features.allow.value.as_slice())?;
+    unlisted(alloc, teller.cfg, teller.krates, entry, &allowed, key.place)
+}
+
+// The `exact` of the entry of a key, and those of its features that are not enabled.
+fn mismatch_labels(alloc: Global, teller: &Teller<'_>, key: &Key) -> Labels
+    ensures { IfOk result (λ labels. let c = told_from teller.now in
+        labels ≡ entry_and_crate c.policy c.graph key.now (mismatch_labels c.files.policy) []) }
+{
+    let Some(entry) = teller.feature_entry(key.entry) else {
+        return Ok(List::new(alloc));
+    };
+    let Some(_krate) = krate_at(teller.krates, key.place) else {
+        return Ok(List::new(alloc));
+    };
+    missing_labels(alloc, teller, entry, enabled_at(teller.krates, key.place))
+}
+
+// By the features that are enabled.
+fn missing_labels(
+    alloc: Global,
+    teller: &Teller<'_>,
+    entry: &ValidKrateFeatures,
+    enabled: &[Text],
+) -> Labels
+    requires { IsStrictlySortedBy (slice_cmp nat_cmp) enabled.now }
+    ensures { IfOk result (λ labels. let e = feature_view entry.now in let file = teller.now.cfg.now.file_id in
+        labels ≡ primary file e.exact.span (codes "exact enabled here")
+        ∷ map (λ w. primary file w.span (codes "allowed feature not present"))
+        (filter (λ w. not (list_any (same_text w.value) enabled.now)) e.allow.value)) }
+{
+    let file = teller.file();
+    let mut labels = lone_label(alloc, file, entry.features.exact.span, "exact enabled here")?;
+    for word in entry.features.allow.value.as_slice() {
+        if !has(enabled, &word.value) {
+            add_missing_label(alloc, file, word.span, &mut labels)?;
+        }
+    }
+    Ok(labels)
+}
+
+fn add_missing_label(
+    alloc: Global,
+    file: FileId,
+    range: Span,
+    labels: &mut List<Label>,
+) -> Result<(), NoMemory>
+    ensures { OnOk result (labels.new
+        ≡ labels.old ++ primary file range (codes "allowed feature not present") ∷ []) }
+{
+    labels.push(primary(alloc, file, range, "allowed feature not present")?)?;
+    Ok(())
+}
+
+fn unlisted_notes(alloc: Global, features: &[Text]) -> Result<List<Text>, NoMemory>
+    ensures { IfOk result (λ notes. notes ≡ map unlisted_note features.now) }
+{
+    let mut notes = List::new(alloc);
+    for feature in features {
+        notes.push(unlisted_note(alloc, feature)?)?;
+    }
+    Ok(notes)
+}
+
+fn unlisted_note(alloc: Global, feature: &Text) -> Result<Text, NoMemory>
+    ensures { IfOk result (λ note. note ≡ unlisted_note feature.now) }
+{
+    Ok(Text::from_string(format!(in alloc;
+        "'{feature}' feature was enabled but not explicitly allowed"
+    )?))
+}
+
+// The features of the crate of a key that its entry does not list; where there are none, the crate.
+fn mismatch_nodes(
+    alloc: Global,
+    teller: &Teller<'_>,
+    key: &Key,
+    features: &[Text],
+) -> Result<List<GraphNode>, NoMemory>
+    requires { let c = told_from teller.now in
+        features.now ≡ entry_and_crate c.policy c.graph key.now (unlisted c.policy c.graph) [] }
+    ensures { IfOk result (λ nodes. let c = told_from teller.now in
+        nodes ≡ entry_and_crate c.policy c.graph key.now (mismatch_nodes c.policy c.graph) []) }
+{
+    are_placed(teller.krates);
+    if features.len() != 0 {
+        return feature_nodes_at(alloc, teller, key.place, features);
+    }
+    match teller.feature_entry(key.entry) {
+        Some(_) => crate_nodes_at(alloc, teller, key.place),
+        None => Ok(List::new(alloc)),
+    }
+}
+
+// The crate at a place, as it is shown.
+fn crate_nodes_at(
+    alloc: Global,
+    teller: &Teller<'_>,
+    place: u32,
+) -> Result<List<GraphNode>, NoMemory>
+    ensures { IfOk result (λ nodes. nodes ≡ option_map_or (λ c. node_of c ∷ [])
+        (crate_at (told_from teller.now).graph place) []) }
+{
+    let mut nodes = List::new(alloc);
+    if let Some(krate) = krate_at(teller.krates, place) {
+        nodes.push(GraphNode {
+            kid: krate.id.clone()?,
+            feature: None,
+        })?;
+    }
+    Ok(nodes)
+}
+
+// Features of the crate at a place, as they are shown.
+#[tactic(auto, unfolding(deny_codes::specs::Features::feature_nodes_at))]
+fn feature_nodes_at(
+    alloc: Global,
+    teller: &Teller<'_>,
+    place: u32,
+    features: &[Text],
+) -> Result<List<GraphNode>, NoMemory>
+    ensures { IfOk result (λ nodes. nodes ≡ feature_nodes_at (told_from teller.now).graph place features.now) }
+{
+    match krate_at(teller.krates, place) {
+        Some(krate) => feature_nodes(alloc, &krate.id, features),
+        None => Ok(List::new(alloc)),
+    }
+}
+
+fn feature_nodes(alloc: Global, kid: &Kid, features: &[Text]) -> Result<List<GraphNode>, NoMemory>
+    ensures { IfOk result (λ nodes. nodes ≡ map (feature_node kid.now) features.now) }
+{
+    let mut nodes = List::new(alloc);
+    for feature in features {
+        nodes.push(feature_node(kid, feature)?)?;
+    }
+    Ok(nodes)
+}
+
+fn feature_node(kid: &Kid, feature: &Text) -> Result<GraphNode, NoMemory>
+    ensures { IfOk result (λ node. node ≡ feature_node kid.now feature.now) }
+{
+    Ok(GraphNode {
+        kid: kid.clone()?,
+        feature: Some(feature.clone()?),
+    })
+}
+
+// A feature of the crate at a place, as it is shown.
+fn feature_node_at(
+    alloc: Global,
+    teller: &Teller<'_>,
+    place: u32,
+    feature: &str,
+) -> Result<List<GraphNode>, NoMemory>
+    ensures { IfOk result (λ nodes. nodes
+        ≡ feature_nodes_at (told_from teller.now).graph place (feature.now ∷ [])) }
+{
+    let mut features = List::new(alloc);
+    features.push(Text::from_str(alloc, feature)?)?;
+    feature_nodes_at(alloc, teller, place, features.as_slice())
+}
+
+/// What is told of a feature that an entry does not allow.
+#[tactic(auto, unfolding(deny_codes::specs::Features::feature_not_allowed_told))]
+pub fn feature_not_allowed_told(
+    alloc: Global,
+    teller: &Teller<'_>,
+    key: &Key,
+) -> Result<Words, NoMemory>
+    ensures { IfOk result (λ words. let c = told_from teller.now in
+        words ≡ feature_not_allowed_told c.policy c.graph c.files.policy key.now) }
+{
+    let message = of_feature(
+        alloc,
+        teller,
+        "feature '",
+        key.text.as_str(),
+        "' for crate '",
+        key,
+        "' was not explicitly allowed",
+    )?;
+    let labels = allow_labels(alloc, teller, key.entry)?;
+    let krate = kid_at(teller, key.place)?;
+    let words = plainly(alloc, Severity::Error, message, labels, krate);
+    Ok(with_features(words, List::new(alloc)))
+}
+
+// What the entry of a range allows.
+fn allow_labels(alloc: Global, teller: &Teller<'_>, range: Span) -> Labels
+    ensures { IfOk result (λ labels. let c = told_from teller.now in
+        labels ≡ option_map_or (λ e. primary c.files.policy e.allow.span (codes "allowed features") ∷ [])
+        (feature_entry_at c.policy range) []) }
+{
+    match teller.feature_entry(range) {
+        Some(entry) => lone_label(
+            alloc,
+            teller.file(),
+            entry.features.allow.span,
+            "allowed features",
+        ),
+        None => Ok(List::new(alloc)),
+    }
+}
+
+/// What is told of a denied feature that is enabled.
+#[tactic(auto, unfolding(deny_codes::specs::Features::feature_banned_told))]
+pub fn feature_banned_told(alloc: Global, teller: &Teller<'_>, key: &Key) -> Result<Words, NoMemory>
+    ensures { IfOk result (λ words. let c = told_from teller.now in
+        words ≡ feature_banned_told c.policy c.graph c.files.policy key.now) }
+{
+    let feature = feature_at(teller, key.entry);
+    let message = of_feature(
+        alloc,
+        teller,
+        "feature '",
+        feature,
+        "' for crate '",
+        key,
+        "' is explicitly denied",
+    )?;
+    let labels = lone_label(alloc, teller.file(), key.entry, "feature denied here")?;
+    let krate = kid_at(teller, key.place)?;
+    let nodes = feature_node_at(alloc, teller, key.place, feature)?;
+    let words = plainly(alloc, Severity::Error, message, labels, krate);
+    Ok(with_features(words, nodes))
+}
+
+/// What is told of a listed feature that the crate does not have.
+#[tactic(auto, unfolding(deny_codes::specs::Features::unknown_feature_told))]
+pub fn unknown_feature_told(
+    alloc: Global,
+    teller: &Teller<'_>,
+    key: &Key,
+) -> Result<Words, NoMemory>
+    ensures { IfOk result (λ words. let c = told_from teller.now in
+        words ≡ unknown_feature_told c.policy c.graph c.files.policy key.now) }
+{
+    let message = of_feature(
+        alloc,
+        teller,
+        "found unknown feature '",
+        feature_at(teller, key.entry),
+        "' for crate '",
+        key,
+        "'",
+    )?;
+    let labels = lone_label(alloc, teller.file(), key.entry, "unknown feature")?;
+    let krate = kid_at(teller, key.place)?;
+    Ok(plainly(alloc, Severity::Warning, message, labels, krate))
+}
+
+/// What is told of a crate whose feature `default` is enabled.
+#[tactic(auto, unfolding(deny_codes::specs::Features::default_enabled_told))]
+pub fn default_enabled_told(
+    alloc: Global,
+    teller: &Teller<'_>,
+    key: &Key,
+) -> Result<Words, NoMemory>
+    ensures { IfOk result (λ words. let c = told_from teller.now in
+        words ≡ default_enabled_told c.policy c.graph c.files.policy key.now) }
+{
+    let message = of_crate(
+        alloc,
+        teller,
+        "'default' feature enabled for crate '",
+        key,
+        "'",
+    )?;
+    let labels = lone_label(alloc, teller.file(), key.entry, "lint level")?;
+    let krate = kid_at(teller, key.place)?;
+    let nodes = feature_node_at(alloc, teller, key.place, "default")?;
+    let severity = default_severity(teller, key);
+    let words = plainly(alloc, severity, message, labels, krate);
+    Ok(with_features(words, nodes))
+}
+
+// The severity of the level of the feature `default` of the crate of a key.
+#[tactic(auto, unfolding(deny_codes::specs::Features::default_severity))]
+fn default_severity(teller: &Teller<'_>, key: &Key) -> Severity
+    ensures { let c = told_from teller.now in result ≡ default_severity c.policy c.graph key.now }
+{
+    let Some(_krate) = krate_at(teller.krates, key.place) else {
+        return Severity::Warning;
+    };
+    match default_level_at(teller.cfg, teller.krates, key.place) {
+        Some(at) => at.value.severity(),
+        None => Severity::Warning,
+    }
+}
+
+// The feature of a range; none is as an empty text.
+#[tactic(auto, unfolding(deny_codes::specs::Features::feature_at))]
+fn feature_at<'t>(teller: &'t Teller<'_>, range: Span) -> &'t str
+    ensures { result.now ≡ feature_at (told_from teller.now).policy range }
+{
+    match teller.feature(range) {
+        Some(word) => word.value.as_str(),
+        None => "",
+    }
+}
+
+// A sentence about a feature of the crate of a key.
+fn of_feature(
+    alloc: Global,
+    teller: &Teller<'_>,
+    before: &str,
+    feature: &str,
+    between: &str,
+    key: &Key,
+    after: &str,
+) -> Result<Text, NoMemory>
+    ensures { IfOk result (λ text. text ≡ of_feature before.now feature.now between.now (told_from teller.now).graph
+        key.now after.now) }
+{
+    let krate = krate_text(alloc, teller.krates, key.place)?;
+    Ok(Text::from_string(format!(in alloc; "{before}{feature}{between}{krate}{after}")?))
+}
+
+// Words with these crates and features shown, each with all features that lead to it.
+fn with_features(words: Words, nodes: List<GraphNode>) -> Words
+    ensures { result ≡ with_features words nodes }
+{
+    let mut words = words;
+    words.nodes = nodes;
+    words.with_features = true;
+    words
+}
