@@ -1,0 +1,11 @@
+pub mod MapLemmas
+pub mod OrderLemmas
+pub mod GranterLemmas
+pub mod NumberLemmas
+pub mod GrantLemmas
+pub mod AnswerLemmas
+pub mod JudgementLemmas
+pub mod FoundLemmas
+pub mod HitLemmas
+pub mod KeyLemmas
+pub mod ToldLemmas

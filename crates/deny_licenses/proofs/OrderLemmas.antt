@@ -1,0 +1,81 @@
+-- When licences, and entries, are the same.
+use Rattle.std.proofs.Common.{◌≡◌, ◌&&◌, ℕ, Bool, true, false, List, Option, Some, None, refl, sym, ap, ◌∙◌, subst}
+use Rattle.std.specs.Cmp.{Equal-is, IsTotalOrder, nat_cmp_total, on_total, then_total}
+use Rattle.std.specs.Cmp.Lexicographic.{nat_list_cmp_total, options_total, slice_cmp, texts_ties}
+use Rattle.std.specs.FinMap.{IsAntisymmetric}
+use Rattle.std.specs.Option.{option_cmp}
+use Rattle.std.specs.Ordering.{eq_by_cmp, is_eq, nat_cmp, ordering_then}
+use Rattle.std.specs.declared.cmp.Ordering.{Ordering}
+use Rattle.std.specs.declared.cmp.Ordering.TheVariants.{Less, Equal, Greater}
+use Rattle.deny_lists.proofs.Booleans.{tests_agree}
+use Rattle.deny_lists.proofs.Orders.{option_text_cmp-exact, text_cmp-exact, then_first, then_second}
+use Rattle.deny_base.proofs.KeyEqual.{span_cmp-exact, span_cmp-total}
+use Rattle.deny_base.specs.KeyOrder.{span_cmp}
+use Rattle.deny_base.specs.declared.span.Span.{Span}
+use Rattle.deny_spdx.specs.declared.requirement.Requirement.{Requirement}
+use Rattle.deny_model.specs.Wrappers.{same_span}
+use Rattle.deny_codes.specs.Licences.{same_exception, same_requirement}
+use Rattle.deny_facts.proofs.SpanLemmas.{same-span, ties}
+use Rattle.deny_licenses.specs.declared.granter.Granter.{Granter}
+use Rattle.deny_licenses.specs.declared.granter.Granter.TheVariants as granter
+use Rattle.deny_licenses.specs.declared.grants.Wanted.{Wanted}
+use Rattle.deny_licenses.specs.private.Granters.{granter_cmp, granter_number, granter_range}
+use Rattle.deny_licenses.specs.private.Grants.{same_wanted, wanted_cmp, wanted_of}
+use Rattle.deny_licenses.proofs.MapLemmas.{turned}
+
+-- ---- licences
+
+wanted_from : List ℕ → Option (List ℕ) → Wanted
+wanted_from id exception = record { id = id; exception = exception }
+
+wanted_from-is : (w : Wanted) → wanted_from w.id w.exception ≡ w
+unfolding wanted_from
+wanted_from-is w = refl
+
+pub wanted_cmp-exact : IsAntisymmetric wanted_cmp
+wanted_cmp-exact a b e =
+    let id : a.id ≡ b.id = text_cmp-exact a.id b.id (then_first _ _ e) in
+    let exception : a.exception ≡ b.exception =
+    option_text_cmp-exact a.exception b.exception (then_second (slice_cmp nat_cmp a.id b.id) _ e) in
+    cc (wanted_from-is a, wanted_from-is b)
+
+pub wanted_cmp-total : IsTotalOrder wanted_cmp
+wanted_cmp-total =
+    then_total (on_total (λ (w : Wanted). w.id) nat_list_cmp_total)
+    (on_total (λ (w : Wanted). w.exception) (options_total nat_list_cmp_total))
+
+exceptions-tie : (x y : Option (List ℕ)) → same_exception x y ≡ is_eq (option_cmp (slice_cmp nat_cmp) x y)
+exceptions-tie None None = refl
+exceptions-tie None (Some y) = refl
+exceptions-tie (Some x) None = refl
+exceptions-tie (Some x) (Some y) = texts_ties x y
+
+both_tie : (a b : Bool) (r s : Ordering) → a ≡ is_eq r → b ≡ is_eq s → a && b ≡ is_eq (ordering_then r s)
+both_tie a b Less s e f = rw e refl
+both_tie a b Equal s e f = rw e f
+both_tie a b Greater s e f = rw e refl
+
+pub same-licence : (r s : Requirement) → same_wanted (wanted_of r) (wanted_of s) ≡ same_requirement s r
+unfolding same_requirement
+same-licence r s =
+    sym (turned wanted_cmp-total wanted_cmp-exact (wanted_of r) (wanted_of s))
+    ∙ sym (both_tie _ _ _ _ (texts_ties s.id r.id) (exceptions-tie s.exception r.exception))
+
+-- ---- entries
+
+pub granter_cmp-exact : IsAntisymmetric granter_cmp
+granter_cmp-exact (granter.Allowance r) (granter.Allowance s) e = ap granter.Allowance (span_cmp-exact r s e)
+granter_cmp-exact (granter.Exception r) (granter.Exception s) e = ap granter.Exception (span_cmp-exact r s e)
+granter_cmp-exact (granter.Allowance r) (granter.Exception s) e = absurd (cc e)
+granter_cmp-exact (granter.Exception r) (granter.Allowance s) e = absurd (cc e)
+
+pub granter_cmp-total : IsTotalOrder granter_cmp
+granter_cmp-total = then_total (on_total granter_number nat_cmp_total) (on_total granter_range span_cmp-total)
+
+flipped : (a b : Span) → same_span a b ≡ true → same_span b a ≡ true
+flipped a b same = let one = same-span a b same in
+    subst (λ (s : Span). same_span s a ≡ true) one (subst (λ (s : Span). same_span a s ≡ true) (sym one) same)
+
+-- ranges tie exactly where they are the same
+pub tied : (a b : Span) → eq_by_cmp span_cmp a b ≡ same_span b a
+tied a b = ties a b ∙ tests_agree (same_span a b) (same_span b a) (flipped a b) (flipped b a)

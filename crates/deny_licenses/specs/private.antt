@@ -1,0 +1,9 @@
+pub mod Answers
+pub mod Counted
+pub mod Found
+pub mod Granters
+pub mod Grants
+pub mod Granting
+pub mod Judgements
+pub mod Told
+pub mod Witnesses

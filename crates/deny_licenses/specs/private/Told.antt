@@ -1,0 +1,66 @@
+-- What is told of a crate by what was found of it, and of an entry that grants nothing.
+use Rattle.std.specs.Prelude.{◌++◌, ◌∷◌, ℕ, List, [], None, Some, codes}
+use Rattle.std.specs.Fmt.{decimal}
+use Rattle.deny_base.specs.Level.{severity_of}
+use Rattle.deny_base.specs.declared.finding.Pack.{Pack}
+use Rattle.deny_base.specs.declared.key.Key.{Key}
+use Rattle.deny_base.specs.declared.key.Section.TheVariants as section
+use Rattle.deny_base.specs.declared.level.LintLevel.{LintLevel}
+use Rattle.deny_base.specs.declared.level.Severity.{Severity}
+use Rattle.deny_base.specs.declared.level.Severity.TheVariants as severity
+use Rattle.deny_model.specs.Graph.{Crate, crate_text, kid_of}
+use Rattle.deny_model.specs.Told.{primary}
+use Rattle.deny_codes.specs.Licences.{license_key, licence_text, licensed_key, with_text}
+use Rattle.deny_codes.specs.Telling.{plainly}
+use Rattle.deny_codes.specs.Told.{pack_of}
+use Rattle.deny_codes.specs.declared.words.Words.{Words}
+use Rattle.deny_licenses.specs.declared.granter.Granter.{Granter}
+use Rattle.deny_licenses.specs.declared.granter.Granter.TheVariants as granter
+use Rattle.deny_licenses.specs.declared.judgement.Judgement.{Judgement}
+use Rattle.deny_licenses.specs.declared.judgement.Judgement.TheVariants as judgement
+use Rattle.deny_licenses.specs.private.Granters.{granter_range, unused_code}
+use Rattle.deny_licenses.specs.private.Judgements.{code_of}
+
+abbrev pub crate_words : Crate → Severity → List ℕ → List (List ℕ) → Words
+crate_words c severity message notes = record (plainly severity message [] (Some (kid_of c))) { notes = notes }
+
+abbrev pub judged_message : Crate → Judgement → List ℕ
+judged_message c judgement.Private = codes "skipping private workspace crate '" ++ (crate_text c ++ codes "'")
+judged_message c judgement.Unlicensed = codes "crate '" ++ (crate_text c ++ codes "' is unlicensed")
+judged_message c (judgement.Unreadable at) =
+    codes "license expression of crate '" ++ (crate_text c ++ (codes "' can't be read at byte " ++ decimal at))
+judged_message c (judgement.Accepted granters) = codes "license requirements satisfied"
+judged_message c (judgement.Rejected granters notes) = codes "failed to satisfy license requirements"
+
+abbrev pub judged_notes : Crate → Judgement → List (List ℕ)
+judged_notes c judgement.Private = []
+judged_notes c judgement.Unlicensed = []
+judged_notes c (judgement.Unreadable at) = with_text (licence_text c) ∷ []
+judged_notes c (judgement.Accepted granters) = with_text (licence_text c) ∷ []
+judged_notes c (judgement.Rejected granters notes) = with_text (licence_text c) ∷ notes
+
+abbrev pub judged_severity : Judgement → Severity
+judged_severity judgement.Private = severity.Note
+judged_severity judgement.Unlicensed = severity.Error
+judged_severity (judgement.Unreadable at) = severity.Error
+judged_severity (judgement.Accepted granters) = severity.Note
+judged_severity (judgement.Rejected granters notes) = severity.Error
+
+abbrev pub judged_words : Crate → Judgement → Words
+judged_words c j = crate_words c (judged_severity j) (judged_message c j) (judged_notes c j)
+
+unfoldable pub judged_pack : Crate → Judgement → Pack
+judged_pack c j = pack_of (licensed_key (code_of j) c) (judged_words c j)
+
+abbrev pub unused_key : Granter → Key
+unused_key by = license_key section.LicensesUnused (unused_code by) 0 (granter_range by)
+
+abbrev pub unused_words : LintLevel → ℕ → Granter → Words
+unused_words level file (granter.Allowance range) = plainly (severity_of level) (codes "license was not encountered")
+    (primary file range (codes "unmatched license allowance") ∷ []) None
+unused_words level file (granter.Exception range) =
+    plainly severity.Warning (codes "license exception was not encountered")
+    (primary file range (codes "unmatched license exception") ∷ []) None
+
+unfoldable pub unused_pack : LintLevel → ℕ → Granter → Pack
+unused_pack level file by = pack_of (unused_key by) (unused_words level file by)

@@ -1,0 +1,58 @@
+//! The licence check.
+ghost use Rattle.std.specs.Prelude.{◌≡◌, ◌++◌, IfOk, OnErr, OnOk};
+ghost use Rattle.deny_licenses.specs.Check.{IsLicensed};
+ghost use Rattle.deny_cfg.specs.LicensingView.{licensing_view};
+
+use crate::counted::counted_places;
+use crate::entries::{granters_of, hits_of, unused_of};
+use crate::found::found_at;
+use crate::granting::Granting;
+use crate::told::tell_unused;
+use deny_base::{FileId, Hit, Pack};
+use deny_cfg::licenses::ValidConfig;
+use deny_facts::are_placed;
+use deny_krates::Krates;
+use deny_lists::{List, NoMemory};
+use std::alloc::Global;
+
+/// Appends what is told of licences, one pack for each crate or entry, in the order of their keys:
+/// first of the crates that count, in graph order, and then of the licences and of the exceptions of
+/// the policy that grant nothing. The number is that of the policy's file.
+///
+/// A crate counts where a chain without dev edges leads to it from a member of the workspace, or
+/// where the policy counts all. There is one hit for each licence and exception that grants something
+/// to a crate, by the first such crate in graph order: those of licences first, in the policy's order.
+///
+/// Where memory runs out, nothing was appended.
+pub fn check(
+    alloc: Global,
+    cfg: &ValidConfig,
+    krates: &Krates,
+    id: FileId,
+    sink: &mut List<Pack>,
+) -> Result<List<Hit>, NoMemory>
+    ensures checked { IfOk result (IsLicensed (licensing_view cfg.now) krates.now id sink.old sink.new) }
+    ensures unchanged { OnErr result (sink.new ≡ sink.old) }
+{
+    are_placed(krates);
+    let granting = Granting::new(alloc, cfg)?;
+    let places = counted_places(alloc, cfg.include_dev, krates)?;
+    let found = found_at(alloc, &granting, krates, places.as_slice())?;
+    let granters = granters_of(alloc, cfg)?;
+    let hits = hits_of(alloc, krates, granters.as_slice(), &found.witnesses)?;
+    let unused = unused_of(alloc, granters.as_slice(), &found.witnesses)?;
+    let mut packs = found.packs;
+    tell_unused(alloc, cfg.unused_allowed, id, unused.as_slice(), &mut packs)?;
+    append(sink, packs)?;
+    Ok(hits)
+}
+
+/// Moves packs behind others, all of them or none.
+fn append(sink: &mut List<Pack>, packs: List<Pack>) -> Result<(), NoMemory>
+    ensures ok { OnOk result (sink.new ≡ sink.old ++ packs) }
+    ensures err { OnErr result (sink.new ≡ sink.old) }
+{
+    let mut packs = packs;
+    sink.vec.append(&mut packs.vec)?;
+    Ok(())
+}
