@@ -1,0 +1,5 @@
+pub mod AgreeLemmas
+pub mod ReaderLemmas
+pub mod SpellingLemmas
+pub mod SplitLemmas
+pub mod TokenLemmas

@@ -1,0 +1,283 @@
+-- A reader accepts exactly the tokens of `cfg(..)` around an expression.
+use Rattle.std.proofs.Common.{◌≡◌, ℕ, nat_eq, Bool, true, false, List, [], ◌∷◌, ◌++◌, Some, None, refl, sym, ◌∙◌, ap, subst, append_assoc, append-nil, if◌then◌else◌, codes}
+use Rattle.std.specs.Cmp.Lexicographic.{pointwise, same_text}
+use Rattle.deny_targets.specs.declared.token.Token.{Token}
+use Rattle.deny_targets.specs.declared.token.Token.TheVariants.{Name, All, Any, Not, Quoted, Equals, Comma, Open, Close}
+use Rattle.deny_targets.specs.declared.reader.Holder.{Holder}
+use Rattle.deny_targets.specs.declared.reader.Holder.TheVariants.{One, Several}
+use Rattle.deny_targets.specs.declared.reader.Phase.{Phase}
+use Rattle.deny_targets.specs.declared.reader.Phase.TheVariants as phase
+use Rattle.deny_targets.specs.Grammar.{Tree, name, value, all, any, not, Trees, IsExpression, is_name, is_value, is_all, is_any, is_not, AreArguments, no_more, last, comma, IsCfg}
+use Rattle.deny_targets.specs.private.Reader.{reader, start, at_key, at_head, at_expression, closed, at_argument, next_argument, at_whole, at_name, at_value, step, is_done, if_some, accepts}
+
+-- ---- what is spelled is accepted
+
+-- what may follow an expression
+data Follows : List Token → Type 0 where
+  comma_first : (rest : List Token) → Follows (Comma ∷ rest)
+  close_first : (rest : List Token) → Follows (Close ∷ rest)
+
+name_then : {rest : List Token} (brackets : List Holder) → Follows rest
+    → accepts (reader brackets phase.Name) rest ≡ accepts (reader brackets phase.Whole) rest
+unfolding step at_name at_whole
+name_then brackets (comma_first rest) = refl
+name_then brackets (close_first rest) = refl
+
+-- where arguments begin, an expression may
+argument_first : {tokens : List Token} {tree : Tree} (brackets : List Holder) (rest : List Token)
+    → IsExpression tokens tree
+    → accepts (reader brackets phase.Argument) (tokens ++ rest)
+    ≡ accepts (reader brackets phase.Expression) (tokens ++ rest)
+unfolding step at_argument at_expression
+argument_first brackets rest (is_name word) = refl
+argument_first brackets rest (is_value word text) = refl
+argument_first brackets rest (is_all tokens d) = refl
+argument_first brackets rest (is_any tokens d) = refl
+argument_first brackets rest (is_not tokens d) = refl
+
+mutual
+  unfolding step at_expression at_name at_value at_head at_argument at_whole closed next_argument
+
+  expression_read : {tokens : List Token} {tree : Tree} (brackets : List Holder) (rest : List Token)
+      → IsExpression tokens tree → Follows rest
+      → accepts (reader brackets phase.Expression) (tokens ++ rest) ≡ accepts (reader brackets phase.Whole) rest
+  expression_read brackets rest (is_name word) f = name_then brackets f
+  expression_read brackets rest (is_value word text) f = refl
+  expression_read brackets rest (is_all tokens d) f =
+      ap (accepts (reader (Several ∷ brackets) phase.Argument)) (append_assoc tokens (Close ∷ []) rest)
+      ∙ arguments_read brackets rest d
+  expression_read brackets rest (is_any tokens d) f =
+      ap (accepts (reader (Several ∷ brackets) phase.Argument)) (append_assoc tokens (Close ∷ []) rest)
+      ∙ arguments_read brackets rest d
+  expression_read brackets rest (is_not tokens d) f =
+      ap (accepts (reader (One ∷ brackets) phase.Expression)) (append_assoc tokens (Close ∷ []) rest)
+      ∙ expression_read (One ∷ brackets) (Close ∷ rest) d (close_first rest)
+
+  arguments_read : {tokens : List Token} {trees : Trees} (brackets : List Holder) (rest : List Token)
+      → AreArguments tokens trees
+      → accepts (reader (Several ∷ brackets) phase.Argument) (tokens ++ Close ∷ rest)
+      ≡ accepts (reader brackets phase.Whole) rest
+  arguments_read brackets rest no_more = refl
+  arguments_read brackets rest (last tokens d) = argument_first (Several ∷ brackets) (Close ∷ rest) d
+      ∙ expression_read (Several ∷ brackets) (Close ∷ rest) d (close_first rest)
+  arguments_read brackets rest (comma tokens more d ds) =
+      ap (accepts (reader (Several ∷ brackets) phase.Argument)) (append_assoc tokens (Comma ∷ more) (Close ∷ rest))
+      ∙ (argument_first (Several ∷ brackets) (Comma ∷ (more ++ Close ∷ rest)) d
+      ∙ (expression_read (Several ∷ brackets) (Comma ∷ (more ++ Close ∷ rest)) d (comma_first (more ++ Close ∷ rest))
+      ∙ arguments_read brackets rest ds))
+
+pub cfg_accepted : (tokens : List Token) (tree : Tree) → IsCfg tokens tree → accepts start tokens ≡ true
+unfolding step at_key at_head at_whole closed
+cfg_accepted tokens tree d = ap (accepts start) d.around
+    ∙ expression_read (One ∷ []) (Close ∷ []) d.expression (close_first [])
+
+-- ---- what is accepted is spelled
+
+-- the tokens make an expression whole
+data Front : Phase → List Token → Type 0 where
+  of_whole : Front phase.Whole []
+  of_name : Front phase.Name []
+  of_equals : (text : List ℕ) → Front phase.Name (Equals ∷ Quoted text ∷ [])
+  of_value : (text : List ℕ) → Front phase.Value (Quoted text ∷ [])
+  of_one : (tokens : List Token) {tree : Tree} → IsExpression tokens tree
+      → Front (phase.Head One) (Open ∷ (tokens ++ Close ∷ []))
+  of_several : (tokens : List Token) {trees : Trees} → AreArguments tokens trees
+      → Front (phase.Head Several) (Open ∷ (tokens ++ Close ∷ []))
+  of_expression : {tokens : List Token} (tree : Tree) → IsExpression tokens tree → Front phase.Expression tokens
+  of_argument : {tokens : List Token} (tree : Tree) → IsExpression tokens tree → Front phase.Argument tokens
+  of_key : {tokens : List Token} (tree : Tree) → IsCfg tokens tree → Front phase.Key tokens
+
+-- what may stand between an expression and the end of its parenthesis
+data Behind : Holder → List Token → Type 0 where
+  nothing : (holder : Holder) → Behind holder []
+  others : (tokens : List Token) {trees : Trees} → AreArguments tokens trees → Behind Several (Comma ∷ tokens)
+
+-- the tokens close what is open, behind an expression
+data Closes : List Holder → List Token → Type 0 where
+  end : Closes [] []
+  close : {holder : Holder} {outer : List Holder} (front rest : List Token) → Behind holder front → Closes outer rest
+      → Closes (holder ∷ outer) (front ++ Close ∷ rest)
+
+-- the tokens complete what a reader has begun
+data Completes : Phase → List Holder → List Token → Type 0 where
+  by_front : {p : Phase} {brackets : List Holder} (front rest : List Token) → Front p front → Closes brackets rest
+      → Completes p brackets (front ++ rest)
+  at_once : {holder : Holder} {outer : List Holder} (rest : List Token) → Closes outer rest
+      → Completes phase.Argument (holder ∷ outer) (Close ∷ rest)
+
+closes_from : {brackets : List Holder} (xs ys : List Token) → xs ≡ ys → Closes brackets xs → Closes brackets ys
+closes_from {brackets} xs ys e d = let P : List Token → Type 0 = λ x. Closes brackets x in subst P e d
+
+completes_from : {p : Phase} {brackets : List Holder} (xs ys : List Token) → xs ≡ ys → Completes p brackets xs
+    → Completes p brackets ys
+completes_from {p} {brackets} xs ys e d = let P : List Token → Type 0 = λ x. Completes p brackets x in subst P e d
+
+as_closes : {brackets : List Holder} {tokens : List Token} → Completes phase.Whole brackets tokens
+    → Closes brackets tokens
+as_closes (by_front front rest of_whole d) = d
+
+-- an expression, and what closes the rest
+data HasExpression : List Holder → List Token → Type 0 where
+  has : {brackets : List Holder} (front rest : List Token) (tree : Tree) → IsExpression front tree
+      → Closes brackets rest → HasExpression brackets (front ++ rest)
+
+to_expression : {brackets : List Holder} {tokens : List Token} → HasExpression brackets tokens
+    → Completes phase.Expression brackets tokens
+to_expression (has front rest tree d c) = by_front front rest (of_expression tree d) c
+
+to_argument : {brackets : List Holder} {tokens : List Token} → HasExpression brackets tokens
+    → Completes phase.Argument brackets tokens
+to_argument (has front rest tree d c) = by_front front rest (of_argument tree d) c
+
+after_name : {brackets : List Holder} {tokens : List Token} (word : List ℕ) → Completes phase.Name brackets tokens
+    → HasExpression brackets (Name word ∷ tokens)
+after_name word (by_front front rest of_name c) = has (Name word ∷ []) rest (name word) (is_name word) c
+after_name word (by_front front rest (of_equals text) c) =
+    has (Name word ∷ Equals ∷ Quoted text ∷ []) rest (value word text) (is_value word text) c
+
+after_all : {brackets : List Holder} {tokens : List Token} → Completes (phase.Head Several) brackets tokens
+    → HasExpression brackets (All ∷ tokens)
+after_all (by_front front rest (of_several tokens {trees = trees} d) c) =
+    has (All ∷ Open ∷ (tokens ++ Close ∷ [])) rest (all trees) (is_all tokens d) c
+
+after_any : {brackets : List Holder} {tokens : List Token} → Completes (phase.Head Several) brackets tokens
+    → HasExpression brackets (Any ∷ tokens)
+after_any (by_front front rest (of_several tokens {trees = trees} d) c) =
+    has (Any ∷ Open ∷ (tokens ++ Close ∷ [])) rest (any trees) (is_any tokens d) c
+
+after_not : {brackets : List Holder} {tokens : List Token} → Completes (phase.Head One) brackets tokens
+    → HasExpression brackets (Not ∷ tokens)
+after_not (by_front front rest (of_one tokens {tree = tree} d) c) =
+    has (Not ∷ Open ∷ (tokens ++ Close ∷ [])) rest (not tree) (is_not tokens d) c
+
+-- one expression in its parenthesis
+one_enclosed : {brackets : List Holder} {tree : Tree} (front rest : List Token) → IsExpression front tree
+    → Closes (One ∷ brackets) rest → Completes (phase.Head One) brackets (Open ∷ (front ++ rest))
+one_enclosed front rest d (close behind after (nothing holder) c) =
+    completes_from _ _ (ap (λ x. Open ∷ x) (append_assoc front (Close ∷ []) after))
+    (by_front (Open ∷ (front ++ Close ∷ [])) after (of_one front d) c)
+
+head_one : {brackets : List Holder} {tokens : List Token} → Completes phase.Expression (One ∷ brackets) tokens
+    → Completes (phase.Head One) brackets (Open ∷ tokens)
+head_one (by_front front rest (of_expression tree d) c) = one_enclosed front rest d c
+
+-- arguments in their parenthesis
+enclosed : {brackets : List Holder} {trees : Trees} (tokens rest whole : List Token) → AreArguments tokens trees
+    → Closes brackets rest → tokens ++ Close ∷ rest ≡ whole → Completes (phase.Head Several) brackets (Open ∷ whole)
+enclosed tokens rest whole d c e =
+    completes_from _ _ (ap (λ x. Open ∷ x) (append_assoc tokens (Close ∷ []) rest ∙ e))
+    (by_front (Open ∷ (tokens ++ Close ∷ [])) rest (of_several tokens d) c)
+
+several_enclosed : {brackets : List Holder} {tree : Tree} (front rest : List Token) → IsExpression front tree
+    → Closes (Several ∷ brackets) rest → Completes (phase.Head Several) brackets (Open ∷ (front ++ rest))
+several_enclosed front rest d (close behind after (nothing holder) c) =
+    enclosed front after (front ++ Close ∷ after) (last front d) c refl
+several_enclosed front rest d (close behind after (others tokens ds) c) =
+    enclosed (front ++ Comma ∷ tokens) after (front ++ Comma ∷ (tokens ++ Close ∷ after)) (comma front tokens d ds) c
+    (append_assoc front (Comma ∷ tokens) (Close ∷ after))
+
+head_several : {brackets : List Holder} {tokens : List Token} → Completes phase.Argument (Several ∷ brackets) tokens
+    → Completes (phase.Head Several) brackets (Open ∷ tokens)
+head_several (by_front front rest (of_argument tree d) c) = several_enclosed front rest d c
+head_several (at_once rest c) = enclosed [] rest (Close ∷ rest) no_more c refl
+
+after_equals : {brackets : List Holder} {tokens : List Token} → Completes phase.Value brackets tokens
+    → Completes phase.Name brackets (Equals ∷ tokens)
+after_equals (by_front front rest (of_value text) c) = by_front (Equals ∷ Quoted text ∷ []) rest (of_equals text) c
+
+-- one argument more, behind a comma
+more_closes : {brackets : List Holder} {tree : Tree} (front rest : List Token) → IsExpression front tree
+    → Closes (Several ∷ brackets) rest → Closes (Several ∷ brackets) (Comma ∷ (front ++ rest))
+more_closes front rest d (close behind after (nothing holder) c) =
+    close (Comma ∷ front) after (others front (last front d)) c
+more_closes front rest d (close behind after (others tokens ds) c) =
+    closes_from _ _ (ap (λ x. Comma ∷ x) (append_assoc front (Comma ∷ tokens) (Close ∷ after)))
+    (close (Comma ∷ (front ++ Comma ∷ tokens)) after (others (front ++ Comma ∷ tokens) (comma front tokens d ds)) c)
+
+after_comma : {brackets : List Holder} {tokens : List Token} → Completes phase.Argument (Several ∷ brackets) tokens
+    → Closes (Several ∷ brackets) (Comma ∷ tokens)
+after_comma (by_front front rest (of_argument tree d) c) = more_closes front rest d c
+after_comma (at_once rest c) = close (Comma ∷ []) rest (others [] no_more) c
+
+after_key : {brackets : List Holder} {tokens : List Token} (word : List ℕ) → word ≡ codes "cfg"
+    → Completes (phase.Head One) brackets tokens → Completes phase.Key brackets (Name word ∷ tokens)
+after_key word e (by_front front rest (of_one tokens {tree = tree} d) c) =
+    by_front (Name word ∷ Open ∷ (tokens ++ Close ∷ [])) rest
+    (of_key tree (record {
+      inner = tokens;
+      expression = d;
+      around = ap (λ w. Name w ∷ Open ∷ (tokens ++ Close ∷ [])) e;
+    })) c
+
+-- what the rest completes, from each reader on
+abbrev Goes : List Token → Type 0
+Goes tokens = (brackets : List Holder) (p : Phase) → accepts (reader brackets p) tokens ≡ true
+    → Completes p brackets tokens
+
+key_word : (word : List ℕ) (tokens : List Token) (brackets : List Holder) → Goes tokens → (t : Bool)
+    → pointwise nat_eq word (codes "cfg") ≡ t
+    → if_some (λ after. accepts after tokens) (if t then Some (reader brackets (phase.Head One)) else None) ≡ true
+    → Completes phase.Key brackets (Name word ∷ tokens)
+key_word word tokens brackets go true same e =
+    after_key word (same_text word (codes "cfg") (sym same)) (go brackets (phase.Head One) e)
+key_word word tokens brackets go false same e = absurd (cc e)
+
+closed_by : (tokens : List Token) (brackets : List Holder) → Goes tokens
+    → if_some (λ after. accepts after tokens) (closed brackets) ≡ true → Closes brackets (Close ∷ tokens)
+unfolding closed
+closed_by tokens [] go e = absurd (cc e)
+closed_by tokens (holder ∷ outer) go e = close [] tokens (nothing holder) (as_closes (go outer phase.Whole e))
+
+comma_by : (tokens : List Token) (brackets : List Holder) → Goes tokens
+    → if_some (λ after. accepts after tokens) (next_argument brackets) ≡ true → Closes brackets (Comma ∷ tokens)
+unfolding next_argument
+comma_by tokens [] go e = absurd (cc e)
+comma_by tokens (One ∷ outer) go e = absurd (cc e)
+comma_by tokens (Several ∷ outer) go e = after_comma (go (Several ∷ outer) phase.Argument e)
+
+closed_argument : (tokens : List Token) (brackets : List Holder) → Goes tokens
+    → if_some (λ after. accepts after tokens) (closed brackets) ≡ true
+    → Completes phase.Argument brackets (Close ∷ tokens)
+unfolding closed
+closed_argument tokens [] go e = absurd (cc e)
+closed_argument tokens (holder ∷ outer) go e = at_once tokens (as_closes (go outer phase.Whole e))
+
+at_end : (p : Phase) (brackets : List Holder) → is_done (reader brackets p) ≡ true → Completes p brackets []
+at_end phase.Whole [] e = by_front [] [] of_whole end
+at_end phase.Whole (holder ∷ outer) e = absurd (cc e)
+at_end p brackets e = absurd (cc e)
+
+one_step : (p : Phase) (token : Token) (tokens : List Token) (brackets : List Holder) → Goes tokens
+    → accepts (reader brackets p) (token ∷ tokens) ≡ true → Completes p brackets (token ∷ tokens)
+unfolding step at_key at_head at_expression at_argument at_name at_value at_whole
+one_step phase.Key (Name word) tokens brackets go e = key_word word tokens brackets go _ refl e
+one_step (phase.Head One) Open tokens brackets go e = head_one (go (One ∷ brackets) phase.Expression e)
+one_step (phase.Head Several) Open tokens brackets go e = head_several (go (Several ∷ brackets) phase.Argument e)
+one_step phase.Expression (Name word) tokens brackets go e = to_expression (after_name word (go brackets phase.Name e))
+one_step phase.Expression All tokens brackets go e = to_expression (after_all (go brackets (phase.Head Several) e))
+one_step phase.Expression Any tokens brackets go e = to_expression (after_any (go brackets (phase.Head Several) e))
+one_step phase.Expression Not tokens brackets go e = to_expression (after_not (go brackets (phase.Head One) e))
+one_step phase.Argument (Name word) tokens brackets go e = to_argument (after_name word (go brackets phase.Name e))
+one_step phase.Argument All tokens brackets go e = to_argument (after_all (go brackets (phase.Head Several) e))
+one_step phase.Argument Any tokens brackets go e = to_argument (after_any (go brackets (phase.Head Several) e))
+one_step phase.Argument Not tokens brackets go e = to_argument (after_not (go brackets (phase.Head One) e))
+one_step phase.Argument Close tokens brackets go e = closed_argument tokens brackets go e
+one_step phase.Name Equals tokens brackets go e = after_equals (go brackets phase.Value e)
+one_step phase.Name Comma tokens brackets go e = by_front [] (Comma ∷ tokens) of_name (comma_by tokens brackets go e)
+one_step phase.Name Close tokens brackets go e = by_front [] (Close ∷ tokens) of_name (closed_by tokens brackets go e)
+one_step phase.Value (Quoted text) tokens brackets go e =
+    by_front (Quoted text ∷ []) tokens (of_value text) (as_closes (go brackets phase.Whole e))
+one_step phase.Whole Comma tokens brackets go e = by_front [] (Comma ∷ tokens) of_whole (comma_by tokens brackets go e)
+one_step phase.Whole Close tokens brackets go e = by_front [] (Close ∷ tokens) of_whole (closed_by tokens brackets go e)
+one_step p token tokens brackets go e = absurd (cc e)
+
+completes : (tokens : List Token) → Goes tokens
+completes [] = λ brackets p e. at_end p brackets e
+completes (token ∷ tokens) = λ brackets p e. one_step p token tokens brackets (completes tokens) e
+
+key_whole : {tokens : List Token} → Completes phase.Key [] tokens → (tree : Tree) × IsCfg tokens tree
+key_whole (by_front front rest (of_key tree d) end) = let P : List Token → Type 0 = λ x. IsCfg x tree in
+    (tree, subst P (sym (append-nil front)) d)
+
+pub accepted_cfg : (tokens : List Token) → accepts start tokens ≡ true → (tree : Tree) × IsCfg tokens tree
+accepted_cfg tokens e = key_whole (completes tokens [] phase.Key e)
