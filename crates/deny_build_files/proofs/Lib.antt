@@ -1,0 +1,4 @@
+pub mod FrontLemmas
+pub mod HashingLemmas
+mod HeaderRows
+pub mod ScriptLemmas

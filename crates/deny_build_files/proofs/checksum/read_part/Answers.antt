@@ -1,0 +1,16 @@
+use Rattle.std.proofs.Common.{arith}
+use Rattle.deny_build_files.proofs.HashingLemmas.{hashing_more, hashing_ended, none_left}
+use Rattle.deny_build_files.proofs.checksum.read_part.Goals as goal
+
+pub returns-clause-hashing : goal.returns-clause-hashing
+returns-clause-hashing g c = λ start hashing _.
+    let read = c.in_ok-n.ensures in
+    hashing_more start (g.D.PackageFiles.seen c.args.disk.now) (g.D.PackageFiles.seen c.read_at.new.self)
+    c.args.path.now c.read_at.new.buf c.args.hasher.now c.update.new.self c.args.count.now c.in_ok-n.n read.bound
+    hashing read.later read.given read.bytes c.update.ensures
+
+pub returns-clause-ended : goal.returns-clause-ended
+returns-clause-ended g c = λ start hashing last.
+    let read = c.in_ok-n.ensures in
+    hashing_ended start (g.D.PackageFiles.seen c.args.disk.now) c.args.path.now c.read_at.new.buf c.args.hasher.now
+    c.update.new.self c.args.count.now c.in_ok-n.n (none_left c.in_ok-n.n last) (omega arith) hashing read.bytes c.update.ensures

@@ -1,0 +1,4 @@
+pub mod CheckEnd
+pub mod Header
+pub mod Script
+pub mod private

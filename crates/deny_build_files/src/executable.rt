@@ -1,0 +1,102 @@
+ghost use Rattle.std.specs.Prelude.{◌≡◌, ◌+◌, ◌≤◌, IfOk, IfSome, IsErrOf};
+ghost use Rattle.deny_outside.specs.Disk.{IsLater, FailedAt, bytes_at};
+ghost use Rattle.deny_outside.specs.declared.disk.Call.TheVariants.{Read};
+ghost use Rattle.deny_build_files.specs.Header.{executable_in, native_kind, is_mach};
+
+use crate::check_end::CheckEnd;
+use crate::front::front_of;
+use crate::script::interpreter_in;
+use deny_lists::{NoMemory, Text};
+use deny_outside::PackageFiles;
+use std::alloc::Global;
+
+/// The formats of native code that the first bytes of a file tell.
+#[derive(Debug, Clone, Copy, PartialEq, Eq)]
+pub enum NativeKind {
+    Elf,
+    Pe,
+    Mach,
+    Archive,
+}
+
+/// How a file is executed.
+#[derive(Debug, PartialEq, Eq, Drop)]
+pub enum ExecutableKind {
+    /// It is native code.
+    Native(NativeKind),
+    /// It is a script, of the interpreter with this name.
+    Interpreted(Text),
+}
+
+/// Whether the file at `path` is executable, by its first bytes; archives are none where
+/// `exclude_archives` says so. At most 256 bytes are read, and by one call where that gives enough.
+///
+/// `Fault` comes only where a read of this path failed, and `Long` never.
+pub fn check_is_executable<D: PackageFiles>(
+    alloc: Global,
+    disk: &mut D,
+    path: &str,
+    exclude_archives: bool,
+) -> Result<Option<ExecutableKind>, CheckEnd>
+    ensures kind { IfOk result (λ kind. IfSome (D.seen disk.old).files
+        (λ files. kind ≡ executable_in exclude_archives path.now (bytes_at files path.now))) }
+    ensures few { IfOk result (λ _. (D.seen disk.new).given ≤ (D.seen disk.old).given + 256) }
+    ensures later { IsLater (D.seen disk.old) (D.seen disk.new) }
+    ensures fault { IsErrOf result CheckEnd.Fault → FailedAt (D.seen disk.old) (D.seen disk.new) Read path.now }
+    ensures never_long { IsErrOf result CheckEnd.Long → ⊥ }
+{
+    let front = front_of(alloc, disk, path)?;
+    Ok(executable_in(alloc, path, front.as_slice(), exclude_archives)?)
+}
+
+/// What a file with this front is, where that tells it.
+#[tactic(auto, unfolding(crate::specs::Header::executable_in))]
+fn executable_in(
+    alloc: Global,
+    path: &str,
+    front: &[u8],
+    exclude_archives: bool,
+) -> Result<Option<ExecutableKind>, NoMemory>
+    ensures { IfOk result (λ kind. kind ≡ executable_in exclude_archives path.now front.now) }
+{
+    if front.len() < 16 {
+        return Ok(None);
+    }
+    match native_kind(&front[..16]) {
+        Some(NativeKind::Archive) if exclude_archives => Ok(None),
+        Some(kind) => Ok(Some(ExecutableKind::Native(kind))),
+        None => match interpreter_in(alloc, path, front)? {
+            Some(name) => Ok(Some(ExecutableKind::Interpreted(name))),
+            None => Ok(None),
+        },
+    }
+}
+
+/// The format that the first bytes of a file tell.
+#[tactic(auto, unfolding(crate::specs::Header::native_kind))]
+fn native_kind(header: &[u8]) -> Option<NativeKind>
+    ensures { result ≡ native_kind header.now }
+{
+    if header.starts_with(b"\x7fELF") {
+        Some(NativeKind::Elf)
+    } else if header.starts_with(b"MZ") {
+        Some(NativeKind::Pe)
+    } else if is_mach(header) {
+        Some(NativeKind::Mach)
+    } else if header.starts_with(b"!<arch>\n") {
+        Some(NativeKind::Archive)
+    } else {
+        None
+    }
+}
+
+#[tactic(auto, unfolding(crate::specs::Header::is_mach))]
+fn is_mach(header: &[u8]) -> bool
+    ensures { result ≡ is_mach header.now }
+{
+    header.starts_with(&[0xfe, 0xed, 0xfa, 0xce])
+        || header.starts_with(&[0xce, 0xfa, 0xed, 0xfe])
+        || header.starts_with(&[0xfe, 0xed, 0xfa, 0xcf])
+        || header.starts_with(&[0xcf, 0xfa, 0xed, 0xfe])
+        || header.starts_with(&[0xca, 0xfe, 0xba, 0xbe])
+}

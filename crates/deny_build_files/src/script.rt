@@ -1,0 +1,129 @@
+//! The interpreter that the first line of a script names.
+ghost use Rattle.std.specs.Prelude.{◌≡◌, ◌==◌, ◌<◌, ◌≤◌, length, map, option_map, option_copied, take, IfOk, IfSome};
+ghost use Rattle.std.specs.List.{position, slice_split};
+ghost use Rattle.deny_build_files.specs.Script.{interpreter_in, interpreter_by, first_line, is_newline, is_rust_path, last_part, named_by, named_in, interpreter_of_text};
+
+use deny_lists::{NoMemory, Text};
+use std::alloc::{AllocError, Global};
+
+/// The name of the interpreter, where a file with this front is a script that names one.
+#[tactic(auto, unfolding(crate::specs::Script::interpreter_in))]
+pub fn interpreter_in(alloc: Global, path: &str, front: &[u8]) -> Result<Option<Text>, NoMemory>
+    ensures { IfOk result (λ name. name ≡ interpreter_in path.now front.now) }
+{
+    if !front.starts_with(b"#!") {
+        return Ok(None);
+    }
+    match first_line(front) {
+        Some(line) => interpreter_of_line(alloc, path, line),
+        None => Ok(None),
+    }
+}
+
+/// The first line, where it ends within the first 256 bytes.
+#[tactic(auto, unfolding(crate::specs::Script::first_line))]
+fn first_line(front: &[u8]) -> Option<&[u8]>
+    ensures { option_copied result ≡ first_line front.now }
+{
+    let bytes = first_bytes(front);
+    let end = newline_in(bytes)?;
+    Some(&bytes[..end])
+}
+
+/// The first 256 bytes, or all.
+fn first_bytes(front: &[u8]) -> &[u8]
+    ensures front { result.now ≡ take 256 front.now }
+    ensures short { length result.now ≤ length front.now }
+{
+    if front.len() > 256 {
+        &front[..256]
+    } else {
+        front
+    }
+}
+
+fn newline_in(bytes: &[u8]) -> Option<usize>
+    ensures place { result ≡ position is_newline bytes.now }
+    ensures within { IfSome result (λ place. place < length bytes.now) }
+{
+    bytes.iter().position(|byte| *byte == b'\n')
+}
+
+#[tactic(auto, unfolding(crate::specs::Script::interpreter_by))]
+fn interpreter_of_line(alloc: Global, path: &str, line: &[u8]) -> Result<Option<Text>, NoMemory>
+    ensures { IfOk result (λ name. name ≡ interpreter_by path.now line.now) }
+{
+    match str::from_utf8(line) {
+        Ok(line) => interpreter_of_text(alloc, path, line),
+        Err(_) => Ok(None),
+    }
+}
+
+fn interpreter_of_text(alloc: Global, path: &str, line: &str) -> Result<Option<Text>, NoMemory>
+    ensures { IfOk result (λ name. name ≡ interpreter_of_text path.now line.now) }
+{
+    if line.as_bytes().starts_with(b"#![") && is_rust_path(alloc, path)? {
+        return Ok(None);
+    }
+    let parts = parts_of(alloc, line, ' ')?;
+    match named_by(alloc, parts.as_slice())? {
+        Some(name) => Ok(Some(Text::from_str(alloc, name)?)),
+        None => Ok(None),
+    }
+}
+
+/// Whether the last component of a path ends with `.rs` after at least one byte.
+#[tactic(auto, unfolding(crate::specs::Script::is_rust_path))]
+fn is_rust_path(alloc: Global, path: &str) -> Result<bool, NoMemory>
+    ensures { IfOk result (λ is. is ≡ is_rust_path path.now) }
+{
+    let name = last_part(alloc, path)?;
+    Ok(name.len() > 3 && name.as_bytes().ends_with(b".rs"))
+}
+
+/// The interpreter that the parts of a line name, without its folder.
+#[tactic(auto, unfolding(crate::specs::Script::named_by))]
+fn named_by<'t>(alloc: Global, parts: &[&'t str]) -> Result<Option<&'t str>, NoMemory>
+    ensures { IfOk result (λ name. option_copied name ≡ named_by (map (λ part. part.now) parts.now)) }
+{
+    match parts {
+        [first, rest @ ..] => {
+            if first.as_bytes().ends_with(b"#!") {
+                named_in(alloc, rest)
+            } else {
+                named_in(alloc, parts)
+            }
+        }
+        [] => Ok(None),
+    }
+}
+
+#[tactic(auto, unfolding(crate::specs::Script::named_in))]
+fn named_in<'t>(alloc: Global, parts: &[&'t str]) -> Result<Option<&'t str>, NoMemory>
+    ensures { IfOk result (λ name. option_copied name ≡ named_in (map (λ part. part.now) parts.now)) }
+{
+    match parts {
+        [] => Ok(None),
+        [part, rest @ ..] if part.as_bytes().ends_with(b"/env") => Ok(rest.first().copied()),
+        [part, ..] => Ok(Some(last_part(alloc, part)?)),
+    }
+}
+
+/// What stands after the last slash; all where there is none.
+#[tactic(auto, unfolding(crate::specs::Script::last_part))]
+fn last_part<'t>(alloc: Global, text: &'t str) -> Result<&'t str, NoMemory>
+    ensures { IfOk result (λ part. part.now ≡ last_part text.now) }
+{
+    let parts = parts_of(alloc, text, '/')?;
+    match parts.as_slice() {
+        [.., last] => Ok(last),
+        [] => Ok(""),
+    }
+}
+
+fn parts_of<'t>(alloc: Global, text: &'t str, cut: char) -> Result<Vec<&'t str>, AllocError>
+    requires { cut < 128 }
+    ensures { IfOk result (λ parts. map (λ part. part.now) parts.items ≡ slice_split (λ b. b == cut) text.now) }
+{
+    text.split(cut).collect(alloc)
+}
