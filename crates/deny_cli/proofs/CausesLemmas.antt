@@ -1,10 +1,11 @@
 -- What follows from the causes of a run's outcomes.
-use Rattle.std.proofs.Common.{◌∙◌, ◌≡◌, ◌≢◌, ◌<◌, ◌^◌, ℕ, IsTrue, Bool, true, false, List, length, Option, None, Some, ap, refl, sym, subst, rules, arith, if◌then◌else◌}
+use Rattle.std.proofs.Common.{◌∙◌, ◌≡◌, ◌≢◌, ◌<◌, ◌==◌, ◌+◌, ◌^◌, ℕ, IsTrue, Bool, true, false, List, length, Option, None, Some, ap, refl, sym, subst, rules, arith, if◌then◌else◌}
 use Rattle.std.specs.List.{list_any}
-use Rattle.std.specs.Prelude.{IfSome, option_map}
+use Rattle.std.specs.Prelude.{IfSome, not, option_map}
 use Rattle.deny_outside.specs.Count.{Rose}
 use Rattle.deny_outside.specs.Read.{IsWhole}
 use Rattle.deny_outside.specs.Disk.{Disk, Files, bytes_at}
+use Rattle.deny_base.specs.declared.check.Check.TheVariants.{Bans, Licenses}
 use Rattle.deny_base.specs.declared.check.Which.{Which}
 use Rattle.deny_base.specs.declared.check.Which.TheVariants.{Policy, Metadata, Replacements}
 use Rattle.deny_cfg.specs.PolicyText.{IsPolicyOf, TellsClashes}
@@ -16,12 +17,11 @@ use Rattle.deny_codes.specs.StdReplacements.{asks_for_table}
 use Rattle.deny_gate.specs.Gating.{AreOneCause, AreShort, AsksForTable, HasGraph, HasPolicy, IsReportOf, IsCause, Texts}
 use Rattle.deny_gate.specs.declared.report.GateError.{GateError}
 use Rattle.deny_gate.specs.declared.report.GateError.TheVariants as gate
-use Rattle.deny_gate.specs.Headline.{IsHeadlineOf}
-use Rattle.deny_gate.specs.Report.{has_error, policy_id}
+use Rattle.deny_gate.specs.Headline.{IsHeadlineOf, is_failure}
+use Rattle.deny_gate.specs.Report.{fails_as, has_error, policy_id, verdict_by}
 use Rattle.deny_gate.specs.declared.report.Report.{Report}
-use Rattle.deny_gate.specs.declared.report.Verdict.TheVariants.{Pass, Fail}
 use Rattle.deny_cli.specs.Causes.{read_or_none, text_at, texts_at, texts_of, IsShort, IsFirstLong, IsLongThere, IsReadIfNamed, AreTextsOf, AreTold, IsReportOn, IsStopOn, IsLongOn, IsReadFault, IsRefusedRun, IsValidRun, IsHeadlineOn, IsReadable, IsTextOfClashes, ComesBy, StopsAt}
-use Rattle.deny_cli.specs.Outcome.{AreOneStop, IfDone, IfReported, IsUsage, IsDoneOrMemory, IsStopOrMemory, bits_of, status_of}
+use Rattle.deny_cli.specs.Outcome.{AreOneStop, IfDone, IfReported, IsUsage, IsDoneOrMemory, IsStopOrMemory, bits_of, failing_bits, status_of}
 use Rattle.deny_cli.specs.Outputs.{LeavesOut}
 use Rattle.deny_cli.specs.Stops.{IsTextOf}
 use Rattle.deny_cli.specs.Words.{Command, Asks, IsAccepted, path_of}
@@ -330,16 +330,44 @@ headline_on law old new words (Long which) comes = tt
 headline_on law old new words (Gate error) comes = tt
 headline_on law old new words Memory comes = tt
 
-bits_by : (b : Bool) → bits_of (if b then Fail 2 else Pass) ≡ (if b then 2 else 0)
-bits_by true = refl
-bits_by false = refl
+bits_by : (bans licenses : Bool)
+    → bits_of (verdict_by bans licenses) ≡ (if bans then 2 else 0) + (if licenses then 4 else 0)
+bits_by false false = refl
+bits_by true false = refl
+bits_by false true = refl
+bits_by true true = refl
 
--- a status of bits where a finding is an error
+failure_by : (bans licenses : Bool)
+    → not (bits_of (verdict_by bans licenses) == 0) ≡ is_failure (verdict_by bans licenses)
+failure_by false false = refl
+failure_by true false = refl
+failure_by false true = refl
+failure_by true true = refl
+
+-- the status of a run that is done is another than 0 exactly where a finding is an error
+pub fails_by : (old : Disk) (words : List (List ℕ)) (outcome : Outcome) (status : ℕ) → status ≡ status_of outcome
+    → IfReported outcome (IsHeadlineOn old words)
+    → IfDone outcome (λ report. not (status == 0) ≡ list_any has_error report.findings)
+fails_by old words (Done report) status is done =
+    let keeps = done.headline.keeps in
+    let bans = list_any (fails_as Bans) report.findings in
+    let licenses = list_any (fails_as Licenses) report.findings in
+    ap (λ (n : ℕ). not (n == 0)) (is ∙ ap bits_of keeps.bits)
+    ∙ (failure_by bans licenses ∙ (ap is_failure (sym keeps.bits) ∙ keeps.fails))
+fails_by old words (Usage at) status is done = tt
+fails_by old words (Read which) status is done = tt
+fails_by old words (Long which) status is done = tt
+fails_by old words (Gate error) status is done = tt
+fails_by old words (Write report) status is done = tt
+fails_by old words Memory status is done = tt
+
+-- and has a bit for each check that has an error
 pub status_by : (old : Disk) (words : List (List ℕ)) (outcome : Outcome) (status : ℕ) → status ≡ status_of outcome
     → IfReported outcome (IsHeadlineOn old words)
-    → IfDone outcome (λ report. status ≡ (if list_any has_error report.findings then 2 else 0))
-status_by old words (Done report) status is done = is
-    ∙ (ap bits_of done.headline.keeps.fails ∙ bits_by (list_any has_error report.findings))
+    → IfDone outcome (λ report. status ≡ failing_bits report.findings)
+status_by old words (Done report) status is done =
+    is ∙ (ap bits_of done.headline.keeps.bits
+    ∙ bits_by (list_any (fails_as Bans) report.findings) (list_any (fails_as Licenses) report.findings))
 status_by old words (Usage at) status is done = tt
 status_by old words (Read which) status is done = tt
 status_by old words (Long which) status is done = tt

@@ -34,6 +34,10 @@ pub fails : verdict_line (Fail 2) ≡ codes "{\"fields\":{\"bits\":2,\"verdict\"
 unfolding serde_json_on_literals digits verdict_line
 fails = refl
 
+pub fails_twice : verdict_line (Fail 6) ≡ codes "{\"fields\":{\"bits\":6,\"verdict\":\"fail\"},\"type\":\"verdict\"}\n"
+unfolding serde_json_on_literals digits verdict_line
+fails_twice = refl
+
 -- `[bans]`, a newline, `deny = ["x"]` and a newline
 abbrev pub a_policy : List ℕ
 a_policy = codes "[bans]\ndeny = [\"x\"]\n"

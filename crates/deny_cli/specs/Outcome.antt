@@ -1,6 +1,10 @@
 -- What a run ends with, by cases.
-use Rattle.std.specs.Prelude.{◌≡◌, ℕ, ⊤}
+use Rattle.std.specs.Prelude.{◌≡◌, ◌+◌, ℕ, ⊤, List, if◌then◌else◌}
+use Rattle.std.specs.List.{list_any}
+use Rattle.deny_base.specs.declared.check.Check.TheVariants.{Bans, Licenses}
 use Rattle.deny_gate.specs.Gating.{AreOneCause}
+use Rattle.deny_gate.specs.Report.{fails_as}
+use Rattle.deny_gate.specs.declared.report.Finding.{Finding}
 use Rattle.deny_gate.specs.declared.report.GateError.{GateError}
 use Rattle.deny_gate.specs.declared.report.GateError.TheVariants as gate
 use Rattle.deny_gate.specs.declared.report.Report.{Report}
@@ -90,6 +94,11 @@ IsStopOrMemory stop Memory = ⊤
 abbrev pub bits_of : Verdict → ℕ
 bits_of Pass = 0
 bits_of (Fail bits) = bits
+
+-- by the errors of findings: 2 where the bans check has one, 4 where the licence check has one, or their sum
+abbrev pub failing_bits : List Finding → ℕ
+failing_bits findings =
+    (if list_any (fails_as Bans) findings then 2 else 0) + (if list_any (fails_as Licenses) findings then 4 else 0)
 
 abbrev pub status_of : Outcome → ℕ
 status_of (Done report) = bits_of report.verdict

@@ -1,4 +1,4 @@
-ghost use Rattle.std.specs.Prelude.{◌≡◌, ℕ, List, [], IfOk, IfErr, if◌then◌else◌};
+ghost use Rattle.std.specs.Prelude.{◌≡◌, ◌==◌, ℕ, List, [], IfOk, IfErr, not};
 ghost use Rattle.std.specs.List.{list_any};
 ghost use Rattle.deny_outside.specs.Count.{Rose};
 ghost use Rattle.deny_outside.specs.Disk.{IsLater};
@@ -7,7 +7,7 @@ ghost use Rattle.deny_gate.specs.Labels.{AreLabelled};
 ghost use Rattle.deny_gate.specs.Report.{has_error};
 ghost use Rattle.deny_cli.specs.Causes.{AreTextsOf, ComesBy, StopsBy, StopsAt, IsHeadlineOn, IsReadAt, IsReadStop, IsReportAt, IsReportOn, IsValidRun, IsRefusedRun, IsReadable, IsGateStop, IsTextOfClashes, end_stop};
 ghost use Rattle.deny_cli.specs.Commands.{asked_view, command_view};
-ghost use Rattle.deny_cli.specs.Outcome.{IfDone, IfReported, IsUsage, IsDoneOrMemory, IsStopOrMemory, status_of};
+ghost use Rattle.deny_cli.specs.Outcome.{IfDone, IfReported, IsUsage, IsDoneOrMemory, IsStopOrMemory, failing_bits, status_of};
 ghost use Rattle.deny_cli.specs.declared.outcome.Outcome.{Outcome};
 ghost use Rattle.deny_cli.specs.Stops.{IsTextOf};
 ghost use Rattle.deny_cli.specs.Outputs.{LeavesOut, LeavesErr, PutsLine, WritesReport};
@@ -245,8 +245,11 @@ pub fn run<D: PackageFiles, W: Out, E: Out>(
     ensures labels { IfReported result.outcome (λ report. AreLabelled report.files report.findings) }
 
     ensures status { result.status ≡ status_of result.outcome }
+    // A run that is done fails exactly where a finding is an error.
     ensures fails { IfDone result.outcome (λ report.
-        result.status ≡ (if list_any has_error report.findings then 2 else 0)) }
+        not (result.status == 0) ≡ list_any has_error report.findings) }
+    // By check: 2 where the bans check has an error, 4 where the licence check has one, or their sum.
+    ensures bits { IfDone result.outcome (λ report. result.status ≡ failing_bits report.findings) }
 
     ensures out { LeavesOut W.written W.faults out.old out.new result.outcome }
     ensures err { (policy : List ℕ) × IsTextOfClashes (D.seen disk.old) (texts words.now) result.outcome policy

@@ -11,6 +11,8 @@ use Rattle.deny_gate.specs.declared.report.GateError.{GateError}
 use Rattle.deny_gate.specs.declared.report.GateError.TheVariants.{Config, Invalid, NotBuilt, Metadata, Replacement}
 use Rattle.deny_gate.specs.declared.report.GateError.TheVariants.{Memory}
 use Rattle.deny_gate.specs.declared.report.Report.{Report}
+use Rattle.deny_gate.specs.Stats.{code_of, exit_code}
+use Rattle.deny_gate.proofs.ExitLaws.{exit_of}
 use Rattle.deny_gate.proofs.HeadlineLaws.{headline_of}
 
 -- texts are the same where their parts are
@@ -31,7 +33,7 @@ module _ (texts : Texts) (said : Policy) (built : IsBuilt texts.policy said) whe
   by_rest (NotBuilt text) cause = absurd cause
 
   reported : (files : List File) (report : Report) → files ≡ policy_file texts.policy ∷ []
-      → IsReportOn (policy_view said.bans) texts.metadata texts.replacements report → report.files ≡ files
+      → IsReportOn said texts.metadata texts.replacements report → report.files ≡ files
       → IsReportOf texts report
   reported files report first on in_files = record {
     view = on.seen.view;
@@ -55,19 +57,26 @@ module _ (read texts : Texts) (same : read ≡ texts) (said : Policy) (built : I
   cause_then (Err error) cause = subst (λ (t : Texts). IsCause t error) same (by_rest read said built error cause)
 
   module _ (files : List File) (first : files ≡ policy_file read.policy ∷ []) where
-    report_is : (report : Report) → IsReportOn (policy_view said.bans) read.metadata read.replacements report
+    report_is : (report : Report) → IsReportOn said read.metadata read.replacements report
         → report.files ≡ files → IsReportOf texts report
     report_is report on in_files = subst (λ (t : Texts). IsReportOf t report) same
         (reported read said built files report first on in_files)
 
     pub report_then : (result : Result Report GateError)
-        → IfOk result (IsReportOn (policy_view said.bans) read.metadata read.replacements)
+        → IfOk result (IsReportOn said read.metadata read.replacements)
         → IfOk result (λ report. report.files ≡ files) → IfOk result (IsReportOf texts)
     report_then (Ok report) on in_files = report_is report on in_files
     report_then (Err error) on in_files = tt
 
     pub headline_then : (result : Result Report GateError)
-        → IfOk result (IsReportOn (policy_view said.bans) read.metadata read.replacements)
+        → IfOk result (IsReportOn said read.metadata read.replacements)
         → IfOk result (λ report. report.files ≡ files) → IfOk result (IsHeadlineOf texts)
     headline_then (Ok report) on in_files = headline_of texts report (report_is report on in_files)
     headline_then (Err error) on in_files = tt
+
+    pub code_then : (result : Result Report GateError)
+        → IfOk result (IsReportOn said read.metadata read.replacements)
+        → IfOk result (λ report. report.files ≡ files)
+        → IfOk result (λ report. exit_code report.stats ≡ code_of report.verdict)
+    code_then (Ok report) on in_files = exit_of texts report (report_is report on in_files)
+    code_then (Err error) on in_files = tt

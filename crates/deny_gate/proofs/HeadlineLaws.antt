@@ -1,36 +1,35 @@
 -- The headline follows from the words of a report.
 use Rattle.std.proofs.Common.{◌≡◌, ◌⊎◌, ℕ, Bool, true, false, IsTrue, List, [], ◌∷◌, Contains, Option, Some, refl, sym}
-use Rattle.std.proofs.Common.{ap, ◌∙◌, subst, inl, inr, if◌then◌else◌}
-use Rattle.std.specs.Prelude.{◌&&◌, filter, map}
+use Rattle.std.proofs.Common.{ap, ◌∙◌, subst, inl, inr}
+use Rattle.std.specs.Prelude.{◌&&◌, ◌||◌, filter, map}
 use Rattle.std.specs.List.{list_any}
-use Rattle.std.proofs.lemmas.Bool.{and_from, both_ways, cases_Bool, cond-true, cond-false, false_from_ne_true}
+use Rattle.std.proofs.lemmas.Bool.{and_from, cases_Bool, cond-true, cond-false}
 use Rattle.std.proofs.lemmas.List.Kept.{IsStrictlySortedBy-filter}
 use Rattle.deny_lists.specs.Ascending.{Lists}
 use Rattle.deny_base.specs.KeyOrder.{key_cmp}
-use Rattle.deny_base.specs.declared.check.Check.{Check}
 use Rattle.deny_base.specs.declared.check.Check.TheVariants as check
 use Rattle.deny_base.specs.declared.code.DiagnosticCode.{DiagnosticCode}
+use Rattle.deny_base.specs.declared.code.DiagnosticCode.TheVariants.{Deprecated, Bans, License}
 use Rattle.deny_base.specs.declared.key.Key.{Key}
-use Rattle.deny_lists.proofs.Agreement.{list_any_on}
-use Rattle.deny_lists.proofs.Members.{Contains-filter, any_passes, filtered, from_contains_map, passes_filter}
+use Rattle.deny_lists.proofs.Members.{Contains-filter, filtered, from_contains_map, passes_filter}
+use Rattle.deny_cfg.specs.LicensingView.{licensing_of}
 use Rattle.deny_cfg.specs.PolicyView.{policy_view}
 use Rattle.deny_cfg.specs.declared.policy.Policy as cfg
+use Rattle.deny_model.specs.Licensing.{Licensing}
 use Rattle.deny_model.specs.Policy.{Policy}
 use Rattle.deny_codes.specs.Circumstances.{Circumstances, View}
 use Rattle.deny_codes.specs.Facts.{Facts}
 use Rattle.deny_codes.specs.Standing.{Stands}
-use Rattle.deny_codes.specs.Told.{diag_of, words_told}
-use Rattle.deny_gate.specs.Gating.{IsBuilt, IsReportBy, IsReportOf, Texts, circumstances_on}
+use Rattle.deny_codes.specs.Told.{check_told, diag_of, words_told}
+use Rattle.deny_gate.specs.Gating.{IsBuilt, IsReportBy, IsReportOf, Texts, circumstances_of}
 use Rattle.deny_gate.specs.Headline.{IsHeadlineOf, IsViolation, KeepsHeadline, WritesRule, WritesRuleOf, is_crate_error}
-use Rattle.deny_gate.specs.Headline.{is_crate_rule}
-use Rattle.deny_gate.specs.Report.{IsReport, fails_as, finding_told, has_error, is_error, same_check, verdict_by}
-use Rattle.deny_gate.specs.Report.{verdict_of}
+use Rattle.deny_gate.specs.Headline.{is_crate_rule, is_failure}
+use Rattle.deny_gate.specs.Report.{IsReport, fails_as, finding_told, has_error, is_error, verdict_by, verdict_of}
+use Rattle.deny_gate.specs.Stats.{same_check}
 use Rattle.deny_gate.specs.declared.report.Finding.{Finding}
 use Rattle.deny_gate.specs.declared.report.Report.{Report}
-use Rattle.deny_gate.specs.declared.report.Verdict.TheVariants.{Pass, Fail}
-use Rattle.deny_gate.proofs.OtherErrors.{IsOfStd, grave, rule_written}
+use Rattle.deny_gate.proofs.OtherErrors.{grave, minds, rule_written}
 use Rattle.deny_gate.proofs.Placed.{ArePlaced, are_placed}
-use Rattle.deny_gate.proofs.Standing.{told_of_bans}
 use Rattle.deny_gate.proofs.Violations.{error_is, violation_error, violation_from, violation_stands}
 
 -- ---- the violations
@@ -88,39 +87,71 @@ unfolding finding_told diag_of
 code_is c key = refl
 
 -- an error that stands is one of a crate rule, or another that the policy minds
-abbrev IsGraveFinding : Policy → Finding → Type 0
-IsGraveFinding p f = (is_crate_error f ≡ true)
-    ⊎ ((d : DiagnosticCode) × (f.diag.diag.code ≡ Some d) × IsOfStd p d)
+abbrev IsGraveFinding : Policy → Option Licensing → Finding → Type 0
+IsGraveFinding p licensing f = (is_crate_error f ≡ true)
+    ⊎ ((d : DiagnosticCode) × (f.diag.diag.code ≡ Some d) × (minds d p licensing ≡ true))
 
 grave_finding : (c : Circumstances) (facts : Facts) (key : Key) → Stands c facts key
-    → has_error (finding_told c key) ≡ true → IsGraveFinding c.policy (finding_told c key)
+    → has_error (finding_told c key) ≡ true → IsGraveFinding c.policy c.licensing (finding_told c key)
 grave_finding c facts key stands error =
     let severe = sym (severity_is c key) ∙ error in
-    elim (grave key.code c facts key stands severe) as (λ _. IsGraveFinding c.policy (finding_told c key)) [
+    elim (grave key.code c facts key stands severe)
+    as (λ _. IsGraveFinding c.policy c.licensing (finding_told c key)) [
       | inl rule ↦ inl (error_is c key
           ∙ and_from (is_error (words_told c key).severity) (is_crate_rule (Some key.code)) severe rule)
-      | inr std ↦ inr (key.code, code_is c key, std)
+      | inr minded ↦ inr (key.code, code_is c key, minded)
     ]
 
 -- ---- the verdict
 
-check_of : (c : Circumstances) (facts : Facts) (key : Key) → Stands c facts key
-    → (finding_told c key).check ≡ check.Bans
-unfolding finding_told
-check_of c facts key stands = told_of_bans key.code c facts key stands
+-- a finding is one of the bans check, or one of the licence check
+of_one : (error : Bool) (d : DiagnosticCode)
+    → ((error && same_check (check_told d) check.Bans) || (error && same_check (check_told d) check.Licenses)) ≡ error
+of_one false d = refl
+of_one true Deprecated = refl
+of_one true (Bans d) = refl
+of_one true (License d) = refl
 
-and_right : (a b : Bool) → b ≡ true → (a && b) ≡ a
-and_right true b is = is
-and_right false b is = refl
+fails_as_one : (c : Circumstances) (key : Key)
+    → (fails_as check.Bans (finding_told c key) || fails_as check.Licenses (finding_told c key))
+    ≡ has_error (finding_told c key)
+unfolding fails_as finding_told
+fails_as_one c key = of_one (has_error (finding_told c key)) key.code
 
-and_none : (a b : Bool) → b ≡ false → (a && b) ≡ false
-and_none true b is = is
-and_none false b is = refl
+or_apart : (a b c d : Bool) → ((a || b) || (c || d)) ≡ ((a || c) || (b || d))
+or_apart true b c d = refl
+or_apart false true true d = refl
+or_apart false false true d = refl
+or_apart false b false d = refl
+
+any_fails : (c : Circumstances) (keys : List Key)
+    → (list_any (fails_as check.Bans) (map (finding_told c) keys)
+    || list_any (fails_as check.Licenses) (map (finding_told c) keys))
+    ≡ list_any has_error (map (finding_told c) keys)
+any_fails c [] = refl
+any_fails c (key ∷ keys) =
+    let told = finding_told c key in
+    let more = map (finding_told c) keys in
+    or_apart (fails_as check.Bans told) (list_any (fails_as check.Bans) more) (fails_as check.Licenses told)
+    (list_any (fails_as check.Licenses) more)
+    ∙ (ap (λ (b : Bool). b || (list_any (fails_as check.Bans) more || list_any (fails_as check.Licenses) more))
+    (fails_as_one c key) ∙ ap (λ (b : Bool). has_error told || b) (any_fails c keys))
+
+failure_is : (bans licenses : Bool) → is_failure (verdict_by bans licenses) ≡ (bans || licenses)
+failure_is false false = refl
+failure_is true false = refl
+failure_is false true = refl
+failure_is true true = refl
 
 module _ (c : Circumstances) (facts : Facts) (keys : List Key)
     (stand : (key : Key) → Contains keys key → Stands c facts key) where
   abbrev findings : List Finding
   findings = map (finding_told c) keys
+
+  fails_by_errors : is_failure (verdict_of findings) ≡ list_any has_error findings
+  fails_by_errors =
+      failure_is (list_any (fails_as check.Bans) findings) (list_any (fails_as check.Licenses) findings)
+      ∙ any_fails c keys
 
   -- what is so of the finding of each key that stands is so of each finding
   each_finding : (P : Finding → Type 0) → ((key : Key) → Stands c facts key → P (finding_told c key)) → (f : Finding)
@@ -129,36 +160,9 @@ module _ (c : Circumstances) (facts : Facts) (keys : List Key)
       let of = from_contains_map (finding_told c) keys f is in
       subst P of.2 (each of.0 (stand of.0 of.1))
 
-  bans_fail : (f : Finding) → Contains findings f → fails_as check.Bans f ≡ has_error f
-  unfolding fails_as
-  bans_fail = each_finding (λ (f : Finding). fails_as check.Bans f ≡ has_error f)
-      (λ key stands. and_right (has_error (finding_told c key)) (same_check (finding_told c key).check check.Bans)
-      (ap (λ (of : Check). same_check of check.Bans) (check_of c facts key stands)))
-
-  licenses_pass : (f : Finding) → Contains findings f → fails_as check.Licenses f ≡ false
-  unfolding fails_as
-  licenses_pass = each_finding (λ (f : Finding). fails_as check.Licenses f ≡ false)
-      (λ key stands. and_none (has_error (finding_told c key)) (same_check (finding_told c key).check check.Licenses)
-      (ap (λ (of : Check). same_check of check.Licenses) (check_of c facts key stands)))
-
-  no_license_fails : list_any (fails_as check.Licenses) findings ≡ false
-  no_license_fails =
-      false_from_ne_true (list_any (fails_as check.Licenses) findings)
-      (λ any. let one = any_passes (fails_as check.Licenses) findings any in
-      both_ways (fails_as check.Licenses one.one) (licenses_pass one.one one.member) one.passes)
-
-  bans_alone : (b : Bool) → verdict_by b false ≡ (if b then Fail 2 else Pass)
-  bans_alone true = refl
-  bans_alone false = refl
-
-  fails_by_errors : verdict_of findings ≡ (if list_any has_error findings then Fail 2 else Pass)
-  fails_by_errors =
-      ap (λ (b : Bool). verdict_by b (list_any (fails_as check.Licenses) findings))
-      (list_any_on (fails_as check.Bans) has_error findings bans_fail)
-      ∙ (ap (verdict_by (list_any has_error findings)) no_license_fails ∙ bans_alone (list_any has_error findings))
-
-  grave_findings : (f : Finding) → Contains findings f → has_error f ≡ true → IsGraveFinding c.policy f
-  grave_findings = each_finding (λ (f : Finding). has_error f ≡ true → IsGraveFinding c.policy f)
+  grave_findings : (f : Finding) → Contains findings f → has_error f ≡ true
+      → IsGraveFinding c.policy c.licensing f
+  grave_findings = each_finding (λ (f : Finding). has_error f ≡ true → IsGraveFinding c.policy c.licensing f)
       (grave_finding c facts)
 
 -- ---- together
@@ -174,8 +178,8 @@ keeps c report placed is =
           (map (λ (f : Finding). f.diag.key) (filter is_crate_error fs))) (sym is.told)
           (subst (λ (ks : List Key). Lists key_cmp (IsViolation c.policy c.graph facts.chains) ks)
           (sym (kept_keys c is.keys)) listed);
-      fails = is.verdict ∙ subst
-          (λ (fs : List Finding). verdict_of fs ≡ (if list_any has_error fs then Fail 2 else Pass)) (sym is.told)
+      fails = ap is_failure is.verdict ∙ subst
+          (λ (fs : List Finding). is_failure (verdict_of fs) ≡ list_any has_error fs) (sym is.told)
           (fails_by_errors c facts is.keys is.listed.listed.sound);
       bits = is.verdict;
     }
@@ -185,17 +189,17 @@ written_code : (text : List ℕ) (d : DiagnosticCode) (o : Option DiagnosticCode
 written_code text d o same written = subst (WritesRuleOf text) (sym same) written
 
 other_written : (text : List ℕ) (said : cfg.Policy) (f : Finding) → IsBuilt text said
-    → IsGraveFinding (policy_view said.bans) f → IsTrue (is_crate_error f) ⊎ WritesRuleOf text f.diag.diag.code
+    → IsGraveFinding (policy_view said.bans) (licensing_of said.licenses) f → IsTrue (is_crate_error f) ⊎ WritesRuleOf text f.diag.diag.code
 other_written text said f built (inl rule) = inl rule
 other_written text said f built (inr other) = inr
-    (written_code text other.0 f.diag.diag.code other.1 (rule_written text said other.0 built other.2))
+    (written_code text other.0 f.diag.diag.code other.1 (rule_written text said built other.0 other.2))
 
 others_of : (texts : Texts) (view : View) (report : Report) (by : IsReportBy texts view report) (f : Finding)
     → Contains report.findings f → has_error f ≡ true
     → IsTrue (is_crate_error f) ⊎ WritesRuleOf texts.policy f.diag.diag.code
 others_of texts view report by f at error =
     let is = by.is_report in
-    let c : Circumstances = circumstances_on (policy_view by.said.bans) by.graph texts.replacements view in
+    let c : Circumstances = circumstances_of by.said by.graph texts.replacements view in
     other_written texts.policy by.said f by.is_said
     (grave_findings c is.listed.facts is.keys is.listed.listed.sound f
     (subst (λ (fs : List Finding). Contains fs f) is.told at) error)
@@ -204,7 +208,7 @@ pub headline_of : (texts : Texts) (report : Report) → IsReportOf texts report 
 headline_of texts report of =
     let by = of.by in
     let is = by.is_report in
-    let c : Circumstances = circumstances_on (policy_view by.said.bans) by.graph texts.replacements of.view in
+    let c : Circumstances = circumstances_of by.said by.graph texts.replacements of.view in
     record {
       said = by.said;
       is_said = by.is_said;

@@ -1,10 +1,11 @@
 -- The labels of findings mark ranges of the policy.
-use Rattle.std.proofs.Common.{◌≡◌, ◌++◌, ℕ, Bool, List, [], ◌∷◌, All, Contains, Option, None, Some, refl, sym, ap, ◌∙◌}
+use Rattle.std.proofs.Common.{◌≡◌, ◌++◌, ℕ, Bool, true, false, List, [], ◌∷◌, All, Contains, Option, None, Some, refl, sym, ap, ◌∙◌}
 use Rattle.std.proofs.Common.{subst, inl, inr}
-use Rattle.std.specs.Prelude.{codes, filter, find, map, not, slice_get}
+use Rattle.std.specs.Prelude.{codes, filter, find, if◌then◌else◌, map, not, slice_get}
 use Rattle.std.specs.Option.{option_and_then, option_map_or}
 use Rattle.std.proofs.lemmas.Bool.{cases_Bool, cond-true, cond-false}
 use Rattle.std.proofs.lemmas.List.Elements.{All-nil, All-cons, All-append, All-contains, All-weaker}
+use Rattle.std.proofs.lemmas.List.Elements.{Contains-append_cases, Contains-append_left, Contains-append_right}
 use Rattle.std.proofs.lemmas.Option.{same_Some}
 use Rattle.deny_base.specs.declared.files.File.{File}
 use Rattle.deny_base.specs.declared.code.Code.{Code}
@@ -12,15 +13,22 @@ use Rattle.deny_base.specs.declared.code.Code.TheVariants as code
 use Rattle.deny_base.specs.declared.code.DiagnosticCode.{DiagnosticCode}
 use Rattle.deny_base.specs.declared.code.DiagnosticCode.TheVariants.{Deprecated, Bans, License}
 use Rattle.deny_base.specs.declared.key.Key.{Key}
+use Rattle.deny_base.specs.declared.key.Section.TheVariants as section
 use Rattle.deny_base.specs.declared.label.Label.{Label}
+use Rattle.deny_base.specs.declared.level.LintLevel.{LintLevel}
+use Rattle.deny_base.specs.declared.license_code.LicenseCode.{LicenseCode}
+use Rattle.deny_base.specs.declared.license_code.LicenseCode.TheVariants as license
 use Rattle.deny_base.specs.declared.span.Span.{Span}
-use Rattle.deny_lists.proofs.Members.{Contains-first, Contains-from_flat_map, Contains-rest, filtered}
-use Rattle.deny_lists.proofs.Members.{from_contains_map, no_member}
+use Rattle.deny_base.specs.declared.span.Spanned.{Spanned}
+use Rattle.deny_lists.proofs.Members.{Contains-by_cases, Contains-first, Contains-from_flat_map, Contains-rest}
+use Rattle.deny_lists.proofs.Members.{contains_map, filtered, from_contains_map, no_member}
+use Rattle.deny_spdx.specs.declared.requirement.Requirement.{Requirement}
 use Rattle.deny_cfg.specs.PolicyText.{policy_file}
 use Rattle.deny_model.specs.Bans.{wrapper_of}
 use Rattle.deny_model.specs.Graph.{Crate, Graph}
-use Rattle.deny_model.specs.Keys.{key_of, unused_key}
-use Rattle.deny_model.specs.Policy.{Ban, Entry, Policy, Replacing, Root, Spec, Words}
+use Rattle.deny_model.specs.Keys.{crate_key, key_of, unused_key}
+use Rattle.deny_model.specs.Licensing.{Exception, Licensing}
+use Rattle.deny_model.specs.Policy.{Ban, Entry, FeatureEntry, Policy, Replacing, Root, Spec, Words}
 use Rattle.deny_model.specs.Skips.{has_root, unmatched_skip_root_keys}
 use Rattle.deny_model.specs.Text.{same_text}
 use Rattle.deny_model.specs.Told.{ban_labels, crate_at, entry_labels, label_at, primary, root_labels, secondary}
@@ -32,30 +40,44 @@ use Rattle.deny_codes.specs.Bans.{allowed_by_wrapper_told, banned_told, unmatche
 use Rattle.deny_codes.specs.Circumstances.{Circumstances}
 use Rattle.deny_codes.specs.Duplicates.{duplicate_told}
 use Rattle.deny_codes.specs.Facts.{Facts}
+use Rattle.deny_codes.specs.Features.{banned_features, default_enabled_keys, default_enabled_keys_at}
+use Rattle.deny_codes.specs.Features.{default_enabled_keys_of, default_enabled_told, default_level, feature_banned_keys}
+use Rattle.deny_codes.specs.Features.{feature_banned_keys_at, feature_banned_keys_of, feature_banned_told}
+use Rattle.deny_codes.specs.Features.{feature_not_allowed_told, has_feature, is_default_told, is_enabled, mismatch_labels}
+use Rattle.deny_codes.specs.Features.{mismatched_told, missing, spoken_of, tells_unknown, unknown_feature_keys}
+use Rattle.deny_codes.specs.Features.{unknown_feature_keys_at, unknown_feature_keys_of, unknown_feature_told}
+use Rattle.deny_codes.specs.Features.{unknown_features}
+use Rattle.deny_codes.specs.Licences.{IsOfLicences, accepted_told, exception_not_encountered_keys}
+use Rattle.deny_codes.specs.Licences.{exception_not_encountered_told, grants_by_allowance, grants_by_exception, is_hit_by}
+use Rattle.deny_codes.specs.Licences.{license_key, not_encountered_keys, not_encountered_told, not_encountered_told_in}
+use Rattle.deny_codes.specs.Licences.{parse_error_told, rejected_told, rejected_told_in, skipped_private_told}
+use Rattle.deny_codes.specs.Licences.{unlicensed_told}
+use Rattle.deny_codes.specs.Members.{is_member}
 use Rattle.deny_codes.specs.Saying.{Saying, said_by}
 use Rattle.deny_codes.specs.SkippedTrees.{skipped_by_root_told, unmatched_skip_root_told}
 use Rattle.deny_codes.specs.Skips.{skipped_told, unmatched_skip_told, unnecessary_skip_told}
-use Rattle.deny_codes.specs.Standing.{Stands, StandsAs, StandsBy}
+use Rattle.deny_codes.specs.Standing.{Stands, StandsAs, StandsBy, StandsLicensed}
 use Rattle.deny_codes.specs.StdReplacements.{ignore_labels, ignore_range, replaced_told, unmatched_ignore_told}
 use Rattle.deny_codes.specs.Telling.{not_built}
-use Rattle.deny_codes.specs.Told.{diag_of, words_as, words_by, words_told}
+use Rattle.deny_codes.specs.Told.{diag_of, words_as, words_by, words_licensed, words_told}
 use Rattle.deny_codes.specs.Wrappers.{unused_wrapper_keys, unused_wrapper_told}
-use Rattle.deny_codes.proofs.Sections.{none_licensed}
-use Rattle.deny_gate.specs.Labels.{AreLabelled, ArePlaced, IsPlaced, range_of, ranges_of}
+use Rattle.deny_gate.specs.Labels.{AreLabelled, ArePlaced, IsPlaced, feature_ranges, level_ranges, licence_ranges}
+use Rattle.deny_gate.specs.Labels.{own_range, range_of, ranges_of}
 use Rattle.deny_gate.specs.Report.{IsReport, finding_told, policy_id}
 use Rattle.deny_gate.specs.declared.report.Finding.{Finding}
 use Rattle.deny_gate.specs.declared.report.Report.{Report}
 use Rattle.deny_gate.proofs.PolicyRanges.{allow_known, ban_instead, ban_known, ban_name, ban_reason, ban_wrapper}
-use Rattle.deny_gate.proofs.PolicyRanges.{entry_name, entry_reason, ignore_known, root_name, root_reason, skip_known}
-use Rattle.deny_gate.proofs.PolicyRanges.{tree_known}
+use Rattle.deny_gate.proofs.PolicyRanges.{entry_name, entry_reason, feature_allowed, feature_denied, feature_flag}
+use Rattle.deny_gate.proofs.PolicyRanges.{feature_known, feature_list, ignore_known, level_known, root_name}
+use Rattle.deny_gate.proofs.PolicyRanges.{root_reason, skip_known, tree_known}
 
--- a label marks a range of the policy, in this file
-pub record IsOf (p : Policy) (file : ℕ) (label : Label) : Type 0 where
+-- a label marks one of these ranges, in this file
+pub record IsOf (ranges : List Span) (file : ℕ) (label : Label) : Type 0 where
   pub in_file : label.file_id ≡ file
-  pub known : Contains (ranges_of p) label.span
+  pub known : Contains ranges label.span
 
-abbrev pub AreOf : Policy → ℕ → List Label → Type 0
-AreOf p file labels = All (IsOf p file) labels
+abbrev pub AreOf : List Span → ℕ → List Label → Type 0
+AreOf ranges file labels = All (IsOf ranges file) labels
 
 -- what holds of nothing, and of each element, holds of what is made of the one that is found
 of_found : {X : Type 0} (P : List Label → Type 0) (f : X → List Label) (test : X → Bool) (xs : List X) → P []
@@ -79,16 +101,16 @@ found_in {X} test (y ∷ xs) x is = elim (cases_Bool (test y)) as (λ _. Contain
 ]
 
 module _ (p : Policy) (file : ℕ) where
-  none : AreOf p file []
-  none = All-nil (IsOf p file)
+  none : AreOf (ranges_of p) file []
+  none = All-nil (IsOf (ranges_of p) file)
 
   one_more : (label : Label) (labels : List Label) → label.file_id ≡ file → Contains (ranges_of p) label.span
-      → AreOf p file labels → AreOf p file (label ∷ labels)
-  one_more label labels at is others = All-cons (IsOf p file) label labels (record { in_file = at; known = is }) others
+      → AreOf (ranges_of p) file labels → AreOf (ranges_of p) file (label ∷ labels)
+  one_more label labels at is others = All-cons (IsOf (ranges_of p) file) label labels (record { in_file = at; known = is }) others
 
   at_words : (message : List ℕ) (o : Option Words)
       → ((range : Span) → Contains (range_of o) range → Contains (ranges_of p) range)
-      → AreOf p file (label_at file message o)
+      → AreOf (ranges_of p) file (label_at file message o)
   at_words message None is = none
   at_words message (Some words) is = one_more (secondary file words.span message) [] refl
       (is words.span (Contains-first words.span [])) none
@@ -96,16 +118,16 @@ module _ (p : Policy) (file : ℕ) where
   of_spec : (message : List ℕ) (spec : Spec) (reason use_instead : Option Words) → Contains (ranges_of p) spec.range
       → ((range : Span) → Contains (range_of reason) range → Contains (ranges_of p) range)
       → ((range : Span) → Contains (range_of use_instead) range → Contains (ranges_of p) range)
-      → AreOf p file (spec_labels file message spec reason use_instead)
+      → AreOf (ranges_of p) file (spec_labels file message spec reason use_instead)
   unfolding spec_labels
   of_spec message spec reason use_instead name why other =
       one_more (primary file spec.range message)
       (label_at file (codes "reason") reason ++ label_at file (codes "use instead") use_instead) refl name
-      (All-append (IsOf p file) (label_at file (codes "reason") reason)
+      (All-append (IsOf (ranges_of p) file) (label_at file (codes "reason") reason)
       (label_at file (codes "use instead") use_instead) (at_words (codes "reason") reason why)
       (at_words (codes "use instead") use_instead other))
 
-  of_ban_entry : (message : List ℕ) (ban : Ban) → Contains p.deny ban → AreOf p file (ban_labels file message ban)
+  of_ban_entry : (message : List ℕ) (ban : Ban) → Contains p.deny ban → AreOf (ranges_of p) file (ban_labels file message ban)
   of_ban_entry message ban written =
       of_spec message ban.spec ban.reason ban.use_instead (ban_known p ban ban.spec.range written (ban_name ban))
       (λ range is. ban_known p ban range written (ban_reason ban range is))
@@ -114,23 +136,23 @@ module _ (p : Policy) (file : ℕ) where
   nothing : (range : Span) → Contains (range_of None) range → Contains (ranges_of p) range
   nothing range is = absurd (no_member range is)
 
-  of_allowed : (message : List ℕ) (e : Entry) → Contains p.allow e → AreOf p file (entry_labels file message e)
+  of_allowed : (message : List ℕ) (e : Entry) → Contains p.allow e → AreOf (ranges_of p) file (entry_labels file message e)
   of_allowed message e written =
       of_spec message e.spec e.reason None (allow_known p e e.spec.range written (entry_name e))
       (λ range is. allow_known p e range written (entry_reason e range is)) nothing
 
-  of_skip : (message : List ℕ) (e : Entry) → Contains p.skip e → AreOf p file (entry_labels file message e)
+  of_skip : (message : List ℕ) (e : Entry) → Contains p.skip e → AreOf (ranges_of p) file (entry_labels file message e)
   of_skip message e written =
       of_spec message e.spec e.reason None (skip_known p e e.spec.range written (entry_name e))
       (λ range is. skip_known p e range written (entry_reason e range is)) nothing
 
-  of_root : (message : List ℕ) (t : Root) → Contains p.skip_tree t → AreOf p file (root_labels file message t)
+  of_root : (message : List ℕ) (t : Root) → Contains p.skip_tree t → AreOf (ranges_of p) file (root_labels file message t)
   of_root message t written =
       of_spec message t.spec t.reason None (tree_known p t t.spec.range written (root_name t))
       (λ range is. tree_known p t range written (root_reason t range is)) nothing
 
   of_wrapper : (ban : Ban) (o : Option Words) → Contains p.deny ban
-      → ((w : Words) → o ≡ Some w → Contains ban.wrappers w) → AreOf p file (wrapper_labels file ban o)
+      → ((w : Words) → o ≡ Some w → Contains ban.wrappers w) → AreOf (ranges_of p) file (wrapper_labels file ban o)
   of_wrapper ban None written is = none
   of_wrapper ban (Some w) written is =
       one_more (primary file ban.spec.range (codes "banned here")) (primary file w.span (codes "allowed wrapper") ∷ [])
@@ -145,7 +167,7 @@ module _ (p : Policy) (file : ℕ) where
   wrapper_in ban (Some parent) w is = found_in (λ (v : Words). same_text v.value parent.name) ban.wrappers w is
 
   of_ignore : (r : Replacing) (e : Entry) → p.replacing ≡ Some r → Contains r.ignore e
-      → AreOf p file (ignore_labels file e)
+      → AreOf (ranges_of p) file (ignore_labels file e)
   of_ignore r e minded written =
       one_more (primary file e.spec.range (codes "unmatched ignore configuration"))
       (label_at file (codes "ignore reason") e.reason) refl
@@ -154,19 +176,144 @@ module _ (p : Policy) (file : ℕ) where
       (λ range is. ignore_known p r e range minded written (entry_reason e range is)))
 
   of_unmatched_ignore : (o : Option Replacing) (key : Key) → p.replacing ≡ o
-      → AreOf p file (option_map_or (λ r. unmatched_ignore_told r file key) o not_built).labels
+      → AreOf (ranges_of p) file (option_map_or (λ r. unmatched_ignore_told r file key) o not_built).labels
   unfolding unmatched_ignore_told
   of_unmatched_ignore None key same = none
-  of_unmatched_ignore (Some r) key same = of_found (AreOf p file) (ignore_labels file)
+  of_unmatched_ignore (Some r) key same = of_found (AreOf (ranges_of p) file) (ignore_labels file)
       (λ e. same_span (ignore_range e) key.entry) r.ignore none (λ e written. of_ignore r e same written)
 
   of_replaced : (o : Option Replacing) (g : Graph) (said : Saying) (key : Key)
-      → AreOf p file (option_map_or (λ r. replaced_told r g said key) o not_built).labels
+      → AreOf (ranges_of p) file (option_map_or (λ r. replaced_told r g said key) o not_built).labels
   unfolding replaced_told
   of_replaced None g said key = none
   of_replaced (Some r) g said key = none
 
+  -- ---- entries of `features`
+
+  of_words : (message : List ℕ) (ws : List Words) → ((w : Words) → Contains ws w → Contains (ranges_of p) w.span)
+      → AreOf (ranges_of p) file (map (λ (w : Words). primary file w.span message) ws)
+  of_words message [] known = none
+  of_words message (w ∷ ws) known =
+      one_more (primary file w.span message) (map (λ (v : Words). primary file v.span message) ws) refl
+      (known w (Contains-first w ws)) (of_words message ws (λ v is. known v (Contains-rest w ws v is)))
+
+  of_mismatch : (e : FeatureEntry) (o : Option Crate) → Contains p.features e
+      → AreOf (ranges_of p) file (option_map_or (mismatch_labels file e) o [])
+  unfolding missing
+  of_mismatch e None written = none
+  of_mismatch e (Some c) written =
+      let absent : Words → Bool = λ w. not (is_enabled c w.value) in
+      one_more (primary file e.exact.span (codes "exact enabled here"))
+      (map (λ (w : Words). primary file w.span (codes "allowed feature not present")) (filter absent e.allow.value)) refl
+      (feature_known p e e.exact.span written (feature_flag e))
+      (of_words (codes "allowed feature not present") (filter absent e.allow.value)
+      (λ w is. feature_known p e w.span written (feature_allowed e w (filtered absent e.allow.value w is))))
+
+  of_list : (e : FeatureEntry) → Contains p.features e
+      → AreOf (ranges_of p) file (primary file e.allow.span (codes "allowed features") ∷ [])
+  of_list e written = one_more (primary file e.allow.span (codes "allowed features")) [] refl
+      (feature_known p e e.allow.span written (feature_list e)) none
+
   -- ---- the entries that are named without being looked up
+
+  -- a key that is made of a part of the policy has its range
+  entry_is : (code : Code) (place : ℕ) (range : Span) (key : Key) → crate_key code place range ≡ key → range ≡ key.entry
+  unfolding key_of
+  entry_is code place range key made = ap (λ (k : Key). k.entry) made
+
+  denied_in : (e : FeatureEntry) (c : Crate) (w : Words) → Contains (banned_features e c) w → Contains e.deny w
+  unfolding banned_features
+  denied_in e c w is = by e.exact.value is
+    where
+      by : (b : Bool) → Contains (if b then [] else filter (λ (v : Words). is_enabled c v.value) e.deny) w
+          → Contains e.deny w
+      by true is = absurd (no_member w is)
+      by false is = filtered (λ (v : Words). is_enabled c v.value) e.deny w is
+
+  of_feature_banned : (g : Graph) (key : Key) → Contains (feature_banned_keys p g) key
+      → Contains (ranges_of p) key.entry
+  unfolding feature_banned_keys_of feature_banned_keys_at
+  of_feature_banned g key is =
+      let of = Contains-from_flat_map (feature_banned_keys_of g) p.features key is in
+      let e = of.from in
+      let among = Contains-from_flat_map (feature_banned_keys_at e) (spoken_of g e) key of.of in
+      let c = among.from in
+      let at = from_contains_map (λ (w : Words). crate_key code.FeatureBanned c.place w.span) (banned_features e c) key
+      among.of in
+      subst (λ (range : Span). Contains (ranges_of p) range)
+      (entry_is code.FeatureBanned c.place at.0.span key at.2)
+      (feature_known p e at.0.span of.member (feature_denied e at.0 (denied_in e c at.0 at.1)))
+
+  named_in : (g : Graph) (e : FeatureEntry) (c : Crate) (w : Words) → Contains (unknown_features p g e c) w
+      → Contains (feature_ranges e) w.span
+  unfolding unknown_features
+  named_in g e c w is = by (tells_unknown p g e c) is
+    where
+      by : (b : Bool)
+          → Contains (if b then filter (λ (v : Words). not (has_feature c v.value)) (e.allow.value ++ e.deny) else []) w
+          → Contains (feature_ranges e) w.span
+      by true is = elim (Contains-append_cases e.allow.value e.deny w
+          (filtered (λ (v : Words). not (has_feature c v.value)) (e.allow.value ++ e.deny) w is))
+          as (λ _. Contains (feature_ranges e) w.span)
+          [ inl allowed ↦ feature_allowed e w allowed | inr denied ↦ feature_denied e w denied ]
+      by false is = absurd (no_member w is)
+
+  of_unknown_feature : (g : Graph) (key : Key) → Contains (unknown_feature_keys p g) key
+      → Contains (ranges_of p) key.entry
+  unfolding unknown_feature_keys_of unknown_feature_keys_at
+  of_unknown_feature g key is =
+      let of = Contains-from_flat_map (unknown_feature_keys_of p g) p.features key is in
+      let e = of.from in
+      let among = Contains-from_flat_map (unknown_feature_keys_at p g e) (spoken_of g e) key of.of in
+      let c = among.from in
+      let at = from_contains_map (λ (w : Words). crate_key code.UnknownFeature c.place w.span)
+      (unknown_features p g e c) key among.of in
+      subst (λ (range : Span). Contains (ranges_of p) range)
+      (entry_is code.UnknownFeature c.place at.0.span key at.2)
+      (feature_known p e at.0.span of.member (named_in g e c at.0 at.1))
+
+  level_in : (g : Graph) (c : Crate) (at : Spanned LintLevel) → default_level p g c ≡ Some at
+      → Contains (level_ranges p) at.span
+  unfolding default_level
+  level_in g c at is = by (is_member g c) p.workspace_default p.external_default is
+    where
+      by : (b : Bool) (workspace external : Option (Spanned LintLevel))
+          → (if b then workspace else external) ≡ Some at
+          → Contains (own_range workspace ++ own_range external) at.span
+      by true workspace external is = Contains-append_left (own_range workspace) (own_range external) at.span
+          (subst (λ (o : Option (Spanned LintLevel)). Contains (own_range o) at.span) (sym is)
+          (Contains-first at.span []))
+      by false workspace external is = Contains-append_right (own_range workspace) (own_range external) at.span
+          (subst (λ (o : Option (Spanned LintLevel)). Contains (own_range o) at.span) (sym is)
+          (Contains-first at.span []))
+
+  of_default_of : (c : Crate) (key : Key) (at : Spanned LintLevel) → Contains (level_ranges p) at.span
+      → Contains (default_enabled_keys_of p c at) key → Contains (ranges_of p) key.entry
+  unfolding default_enabled_keys_of
+  of_default_of c key at known is = by (is_default_told p c at) is
+    where
+      by : (b : Bool) → Contains (if b then crate_key code.DefaultFeatureEnabled c.place at.span ∷ [] else []) key
+          → Contains (ranges_of p) key.entry
+      by true is = Contains-by_cases (crate_key code.DefaultFeatureEnabled c.place at.span) [] key is
+          (λ same. subst (λ (range : Span). Contains (ranges_of p) range)
+          (entry_is code.DefaultFeatureEnabled c.place at.span key same) (level_known p at.span known))
+          (λ more. absurd (no_member key more))
+      by false is = absurd (no_member key is)
+
+  of_default_at : (g : Graph) (key : Key) (c : Crate) → Contains (default_enabled_keys_at p g c) key
+      → Contains (ranges_of p) key.entry
+  unfolding default_enabled_keys_at
+  of_default_at g key c is = by (default_level p g c) refl is
+    where
+      by : (o : Option (Spanned LintLevel)) → default_level p g c ≡ o
+          → Contains (option_map_or (default_enabled_keys_of p c) o []) key → Contains (ranges_of p) key.entry
+      by None same is = absurd (no_member key is)
+      by (Some at) same is = of_default_of c key at (level_in g c at same) is
+
+  of_default : (g : Graph) (key : Key) → Contains (default_enabled_keys p g) key → Contains (ranges_of p) key.entry
+  of_default g key is =
+      let of = Contains-from_flat_map (default_enabled_keys_at p g) g.crates key is in
+      of_default_at g key of.from of.of
 
   of_unused_wrapper : (g : Graph) (key : Key) → Contains (unused_wrapper_keys p g) key
       → Contains (ranges_of p) key.entry
@@ -192,17 +339,94 @@ module _ (p : Policy) (file : ℕ) where
       subst (λ (range : Span). Contains (ranges_of p) range) (ap (λ (k : Key). k.entry) at.2)
       (tree_known p at.0 at.0.spec.range written (root_name at.0))
 
+-- ---- licences
+
+module _ (l : Licensing) (g : Graph) (counts : Crate → Bool) where
+  of_allowance : (key : Key) → Contains (not_encountered_keys counts l g) key
+      → Contains (licence_ranges (Some l)) key.entry
+  unfolding not_encountered_keys
+  of_allowance key is =
+      let unhit : Spanned Requirement → Bool = λ a. not (is_hit_by counts l g (grants_by_allowance l a)) in
+      let at = from_contains_map
+      (λ (a : Spanned Requirement). license_key section.LicensesUnused license.LicenseNotEncountered 0 a.span)
+      (filter unhit l.allow) key is in
+      let of_exceptions = map (λ (e : Exception). e.spec.range) l.exceptions in
+      subst (λ (range : Span). Contains (licence_ranges (Some l)) range) (ap (λ (k : Key). k.entry) at.2)
+      (Contains-append_left (map (λ (a : Spanned Requirement). a.span) l.allow) of_exceptions at.0.span
+      (contains_map (λ (a : Spanned Requirement). a.span) l.allow at.0 (filtered unhit l.allow at.0 at.1)))
+
+  of_exception : (key : Key) → Contains (exception_not_encountered_keys counts l g) key
+      → Contains (licence_ranges (Some l)) key.entry
+  unfolding exception_not_encountered_keys
+  of_exception key is =
+      let unhit : Exception → Bool = λ e. not (is_hit_by counts l g (grants_by_exception l e)) in
+      let at = from_contains_map
+      (λ (e : Exception). license_key section.LicensesUnused license.LicenseExceptionNotEncountered 0 e.spec.range)
+      (filter unhit l.exceptions) key is in
+      let of_licences = map (λ (a : Spanned Requirement). a.span) l.allow in
+      subst (λ (range : Span). Contains (licence_ranges (Some l)) range) (ap (λ (k : Key). k.entry) at.2)
+      (Contains-append_right of_licences (map (λ (e : Exception). e.spec.range) l.exceptions) at.0.spec.range
+      (contains_map (λ (e : Exception). e.spec.range) l.exceptions at.0 (filtered unhit l.exceptions at.0 at.1)))
+
+-- the one label of an entry that no crate needs
+one_label : (ranges : List Span) (file : ℕ) (range : Span) (message : List ℕ) → Contains ranges range
+    → AreOf ranges file (primary file range message ∷ [])
+one_label ranges file range message known = All-cons (IsOf ranges file) (primary file range message) []
+    (record { in_file = refl; known = known }) (All-nil (IsOf ranges file))
+
+-- the notes and errors of crates have no label
+no_label : (ranges : List Span) (file : ℕ) → AreOf ranges file []
+no_label ranges file = All-nil (IsOf ranges file)
+
+of_rejected : (licensing : Option Licensing) (g : Graph) (file : ℕ) (key : Key)
+    → AreOf (licence_ranges licensing) file (rejected_told_in licensing g key).labels
+unfolding rejected_told
+of_rejected None g file key = no_label [] file
+of_rejected (Some l) g file key = no_label (licence_ranges (Some l)) file
+
+of_not_encountered : (licensing : Option Licensing) (g : Graph) (file : ℕ) (key : Key)
+    → IsOfLicences not_encountered_keys licensing g key
+    → AreOf (licence_ranges licensing) file (not_encountered_told_in licensing file key).labels
+unfolding not_encountered_told
+of_not_encountered None g file key is = absurd is
+of_not_encountered (Some l) g file key is =
+    one_label (licence_ranges (Some l)) file key.entry (codes "unmatched license allowance")
+    (of_allowance l g is.counts key is.listed)
+
+of_exception_not_encountered : (licensing : Option Licensing) (g : Graph) (file : ℕ) (key : Key)
+    → IsOfLicences exception_not_encountered_keys licensing g key
+    → AreOf (licence_ranges licensing) file (exception_not_encountered_told file key).labels
+unfolding exception_not_encountered_told
+of_exception_not_encountered None g file key is = absurd is
+of_exception_not_encountered (Some l) g file key is =
+    one_label (licence_ranges (Some l)) file key.entry (codes "unmatched license exception")
+    (of_exception l g is.counts key is.listed)
+
+of_licence : (d : LicenseCode) (licensing : Option Licensing) (g : Graph) (file : ℕ) (key : Key)
+    → StandsLicensed d licensing g key
+    → AreOf (licence_ranges licensing) file (words_licensed d licensing g file key).labels
+unfolding words_licensed accepted_told unlicensed_told parse_error_told skipped_private_told
+of_licence license.Accepted licensing g file key is = no_label (licence_ranges licensing) file
+of_licence license.Rejected licensing g file key is = of_rejected licensing g file key
+of_licence license.Unlicensed licensing g file key is = no_label (licence_ranges licensing) file
+of_licence license.ParseError licensing g file key is = no_label (licence_ranges licensing) file
+of_licence license.SkippedPrivateWorkspaceCrate licensing g file key is = no_label (licence_ranges licensing) file
+of_licence license.LicenseNotEncountered licensing g file key is = of_not_encountered licensing g file key is
+of_licence license.LicenseExceptionNotEncountered licensing g file key is =
+    of_exception_not_encountered licensing g file key is
+
 -- ---- code by code
 
 module _ (c : Circumstances) (facts : Facts) where
   abbrev LabelsOf : List Label → Type 0
-  LabelsOf labels = AreOf c.policy c.files.policy labels
+  LabelsOf labels = AreOf (ranges_of c.policy) c.files.policy labels
 
   -- the last line is that of the codes whose rules are not there
   of_code : (d : Code) (key : Key) → StandsAs d c facts key → LabelsOf (words_as d c key).labels
   unfolding words_as banned_told allowed_told not_allowed_told duplicate_told skipped_told unmatched_skip_told
       unnecessary_skip_told allowed_by_wrapper_told unmatched_wrapper_told skipped_by_root_told unmatched_skip_root_told
-      unused_wrapper_told
+      unused_wrapper_told mismatched_told feature_not_allowed_told feature_banned_told unknown_feature_told
+      default_enabled_told
   of_code code.Banned key is = of_found LabelsOf (ban_labels c.files.policy (codes "banned here"))
       (λ ban. same_span ban.spec.range key.entry) c.policy.deny (none c.policy c.files.policy)
       (λ ban written. of_ban_entry c.policy c.files.policy (codes "banned here") ban written)
@@ -240,59 +464,80 @@ module _ (c : Circumstances) (facts : Facts) where
   of_code code.UnusedWrapper key is =
       one_more c.policy c.files.policy (primary c.files.policy key.entry (codes "unmatched wrapper")) [] refl
       (of_unused_wrapper c.policy c.files.policy c.graph key is) (none c.policy c.files.policy)
+  of_code code.ExactFeaturesMismatch key is =
+      let at = crate_at c.graph key.place in
+      of_found LabelsOf (λ e. option_map_or (mismatch_labels c.files.policy e) at [])
+      (λ e. same_span e.spec.range key.entry) c.policy.features (none c.policy c.files.policy)
+      (λ e written. of_mismatch c.policy c.files.policy e at written)
+  of_code code.FeatureNotExplicitlyAllowed key is =
+      of_found LabelsOf (λ e. primary c.files.policy e.allow.span (codes "allowed features") ∷ [])
+      (λ e. same_span e.spec.range key.entry) c.policy.features (none c.policy c.files.policy)
+      (λ e written. of_list c.policy c.files.policy e written)
+  of_code code.FeatureBanned key is =
+      one_more c.policy c.files.policy (primary c.files.policy key.entry (codes "feature denied here")) [] refl
+      (of_feature_banned c.policy c.files.policy c.graph key is) (none c.policy c.files.policy)
+  of_code code.UnknownFeature key is =
+      one_more c.policy c.files.policy (primary c.files.policy key.entry (codes "unknown feature")) [] refl
+      (of_unknown_feature c.policy c.files.policy c.graph key is) (none c.policy c.files.policy)
+  of_code code.DefaultFeatureEnabled key is =
+      one_more c.policy c.files.policy (primary c.files.policy key.entry (codes "lint level")) [] refl
+      (of_default c.policy c.files.policy c.graph key is) (none c.policy c.files.policy)
   of_code code.ReplacedInStd key is =
       of_replaced c.policy c.files.policy c.policy.replacing c.graph (said_by c.table) key
   of_code code.UnmatchedReplacementIgnore key is =
       of_unmatched_ignore c.policy c.files.policy c.policy.replacing key refl
   of_code _ key is = absurd is
 
-  of_key : (d : DiagnosticCode) (key : Key) → StandsBy d c facts key → LabelsOf (words_by d c key).labels
-  of_key Deprecated key is = absurd is
-  of_key (Bans d) key is = of_code d key is
-  of_key (License d) key is = absurd (none_licensed d c.policy c.graph key is)
-
 told_labels : (c : Circumstances) (key : Key) → (finding_told c key).diag.diag.labels ≡ (words_told c key).labels
 unfolding finding_told diag_of
 told_labels c key = refl
 
-placed_in : (p : Policy) (text : List ℕ) → All (IsRange text) (ranges_of p) → (label : Label) → IsOf p policy_id label
-    → IsPlaced (policy_file text ∷ []) label
-placed_in p text ranges label of = record {
+-- where ranges lie in the policy's text, so do the labels that mark them in its file
+placed_in : (ranges : List Span) (text : List ℕ) → All (IsRange text) ranges → (label : Label)
+    → IsOf ranges policy_id label → IsPlaced (policy_file text ∷ []) label
+placed_in ranges text lie label of = record {
   file = policy_file text;
   there = ap (slice_get (policy_file text ∷ [])) of.in_file;
-  range = All-contains (IsRange text) (ranges_of p) label.span ranges of.known;
+  range = All-contains (IsRange text) ranges label.span lie of.known;
 }
 
--- the labels of what is told of the policy's text alone, as its first file
-abbrev AreOfPolicy : Circumstances → List Label → Type 0
-AreOfPolicy c labels = AreOf c.policy policy_id labels
+all_placed : (ranges : List Span) (text : List ℕ) (file : ℕ) (labels : List Label) → file ≡ policy_id
+    → All (IsRange text) ranges → AreOf ranges file labels → ArePlaced (policy_file text ∷ []) labels
+all_placed ranges text file labels first lie are =
+    All-weaker (IsOf ranges policy_id) (IsPlaced (policy_file text ∷ [])) (placed_in ranges text lie) labels
+    (subst (λ (n : ℕ). AreOf ranges n labels) first are)
 
-in_first : (c : Circumstances) (labels : List Label) → c.files.policy ≡ policy_id
-    → AreOf c.policy c.files.policy labels → AreOfPolicy c labels
-in_first c labels first are = subst (λ (n : ℕ). AreOf c.policy n labels) first are
+-- the policy's text is the first file, and the ranges of what it says lie in it
+pub record AreRanges (c : Circumstances) (text : List ℕ) : Type 0 where
+  pub first : c.files.policy ≡ policy_id
+  pub of_policy : All (IsRange text) (ranges_of c.policy)
+  pub of_licences : All (IsRange text) (licence_ranges c.licensing)
 
--- where the ranges of a policy lie in its text, so do the labels of its findings
-are_labelled : (c : Circumstances) (facts : Facts) (text : List ℕ) (keys : List Key) → c.files.policy ≡ policy_id
-    → All (IsRange text) (ranges_of c.policy)
+labels_of_key : (c : Circumstances) (facts : Facts) (text : List ℕ) → AreRanges c text → (d : DiagnosticCode) (key : Key)
+    → StandsBy d c facts key → ArePlaced (policy_file text ∷ []) (words_by d c key).labels
+labels_of_key c facts text are Deprecated key is = absurd is
+labels_of_key c facts text are (Bans d) key is =
+    all_placed (ranges_of c.policy) text c.files.policy (words_as d c key).labels are.first are.of_policy
+    (of_code c facts d key is)
+labels_of_key c facts text are (License d) key is =
+    all_placed (licence_ranges c.licensing) text c.files.policy (words_by (License d) c key).labels are.first
+    are.of_licences (of_licence d c.licensing c.graph c.files.policy key is)
+
+are_labelled : (c : Circumstances) (facts : Facts) (text : List ℕ) (keys : List Key) → AreRanges c text
     → ((key : Key) → Contains keys key → Stands c facts key)
     → AreLabelled (policy_file text ∷ []) (map (finding_told c) keys)
-are_labelled c facts text [] first ranges stand = All-nil
-    (λ (f : Finding). ArePlaced (policy_file text ∷ []) f.diag.diag.labels)
-are_labelled c facts text (key ∷ keys) first ranges stand =
-    let labels = in_first c (words_told c key).labels first
-    (of_key c facts key.code key (stand key (Contains-first key keys))) in
-    let placed = All-weaker (IsOf c.policy policy_id) (IsPlaced (policy_file text ∷ []))
-    (placed_in c.policy text ranges) (words_told c key).labels labels in
+are_labelled c facts text [] are stand = All-nil (λ (f : Finding). ArePlaced (policy_file text ∷ []) f.diag.diag.labels)
+are_labelled c facts text (key ∷ keys) are stand =
     All-cons (λ (f : Finding). ArePlaced (policy_file text ∷ []) f.diag.diag.labels) (finding_told c key)
     (map (finding_told c) keys)
-    (subst (λ (ls : List Label). ArePlaced (policy_file text ∷ []) ls) (sym (told_labels c key)) placed)
-    (are_labelled c facts text keys first ranges (λ k is. stand k (Contains-rest key keys k is)))
+    (subst (λ (ls : List Label). ArePlaced (policy_file text ∷ []) ls) (sym (told_labels c key))
+    (labels_of_key c facts text are key.code key (stand key (Contains-first key keys))))
+    (are_labelled c facts text keys are (λ k is. stand k (Contains-rest key keys k is)))
 
 -- so those of a report do
-pub report_labelled : (c : Circumstances) (text : List ℕ) (report : Report) → c.files.policy ≡ policy_id
-    → All (IsRange text) (ranges_of c.policy) → IsReport c report → report.files ≡ policy_file text ∷ []
-    → AreLabelled report.files report.findings
-report_labelled c text report first ranges is files =
+pub report_labelled : (c : Circumstances) (text : List ℕ) (report : Report) → AreRanges c text → IsReport c report
+    → report.files ≡ policy_file text ∷ [] → AreLabelled report.files report.findings
+report_labelled c text report are is files =
     subst (λ (fs : List File). AreLabelled fs report.findings) (sym files)
     (subst (λ (found : List Finding). AreLabelled (policy_file text ∷ []) found) (sym is.told)
-    (are_labelled c is.listed.facts text is.keys first ranges is.listed.listed.sound))
+    (are_labelled c is.listed.facts text is.keys are is.listed.listed.sound))

@@ -3,6 +3,8 @@ pub mod Beside
 pub mod CauseLaws
 pub mod ClashLabels
 pub mod Covered
+pub mod ExitLaws
+pub mod FeatureSpans
 pub mod FindingLaws
 pub mod HeadlineLaws
 pub mod LabelLaws

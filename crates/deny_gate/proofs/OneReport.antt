@@ -1,17 +1,19 @@
 -- Texts have one report, by one view of files, and by whatever view.
 use Rattle.std.proofs.Common.{◌≡◌, ◌∙◌, ◌<◌, ℕ, Bool, true, false, List, [], ◌∷◌, Option, None, Some, map, ap, refl}
 use Rattle.std.proofs.Common.{sym, subst, arith}
-use Rattle.std.specs.Prelude.{Contains, IsTrue, filter}
+use Rattle.std.specs.Prelude.{Contains, IsTrue, filter, is_some}
 use Rattle.std.specs.Cmp.{nat_cmp_total}
 use Rattle.std.specs.List.{AllZip}
 use Rattle.deny_base.specs.declared.edge.Edge.{Edge}
 use Rattle.deny_base.specs.declared.key.Key.{Key}
 use Rattle.deny_lists.proofs.Sorted.{one_list}
 use Rattle.deny_base.proofs.EdgeEqual.{edge_cmp-total}
+use Rattle.deny_cfg.specs.LicensingView.{licensing_of}
 use Rattle.deny_cfg.specs.PolicyText.{IsPolicyOf}
 use Rattle.deny_cfg.specs.PolicyView.{policy_view}
 use Rattle.deny_cfg.specs.declared.policy.Policy as cfg
 use Rattle.deny_model.specs.Graph.{Graph}
+use Rattle.deny_model.specs.Licensing.{Licensing}
 use Rattle.deny_model.specs.Policy.{Policy}
 use Rattle.deny_dup_edges.specs.DupEdges.{AreEdgesOf, IsSetOf, IsSimplest, ShowsEach, Simplest, is_of_duplicate}
 use Rattle.deny_dup_edges.specs.declared.dup_edges.DupEdges.{DupEdges}
@@ -24,8 +26,9 @@ use Rattle.deny_codes.specs.Told.{check_told, diag_of, words_told}
 use Rattle.deny_codes.specs.declared.words.Words.{Words}
 use Rattle.deny_lists.proofs.Agreement.{filter_on, map_on}
 use Rattle.deny_lists.proofs.Filters.{filter-all}
-use Rattle.deny_gate.specs.Gating.{IsReportBy, IsReportOf, Texts, circumstances_on}
+use Rattle.deny_gate.specs.Gating.{IsReportBy, IsReportOf, Texts, circumstances_of, circumstances_on}
 use Rattle.deny_gate.specs.Report.{IsReport, finding_told, policy_id, verdict_of}
+use Rattle.deny_gate.specs.Stats.{all_stats}
 use Rattle.deny_gate.specs.declared.report.Finding.{Finding}
 use Rattle.deny_gate.proofs.OneGraph.{one_graph}
 use Rattle.deny_gate.proofs.Standing.{asks_none}
@@ -97,6 +100,8 @@ pub record ReportLaws : Type 0 where
       → words_told (viewed c view) key ≡ words_told c key
   pub policies : (text : List ℕ) → (file : ℕ) → (a b : cfg.Policy) → IsPolicyOf text file a → IsPolicyOf text file b
       → (policy_view a.bans ≡ policy_view b.bans) × (a.not_built ≡ b.not_built)
+  pub licences : (text : List ℕ) → (file : ℕ) → (a b : cfg.Policy) → IsPolicyOf text file a → IsPolicyOf text file b
+      → licensing_of a.licenses ≡ licensing_of b.licenses
 
 -- the finding of a key by its words
 abbrev finding_by : Key → Words → Finding
@@ -125,8 +130,16 @@ of_keys c view a b this that keys alike files =
     a.dup_edges b.dup_edges
     (subst (λ (ks : List Key). ShowsEach c.policy c.graph (filter is_of_duplicate ks) a.dup_edges) keys this.shown)
     that.shown in
+    let stats : a.stats ≡ b.stats =
+    this.stats ∙ (ap (all_stats (is_some c.licensing)) findings ∙ sym that.stats) in
     let verdict : a.verdict ≡ b.verdict = this.verdict ∙ (ap verdict_of findings ∙ sym that.verdict) in
-    λ i. record { files = files i; findings = findings i; dup_edges = dup_edges i; verdict = verdict i }
+    λ i. record {
+      files = files i;
+      findings = findings i;
+      dup_edges = dup_edges i;
+      stats = stats i;
+      verdict = verdict i;
+    }
 
 module _ (laws : ReportLaws) where
   told_alike : (c : Circumstances) (view : View) (keys : List Key) → AreKeys (viewed c view) keys
@@ -153,22 +166,27 @@ module _ (laws : ReportLaws) where
   -- the first report in the circumstances of the second, but by its own view
   moved : (texts : Texts) (view other : View) (a b : Report) (this : IsReportBy texts view a)
       (that : IsReportBy texts other b)
-      → IsReport (circumstances_on (policy_view that.said.bans) that.graph texts.replacements view) a
+      → IsReport (circumstances_of that.said that.graph texts.replacements view) a
   moved texts view other a b this that =
       let views : policy_view this.said.bans ≡ policy_view that.said.bans =
       (laws.policies texts.policy policy_id this.said that.said this.is_said.is_policy that.is_said.is_policy).0 in
+      let licences : licensing_of this.said.licenses ≡ licensing_of that.said.licenses =
+      laws.licences texts.policy policy_id this.said that.said this.is_said.is_policy that.is_said.is_policy in
       let graphs : this.graph ≡ that.graph =
       one_graph texts.metadata this.graph that.graph this.is_graph that.is_graph in
-      subst (λ (p : Policy). IsReport (circumstances_on p that.graph texts.replacements view) a) views
-      (subst (λ (g : Graph). IsReport (circumstances_on (policy_view this.said.bans) g texts.replacements view) a)
-      graphs this.is_report)
+      let at : Policy → Option Licensing → Graph → Circumstances =
+      λ p l g. circumstances_on p l g texts.replacements view in
+      subst (λ (p : Policy). IsReport (at p (licensing_of that.said.licenses) that.graph) a) views
+      (subst (λ (l : Option Licensing). IsReport (at (policy_view this.said.bans) l that.graph) a) licences
+      (subst (λ (g : Graph). IsReport (at (policy_view this.said.bans) (licensing_of this.said.licenses) g) a) graphs
+      this.is_report))
 
   pub by_view : (texts : Texts) (view : View) (a b : Report) → IsReportBy texts view a → IsReportBy texts view b → a ≡ b
   by_view texts view a b this that =
-      same_view (circumstances_on (policy_view that.said.bans) that.graph texts.replacements view) a b
+      same_view (circumstances_of that.said that.graph texts.replacements view) a b
       (moved texts view view a b this that) that.is_report (this.files ∙ sym that.files)
 
   pub by_any : (texts : Texts) (a b : Report) → IsReportOf texts a → IsReportOf texts b → a ≡ b
   by_any texts a b this that =
-      other_view (circumstances_on (policy_view that.by.said.bans) that.by.graph texts.replacements this.view) that.view
-      a b (moved texts this.view that.view a b this.by that.by) that.by.is_report (this.by.files ∙ sym that.by.files)
+      other_view (circumstances_of that.by.said that.by.graph texts.replacements this.view) that.view a b
+      (moved texts this.view that.view a b this.by that.by) that.by.is_report (this.by.files ∙ sym that.by.files)

@@ -1,68 +1,107 @@
--- An error is one of a crate rule, or of what the standard library replaces; and then the policy's text minds that.
-use Rattle.std.proofs.Common.{◌≡◌, ◌⊎◌, ◌∙◌, ℕ, true, false, List, [], Contains, Option, None, Some, refl, sym, ap}
-use Rattle.std.proofs.Common.{subst, inl, inr}
-use Rattle.std.specs.Prelude.{codes, is_some, option_and_then, option_map}
+-- An error is one of a crate rule, or of another rule that the policy minds; and then the policy's text writes that rule.
+use Rattle.std.proofs.Common.{◌≡◌, ◌⊎◌, ◌∙◌, ◌==◌, ℕ, Bool, true, false, not, length, List, [], ◌∷◌, Contains, Option}
+use Rattle.std.proofs.Common.{None, Some, refl, sym, ap, subst, inl, inr}
+use Rattle.std.specs.Prelude.{◌||◌, codes, is_some, map, option_and_then, option_map, if◌then◌else◌}
 use Rattle.std.specs.Option.{option_map_or}
 use Rattle.std.proofs.lemmas.Bool.{false≢true}
+use Rattle.std.proofs.lemmas.List.{length-map}
+use Rattle.deny_base.specs.Level.{severity_of}
 use Rattle.deny_base.specs.declared.code.Code.{Code}
 use Rattle.deny_base.specs.declared.code.Code.TheVariants as code
 use Rattle.deny_base.specs.declared.code.DiagnosticCode.{DiagnosticCode}
 use Rattle.deny_base.specs.declared.code.DiagnosticCode.TheVariants.{Deprecated, Bans, License}
 use Rattle.deny_base.specs.declared.key.Key.{Key}
-use Rattle.deny_lists.proofs.Members.{no_member}
-use Rattle.deny_toml.specs.Calls.{table_in, value_at}
+use Rattle.deny_base.specs.declared.level.LintLevel.{LintLevel}
+use Rattle.deny_base.specs.declared.level.Severity.TheVariants as severity
+use Rattle.deny_base.specs.declared.license_code.LicenseCode.{LicenseCode}
+use Rattle.deny_base.specs.declared.license_code.LicenseCode.TheVariants as license
+use Rattle.deny_base.specs.declared.span.Spanned.{Spanned}
+use Rattle.deny_lists.proofs.Members.{Contains-from_flat_map, no_member}
+use Rattle.deny_toml.specs.Calls.{array_in, below_name, table_in, value_at}
+use Rattle.deny_toml.specs.Deserialize.{ReadsArray, ReadsEach}
 use Rattle.deny_toml.specs.Value.{entries_in}
 use Rattle.deny_toml.specs.declared.value.Table.{Table}
 use Rattle.deny_toml.specs.declared.value.Value.{Value}
 use Rattle.deny_entries.specs.PolicyKey.{name_of}
-use Rattle.deny_entries.specs.Table.{Entries, ReadsIfThere, ReadsIn, at_key}
+use Rattle.deny_entries.specs.Table.{Entries, ReadsIfThere, ReadsIn, ReadsOr, ReadsTable, at_key}
+use Rattle.deny_entries.specs.Words.{ReadsAs, ReadsList, ReadsSpanned, level_of}
 use Rattle.deny_entries.specs.declared.policy_key.PolicyKey.TheVariants as key
 use Rattle.deny_entries.proofs.RowLaws.{says_of}
 use Rattle.deny_tables.specs.Config.{ReadsConfig}
+use Rattle.deny_tables.specs.Features.{ReadsCrateFeatures}
+use Rattle.deny_tables.specs.Licenses.{ReadsLicenses}
 use Rattle.deny_tables.specs.StdReplacements.{a_std}
 use Rattle.deny_tables.specs.declared.bans.cfg.config.Config.{Config}
+use Rattle.deny_tables.specs.declared.bans.cfg.features.CrateFeatures.{CrateFeatures}
 use Rattle.deny_tables.specs.declared.bans.cfg.std_replacements.StdReplacementConfig.{StdReplacementConfig}
+use Rattle.deny_cfg.specs.LicensingView.{licensing_of, licensing_view}
 use Rattle.deny_cfg.specs.PolicyText.{ReadsBans}
-use Rattle.deny_cfg.specs.PolicyView.{policy_view, replacing_view}
+use Rattle.deny_cfg.specs.PolicyView.{feature_view, policy_view, replacing_view}
+use Rattle.deny_cfg.specs.Valid.{features_of}
+use Rattle.deny_cfg.specs.declared.bans.cfg.valid.ValidKrateFeatures.{ValidKrateFeatures}
 use Rattle.deny_cfg.specs.declared.policy.Policy as cfg
+use Rattle.deny_model.specs.Graph.{Crate, Graph}
+use Rattle.deny_model.specs.Licensing.{Licensing}
 use Rattle.deny_model.specs.Policy.{Policy, Replacing}
+use Rattle.deny_model.specs.Told.{crate_at}
 use Rattle.deny_codes.specs.AllowList.{allowed_told}
 use Rattle.deny_codes.specs.Bans.{allowed_by_wrapper_told, unmatched_wrapper_told}
 use Rattle.deny_codes.specs.Circumstances.{Circumstances}
 use Rattle.deny_codes.specs.Facts.{Facts}
+use Rattle.deny_codes.specs.Features.{default_enabled_told, default_level, default_severity, feature_banned_keys_of}
+use Rattle.deny_codes.specs.Features.{mismatched_keys_of, unknown_feature_told}
+use Rattle.deny_codes.specs.Licences.{accepted_told, exception_not_encountered_told, skipped_private_told}
+use Rattle.deny_codes.specs.Members.{is_member}
 use Rattle.deny_codes.specs.Saying.{said_by}
 use Rattle.deny_codes.specs.SkippedTrees.{skipped_by_root_told, unmatched_skip_root_told}
 use Rattle.deny_codes.specs.Skips.{skipped_told, unmatched_skip_told, unnecessary_skip_told}
-use Rattle.deny_codes.specs.Standing.{StandsAs, StandsBy}
-use Rattle.deny_codes.specs.StdReplacements.{replaced_keys, replaced_keys_in, unmatched_ignore_told}
+use Rattle.deny_codes.specs.Standing.{StandsAs, StandsBy, StandsLicensed}
+use Rattle.deny_codes.specs.StdReplacements.{replaced_keys, unmatched_ignore_told}
 use Rattle.deny_codes.specs.Telling.{not_built}
-use Rattle.deny_codes.specs.Told.{words_as, words_by}
+use Rattle.deny_codes.specs.Told.{words_as, words_by, words_licensed}
 use Rattle.deny_codes.specs.Wrappers.{unused_wrapper_told}
-use Rattle.deny_codes.proofs.Sections.{none_licensed}
 use Rattle.deny_gate.specs.Gating.{IsBuilt}
-use Rattle.deny_gate.specs.Headline.{WritesRule, bans_write, is_crate_rule}
+use Rattle.deny_gate.specs.Headline.{WritesRule, bans_write, has_element, has_entry, has_key, is_crate_rule}
+use Rattle.deny_gate.specs.Headline.{licenses_write, writes}
 use Rattle.deny_gate.specs.Report.{is_error}
+use Rattle.deny_gate.proofs.Covered.{some_test}
+use Rattle.deny_gate.proofs.Standing.{none_licensed}
 
 -- ---- which codes are errors
 
--- the code of what the standard library replaces, which the policy minds
-pub record IsOfStd (p : Policy) (d : DiagnosticCode) : Type 0 where
-  pub code_is : d ≡ Bans code.ReplacedInStd
-  pub replacing : Replacing
-  pub minded : p.replacing ≡ Some replacing
+abbrev pub has_features : Policy → Bool
+has_features p = not (length p.features == 0)
 
-abbrev pub IsGrave : Policy → DiagnosticCode → Type 0
-IsGrave p d = (is_crate_rule (Some d) ≡ true) ⊎ IsOfStd p d
+-- the policy minds what this code can tell errors of, besides the crate rules
+abbrev pub minds_as : Code → Policy → Bool
+minds_as code.ExactFeaturesMismatch p = has_features p
+minds_as code.FeatureNotExplicitlyAllowed p = has_features p
+minds_as code.FeatureBanned p = has_features p
+minds_as code.DefaultFeatureEnabled p = is_some p.workspace_default || is_some p.external_default
+minds_as code.ReplacedInStd p = is_some p.replacing
+minds_as _ p = false
 
-minded_by : (p : Policy) (o : Option Replacing) (keys : Replacing → List Key) (k : Key) → p.replacing ≡ o
-    → Contains (option_map_or keys o []) k → IsOfStd p (Bans code.ReplacedInStd)
-minded_by p None keys k same is = absurd (no_member k is)
-minded_by p (Some r) keys k same is = record { code_is = refl; replacing = r; minded = same }
+abbrev pub minds_licensed : LicenseCode → Option Licensing → Bool
+minds_licensed license.Rejected licensing = is_some licensing
+minds_licensed license.Unlicensed licensing = is_some licensing
+minds_licensed license.ParseError licensing = is_some licensing
+minds_licensed license.LicenseNotEncountered licensing = is_some licensing
+minds_licensed _ licensing = false
 
-replaced_minded : (c : Circumstances) (k : Key) → Contains (replaced_keys_in c) k
-    → IsOfStd c.policy (Bans code.ReplacedInStd)
-replaced_minded c k is =
-    minded_by c.policy c.policy.replacing (λ r. replaced_keys r c.graph (said_by c.table)) k refl is
+abbrev pub minds : DiagnosticCode → Policy → Option Licensing → Bool
+minds Deprecated p licensing = false
+minds (Bans d) p licensing = minds_as d p
+minds (License d) p licensing = minds_licensed d licensing
+
+abbrev pub IsGrave : Policy → Option Licensing → DiagnosticCode → Type 0
+IsGrave p licensing d = (is_crate_rule (Some d) ≡ true) ⊎ (minds d p licensing ≡ true)
+
+-- ---- of replaced crates
+
+minded_by : (o : Option Replacing) (keys : Replacing → List Key) (k : Key) → Contains (option_map_or keys o []) k
+    → is_some o ≡ true
+minded_by None keys k is = absurd (no_member k is)
+minded_by (Some r) keys k is = refl
 
 ignore_is_mild : (o : Option Replacing) (file : ℕ) (k : Key)
     → is_error (option_map_or (λ r. unmatched_ignore_told r file k) o not_built).severity ≡ false
@@ -70,15 +109,58 @@ unfolding unmatched_ignore_told
 ignore_is_mild None file k = refl
 ignore_is_mild (Some r) file k = refl
 
+-- ---- of features
+
+some_are : {X : Type 0} (xs : List X) (x : X) → Contains xs x → not (length xs == 0) ≡ true
+some_are [] x is = absurd (no_member x is)
+some_are (y ∷ ys) x is = some_test (y ∷ ys) (λ none. cc none)
+
+-- a severity that is not the one of nothing comes from a level
+level_there : (o : Option (Spanned LintLevel))
+    → is_error (option_map_or (λ at. severity_of at.value) o severity.Warning) ≡ true → is_some o ≡ true
+level_there None error = absurd (false≢true error)
+level_there (Some at) error = refl
+
+one_of : {X : Type 0} (b : Bool) (x y : Option X) → is_some (if b then x else y) ≡ true
+    → (is_some x || is_some y) ≡ true
+one_of true (Some x) y is = refl
+one_of true None y is = absurd (false≢true is)
+one_of false (Some x) y is = refl
+one_of false None y is = is
+
+level_minded : (p : Policy) (g : Graph) (o : Option Crate) → is_some (option_and_then (default_level p g) o) ≡ true
+    → (is_some p.workspace_default || is_some p.external_default) ≡ true
+unfolding default_level
+level_minded p g None is = absurd (false≢true is)
+level_minded p g (Some c) is = one_of (is_member g c) p.workspace_default p.external_default is
+
+default_minded : (p : Policy) (g : Graph) (k : Key) → is_error (default_severity p g k) ≡ true
+    → (is_some p.workspace_default || is_some p.external_default) ≡ true
+unfolding default_severity
+default_minded p g k error = level_minded p g (crate_at g k.place)
+    (level_there (option_and_then (default_level p g) (crate_at g k.place)) error)
+
+-- ---- code by code
+
 -- the last line is that of the codes whose rules are not there
 grave_code : (d : Code) (c : Circumstances) (facts : Facts) (k : Key) → StandsAs d c facts k
-    → is_error (words_as d c k).severity ≡ true → IsGrave c.policy (Bans d)
+    → is_error (words_as d c k).severity ≡ true → IsGrave c.policy c.licensing (Bans d)
 unfolding words_as allowed_told skipped_told unmatched_skip_told unnecessary_skip_told allowed_by_wrapper_told
-    unmatched_wrapper_told skipped_by_root_told unmatched_skip_root_told unused_wrapper_told
+    unmatched_wrapper_told skipped_by_root_told unmatched_skip_root_told unused_wrapper_told unknown_feature_told
+    default_enabled_told
 grave_code code.Banned c facts k is error = inl refl
 grave_code code.NotAllowed c facts k is error = inl refl
 grave_code code.Duplicate c facts k is error = inl refl
-grave_code code.ReplacedInStd c facts k is error = inr (replaced_minded c k is)
+grave_code code.ExactFeaturesMismatch c facts k is error =
+    let of = Contains-from_flat_map (mismatched_keys_of c.policy c.graph) c.policy.features k is in
+    inr (some_are c.policy.features of.from of.member)
+grave_code code.FeatureNotExplicitlyAllowed c facts k is error = inr (some_are c.policy.features is.entry is.written)
+grave_code code.FeatureBanned c facts k is error =
+    let of = Contains-from_flat_map (feature_banned_keys_of c.graph) c.policy.features k is in
+    inr (some_are c.policy.features of.from of.member)
+grave_code code.DefaultFeatureEnabled c facts k is error = inr (default_minded c.policy c.graph k error)
+grave_code code.ReplacedInStd c facts k is error =
+    inr (minded_by c.policy.replacing (λ r. replaced_keys r c.graph (said_by c.table)) k is)
 grave_code code.Allowed c facts k is error = absurd (false≢true error)
 grave_code code.Skipped c facts k is error = absurd (false≢true error)
 grave_code code.UnmatchedSkip c facts k is error = absurd (false≢true error)
@@ -87,65 +169,194 @@ grave_code code.AllowedByWrapper c facts k is error = absurd (false≢true error
 grave_code code.UnmatchedWrapper c facts k is error = absurd (false≢true error)
 grave_code code.SkippedByRoot c facts k is error = absurd (false≢true error)
 grave_code code.UnmatchedSkipRoot c facts k is error = absurd (false≢true error)
+grave_code code.UnknownFeature c facts k is error = absurd (false≢true error)
 grave_code code.UnusedWrapper c facts k is error = absurd (false≢true error)
 grave_code code.UnmatchedReplacementIgnore c facts k is error =
     absurd (false≢true (sym (ignore_is_mild c.policy.replacing c.files.policy k) ∙ error))
 grave_code _ c facts k is error = absurd is
 
+-- what stands by a rule on licences stands where the policy speaks of them
+licensed_there : (d : LicenseCode) (licensing : Option Licensing) (g : Graph) (k : Key)
+    → StandsLicensed d licensing g k → is_some licensing ≡ true
+licensed_there d None g k is = absurd (none_licensed d None g k refl is)
+licensed_there d (Some l) g k is = refl
+
+grave_licensed : (d : LicenseCode) (licensing : Option Licensing) (g : Graph) (file : ℕ) (k : Key)
+    → StandsLicensed d licensing g k → is_error (words_licensed d licensing g file k).severity ≡ true
+    → minds_licensed d licensing ≡ true
+unfolding words_licensed accepted_told skipped_private_told exception_not_encountered_told
+grave_licensed license.Accepted licensing g file k is error = absurd (false≢true error)
+grave_licensed license.Rejected licensing g file k is error = licensed_there license.Rejected licensing g k is
+grave_licensed license.Unlicensed licensing g file k is error = licensed_there license.Unlicensed licensing g k is
+grave_licensed license.ParseError licensing g file k is error = licensed_there license.ParseError licensing g k is
+grave_licensed license.SkippedPrivateWorkspaceCrate licensing g file k is error = absurd (false≢true error)
+grave_licensed license.LicenseNotEncountered licensing g file k is error =
+    licensed_there license.LicenseNotEncountered licensing g k is
+grave_licensed license.LicenseExceptionNotEncountered licensing g file k is error = absurd (false≢true error)
+
 pub grave : (d : DiagnosticCode) (c : Circumstances) (facts : Facts) (k : Key) → StandsBy d c facts k
-    → is_error (words_by d c k).severity ≡ true → IsGrave c.policy d
+    → is_error (words_by d c k).severity ≡ true → IsGrave c.policy c.licensing d
 grave Deprecated c facts k is error = absurd is
 grave (Bans d) c facts k is error = grave_code d c facts k is error
-grave (License d) c facts k is error = absurd (none_licensed d c.policy c.graph k is)
+grave (License d) c facts k is error = inr (grave_licensed d c.licensing c.graph c.files.policy k is error)
 
 -- ---- what is read stands in the text
 
 there_if_read : {T : Type 0} (Reads : Value → T → Type 0) (v : Option Value) (x : Option T) → ReadsIfThere Reads v x
     → is_some x ≡ true → is_some v ≡ true
-there_if_read {T} Reads None x says some = absurd (false≢true (sym (ap (λ (o : Option T). is_some o) says) ∙ some))
+there_if_read Reads None x says some = absurd (false≢true (sym (ap (λ o. is_some o) says) ∙ some))
 there_if_read Reads (Some v) x says some = refl
 
-in_entries : (config : Config) (entries : Entries) → ReadsConfig entries config → is_some config.std_replacements ≡ true
-    → is_some (at_key key.StdReplacements entries) ≡ true
+-- a list that is read from elements is as long as they are
+elements_there : (vs : List Value) (read : List CrateFeatures) → ReadsEach ReadsCrateFeatures vs read
+    → not (length read == 0) ≡ true → not (length vs == 0) ≡ true
+elements_there [] [] each some = some
+elements_there [] (f ∷ fs) each some = absurd each
+elements_there (v ∷ vs) read each some = some_test (v ∷ vs) (λ none. cc none)
+
+entry_there : (o : Option (List Value)) (read : List CrateFeatures) → ReadsArray ReadsCrateFeatures o read
+    → not (length read == 0) ≡ true → option_map_or (λ (vs : List Value). not (length vs == 0)) o false ≡ true
+entry_there None read each some = absurd each
+entry_there (Some vs) read each some = elements_there vs read each some
+
+features_there : (o : Option Value) (read : List CrateFeatures) → ReadsOr [] (ReadsList ReadsCrateFeatures) o read
+    → not (length read == 0) ≡ true → option_map_or has_element o false ≡ true
+features_there None read says some =
+    absurd (false≢true (sym (ap (λ (fs : List CrateFeatures). not (length fs == 0)) says) ∙ some))
+features_there (Some v) read says some = entry_there (array_in v) read says some
+
+-- whether either test passes, where each leads to another
+or_both : (a b c d : Bool) → (a ≡ true → c ≡ true) → (b ≡ true → d ≡ true) → (a || b) ≡ true → (c || d) ≡ true
+or_both a b true d left right is = refl
+or_both true b false d left right is = absurd (false≢true (left refl))
+or_both false b false d left right is = right is
+
+-- what the entries of the table `bans` write, the table does; without entries nothing is written
+module _ (config : Config) (writes : Entries → Bool) (in_table : Option Table → Bool)
+    (same : (t : Table) → in_table (Some t) ≡ writes (entries_in t)) (nothing : writes [] ≡ false)
+    (each : (entries : Entries) → ReadsConfig entries config → writes entries ≡ true) where
+  by_table : (o : Option Table) → ReadsIn ReadsConfig o config → in_table o ≡ true
+  by_table None reads = absurd reads
+  by_table (Some t) reads = same t ∙ each (entries_in t) reads
+
+  by_bans : (o : Option Value) → ReadsBans o config → option_map_or (λ v. in_table (table_in v)) o false ≡ true
+  by_bans None reads = absurd (false≢true (sym nothing ∙ each [] reads))
+  by_bans (Some v) reads = by_table (table_in v) reads
+
+-- a key of the table
+abbrev key_in : List ℕ → Option Table → Option Value
+key_in name o = option_and_then (λ t. value_at name (entries_in t)) o
+
+features_written : (config : Config) (o : Option Value) → ReadsBans o config → not (length config.features == 0) ≡ true
+    → option_map_or (has_entry (codes "features")) o false ≡ true
 unfolding name_of
-in_entries config entries reads some =
-    there_if_read a_std.Reads (at_key key.StdReplacements entries) config.std_replacements
-    (says_of key.StdReplacements reads) some
+features_written config o reads some =
+    by_bans config (λ entries. option_map_or has_element (value_at (codes "features") entries) false)
+    (λ t. option_map_or has_element (key_in (codes "features") t) false) (λ t. refl) refl
+    (λ entries keys. features_there (at_key key.Features entries) config.features (says_of key.Features keys) some)
+    o reads
 
-in_table : (o : Option Table) (config : Config) → ReadsIn ReadsConfig o config
-    → is_some config.std_replacements ≡ true
-    → is_some (option_and_then (λ t. value_at (codes "std-replacements") (entries_in t)) o) ≡ true
+levels_written : (config : Config) (o : Option Value) → ReadsBans o config
+    → (is_some config.workspace_default_features || is_some config.external_default_features) ≡ true
+    → option_map_or (bans_write code.DefaultFeatureEnabled) o false ≡ true
+unfolding name_of bans_write
+levels_written config o reads some =
+    by_bans config
+    (λ entries. is_some (value_at (codes "workspace-default-features") entries)
+    || is_some (value_at (codes "external-default-features") entries))
+    (λ t. is_some (key_in (codes "workspace-default-features") t)
+    || is_some (key_in (codes "external-default-features") t)) (λ t. refl) refl
+    (λ entries keys. or_both (is_some config.workspace_default_features) (is_some config.external_default_features)
+    (is_some (at_key key.WorkspaceDefaultFeatures entries)) (is_some (at_key key.ExternalDefaultFeatures entries))
+    (there_if_read (ReadsSpanned (ReadsAs level_of)) (at_key key.WorkspaceDefaultFeatures entries)
+    config.workspace_default_features (says_of key.WorkspaceDefaultFeatures keys))
+    (there_if_read (ReadsSpanned (ReadsAs level_of)) (at_key key.ExternalDefaultFeatures entries)
+    config.external_default_features (says_of key.ExternalDefaultFeatures keys)) some)
+    o reads
+
+std_written : (config : Config) (o : Option Value) → ReadsBans o config → is_some config.std_replacements ≡ true
+    → option_map_or (has_key (codes "std-replacements")) o false ≡ true
 unfolding name_of
-in_table None config reads some = absurd reads
-in_table (Some t) config reads some = in_entries config (entries_in t) reads some
+std_written config o reads some =
+    by_bans config (λ entries. is_some (value_at (codes "std-replacements") entries))
+    (λ t. is_some (key_in (codes "std-replacements") t)) (λ t. refl) refl
+    (λ entries keys. there_if_read a_std.Reads (at_key key.StdReplacements entries) config.std_replacements
+    (says_of key.StdReplacements keys) some)
+    o reads
 
-in_bans : (o : Option Value) (config : Config) → ReadsBans o config → is_some config.std_replacements ≡ true
-    → option_map_or (bans_write code.ReplacedInStd) o false ≡ true
-unfolding bans_write
-in_bans None config reads some = absurd (false≢true (in_entries config [] reads some))
-in_bans (Some v) config reads some = in_table (table_in v) config reads some
+-- ---- what the rules see is what was read
 
-written_if_seen : (o : Option StdReplacementConfig) (r : Replacing) → option_map replacing_view o ≡ Some r
-    → is_some o ≡ true
-written_if_seen None r is = absurd (cc is)
-written_if_seen (Some std) r is = refl
+seen : {X Y : Type 0} (view : X → Y) (o : Option X) → is_some (option_map view o) ≡ is_some o
+seen view None = refl
+seen view (Some x) = refl
 
-std_written : (text : List ℕ) (said : cfg.Policy) (r : Replacing) → IsBuilt text said
-    → (policy_view said.bans).replacing ≡ Some r → WritesRule text (Bans code.ReplacedInStd)
-std_written text said r built minded =
-    let of = built.is_policy in
-    let says = of.says.says in
-    let seen : is_some said.bans.std_replacements ≡ true = written_if_seen said.bans.std_replacements r minded in
-    let some : is_some of.config.std_replacements ≡ true =
-    subst (λ (o : Option StdReplacementConfig). is_some o ≡ true) of.valid.std_replacements seen in
-    record {
-      tree = says.tree;
-      is_tree = says.is_tree;
-      written = in_bans _ of.config says.reads some;
-    }
+module _ (text : List ℕ) (said : cfg.Policy) (built : IsBuilt text said) where
+  abbrev config : Config
+  config = built.is_policy.config
 
-pub rule_written : (text : List ℕ) (said : cfg.Policy) (d : DiagnosticCode) → IsBuilt text said
-    → IsOfStd (policy_view said.bans) d → WritesRule text d
-rule_written text said d built std =
-    subst (λ (e : DiagnosticCode). WritesRule text e) (sym std.code_is)
-    (std_written text said std.replacing built std.minded)
+  abbrev tree : Value
+  tree = built.is_policy.says.says.tree
+
+  features_read : has_features (policy_view said.bans) ≡ true → not (length config.features == 0) ≡ true
+  features_read some =
+      let valid = built.is_policy.valid in
+      let lengths : length (map feature_view said.bans.features) ≡ length config.features =
+      length-map said.bans.features feature_view
+      ∙ (ap (λ (fs : List ValidKrateFeatures). length fs) valid.features ∙ length-map config.features features_of) in
+      subst (λ (n : ℕ). not (n == 0) ≡ true) lengths some
+
+  levels_read : (is_some said.bans.workspace_default_features || is_some said.bans.external_default_features) ≡ true
+      → (is_some config.workspace_default_features || is_some config.external_default_features) ≡ true
+  levels_read some =
+      let valid = built.is_policy.valid in
+      subst (λ (o : Option (Spanned LintLevel)). (is_some config.workspace_default_features || is_some o) ≡ true)
+      valid.external_default_features
+      (subst (λ (o : Option (Spanned LintLevel)). (is_some o || is_some said.bans.external_default_features) ≡ true)
+      valid.workspace_default_features some)
+
+  std_read : is_some (option_map replacing_view said.bans.std_replacements) ≡ true
+      → is_some config.std_replacements ≡ true
+  std_read some = ap (λ (o : Option StdReplacementConfig). is_some o) (sym built.is_policy.valid.std_replacements)
+      ∙ (sym (seen replacing_view said.bans.std_replacements) ∙ some)
+
+  bans_written : (d : Code) → minds_as d (policy_view said.bans) ≡ true
+      → option_map_or (bans_write d) (below_name (codes "bans") tree) false ≡ true
+  unfolding bans_write
+  bans_written code.ExactFeaturesMismatch minded =
+      features_written config (below_name (codes "bans") tree) built.is_policy.says.says.reads (features_read minded)
+  bans_written code.FeatureNotExplicitlyAllowed minded =
+      features_written config (below_name (codes "bans") tree) built.is_policy.says.says.reads (features_read minded)
+  bans_written code.FeatureBanned minded =
+      features_written config (below_name (codes "bans") tree) built.is_policy.says.says.reads (features_read minded)
+  bans_written code.DefaultFeatureEnabled minded =
+      levels_written config (below_name (codes "bans") tree) built.is_policy.says.says.reads (levels_read minded)
+  bans_written code.ReplacedInStd minded =
+      std_written config (below_name (codes "bans") tree) built.is_policy.says.says.reads (std_read minded)
+  bans_written _ minded = absurd (false≢true minded)
+
+  licenses_there : is_some (licensing_of said.licenses) ≡ true → has_key (codes "licenses") tree ≡ true
+  licenses_there some = there_if_read (ReadsTable ReadsLicenses) (below_name (codes "licenses") tree) said.licenses
+      built.is_policy.says.says.reads_licenses (sym (seen licensing_view said.licenses) ∙ some)
+
+  licenses_written : (d : LicenseCode) → minds_licensed d (licensing_of said.licenses) ≡ true
+      → licenses_write d tree ≡ true
+  unfolding licenses_write
+  licenses_written license.Rejected minded = licenses_there minded
+  licenses_written license.Unlicensed minded = licenses_there minded
+  licenses_written license.ParseError minded = licenses_there minded
+  licenses_written license.LicenseNotEncountered minded = licenses_there minded
+  licenses_written _ minded = absurd (false≢true minded)
+
+  written : (d : DiagnosticCode) → minds d (policy_view said.bans) (licensing_of said.licenses) ≡ true
+      → writes d tree ≡ true
+  written Deprecated minded = absurd (false≢true minded)
+  written (Bans d) minded = bans_written d minded
+  written (License d) minded = licenses_written d minded
+
+  pub rule_written : (d : DiagnosticCode) → minds d (policy_view said.bans) (licensing_of said.licenses) ≡ true
+      → WritesRule text d
+  rule_written d minded = record {
+    tree = tree;
+    is_tree = built.is_policy.says.says.is_tree;
+    written = written d minded;
+  }

@@ -5,30 +5,41 @@ use Rattle.std.specs.Prelude.{IfOk, option_map, option_and_then}
 use Rattle.std.specs.List.{flat_map}
 use Rattle.std.proofs.lemmas.List.Elements.{All-from_recursion, recursion_from_All}
 use Rattle.deny_base.specs.declared.files.File.{File}
+use Rattle.deny_base.specs.declared.level.LintLevel.{LintLevel}
 use Rattle.deny_base.specs.declared.span.Span.{Span}
-use Rattle.deny_cfg.specs.LabelRanges.{AreLabels, feature_ranges, of_some, own_range, reason_range, spec_range}
+use Rattle.deny_base.specs.declared.span.Spanned.{Spanned}
+use Rattle.deny_cfg.specs.LabelRanges.{AreLabels, exception_range, licence_labels, of_some, reason_range, spec_range}
 use Rattle.deny_cfg.specs.LabelRanges.{std_ranges, with_spec, word_labels, word_ranges}
 use Rattle.deny_cfg.specs.LabelRanges as written
+use Rattle.deny_cfg.specs.LicensingView.{exception_view, licensing_of}
 use Rattle.deny_cfg.specs.PolicyText.{policy_file}
-use Rattle.deny_cfg.specs.PolicyView.{ban_view, entry_view, policy_view, reason_words, replacing_view, root_view}
+use Rattle.deny_cfg.specs.PolicyView.{ban_view, entry_view, feature_view, policy_view, reason_words, replacing_view, root_view}
 use Rattle.deny_cfg.specs.PolicyView.{roots_from, words_or_none}
 use Rattle.deny_cfg.specs.StdReplacementConfig.{StdReplacementConfig}
 use Rattle.deny_cfg.specs.TreeSkipExtended.{TreeSkipExtended}
 use Rattle.deny_cfg.specs.declared.bans.cfg.valid.KrateBan.{KrateBan}
 use Rattle.deny_cfg.specs.declared.bans.cfg.valid.ValidConfig.{ValidConfig}
+use Rattle.deny_cfg.specs.declared.bans.cfg.valid.ValidKrateFeatures.{ValidKrateFeatures}
 use Rattle.deny_cfg.specs.declared.policy.Policy.{Policy}
 use Rattle.deny_cfg.specs.Reason.{Reason}
 use Rattle.deny_cfg.specs.PackageSpecOrExtended.{PackageSpecOrExtended}
 use Rattle.deny_cfg.proofs.LabelLaws.{Lie, lie_append}
 use Rattle.deny_cfg.proofs.LabelValid.{lie_rest, lie_prefix}
+use Rattle.deny_tables.specs.declared.licenses.config.Config as licenses
+use Rattle.deny_tables.specs.declared.licenses.exception.Exception.{Exception}
+use Rattle.deny_spdx.specs.declared.requirement.Requirement.{Requirement}
+use Rattle.deny_model.specs.Graph.{Graph}
+use Rattle.deny_model.specs.Licensing as model
 use Rattle.deny_model.specs.Policy.{Words}
+use Rattle.deny_codes.specs.Circumstances.{View}
 use Rattle.deny_toml.specs.Ranges.{IsRange}
-use Rattle.deny_gate.specs.Gating.{IsReportOn, circumstances_on}
-use Rattle.deny_gate.specs.Labels.{AreLabelled, ban_ranges, entry_ranges, ignore_ranges, range_of, ranges_of}
-use Rattle.deny_gate.specs.Labels.{root_ranges}
+use Rattle.deny_gate.specs.Gating.{IsBuilt, IsReportOn, circumstances_of}
+use Rattle.deny_gate.specs.Labels.{AreLabelled, ban_ranges, entry_ranges, feature_ranges, ignore_ranges, licence_ranges}
+use Rattle.deny_gate.specs.Labels.{own_range, range_of, ranges_of, root_ranges}
 use Rattle.deny_gate.specs.declared.report.GateError.{GateError}
 use Rattle.deny_gate.specs.declared.report.Report.{Report}
-use Rattle.deny_gate.proofs.LabelLaws.{report_labelled}
+use Rattle.deny_gate.proofs.FeatureSpans.{feature_spans, spans_lie}
+use Rattle.deny_gate.proofs.LabelLaws.{AreRanges, report_labelled}
 
 module _ (text : List ℕ) where
   words_lie : (words : List Words) → Lie text (word_ranges words) → Lie text (map (λ (w : Words). w.span) words)
@@ -45,7 +56,7 @@ module _ (text : List ℕ) where
   reason_lies None lie = tt
   reason_lies (Some reason) lie = lie
 
-  instead_lies : (use_instead : Option Words) → Lie text (of_some own_range use_instead)
+  instead_lies : (use_instead : Option Words) → Lie text (of_some written.own_range use_instead)
       → Lie text (range_of use_instead)
   instead_lies None lie = tt
   instead_lies (Some words) lie = lie
@@ -60,7 +71,7 @@ module _ (text : List ℕ) where
   besides_lie ban lie =
       let wrappers = of_some word_ranges ban.wrappers in
       let reason = of_some reason_range ban.reason in
-      let instead = of_some own_range ban.use_instead in
+      let instead = of_some written.own_range ban.use_instead in
       let rest = lie_rest text wrappers (reason ++ (instead ++ [])) lie in
       lie_append text (map (λ (w : Words). w.span) (words_or_none ban.wrappers))
       (range_of (option_map reason_words ban.reason) ++ range_of ban.use_instead)
@@ -119,24 +130,62 @@ module _ (text : List ℕ) where
       → Lie text (flat_map entry_ranges (map entry_view es))
   entries_lie = each_lies entry_view (with_spec reason_range) entry_ranges entry_lies
 
+  -- an entry of `features`: its list and its flag, and the features that it names
+  feature_lies : (f : ValidKrateFeatures) → Lie text (written.feature_ranges f) → Lie text (feature_spans f)
+      → Lie text (feature_ranges (feature_view f))
+  unfolding feature_ranges
+  feature_lies f lie spans =
+      let allowed = word_ranges f.features.allow.value in
+      let denied = word_ranges f.features.deny in
+      let rest = denied ++ (of_some reason_range f.reason ++ []) in (
+        spans.0,
+        (
+          spans.1.0,
+          lie_append text (map (λ (w : Words). w.span) f.features.allow.value)
+              (map (λ (w : Words). w.span) f.features.deny)
+              (words_lie f.features.allow.value (lie_prefix text allowed rest lie.1))
+              (words_lie f.features.deny (lie_prefix text denied (of_some reason_range f.reason ++ [])
+              (lie_rest text allowed rest lie.1))),
+        ),
+      )
+
+  features_lie : (fs : List ValidKrateFeatures) → Lie text (flat_map written.feature_ranges fs)
+      → Lie text (flat_map feature_spans fs) → Lie text (flat_map feature_ranges (map feature_view fs))
+  features_lie [] lie spans = tt
+  features_lie (f ∷ fs) lie spans =
+      let first = written.feature_ranges f in
+      let others = flat_map written.feature_ranges fs in
+      lie_append text (feature_ranges (feature_view f)) (flat_map feature_ranges (map feature_view fs))
+      (feature_lies f (lie_prefix text first others lie) (spans.0, (spans.1.0, tt)))
+      (features_lie fs (lie_rest text first others lie) spans.1.1)
+
+  level_lies : (level : Option (Spanned LintLevel)) → Lie text (of_some written.own_range level)
+      → Lie text (own_range level)
+  level_lies None lie = tt
+  level_lies (Some at) lie = lie
+
   ignores_lie : (std : Option StdReplacementConfig) → Lie text (of_some std_ranges std)
       → Lie text (ignore_ranges (option_map replacing_view std))
   ignores_lie None lie = tt
   ignores_lie (Some std) lie = entries_lie std.ignore lie
 
-  -- the bans, the allowed, the skips, the trees and the ignores among all that is written
-  ranges_lie : (cfg : ValidConfig) → Lie text (word_labels cfg) → Lie text (ranges_of (policy_view cfg))
+  -- the bans, the allowed, the skips, the trees, the ignores, the features and their levels among all that is written
+  ranges_lie : (cfg : ValidConfig) → Lie text (word_labels cfg) → Lie text (flat_map feature_spans cfg.features)
+      → Lie text (ranges_of (policy_view cfg))
   unfolding word_labels ranges_of
-  ranges_lie cfg lie =
+  ranges_lie cfg lie spans =
       let denied = flat_map (with_spec written.ban_ranges) cfg.denied in
       let allowed = flat_map (with_spec reason_range) cfg.allowed in
+      let external = of_some written.own_range cfg.external_default_features in
+      let workspace = of_some written.own_range cfg.workspace_default_features in
+      let features = flat_map written.feature_ranges cfg.features in
       let skipped = flat_map (with_spec reason_range) cfg.skipped in
       let trees = flat_map (with_spec written.root_ranges) cfg.tree_skipped in
       let from_allowed = lie_rest text (denied ++ flat_map spec_range cfg.denied_multiple_versions) _ lie in
       let from_external = lie_rest text allowed _ from_allowed in
-      let from_workspace = lie_rest text (of_some own_range cfg.external_default_features) _ from_external in
-      let from_features = lie_rest text (of_some own_range cfg.workspace_default_features) _ from_workspace in
-      let from_skipped = lie_rest text (flat_map feature_ranges cfg.features) _ from_features in
+      let from_workspace = lie_rest text external _ from_external in
+      let from_features = lie_rest text workspace _ from_workspace in
+      let from_skipped = lie_rest text features _ from_features in
       let from_trees = lie_rest text skipped _ from_skipped in
       let bans = lie_prefix text denied (flat_map spec_range cfg.denied_multiple_versions)
       (lie_prefix text (denied ++ flat_map spec_range cfg.denied_multiple_versions) _ lie) in
@@ -150,22 +199,63 @@ module _ (text : List ℕ) where
       (entries_lie cfg.skipped (lie_prefix text skipped _ from_skipped))
       (lie_append text (flat_map root_ranges (roots_from 0 cfg.tree_skipped)) _
       (roots_lie 0 cfg.tree_skipped (lie_prefix text trees _ from_trees))
-      (ignores_lie cfg.std_replacements std))))
+      (lie_append text (ignore_ranges (option_map replacing_view cfg.std_replacements)) _
+      (ignores_lie cfg.std_replacements std)
+      (lie_append text (flat_map feature_ranges (map feature_view cfg.features)) _
+      (features_lie cfg.features (lie_prefix text features _ from_features) spans)
+      (lie_append text (own_range cfg.workspace_default_features) (own_range cfg.external_default_features)
+      (level_lies cfg.workspace_default_features (lie_prefix text workspace _ from_workspace))
+      (level_lies cfg.external_default_features (lie_prefix text external _ from_external))))))))
 
-  policy_ranges : (cfg : ValidConfig) → All (IsRange text) (word_labels cfg)
-      → All (IsRange text) (ranges_of (policy_view cfg))
-  policy_ranges cfg all =
-      All-from_recursion (IsRange text) (ranges_of (policy_view cfg))
-      (ranges_lie cfg (recursion_from_All (IsRange text) (word_labels cfg) all))
+  -- ---- licences
+
+  allowances_lie : (allow : List (Spanned Requirement)) → Lie text (flat_map written.own_range allow)
+      → Lie text (map (λ (a : Spanned Requirement). a.span) allow)
+  allowances_lie [] lie = tt
+  allowances_lie (a ∷ allow) lie = (lie.0, allowances_lie allow lie.1)
+
+  exceptions_lie : (es : List Exception) → Lie text (flat_map exception_range es)
+      → Lie text (map (λ (e : model.Exception). e.spec.range) (map exception_view es))
+  exceptions_lie [] lie = tt
+  exceptions_lie (e ∷ es) lie = (lie.0, exceptions_lie es lie.1)
+
+  licences_lie : (licensing : Option licenses.Config) → Lie text (written.licence_ranges licensing)
+      → Lie text (licence_ranges (licensing_of licensing))
+  unfolding licence_labels
+  licences_lie None lie = tt
+  licences_lie (Some config) lie =
+      let allow = flat_map written.own_range config.allow in
+      let exceptions = flat_map exception_range config.exceptions in
+      lie_append text (map (λ (a : Spanned Requirement). a.span) config.allow)
+      (map (λ (e : model.Exception). e.spec.range) (map exception_view config.exceptions))
+      (allowances_lie config.allow (lie_prefix text allow (exceptions ++ []) lie))
+      (exceptions_lie config.exceptions
+      (lie_prefix text exceptions [] (lie_rest text allow (exceptions ++ []) lie)))
+
+  -- ---- together
+
+  all_ranges : (said : Policy) (g : Graph) (replacements : Option (List ℕ)) (view : View) → IsBuilt text said
+      → All (IsRange text) (word_labels said.bans) → All (IsRange text) (written.licence_ranges said.licenses)
+      → AreRanges (circumstances_of said g replacements view) text
+  all_ranges said g replacements view built bans licences = record {
+    first = refl;
+    of_policy = All-from_recursion (IsRange text) (ranges_of (policy_view said.bans))
+        (ranges_lie said.bans (recursion_from_All (IsRange text) (word_labels said.bans) bans)
+        (spans_lie text said built));
+    of_licences = All-from_recursion (IsRange text) (licence_ranges (licensing_of said.licenses))
+        (licences_lie said.licenses
+        (recursion_from_All (IsRange text) (written.licence_ranges said.licenses) licences));
+  }
 
   -- the report of the policy that was read, with its text as the one file
   pub labels_then : (metadata : List ℕ) (replacements : Option (List ℕ)) (said : Policy) (files : List File)
-      (result : Result Report GateError) → AreLabels text (word_labels said.bans) → files ≡ policy_file text ∷ []
-      → IfOk result (IsReportOn (policy_view said.bans) metadata replacements)
+      (result : Result Report GateError) → IsBuilt text said → AreLabels text (word_labels said.bans)
+      → AreLabels text (written.licence_ranges said.licenses) → files ≡ policy_file text ∷ []
+      → IfOk result (IsReportOn said metadata replacements)
       → IfOk result (λ report. report.files ≡ files)
       → IfOk result (λ report. AreLabelled report.files report.findings)
-  labels_then metadata replacements said files (Ok report) labels first on in_files =
-      let p = policy_view said.bans in
-      report_labelled (circumstances_on p on.graph replacements on.seen.view) text report refl
-      (policy_ranges said.bans labels.placed) on.seen.is_report (in_files ∙ first)
-  labels_then metadata replacements said files (Err error) labels first on in_files = tt
+  labels_then metadata replacements said files (Ok report) built bans licences first on in_files =
+      report_labelled (circumstances_of said on.graph replacements on.seen.view) text report
+      (all_ranges said on.graph replacements on.seen.view built bans.placed licences.placed) on.seen.is_report
+      (in_files ∙ first)
+  labels_then metadata replacements said files (Err error) built bans licences first on in_files = tt

@@ -12,6 +12,8 @@ use Rattle.deny_base.specs.declared.code.DiagnosticCode.TheVariants.{Bans, Licen
 use Rattle.deny_base.specs.declared.key.Key.{Key}
 use Rattle.deny_base.specs.declared.level.LintLevel.{LintLevel}
 use Rattle.deny_base.specs.declared.level.LintLevel.TheVariants as level
+use Rattle.deny_base.specs.declared.license_code.LicenseCode.{LicenseCode}
+use Rattle.deny_base.specs.declared.license_code.LicenseCode.TheVariants as license
 use Rattle.deny_lists.proofs.Members.{Contains-filter, Contains-flat_map, Contains-from_flat_map, any_from, any_passes}
 use Rattle.deny_lists.proofs.Members.{contains_map, filtered, from_contains_map, passes_filter}
 use Rattle.deny_model.specs.Bans.{banned_keys_of, concerns, is_banned, is_exempt, is_lifted, is_not_allowed}
@@ -33,7 +35,6 @@ use Rattle.deny_codes.specs.Facts.{Facts}
 use Rattle.deny_codes.specs.Standing.{Stands, StandsBy}
 use Rattle.deny_codes.specs.Told.{diag_of, words_as, words_by}
 use Rattle.deny_codes.proofs.Made.{banned_made, duplicate_made, not_allowed_made}
-use Rattle.deny_codes.proofs.Sections.{none_licensed}
 use Rattle.deny_gate.specs.Report.{finding_told, has_error, is_error}
 use Rattle.deny_gate.proofs.Beside.{listed_from, listed_to}
 use Rattle.deny_gate.proofs.Covered.{exempt_is, is_exempt_test, is_lifted_test, lifted_is, some_are, some_test}
@@ -213,6 +214,11 @@ module _ (p : Policy) (g : Graph) (facts : chains.Facts) (placed : ArePlaced g g
       ∙ denied_to p is.crates is.denied in
       ap (λ (l : LintLevel). is_error (severity_of l)) denied
 
+-- no licence rule is a crate rule
+no_crate_rule : (d : LicenseCode) → is_crate_rule (Some (License d)) ≡ false
+no_crate_rule license.Accepted = refl
+no_crate_rule _ = refl
+
 -- ---- all three
 
 module _ (c : Circumstances) (facts : Facts) (placed : ArePlaced c.graph c.graph.crates) where
@@ -227,7 +233,8 @@ module _ (c : Circumstances) (facts : Facts) (placed : ArePlaced c.graph c.graph
   from_code (Bans code.Duplicate) key is error = are_several key
       (several_from c.policy c.graph facts.chains placed key is
       (and_parts (is_error (severity_of (duplicate_level c.policy (crates_at c.graph key.places)))) true error).0)
-  from_code (License d) key is error = absurd (none_licensed d c.policy c.graph key is)
+  from_code (License d) key is error = absurd (false≢true (sym (no_crate_rule d)
+      ∙ (and_parts (is_error (words_by (License d) c key).severity) (is_crate_rule (Some (License d))) error).1))
   from_code d key is error = absurd (false≢true (and_parts (is_error (words_by d c key).severity) false error).1)
 
   pub violation_from : (key : Key) → Stands c facts key → is_crate_error (finding_told c key) ≡ true → Violates key

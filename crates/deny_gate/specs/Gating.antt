@@ -1,9 +1,12 @@
 -- What the gate promises of the texts that it is handed.
 use Rattle.std.specs.Prelude.{◌≡◌, ◌≢◌, ◌⊎◌, ◌<◌, ◌^◌, ℕ, true, false, IsTrue, List, [], ◌∷◌, length, map, filter}
-use Rattle.std.specs.Prelude.{Option, Ok, Err, IfSome, option_map}
+use Rattle.std.specs.Prelude.{Option, None, Some, Ok, Err, IfSome, option_map}
 use Rattle.deny_base.specs.declared.check.Which.TheVariants as which
+use Rattle.deny_base.specs.declared.entry.Hit.{Hit}
+use Rattle.deny_base.specs.declared.finding.Pack.{Pack}
 use Rattle.deny_base.specs.declared.key.Key.{Key}
 use Rattle.deny_base.specs.declared.span.Span.{Span}
+use Rattle.deny_cfg.specs.LicensingView.{licensing_of}
 use Rattle.deny_cfg.specs.PolicyText.{IsPolicyOf, ListsFaults, TellsClashes, policy_file}
 use Rattle.deny_cfg.specs.PolicyView.{policy_view}
 use Rattle.deny_cfg.specs.declared.policy.Policy.{Policy}
@@ -12,13 +15,15 @@ use Rattle.deny_krates.specs.Read.{IsGraphOf}
 use Rattle.deny_krates.specs.fault.MetadataFault.{MetadataFault}
 use Rattle.deny_krates.specs.fault.MetadataFault.TheVariants as fault
 use Rattle.deny_model.specs.Graph.{Graph}
+use Rattle.deny_model.specs.Licensing.{Licensing}
 use Rattle.deny_model.specs.Policy as model
-use Rattle.deny_codes.specs.Circumstances.{Circumstances, View, seen_by, tabled}
+use Rattle.deny_codes.specs.Circumstances.{Circumstances, View, licensed, seen_by, tabled}
 use Rattle.deny_codes.specs.Saying.{HasTable, IsBreakIn, bytes_of}
 use Rattle.deny_codes.specs.Standing.{AreKeys}
 use Rattle.deny_codes.specs.StdReplacements.{asks_for_table}
 use Rattle.deny_dup_edges.specs.DupEdges.{ShowsEach, is_of_duplicate}
 use Rattle.deny_dup_edges.specs.declared.dup_edges.DupEdges.{DupEdges}
+use Rattle.deny_licenses.specs.Check.{IsLicensed}
 use Rattle.deny_toml.specs.Faults.{fault_at}
 use Rattle.deny_toml.specs.declared.error.FaultKind.TheVariants.{Grammar}
 use Rattle.deny_gate.specs.Report.{IsReport, finding_told, policy_id}
@@ -53,9 +58,15 @@ pub record IsBuilt (text : List ℕ) (policy : Policy) : Type 0 where
   pub is_policy : IsPolicyOf text policy_id policy
   pub is_built : policy.not_built ≡ false
 
--- a policy on a graph, with these bytes of a table and what was seen of files
-abbrev pub circumstances_on : model.Policy → Graph → Option (List ℕ) → View → Circumstances
-circumstances_on p g replacements view = tabled (seen_by p g policy_id view) (bytes_of replacements)
+-- a policy, and what it says of licences, on a graph, with these bytes of a table and what was seen of files
+abbrev pub circumstances_on : model.Policy → Option Licensing → Graph → Option (List ℕ) → View → Circumstances
+circumstances_on p licensing g replacements view =
+    licensed (tabled (seen_by p g policy_id view) (bytes_of replacements)) licensing
+
+-- the same of a policy that was read
+abbrev pub circumstances_of : Policy → Graph → Option (List ℕ) → View → Circumstances
+circumstances_of said g replacements view =
+    circumstances_on (policy_view said.bans) (licensing_of said.licenses) g replacements view
 
 -- where a policy asks for a table of replacements, one was handed in
 abbrev pub IsTableFor : model.Policy → Option (List ℕ) → Type 0
@@ -69,7 +80,7 @@ pub record IsReportBy (texts : Texts) (view : View) (report : Report) : Type 0 w
   pub graph : Graph
   pub is_graph : IsGraphOf texts.metadata graph
   pub table : IsTableFor (policy_view said.bans) texts.replacements
-  pub is_report : IsReport (circumstances_on (policy_view said.bans) graph texts.replacements view) report
+  pub is_report : IsReport (circumstances_of said graph texts.replacements view) report
   pub files : report.files ≡ policy_file texts.policy ∷ []
 
 -- by some view: no file but these texts is read yet
@@ -145,17 +156,17 @@ AreOneCause a b = (a ≡ b) ⊎ (IsOutsideGrammar a × IsOutsideGrammar b)
 -- ---- for private clauses
 
 -- the report of a policy on a graph, by some view of files
-pub record IsReportSeen (p : model.Policy) (g : Graph) (replacements : Option (List ℕ)) (report : Report) : Type 0 where
+pub record IsReportSeen (said : Policy) (g : Graph) (replacements : Option (List ℕ)) (report : Report) : Type 0 where
   pub view : View
-  pub is_report : IsReport (circumstances_on p g replacements view) report
+  pub is_report : IsReport (circumstances_of said g replacements view) report
 
 -- the metadata has a graph, there is the table that a policy asks for, and this is the report of the policy on it
-pub record IsReportOn (p : model.Policy) (metadata : List ℕ) (replacements : Option (List ℕ)) (report : Report)
+pub record IsReportOn (said : Policy) (metadata : List ℕ) (replacements : Option (List ℕ)) (report : Report)
     : Type 0 where
   pub graph : Graph
   pub is_graph : IsGraphOf metadata graph
-  pub table : IsTableFor p replacements
-  pub seen : IsReportSeen p graph replacements report
+  pub table : IsTableFor (policy_view said.bans) replacements
+  pub seen : IsReportSeen said graph replacements report
 
 -- when an answer may come that speaks of the bytes of a table alone
 abbrev pub IsTableCause : Option (List ℕ) → GateError → Type 0
@@ -188,7 +199,17 @@ pub record IsTold (c : Circumstances) (findings : List Finding) (shown : List Du
   pub each : ShowsEach c.policy c.graph (filter is_of_duplicate keys) shown
 
 -- by some view of files
-pub record IsToldOn (p : model.Policy) (g : Graph) (replacements : Option (List ℕ)) (findings : List Finding)
+pub record IsToldOn (said : Policy) (g : Graph) (replacements : Option (List ℕ)) (findings : List Finding)
     (shown : List DupEdges) : Type 0 where
   pub view : View
-  pub is_told : IsTold (circumstances_on p g replacements view) findings shown
+  pub is_told : IsTold (circumstances_of said g replacements view) findings shown
+
+-- what the licence check tells by what a policy says of licences
+pub record TellsLicences (l : Licensing) (g : Graph) (file : ℕ) (old new : List Pack) : Type 0 where
+  pub hits : List Hit
+  pub licensed : IsLicensed l g file old new hits
+
+-- nothing where the policy does not speak of licences
+abbrev pub TellsLicencesIf : Option Licensing → Graph → ℕ → List Pack → List Pack → Type 0
+TellsLicencesIf None g file old new = new ≡ old
+TellsLicencesIf (Some l) g file old new = TellsLicences l g file old new

@@ -1,7 +1,7 @@
 -- The headline: the crate-rule errors of a report are exactly the uncovered violations at level deny, another rule's
 -- error comes only where the policy writes that rule, and a report fails exactly where an error stands.
 use Rattle.std.specs.Prelude.{◌≡◌, ◌≢◌, ◌⊎◌, ◌≤◌, ◌&&◌, ◌||◌, ◌==◌, ℕ, Bool, true, false, not, IsTrue, List, [], length}
-use Rattle.std.specs.Prelude.{map, filter, Contains, Option, None, Some, codes, is_some, if◌then◌else◌}
+use Rattle.std.specs.Prelude.{map, filter, Contains, Option, None, Some, codes, is_some}
 use Rattle.std.specs.List.{list_any}
 use Rattle.std.specs.Option.{option_map_or}
 use Rattle.deny_lists.specs.Ascending.{Lists}
@@ -32,6 +32,7 @@ use Rattle.deny_gate.specs.Gating.{IsBuilt, Texts}
 use Rattle.deny_gate.specs.Report.{has_error, verdict_of}
 use Rattle.deny_gate.specs.declared.report.Finding.{Finding}
 use Rattle.deny_gate.specs.declared.report.Report.{Report}
+use Rattle.deny_gate.specs.declared.report.Verdict.{Verdict}
 use Rattle.deny_gate.specs.declared.report.Verdict.TheVariants.{Pass, Fail}
 
 -- ---- what covers a crate
@@ -258,13 +259,17 @@ abbrev pub WritesRuleOf : List ℕ → Option DiagnosticCode → Type 0
 WritesRuleOf text None = ⊥
 WritesRuleOf text (Some code) = WritesRule text code
 
+abbrev pub is_failure : Verdict → Bool
+is_failure Pass = false
+is_failure (Fail bits) = true
+
 -- ---- together
 
 pub record KeepsHeadline (p : Policy) (g : Graph) (facts : Facts) (report : Report) : Type 0 where
   -- the keys of the crate-rule errors are those of the violations, ascending, each once
   pub violations : Lists key_cmp (IsViolation p g facts) (map (λ f. f.diag.key) (filter is_crate_error report.findings))
   -- the report fails exactly where a finding is an error
-  pub fails : report.verdict ≡ (if list_any has_error report.findings then Fail 2 else Pass)
+  pub fails : is_failure report.verdict ≡ list_any has_error report.findings
   -- by check: 2 where the bans check has an error, 4 where the licence check has one, or their sum
   pub bits : report.verdict ≡ verdict_of report.findings
 

@@ -6,7 +6,9 @@ use Rattle.deny_base.specs.declared.finding.Diagnostic.{Diagnostic}
 use Rattle.deny_base.specs.declared.label.Label.{Label}
 use Rattle.deny_base.specs.declared.span.Span.{Span}
 use Rattle.deny_cfg.specs.PolicyText.{policy_file}
-use Rattle.deny_model.specs.Policy.{Ban, Entry, Policy, Replacing, Root, Words}
+use Rattle.deny_base.specs.declared.span.Spanned.{Spanned}
+use Rattle.deny_model.specs.Licensing.{Licensing}
+use Rattle.deny_model.specs.Policy.{Ban, Entry, FeatureEntry, Policy, Replacing, Root, Words}
 use Rattle.deny_toml.specs.Ranges.{IsRange}
 use Rattle.deny_gate.specs.declared.report.Finding.{Finding}
 use Rattle.deny_gate.specs.declared.report.GateError.{GateError}
@@ -58,7 +60,26 @@ abbrev pub ignore_ranges : Option Replacing → List Span
 ignore_ranges None = []
 ignore_ranges (Some r) = flat_map entry_ranges r.ignore
 
+-- of an entry of `features` its list `allow`, its flag `exact` and the features that it names
+unfoldable pub feature_ranges : FeatureEntry → List Span
+feature_ranges e = e.allow.span ∷ e.exact.span ∷ (map (λ w. w.span) e.allow.value ++ map (λ w. w.span) e.deny)
+
+-- of a level of default features
+abbrev pub own_range : {T : Type 0} → Option (Spanned T) → List Span
+own_range None = []
+own_range (Some at) = at.span ∷ []
+
+abbrev pub level_ranges : Policy → List Span
+level_ranges p = own_range p.workspace_default ++ own_range p.external_default
+
 unfoldable pub ranges_of : Policy → List Span
 ranges_of p = flat_map ban_ranges p.deny
     ++ (flat_map entry_ranges p.allow
-    ++ (flat_map entry_ranges p.skip ++ (flat_map root_ranges p.skip_tree ++ ignore_ranges p.replacing)))
+    ++ (flat_map entry_ranges p.skip
+    ++ (flat_map root_ranges p.skip_tree
+    ++ (ignore_ranges p.replacing ++ (flat_map feature_ranges p.features ++ level_ranges p)))))
+
+-- of what a policy says of licences: those that every crate may ask for, and the names of exceptions
+abbrev pub licence_ranges : Option Licensing → List Span
+licence_ranges None = []
+licence_ranges (Some l) = map (λ a. a.span) l.allow ++ map (λ e. e.spec.range) l.exceptions

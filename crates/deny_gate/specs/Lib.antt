@@ -2,3 +2,4 @@ pub mod Gating
 pub mod Headline
 pub mod Labels
 pub mod Report
+pub mod Stats

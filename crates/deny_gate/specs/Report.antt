@@ -1,8 +1,8 @@
 -- The report in circumstances: one finding for each key that stands, what is shown of duplicates, and the verdict.
-use Rattle.std.specs.Prelude.{◌≡◌, ◌&&◌, ℕ, Bool, true, false, List, Option, map, filter}
+use Rattle.std.specs.Prelude.{◌≡◌, ◌&&◌, ℕ, Bool, true, false, List, Option, is_some, map, filter}
 use Rattle.std.specs.List.{list_any}
 use Rattle.deny_base.specs.declared.check.Check.{Check}
-use Rattle.deny_base.specs.declared.check.Check.TheVariants.{Advisories, Bans, Licenses, Sources}
+use Rattle.deny_base.specs.declared.check.Check.TheVariants.{Bans, Licenses}
 use Rattle.deny_base.specs.declared.finding.Diag.{Diag}
 use Rattle.deny_base.specs.declared.finding.Pack.{Pack}
 use Rattle.deny_base.specs.declared.key.Key.{Key}
@@ -13,6 +13,7 @@ use Rattle.deny_codes.specs.Circumstances.{Circumstances}
 use Rattle.deny_codes.specs.Standing.{AreKeys}
 use Rattle.deny_codes.specs.Told.{check_told, diag_told, words_told}
 use Rattle.deny_dup_edges.specs.DupEdges.{ShowsEach, is_of_duplicate}
+use Rattle.deny_gate.specs.Stats.{all_stats, same_check}
 use Rattle.deny_gate.specs.declared.report.Finding.{Finding}
 use Rattle.deny_gate.specs.declared.report.Report.{Report}
 use Rattle.deny_gate.specs.declared.report.Verdict.{Verdict}
@@ -47,13 +48,6 @@ is_error Help = false
 unfoldable pub has_error : Finding → Bool
 has_error finding = is_error finding.diag.diag.severity
 
-abbrev pub same_check : Check → Check → Bool
-same_check Advisories Advisories = true
-same_check Bans Bans = true
-same_check Licenses Licenses = true
-same_check Sources Sources = true
-same_check _ _ = false
-
 -- a check fails by each of its findings that has severity error
 unfoldable pub fails_as : Check → Finding → Bool
 fails_as check finding = has_error finding && same_check finding.check check
@@ -76,4 +70,6 @@ pub record IsReport (c : Circumstances) (report : Report) : Type 0 where
   pub told : report.findings ≡ map (finding_told c) keys
   -- and shows what leads to each duplicate
   pub shown : ShowsEach c.policy c.graph (filter is_of_duplicate keys) report.dup_edges
+  -- it counts them by check: those of licences where the policy speaks of licences
+  pub stats : report.stats ≡ all_stats (is_some c.licensing) report.findings
   pub verdict : report.verdict ≡ verdict_of report.findings

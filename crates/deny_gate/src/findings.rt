@@ -2,7 +2,8 @@
 ghost use Rattle.std.specs.Prelude.{◌≡◌, ◌++◌, map, IfOk, OnOk};
 ghost use Rattle.std.specs.List.{list_any, flat_map};
 ghost use Rattle.deny_gate.specs.Report.{finding_of, findings_of, has_error, fails_as, is_error};
-ghost use Rattle.deny_gate.specs.Report.{same_check, verdict_by, verdict_of};
+ghost use Rattle.deny_gate.specs.Report.{verdict_by, verdict_of};
+ghost use Rattle.deny_gate.specs.Stats.{same_check};
 
 use crate::report::{Finding, Verdict};
 use deny_base::{Check, Diag, Kid, Pack, Severity};
@@ -62,7 +63,7 @@ fn has_error(finding: &Finding) -> bool
     matches!(finding.diag.diag.severity, Severity::Error)
 }
 
-fn same_check(a: Check, b: Check) -> bool
+pub(crate) fn same_check(a: Check, b: Check) -> bool
     ensures { result ≡ same_check a b }
 {
     a == b

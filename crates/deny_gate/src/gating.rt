@@ -1,6 +1,7 @@
 ghost use Rattle.std.specs.Prelude.{◌≡◌, ◌<◌, ◌^◌, [], ◌∷◌, length, IfOk, IfErr, OnOk};
 ghost use Rattle.std.specs.Prelude.{option_copied};
-ghost use Rattle.deny_cfg.specs.LabelRanges.{AreLabels, word_labels};
+ghost use Rattle.deny_cfg.specs.LabelRanges.{AreLabels, licence_ranges, word_labels};
+ghost use Rattle.deny_cfg.specs.LicensingView.{licensing_of};
 ghost use Rattle.deny_cfg.specs.PolicyText.{policy_file};
 ghost use Rattle.deny_cfg.specs.PolicyView.{policy_view};
 ghost use Rattle.deny_krates.specs.Read.{IsGraphOf};
@@ -10,13 +11,15 @@ ghost use Rattle.deny_codes.specs.StdReplacements.{asks_for_table};
 ghost use Rattle.deny_gate.specs.Gating.{AreShort, IsBuilt, IsCause, IsCauseBehind};
 ghost use Rattle.deny_gate.specs.Gating.{IsMetadataCause, IsPolicyCause, IsReportOf, IsReportOn};
 ghost use Rattle.deny_gate.specs.Gating.{IsReportSeen, IsTableCause, IsTableCauseFor, IsTableFor};
-ghost use Rattle.deny_gate.specs.Gating.{IsToldOn, texts_in};
+ghost use Rattle.deny_gate.specs.Gating.{IsToldOn, TellsLicencesIf, texts_in};
 ghost use Rattle.deny_gate.specs.Headline.{IsHeadlineOf};
 ghost use Rattle.deny_gate.specs.Labels.{AreLabelled, IsLabelledCause};
+ghost use Rattle.deny_gate.specs.Stats.{code_of, exit_code};
 
 use crate::findings::{findings_in, verdict_of};
 use crate::report::{Finding, GateError, Inputs, Report};
-use deny_base::{Files, Which};
+use crate::stats::all_stats;
+use deny_base::{Files, Pack, Which};
 use deny_cfg::bans::cfg::ValidConfig;
 use deny_cfg::{Policy, PolicyError, Scope, read_policy};
 use deny_krates::{Krates, MetadataFault};
@@ -32,6 +35,7 @@ fn built_policy(alloc: Global, text: &[u8], files: &mut Files) -> Result<Policy,
     requires first { files.old ≡ [] }
     ensures ok { IfOk result (IsBuilt text.now) }
     ensures labels { IfOk result (λ policy. AreLabels text.now (word_labels policy.bans)) }
+    ensures licence_labels { IfOk result (λ policy. AreLabels text.now (licence_ranges policy.licenses)) }
     ensures err { IfErr result (IsPolicyCause text.now) }
     ensures files { OnOk result (files.new ≡ policy_file text.now ∷ []) }
 {
@@ -97,83 +101,109 @@ fn check_table_for(alloc: Global, cfg: &ValidConfig, table: Option<&[u8]>) -> Re
     }
 }
 
-/// The findings of a configuration on a graph, and what is shown of duplicates.
+/// Appends what the licence check finds, where the policy speaks of licences.
+fn add_licenses(
+    alloc: Global,
+    policy: &Policy,
+    krates: &Krates,
+    packs: &mut List<Pack>,
+) -> Result<(), NoMemory>
+    ensures { OnOk result (TellsLicencesIf (licensing_of policy.now.licenses) krates.now policy.now.bans.file_id
+        packs.old packs.new) }
+{
+    match &policy.licenses {
+        Some(cfg) => {
+            let _hits = deny_licenses::check(alloc, cfg, krates, policy.bans.file_id, packs)?;
+            Ok(())
+        }
+        None => Ok(()),
+    }
+}
+
+/// The findings of a policy on a graph, and what is shown of duplicates.
 fn told<D: PackageFiles>(
     alloc: Global,
-    ctx: &CheckCtx<'_>,
+    policy: &Policy,
+    krates: &Krates,
+    table: Option<&[u8]>,
     disk: &mut D,
 ) -> Result<(List<Finding>, List<DupEdges>), NoMemory>
-    requires file { ctx.now.cfg.now.file_id ≡ 0 }
-    requires table { IsTableFor (policy_view ctx.now.cfg.now) (option_copied ctx.now.table) }
-    ensures told { IfOk result (λ told. IsToldOn (policy_view ctx.now.cfg.now) ctx.now.krates.now
-        (option_copied ctx.now.table) told.0 told.1) }
+    requires file { policy.now.bans.file_id ≡ 0 }
+    requires table { IsTableFor (policy_view policy.now.bans) (option_copied table) }
+    ensures told { IfOk result (λ told.
+        IsToldOn policy.now krates.now (option_copied table.entry) told.0 told.1) }
     ensures untouched { disk.new ≡ disk.old }
     ensures later { IsLater (D.seen disk.old) (D.seen disk.new) }
 {
-    deny_codes::bans_alone();
+    deny_codes::bans_unlicensed();
+    deny_codes::joined_keys();
+    let ctx = CheckCtx {
+        cfg: &policy.bans,
+        krates,
+        table,
+    };
     let mut packs = List::new(alloc);
-    let end = bans::check(alloc, ctx, disk, &mut packs)?;
+    let end = bans::check(alloc, &ctx, disk, &mut packs)?;
+    add_licenses(alloc, policy, krates, &mut packs)?;
     let findings = findings_in(alloc, packs)?;
     Ok((findings, end.dup_edges))
 }
 
-/// The report of a configuration on a graph.
+/// The report of a policy on a graph.
 #[tactic(auto, using(crate::proofs::FindingLaws::seen_report))]
 fn report_on<D: PackageFiles>(
     alloc: Global,
     files: Files,
-    ctx: &CheckCtx<'_>,
+    policy: &Policy,
+    krates: &Krates,
+    table: Option<&[u8]>,
     disk: &mut D,
 ) -> Result<Report, NoMemory>
-    requires file { ctx.now.cfg.now.file_id ≡ 0 }
-    requires table { IsTableFor (policy_view ctx.now.cfg.now) (option_copied ctx.now.table) }
-    ensures report { IfOk result (IsReportSeen (policy_view ctx.now.cfg.now) ctx.now.krates.now
-        (option_copied ctx.now.table)) }
+    requires file { policy.now.bans.file_id ≡ 0 }
+    requires table { IsTableFor (policy_view policy.now.bans) (option_copied table) }
+    ensures report { IfOk result (IsReportSeen policy.now krates.now (option_copied table.entry)) }
     ensures files { IfOk result (λ report. report.files ≡ files) }
     ensures untouched { disk.new ≡ disk.old }
     ensures later { IsLater (D.seen disk.old) (D.seen disk.new) }
 {
-    let (findings, dup_edges) = told(alloc, ctx, disk)?;
+    let (findings, dup_edges) = told(alloc, policy, krates, table, disk)?;
+    let stats = all_stats(policy.licenses.is_some(), findings.as_slice());
     let verdict = verdict_of(findings.as_slice());
     Ok(Report {
         files,
         findings,
         dup_edges,
+        stats,
         verdict,
     })
 }
 
-/// The report of a configuration on the graph of metadata, with the table that it asks for.
+/// The report of a policy on the graph of metadata, with the table that it asks for.
 fn report_of<D: PackageFiles>(
     alloc: Global,
     files: Files,
-    cfg: &ValidConfig,
+    policy: &Policy,
     metadata: &[u8],
     table: Option<&[u8]>,
     disk: &mut D,
 ) -> Result<Report, GateError>
-    requires file { cfg.now.file_id ≡ 0 }
+    requires file { policy.now.bans.file_id ≡ 0 }
     requires small { length metadata.now < 2 ^ 28 }
-    ensures report { IfOk result
-        (IsReportOn (policy_view cfg.now) metadata.now (option_copied table.entry)) }
+    ensures report { IfOk result (IsReportOn policy.now metadata.now (option_copied table.entry)) }
     ensures files { IfOk result (λ report. report.files ≡ files) }
     ensures cause { IfErr result
-        (IsCauseBehind (policy_view cfg.now) metadata.now (option_copied table.entry)) }
+        (IsCauseBehind (policy_view policy.now.bans) metadata.now (option_copied table.entry)) }
     ensures untouched { disk.new ≡ disk.old }
     ensures later { IsLater (D.seen disk.old) (D.seen disk.new) }
 {
     let krates = read_graph(alloc, metadata)?;
-    check_table_for(alloc, cfg, table)?;
-    let ctx = CheckCtx {
-        cfg,
-        krates: &krates,
-        table,
-    };
-    Ok(report_on(alloc, files, &ctx, disk)?)
+    check_table_for(alloc, &policy.bans, table)?;
+    Ok(report_on(alloc, files, policy, &krates, table, disk)?)
 }
 
 /// Reads a policy, cargo's metadata and, where the policy asks for one, a table of replacements, and
-/// reports what stands.
+/// reports what stands: what the bans check finds, and behind it, where the policy writes `licenses`,
+/// what the licence check finds. The report fails by a bit for each check that has an error.
 ///
 /// Each text has to be under 2^28 bytes. `Config` comes exactly where the policy's text has faults,
 /// `Invalid` exactly where it has none and entries clash, `NotBuilt` exactly where there is a policy
@@ -191,6 +221,7 @@ pub fn gate<D: PackageFiles>(
     ensures report { IfOk result (IsReportOf (texts_in inputs.now)) }
     ensures cause { IfErr result (IsCause (texts_in inputs.now)) }
     ensures headline { IfOk result (IsHeadlineOf (texts_in inputs.now)) }
+    ensures exit_code { IfOk result (λ report. exit_code report.stats ≡ code_of report.verdict) }
     ensures labels { IfOk result (λ report. AreLabelled report.files report.findings) }
     ensures clash_labels { IfErr result (IsLabelledCause inputs.now.policy.items) }
     ensures untouched { disk.new ≡ disk.old }
@@ -202,7 +233,7 @@ pub fn gate<D: PackageFiles>(
     report_of(
         alloc,
         files,
-        &policy.bans,
+        &policy,
         inputs.metadata.as_slice(),
         table,
         disk,

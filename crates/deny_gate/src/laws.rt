@@ -5,6 +5,7 @@ ghost use Rattle.deny_codes.specs.Saying.{HasTable};
 ghost use Rattle.deny_gate.specs.Gating.{AreOneCause, AsksForTable, HasGraph, HasPolicy, IsCause};
 ghost use Rattle.deny_gate.specs.Gating.{IsReportBy, IsReportOf, Texts};
 ghost use Rattle.deny_gate.specs.Headline.{IsHeadlineOf};
+ghost use Rattle.deny_gate.specs.Stats.{code_of, exit_code};
 ghost use Rattle.deny_gate.specs.declared.report.GateError.{GateError};
 ghost use Rattle.deny_gate.specs.declared.report.GateError.TheVariants as gate;
 ghost use Rattle.deny_gate.specs.declared.report.Report.{Report};
@@ -40,4 +41,11 @@ pub fn one_report()
 pub fn headline()
     ensures { (texts : Texts) → (report : Report)
         → IsReportOf texts report → IsHeadlineOf texts report }
+{}
+
+/// The code that a program exits with, by the counts of a report, has the bits of its verdict: there is
+/// one exactly where the report fails, and it is these bits.
+pub fn exit_codes()
+    ensures { (texts : Texts) → (report : Report) → IsReportOf texts report
+        → exit_code report.stats ≡ code_of report.verdict }
 {}

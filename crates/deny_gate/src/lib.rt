@@ -5,7 +5,9 @@ mod findings;
 mod gating;
 mod laws;
 mod report;
+mod stats;
 
 pub use gating::gate;
-pub use laws::{headline, one_answer, one_report};
+pub use laws::{exit_codes, headline, one_answer, one_report};
 pub use report::{Finding, GateError, Inputs, Report, Verdict};
+pub use stats::{AllStats, Stats, stats_to_exit_code};

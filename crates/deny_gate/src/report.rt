@@ -1,5 +1,6 @@
 ghost use Rattle.std.proofs.Common.{rules};
 
+use crate::stats::AllStats;
 use deny_base::{Check, Diag, Diagnostic, Files, Kid, Which};
 use deny_krates::MetadataFault;
 use deny_lists::{List, NoMemory, Plain};
@@ -28,8 +29,8 @@ impl Plain for Finding {
     ghost clone_is_equal = { Prim.search rules };
 }
 
-/// What a report comes to. `Fail` holds a bit for each check that has an error: 2 for the bans, 4
-/// for the licences.
+/// What a report comes to. `Fail` holds the bits of the checks that have an error: 2 for the bans, 4
+/// for the licences, 6 for both.
 #[derive(Debug, Clone, Copy, PartialEq, Eq)]
 pub enum Verdict {
     Pass,
@@ -49,6 +50,9 @@ pub struct Report {
     pub findings: List<Finding>,
     /// What is shown of each duplicate, in the order of their findings.
     pub dup_edges: List<DupEdges>,
+    /// How many findings of each severity a check has: the bans check always, and the licence check
+    /// where the policy writes `licenses`; no other.
+    pub stats: AllStats,
     pub verdict: Verdict,
 }
 

@@ -1,7 +1,7 @@
 use Rattle.std.proofs.Common.{subst, List, ℕ}
 use Rattle.deny_cli.specs.Outputs.{LeavesErr}
 use Rattle.deny_cli.specs.Words.{texts}
-use Rattle.deny_cli.proofs.CausesLemmas.{AnswerLaws, completes, headline_on, is_refused, is_text, not_written, refused_words, status_by}
+use Rattle.deny_cli.proofs.CausesLemmas.{AnswerLaws, completes, fails_by, headline_on, is_refused, is_text, not_written, refused_words, status_by}
 use Rattle.deny_cli.proofs.program.run.Goals as goal
 
 pub tell-requires : goal.tell-requires
@@ -18,7 +18,7 @@ returns-clause-completes g c valid readable quiet =
     let laws : AnswerLaws = record {
       cause = c.one_answer.ensures.cause;
       valid = c.one_answer.ensures.valid;
-      policies = c.one_policy.ensures;
+      policies = c.one_policy.ensures.bans;
     } in
     let made = c.ending_of-ending.ensures in
     completes laws _ _ _ c.ending_of-ending.result.outcome valid readable
@@ -30,7 +30,7 @@ returns-clause-refuses g c stop refused readable =
     let laws : AnswerLaws = record {
       cause = c.one_answer.ensures.cause;
       valid = c.one_answer.ensures.valid;
-      policies = c.one_policy.ensures;
+      policies = c.one_policy.ensures.bans;
     } in
     is_refused laws _ _ _ stop _ refused readable c.ending_of-ending.ensures.cause
 
@@ -40,6 +40,12 @@ returns-clause-headline g c = headline_on c.headline.ensures _ _ _ c.ending_of-e
 
 pub returns-clause-fails : goal.returns-clause-fails
 returns-clause-fails g c =
+    fails_by (g.D.PackageFiles.seen c.args.disk.now) (texts c.args.words.now) c.ending_of-ending.result.outcome _
+    c.status.ensures
+    (headline_on c.headline.ensures _ _ _ c.ending_of-ending.result.outcome c.ending_of-ending.ensures.cause)
+
+pub returns-clause-bits : goal.returns-clause-bits
+returns-clause-bits g c =
     status_by (g.D.PackageFiles.seen c.args.disk.now) (texts c.args.words.now) c.ending_of-ending.result.outcome _
     c.status.ensures
     (headline_on c.headline.ensures _ _ _ c.ending_of-ending.result.outcome c.ending_of-ending.ensures.cause)

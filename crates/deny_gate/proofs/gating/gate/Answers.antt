@@ -1,6 +1,6 @@
 use Rattle.deny_cfg.specs.PolicyView.{policy_view}
 use Rattle.deny_gate.specs.Gating.{Texts}
-use Rattle.deny_gate.proofs.CauseLaws.{cause_then, headline_then, report_then, same_texts}
+use Rattle.deny_gate.proofs.CauseLaws.{cause_then, code_then, headline_then, report_then, same_texts}
 use Rattle.deny_gate.proofs.ClashLabels.{cause_behind_labelled, policy_cause_labelled}
 use Rattle.deny_gate.proofs.PolicyLabels.{labels_then}
 use Rattle.deny_gate.proofs.gating.gate.Goals as goal
@@ -25,10 +25,18 @@ returns-clause-headline g c =
     headline_then read _ same c.in_ok-policy.policy c.in_ok-policy.ensures.ok _ c.in_ok-policy.ensures.files
     c.report_of.result c.report_of.ensures.report c.report_of.ensures.files
 
+pub returns-clause-exit_code : goal.returns-clause-exit_code
+returns-clause-exit_code g c =
+    let read : Texts = record { policy = _; metadata = _; replacements = _ } in
+    let same = same_texts read _ c.as_slice.ensures.value c.as_slice-2.ensures.value c.as_deref-table.ensures.value in
+    code_then read _ same c.in_ok-policy.policy c.in_ok-policy.ensures.ok _ c.in_ok-policy.ensures.files
+    c.report_of.result c.report_of.ensures.report c.report_of.ensures.files
+
 pub returns-clause-labels : goal.returns-clause-labels
 returns-clause-labels g c =
-    labels_then _ _ _ c.in_ok-policy.policy _ c.report_of.result c.in_ok-policy.ensures.labels
-    c.in_ok-policy.ensures.files c.report_of.ensures.report c.report_of.ensures.files
+    labels_then _ _ _ c.in_ok-policy.policy _ c.report_of.result c.in_ok-policy.ensures.ok
+    c.in_ok-policy.ensures.labels c.in_ok-policy.ensures.licence_labels c.in_ok-policy.ensures.files
+    c.report_of.ensures.report c.report_of.ensures.files
 
 pub returns-in_err-policy-clause-clash_labels : goal.returns-in_err-policy-clause-clash_labels
 returns-in_err-policy-clause-clash_labels g c =

@@ -7,7 +7,8 @@ returns-clause-by_view c =
       keys = c.one_report.ensures;
       unseen = c.one_unseen.ensures;
       words = c.words_unseen.ensures;
-      policies = c.one_policy.ensures;
+      policies = c.one_policy.ensures.bans;
+      licences = c.one_policy.ensures.licences;
     } in
     λ texts view a b this that. by_view laws texts view a b this that
 
@@ -17,6 +18,7 @@ returns-clause-unseen c =
       keys = c.one_report.ensures;
       unseen = c.one_unseen.ensures;
       words = c.words_unseen.ensures;
-      policies = c.one_policy.ensures;
+      policies = c.one_policy.ensures.bans;
+      licences = c.one_policy.ensures.licences;
     } in
     λ texts a b this that. by_any laws texts a b this that
