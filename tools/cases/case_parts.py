@@ -76,6 +76,30 @@ def public_graph(text, members="app", rust=(), sources=()):
     return value
 
 
+def furnished(value, packages=(), nodes=()):
+    """Metadata whose packages and nodes have more members, given by `name` or `name@version`."""
+    for one, node in zip(value["packages"], value["resolve"]["nodes"]):
+        for word in (one["name"], "%(name)s@%(version)s" % one):
+            one.update(dict(packages).get(word, {}))
+            node.update(dict(nodes).get(word, {}))
+    return value
+
+
+def featured(text, tables, enabled=(), members="app"):
+    """A graph as above whose crates have features: the tables by crate, and those that are enabled, all where a crate is
+    not named."""
+    enabled = {**{word: list(table) for word, table in tables.items()}, **dict(enabled)}
+    packages = {word: {"features": table} for word, table in tables.items()}
+    return furnished(graph(text, members), packages, {word: {"features": list_} for word, list_ in enabled.items()})
+
+
+def licensed(text, licences, publish=(), members="app"):
+    """A graph as above whose crates have licences, and lists of where they may be published."""
+    packages = {word: {"license": licence} for word, licence in licences.items()}
+    value = furnished(graph(text, members), packages)
+    return furnished(value, {word: {"publish": list_} for word, list_ in dict(publish).items()})
+
+
 def lean(value):
     """Metadata without what may be left out: no source, no dependencies, a normal one's kind."""
     for package_ in value["packages"]:
@@ -92,6 +116,10 @@ def lean(value):
 
 X, X2, Y, Z = package("x"), package("x", "2.0.0"), package("y"), package("z")
 ALONE = compact(metadata([]))
+PASSED = '{"fields":{"bits":0,"verdict":"pass"},"type":"verdict"}\n'
+BANS_FAILED, LICENCES_FAILED, BOTH_FAILED = (
+    '{"fields":{"bits":%d,"verdict":"fail"},"type":"verdict"}\n' % bits for bits in (2, 4, 6)
+)
 WITH_X = compact(metadata([(APP, X)]))
 TWO_X = compact(metadata([(APP, X), (APP, X2)]))
 DENY_X = '[bans]\ndeny = ["x"]\n'

@@ -2,8 +2,8 @@
 """Writes the cases of crates/deny_cases, and what each must print.
 
 The expected output comes from a reading of the rules that is written here anew: it shares nothing with the program
-that the cases try, and stands in tools/readings. The cases stand in metadata_cases, policy_cases, rule_cases and
-std_cases.
+that the cases try, and stands in tools/readings. The cases stand in feature_cases, licence_check_cases,
+metadata_cases, policy_cases, rule_cases and std_cases.
 
     check_cases.py cases FOLDER                             writes the files stdin and stdout of crates/deny_cases
     check_cases.py check POLICY METADATA [REPLACEMENTS]     does what the program does with these files
@@ -17,12 +17,17 @@ from pathlib import Path
 sys.path.insert(0, str(Path(__file__).resolve().parent.parent))
 
 from case_parts import ALONE, DENY_X, WITH_X, case
+from feature_cases import feature_cases
+from licence_check_cases import licence_check_cases
 from readings import toml
 from readings.report import LIMIT, compact, report, run, stop_line
 from metadata_cases import metadata_cases
 from policy_cases import policy_cases
 from rule_cases import rule_cases
 from std_cases import long_tables, std_cases
+
+# The statuses of runs that are done: the bits of the checks that failed.
+DONE = (0, 2, 4, 6)
 
 # ---- cases of words, files and outputs
 
@@ -78,7 +83,8 @@ def long_texts():
 
 
 def cases():
-    for part in (words, outside, rule_cases, policy_cases, metadata_cases, std_cases, long_texts, long_tables):
+    subjects = (rule_cases, feature_cases, licence_check_cases, policy_cases, metadata_cases, std_cases)
+    for part in (words, outside, *subjects, long_texts, long_tables):
         yield from filter(is_wanted, part())
 
 
@@ -108,7 +114,7 @@ def expected(case):
     room, err_room = case.get("room", 1 << 20), case.get("err_room", 1 << 20)
     texts = {path: lambda text=text: text_of(text) for path, text in case.get("files", {}).items()}
     out, (err, status) = "", run(case["words"], texts, case.get("fail", []))
-    if status in (0, 2):
+    if status in DONE:
         out, err = err, ""
         if len(out.encode()) > room:
             out, err, status = out.encode()[:room].decode(), stop_line("write"), 23
@@ -141,11 +147,23 @@ def places_of(labels):
 
 
 def told_finding(fields):
-    """The code and the first crate that the message names, 1.0.0 and 0.1.0 left out."""
-    named = re.search("'([^']*)'", fields["message"])
-    crate = named.group(1).replace(" = ", "@") if named else ""
-    crate = re.sub(r"@(1\.0\.0|0\.1\.0)$", "", crate)
-    return " ".join(filter(None, (fields["code"], crate)))
+    """The code and the first crate that the message names, 1.0.0 and 0.1.0 left out, `/` and the feature behind it; of
+    a licence what its notes or its label name, and the byte at which it cannot be read."""
+    code, quoted = fields["code"], lambda text: re.findall("'([^']*)'", text)
+    names = [re.sub(r"@(1\.0\.0|0\.1\.0)$", "", name.replace(" = ", "@")) for name in quoted(fields["message"])]
+    if code in ABOUT_A_FEATURE:
+        feature, crate = names
+        return "%s %s/%s" % (code, crate, feature)
+    if code in ("accepted", "rejected"):
+        return ": ".join([code] + [name for note in fields["notes"] for name in quoted(note)])
+    if code in ("license-not-encountered", "license-exception-not-encountered"):
+        return "%s %s" % (code, fields["labels"][0]["span"])
+    if code == "parse-error":
+        names = [names[0] + " " + re.search("[0-9]+$", fields["message"]).group()]
+    return " ".join([code] + names[:1])
+
+
+ABOUT_A_FEATURE = ("feature-not-explicitly-allowed", "feature-banned", "unknown-feature", "default-feature-enabled")
 
 
 def check_by_hand(by_hand, lines, answer):
@@ -177,7 +195,7 @@ def write_cases(folder):
 def check(*paths):
     """What the program writes on these files, and its status."""
     written, status = report(*(Path(path).read_bytes() for path in paths))
-    (sys.stdout if status in (0, 2) else sys.stderr).write(written)
+    (sys.stdout if status in DONE else sys.stderr).write(written)
     return status
 
 

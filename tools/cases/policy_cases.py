@@ -1,11 +1,16 @@
 """Cases of policies: what each key takes, how an entry is written, what contradicts itself, what is not judged yet."""
 
-from case_parts import ALONE, DENY_X, TWO_X, WITH_X, case, graph, public_graph
+from case_parts import ALONE, DENY_X, PASSED, TWO_X, WITH_X, case, featured, graph, licensed, public_graph
 from readings.report import compact
 from replacement_cases import WORKED
+from rule_cases import told
 
 BOTH_X = compact(graph("app -> x, app -> x@2.0.0"))
 PUBLIC_X = compact(public_graph("app -> x, app -> x@2.0.0, app -> y", rust={"app": "1.69"}))
+OF_X = {"a": [], "default": ["a"], "t": []}
+FEATURED_X = compact(featured("app -> x", {"app": {"default": []}, "x": OF_X}, {"x": ["a", "default"]}))
+SOME_LICENCES = {"app": "MIT", "x": "Apache-2.0", "y": "Zlib"}
+LICENSED_X = compact(licensed("app -> x, app -> y dev", SOME_LICENCES, {"app": [], "x": ["a"]}))
 
 # ---- keys
 
@@ -19,6 +24,11 @@ FLAG = ("boolean", ["true", "false"], [])
 TEXT = ("text", ['"why"', '""', "'''\nwhy\n'''"], [])
 TEXTS = ("array", ["[]", '["a"]', '["a", "b",]'], [])
 SCOPES = ("text", ['"all"', '"workspace"', '"transitive"', '"none"'], ['"None"', '"members"'])
+UNREAD = ("any", [], [])
+LICENCES = (
+    "array", ["[]", '["MIT"]', '["Apache-2.0", "GPL-2.0+ WITH Classpath-exception-2.0", \'MIT\', " Zlib\t"]'],
+    ['[""]', '["MIT OR Zlib"]', '["(MIT)", "GPL-2.0 WITH", "MIT", "AND", "A/B", "MIT,"]']
+)
 CHECKSUM = (
     "text",
     ['"%s"' % ("aB3" * 21 + "f")],
@@ -80,11 +90,22 @@ TABLES = {
         "ignore": ("array", ["[]", '["x", { crate = "y@1", reason = "r" }]'], []),
         "ignore-rust-version": SCOPES,
     }),
+    "licenses": ("[licenses]\n%s\n", {
+        "version": UNREAD, "confidence-threshold": UNREAD, "allow": LICENCES, "exceptions": ("array", ["[]"], []),
+        "private": ("table", ["{}", "{ ignore = true }"], []), "include-dev": FLAG, "unused-allowed-license": LEVELS,
+    }),
+    "licence exception": ('[licenses]\nexceptions = [{ crate = "x", %s }]\n', {"allow": LICENCES}),
+    "private licences": (
+        "[licenses]\nallow = ['MIT']\n[licenses.private]\nregistries = ['a']\n%s\n", {"ignore": FLAG}
+    ),
+    "private registries": ("[licenses.private]\nignore = true\n%s\n", {"registries": TEXTS}),
 }
 
 
-# The tables that the rules read by now.
-JUDGED = ("bans", "deny entry", "allow entry", "skip entry", "skip-tree entry")
+# What the tables are tried on that the rules read by now.
+JUDGED = dict.fromkeys(("bans", "deny entry", "allow entry", "skip entry", "skip-tree entry"), BOTH_X)
+JUDGED.update(dict.fromkeys(("licenses", "licence exception", "private licences", "private registries"), LICENSED_X))
+JUDGED.update({"features entry": FEATURED_X, "std-replacements": PUBLIC_X})
 
 
 def values_of(kind, good, bad):
@@ -94,9 +115,7 @@ def values_of(kind, good, bad):
 def each_key():
     """Each key with each value that it takes, with others of its kind, and with a value of each other kind."""
     for where, (written, keys) in TABLES.items():
-        metadata, more = BOTH_X if where in JUDGED else ALONE, {}
-        if where == "std-replacements":
-            metadata, more = PUBLIC_X, {"table": WORKED}
+        metadata, more = JUDGED.get(where, ALONE), {"table": WORKED} if where == "std-replacements" else {}
         for key, takes in keys.items():
             for value in values_of(*takes):
                 short = value if len(value) < 40 else "%s.. %d" % (value[:10], len(value))
@@ -114,7 +133,8 @@ def elements():
         ("bans", "deny", "[%s]"), ("bans", "allow", "[%s]"), ("bans", "features", "[%s]"), ("bans", "skip", "[%s]"),
         ("bans", "skip-tree", "[%s]"),
         ("bans", "allow-build-scripts", "[%s]"), ("build", "bypass", "[%s]"), ("bypass", "allow", "[%s]"),
-        ("std-replacements", "ignore", "[%s]"),
+        ("std-replacements", "ignore", "[%s]"), ("licenses", "allow", "[%s]"), ("licenses", "exceptions", "[%s]"),
+        ("licence exception", "allow", "[%s]"), ("private registries", "registries", "[%s]"),
     ):
         written = TABLES[where][0] % ("%s = %s" % (key, more))
         yield case("%s: %s of each kind" % (where, key), written % ", ".join(OF_EACH_KIND.values()))
@@ -195,15 +215,20 @@ def entries():
         short = spec if len(spec) < 70 else spec[:12] + ".. %d" % len(spec)
         yield case("a skip of %s" % short, "[bans]\nskip = [%s]\n" % spec, BOTH_X)
         yield case("a ban of %s" % short, "[bans]\nmultiple-versions = 'allow'\ndeny = [%s]\n" % spec, BOTH_X)
-    for what, written in (
-        ("an allowance of", "[bans]\nmultiple-versions = 'allow'\nallow = [\"app\", %s]\n"),
-        ("a skipped tree of", "[bans]\nskip-tree = [%s]\n"),
-        ("features of", "[bans]\nfeatures = [%s]\n"), ("a build script of", "[bans]\nallow-build-scripts = [%s]\n"),
-        ("a build script, in its table, of", "[bans.build]\nallow-build-scripts = [%s]\n"),
-        ("a bypass of", "[bans.build]\nbypass = [%s]\n"),
+    for what, metadata, written in (
+        ("an allowance of", BOTH_X, "[bans]\nmultiple-versions = 'allow'\nallow = [\"app\", %s]\n"),
+        ("a skipped tree of", BOTH_X, "[bans]\nskip-tree = [%s]\n"),
+        ("features of", FEATURED_X, "[bans]\nfeatures = [%s]\n"),
+        ("a build script of", BOTH_X, "[bans]\nallow-build-scripts = [%s]\n"),
+        ("a build script, in its table, of", BOTH_X, "[bans.build]\nallow-build-scripts = [%s]\n"),
+        ("a bypass of", BOTH_X, "[bans.build]\nbypass = [%s]\n"),
+        ("a licence exception without a list, of", LICENSED_X, "[licenses]\nexceptions = [%s]\n"),
     ):
         for spec in FEW_SPECS:
-            yield case("%s %s" % (what, spec), written % spec, BOTH_X)
+            yield case("%s %s" % (what, spec), written % spec, metadata)
+    for spec in (spec for spec in FEW_SPECS if spec.startswith("{ ")):
+        written = "[licenses]\nexceptions = [%s, allow = ['Apache-2.0'] }]\n" % spec[:-2]
+        yield case("a licence exception of %s" % spec, written, LICENSED_X)
     for spec in FEW_SPECS:
         written = "[bans.std-replacements]\nignore-rust-version = 'all'\nignore = [%s]\n" % spec
         yield case("an ignored replacement of %s" % spec, written, PUBLIC_X, table=WORKED)
@@ -361,7 +386,8 @@ def clashes():
         yield case("no clash: %s" % name, "[bans]\n%s\n" % text, BOTH_X)
     yield case(
         "no clash: features of two entries",
-        "[bans]\nfeatures = [{ name = 'x', allow = ['f'] }, { name = 'x', deny = ['f'] }]\n", by_hand="not-built"
+        "[bans]\nfeatures = [{ name = 'x', allow = ['a', 't'] }, { name = 'x', deny = ['a'] }]\n", FEATURED_X,
+        by_hand="feature-not-explicitly-allowed x/default; feature-banned x/a"
     )
     for one, (name, text, _) in enumerate(CLASHES):
         for other, (other_name, other_text, _) in enumerate(CLASHES):
@@ -383,31 +409,30 @@ def together(text, other):
 # ---- what stops a run first
 
 UNBUILT = [
-    "features = []", "external-default-features = 'allow'", "workspace-default-features = 'allow'",
-    "wildcards = 'allow'", "allow-wildcard-paths = false", "allow-build-scripts = []", "build = {}",
-    "workspace-dependencies = {}",
+    "wildcards = 'warn'", "wildcards = 'deny'", "allow-build-scripts = []", "build = {}", "workspace-dependencies = {}",
 ]
 
 
 def unbuilt():
     """Keys that no rule reads yet."""
     for key in UNBUILT:
-        name = key.split(" ")[0]
+        name = key if key.startswith("wildcards") else key.split(" ")[0]
         yield case("not judged: %s" % name, "[bans]\n%s\n" % key, by_hand="not-built")
         yield case(
             "not judged: %s after all other keys" % name,
             "[bans]\ndeny = ['x']\nskip = ['y']\nallow = ['app']\nhighlight = 'all'\n%s\n" % key, WITH_X,
             by_hand="not-built"
         )
-    for text in (
-        "[licenses]\n", "licenses = 5\n", "[[licenses]]\n", "licenses.allow = 5\n",
-        "[licenses]\nallow = ['MIT']\n\n[bans]\ndeny = ['x']\n", "[licenses.private]\nignore = 1\n"
-    ):
-        yield case("not judged: %s" % compact(text), text, WITH_X, by_hand="not-built")
+    wanted = "[licenses]\nallow = ['MIT']\n\n[bans]\nwildcards = 'warn'\n"
+    yield case("not judged: wildcards beside licences", wanted, LICENSED_X, by_hand="not-built")
+    for key in ("wildcards = 'allow'", "allow-wildcard-paths = false", "allow-wildcard-paths = true"):
+        yield case("judged: %s" % key, "[bans]\n%s\n" % key, WITH_X, by_hand="")
+        yield case("judged: %s beside a ban" % key, "[bans]\n%s\ndeny = ['x']\n" % key, WITH_X, by_hand="banned x")
     for table in ("build", "workspace-dependencies"):
         yield case("not judged: [bans.%s]" % table, "[bans.%s]\n" % table, by_hand="not-built")
     for text in (
-        "[license]\n", "[bans]\ndeny = []\n[other.licenses]\n", "[graph]\nbuild = 1\n", "build = 5\nfeatures = 1\n"
+        "[license]\n", "[bans]\ndeny = []\n[other.licenses]\n", "[graph]\nbuild = 1\n", "build = 5\nfeatures = 1\n",
+        "[bans]\nfeatures = []\n", "[bans]\nexternal-default-features = 'warn'\nworkspace-default-features = 'deny'\n",
     ):
         yield case("judged: %s" % compact(text), text, WITH_X, by_hand="")
 
@@ -429,11 +454,69 @@ def stops():
             fail=["metadata.json"]
         )
     yield case(
-        "stop: a key of its own kind that is not judged, with a fault", "[bans]\nfeatures = 5\n",
-        by_hand="wrong-kind 18..19 bans.features"
+        "stop: keys that are not judged, of another kind", "[bans]\nbuild = 5\nwildcards = true\n",
+        by_hand="wrong-kind 15..16 bans.build; wrong-kind 29..33 bans.wildcards"
     )
     yield case("stop: [licenses] and a fault", "[licenses]\n[bans]\nskip = 1\n", by_hand="wrong-kind 25..26 bans.skip")
-    yield case("stop: a fault in [licenses]", "[licenses]\nmore = 1\nallow = 5\n", by_hand="not-built")
+
+
+def licences():
+    """How `[licenses]` may be written, and its faults, beside those of `[bans]`."""
+    for text, by_hand in (
+        ("licenses = 5\n", "wrong-kind 11..12 licenses"), ("[[licenses]]\n", "wrong-kind 2..10 licenses"),
+        ("licenses.allow = 5\n", "wrong-kind 17..18 licenses.allow"),
+        ("[licenses.private]\nignore = 1\n", "wrong-kind 28..29 licenses.private.ignore"),
+        ("[[licenses.private]]\n", "wrong-kind 11..18 licenses.private"),
+        ("[licenses]\nmore = 1\nallow = 5\n", "unknown 11..15 licenses.more; wrong-kind 28..29 licenses.allow"),
+        ("[licenses]\nprivate = { ignored = true }\n", "unknown 23..30 licenses.private.ignored"),
+        (
+            "[licenses]\nskip = 1\n[bans]\nskip = 1\nexceptions = []\n",
+            "unknown 11..15 licenses.skip; wrong-kind 34..35 bans.skip; unknown 36..46 bans.exceptions"
+        ),
+        (
+            "[bans]\nallow = ['']\n[licenses]\nallow = ['']\n",
+            "unreadable 17..17 bans.allow.0; unreadable 41..41 licenses.allow.0"
+        ),
+        (
+            "licenses = { allow = 1 }\nbans = { allow = 2 }\n",
+            "wrong-kind 21..22 licenses.allow; wrong-kind 42..43 bans.allow"
+        ),
+        (
+            "[licenses]\nallow = ['MIT', 'MIT OR', 5, \"A\\u0021B\"]\n",
+            "unreadable 28..34 licenses.allow.1; wrong-kind 37..38 licenses.allow.2; unreadable 41..49 licenses.allow.3"
+        ),
+        (
+            "[[licenses.exceptions]]\n[[licenses.exceptions]]\ncrate = 'x'\n",
+            "missing 11..21 licenses.exceptions.0.allow; missing 11..21 licenses.exceptions.0.name; "
+            "missing 35..45 licenses.exceptions.1.allow"
+        ),
+        (
+            "[licenses]\nexceptions = ['x', { crate = 'x', name = 'x', allow = ['('], reason = 'r' }]\n",
+            "wrong-kind 26..27 licenses.exceptions.0; unknown 45..49 licenses.exceptions.1.name; "
+            "unreadable 67..68 licenses.exceptions.1.allow.0; unknown 72..78 licenses.exceptions.1.reason"
+        ),
+        (
+            "[licenses]\nexceptions = [{ version = 'q', allow = 'MIT' }]\n",
+            "missing 25..57 licenses.exceptions.0.name; unreadable 38..39 licenses.exceptions.0.version; "
+            "wrong-kind 51..54 licenses.exceptions.0.allow"
+        ),
+    ):
+        yield case("licences: %s" % compact(text), text, LICENSED_X, by_hand=by_hand)
+    allowed, rejected = "accepted: MIT; accepted: Apache-2.0", "rejected: MIT: MIT; rejected: Apache-2.0: Apache-2.0"
+    for text, by_hand in (
+        ("[licenses]\n", rejected), ("licenses = {}", rejected), ("[licenses.private]\n", rejected),
+        ("\"licenses\".allow = ['MIT', 'Apache-2.0']\n", allowed),
+        ("licenses = { allow = ['MIT', 'Apache-2.0'] }\n[bans]\n", allowed),
+        (
+            "[[licenses.exceptions]]\nname = 'app'\nallow = ['MIT']\n"
+            "[[licenses.exceptions]]\ncrate = 'x@1'\nallow = ['Apache-2.0']\n[licenses.private]\n", allowed
+        ),
+        (
+            "[licenses]\nversion.of.what = 2\n'confidence-threshold' = 1\n"
+            "allow = [\"\"\"\nMIT\"\"\", \"Apache\\u002D2.0\"]\n", allowed
+        ),
+    ):
+        yield case("licences: %s" % compact(text), text, LICENSED_X, by_hand=by_hand)
 
 
 def outside_toml():
@@ -502,16 +585,29 @@ github = []
 
 def template():
     """The policy that a project begins with, whole and in parts."""
-    yield case("the template", TEMPLATE, WITH_X, by_hand="not-built")
-    lines = TEMPLATE.split("\n")
-    without = lambda *parts: "\n".join(line for line in lines if not any(part in line for part in parts))
-    no_licences = "\n".join(lines[:8] + lines[15:])
-    yield case("the template without licences", no_licences, WITH_X, by_hand="not-built")
-    yield case("the template without default features", without("default-features"), WITH_X, by_hand="not-built")
-    judged = "\n".join(
-        line for line in no_licences.split("\n") if "wildcards" not in line and "-default-features =" not in line
+    licences = licensed("app -> x", {"app": "MIT", "x": "MIT OR Apache-2.0"})
+    accepted = "".join(
+        told("accepted", "note", "license requirements satisfied", notes=["license = '%s'" % text])
+        for text in ("MIT", "MIT OR Apache-2.0")
     )
-    yield case("what is judged of the template", judged, TWO_X, by_hand="duplicate x")
+    yield case(
+        "the template", TEMPLATE, licences, by_hand="accepted: MIT; accepted: MIT OR Apache-2.0",
+        lines=accepted + PASSED
+    )
+    yield case(
+        "the template on crates without licences", TEMPLATE, WITH_X,
+        by_hand="unlicensed app; unlicensed x; license-not-encountered MIT; license-not-encountered Apache-2.0"
+    )
+    lines = TEMPLATE.split("\n")
+    no_licences = "\n".join(lines[:8] + lines[15:])
+    yield case("the template without licences", no_licences, TWO_X, by_hand="duplicate x")
+    denied = TEMPLATE.replace("wildcards = \"allow\"", "wildcards = \"deny\"")
+    yield case("the template, wildcards denied", denied, licences, by_hand="not-built")
+    several = TEMPLATE.replace('"warn"', '"deny"').replace('"Apache-2.0"', '"Zlib"')
+    yield case(
+        "the template with other values", several, licensed("app -> x, app -> x@2.0.0", {"app": "MIT", "x": "Zlib"}),
+        by_hand="duplicate x; accepted: MIT; accepted: Zlib; accepted: Zlib"
+    )
 
 
 def one_byte_off():
@@ -527,6 +623,6 @@ def one_byte_off():
 
 
 def policy_cases():
-    parts = (each_key, elements, roots, entries, written, clashes, unbuilt, stops, outside_toml, template, one_byte_off)
-    for part in parts:
+    parts = (each_key, elements, roots, entries, written, clashes, unbuilt, stops, licences, outside_toml, template)
+    for part in (*parts, one_byte_off):
         yield from part()

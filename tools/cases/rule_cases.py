@@ -73,9 +73,11 @@ def rows():
 # ---- whole lines
 
 
-def told(code, severity, message, *labels):
+def told(code, severity, message, *labels, notes=()):
     """The line of a finding, its labels by line, column, text and what they label."""
     fields = {"code": code, "message": message, "severity": severity}
+    if notes:
+        fields["notes"] = list(notes)
     if labels:
         fields["labels"] = [dict(zip(("line", "column", "message", "span"), label)) for label in labels]
     return compact({"fields": fields, "type": "diagnostic"}) + "\n"

@@ -1,12 +1,11 @@
 """Cases of what the standard library replaces: tables, policies that ask for one, and both by chance."""
 
-from case_parts import REGISTRY, TABLE, WITH_X, WORDS, case, draws, public_graph
+from case_parts import BANS_FAILED as FAILED
+from case_parts import PASSED, REGISTRY, TABLE, WITH_X, WORDS, case, draws, public_graph
 from readings.report import LIMIT, compact
 from replacement_cases import FIRST, PLAIN, SECOND, WORKED
 from rule_cases import some_entries, some_graph
 
-PASSED = '{"fields":{"bits":0,"verdict":"pass"},"type":"verdict"}\n'
-FAILED = '{"fields":{"bits":2,"verdict":"fail"},"type":"verdict"}\n'
 ASKS = "[bans]\nmultiple-versions = 'allow'\n[bans.std-replacements]\n"
 SCOPES = {"none": [], "workspace": ["member"], "transitive": ["other"], "all": ["member", "other"]}
 

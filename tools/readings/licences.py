@@ -109,8 +109,8 @@ def requirements_of(tokens):
     return found
 
 
-def truths(tokens, count):
-    """The truth under each assignment, by Python's own precedence."""
+def code_of(tokens):
+    """The truth as a Python expression over `v`, a value for each requirement, by Python's own precedence."""
     words, number, after_with = [], 0, False
     for _, kind, _ in tokens:
         if kind == "word" and not after_with:
@@ -121,8 +121,12 @@ def truths(tokens, count):
         elif kind in ("open", "close"):
             words.append("(" if kind == "open" else ")")
         after_with = kind == "with"
-    code = compile_nested(words)
-    digits = ""
+    return compile_nested(words)
+
+
+def truths(tokens, count):
+    """The truth under each assignment."""
+    code, digits = code_of(tokens), ""
     for assignment in range(2 ** min(count, 8)):
         v = [bool(assignment >> (i if i < 8 else 0) & 1) for i in range(count)]
         digits += "1" if eval(code, {"v": v}) else "0"
@@ -144,6 +148,27 @@ def compile_nested(words):
                 changed = True
                 break
     return compile(" ".join(words), "expression", "eval")
+
+
+class Expression:
+    """A text that is an expression, or the place at which it goes wrong."""
+
+    def __init__(self, text):
+        tokens, end, at_end = tokenized(text.encode())
+        self.bad = place_of(tokens, end, at_end, EXPRESSION)
+        self.requirements = requirements_of(tokens) if self.bad is None else []
+        self.code = code_of(tokens) if self.bad is None else None
+
+    def is_true(self, is_satisfied):
+        """Its truth, by the truth of its requirements."""
+        return bool(eval(self.code, {"v": [is_satisfied(requirement) for requirement in self.requirements]}))
+
+
+def requirement_of(text):
+    """The one requirement that a text is, or None."""
+    tokens, end, at_end = tokenized(text.encode())
+    is_one = place_of(tokens, end, at_end, REQUIREMENT) is None
+    return requirements_of(tokens)[0] if is_one else None
 
 
 def answer(text):

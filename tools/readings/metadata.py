@@ -155,8 +155,7 @@ class At:
 
 
 def read_features(features):
-    for name in sorted(features.value, key=str.encode):
-        features.texts(name)
+    return {name: features.texts(name) for name in sorted(features.value, key=str.encode)}
 
 
 def read_target(target):
@@ -178,12 +177,12 @@ def read_declaration(declaration):
 def read_package(package):
     texts = [package.text(name) for name in ("name", "version", "id", "manifest_path")]
     more = [package.maybe(package.text, name) for name in ("source", "license", "rust_version")]
-    package.maybe(package.texts, "publish")
-    package.maybe(lambda name: package.member(name).object(read_features), "features")
+    publish = package.maybe(package.texts, "publish")
+    features = package.maybe(lambda name: package.member(name).object(read_features), "features", {})
     package.maybe(lambda name: package.objects(name, read_target), "targets")
     declared = package.maybe(lambda name: package.objects(name, read_declaration), "dependencies", [])
     names = ("name", "version", "id", "manifest_path", "source", "license", "rust_version")
-    return dict(zip(names, texts + more), requirements=declared)
+    return dict(zip(names, texts + more), requirements=declared, publish=publish, features=features)
 
 
 def read_dep_kind(dep_kind):
@@ -200,8 +199,8 @@ def read_dependency(dependency):
 
 def read_node(node):
     id_ = node.text("id")
-    node.maybe(node.texts, "features")
-    return id_, node.maybe(lambda name: node.objects(name, read_dependency), "deps", [])
+    enabled = node.maybe(node.texts, "features", [])
+    return id_, node.maybe(lambda name: node.objects(name, read_dependency), "deps", []), enabled
 
 
 def read_document(root):
@@ -219,18 +218,18 @@ def read_document(root):
 
 
 def check_ids(packages, members, nodes):
-    for ids in ([package["id"] for package in packages], [id_ for id_, _ in nodes]):
+    for ids in ([package["id"] for package in packages], [id_ for id_, _, _ in nodes]):
         seen = set()
         for id_ in ids:
             if id_ in seen:
                 raise Fault("duplicate-id", id_)
             seen.add(id_)
     known = {package["id"] for package in packages}
-    whole = known & {id_ for id_, _ in nodes}
+    whole = known & {id_ for id_, _, _ in nodes}
     for id_ in members:
         if id_ not in whole:
             raise Fault("dangling-id", id_)
-    for id_, dependencies in nodes:
+    for id_, dependencies, _ in nodes:
         if id_ not in known:
             raise Fault("dangling-id", id_)
         for needed, _ in dependencies:
@@ -263,14 +262,17 @@ def reached_by(nodes, members, kinds):
 
 
 class Crate:
-    """A crate of the graph. `needs` and `dependents` are the places of others, by edges of every kind."""
+    """A crate of the graph. `needs` and `dependents` are the places of others, by edges of every kind; `features` is
+    its table of features, and `enabled` are those that are enabled, in order."""
 
-    def __init__(self, place, package, is_member, is_built):
+    def __init__(self, place, package, is_member, is_built, enabled):
         self.place, self.id = place, package["id"]
         self.name, self.version = package["name"], package["version"]
         self.read_version = read_version(self.version)
         self.is_member, self.is_built = is_member, is_built
         self.is_public, self.rust_minor = package["source"] in CRATES_IO, minor_of(package["rust_version"])
+        self.license, self.publish = package["license"], package["publish"]
+        self.features, self.enabled = package["features"], sorted(set(enabled), key=str.encode)
         self.needs, self.dependents = set(), set()
 
     def __str__(self):
@@ -283,12 +285,12 @@ class Crate:
 class Graph:
     """The crates that the members reach, in order."""
 
-    def __init__(self, packages, nodes, members):
+    def __init__(self, packages, nodes, enabled, members):
         reached = reached_by(nodes, members, {"normal", "build", "dev"})
         built = reached_by(nodes, members, {"normal", "build"})
         ordered = sorted((packages[id_] for id_ in reached), key=place_in_order)
         self.crates = [
-            Crate(place, package, package["id"] in members, package["id"] in built)
+            Crate(place, package, package["id"] in members, package["id"] in built, enabled[package["id"]])
             for place, package in enumerate(ordered)
         ]
         places = {crate.id: crate.place for crate in self.crates}
@@ -323,4 +325,6 @@ def read_metadata(text):
     packages, members, nodes = At(value).object(read_document)
     check_ids(packages, members, nodes)
     check_texts(packages)
-    return Graph({package["id"]: package for package in packages}, dict(nodes), set(members))
+    packages = {package["id"]: package for package in packages}
+    dependencies = {id_: found for id_, found, _ in nodes}
+    return Graph(packages, dependencies, {id_: enabled for id_, _, enabled in nodes}, set(members))

@@ -7,6 +7,7 @@ import re
 from collections import namedtuple
 
 from readings import toml
+from readings.licences import requirement_of
 from readings.versions import matches, read_requirement
 
 FAULT_KINDS = ["not-utf8", "grammar", "clash", "unknown", "missing", "wrong-kind", "unreadable"]
@@ -80,6 +81,10 @@ def whole_number(limit):
 def matching(pattern, is_good=lambda text: True):
     meaning = lambda text: text if re.fullmatch(pattern, text, re.ASCII) and is_good(text) else None
     return lambda at: at.read("text", meaning)
+
+
+def unread(at):
+    """A value of any kind, which says nothing."""
 
 
 def flag(at):
@@ -197,22 +202,22 @@ def entry(**fields):
     return lambda at: Entry(spec_text(at), {}) if at.kind() == "text" else read_entry(at, fields)
 
 
-def entry_table(**fields):
+def entry_table(required=(), **fields):
     """A table of a spec and these fields."""
     fields = keys(fields)
-    return lambda at: read_entry(at, fields)
+    return lambda at: read_entry(at, fields, required)
 
 
 def keys(fields):
     return {name.replace("_", "-"): read for name, read in fields.items()}
 
 
-def read_entry(at, fields):
+def read_entry(at, fields, required=()):
     if not at.want("table"):
         return None
     by_crate = "crate" in at.place.entries
     of_spec = {"crate": spec_text} if by_crate else {"name": name_alone, "version": requirement_alone}
-    found = read_table(at, {**of_spec, **fields}, () if by_crate else ("name",)).value
+    found = read_table(at, {**of_spec, **fields}, (*required, *(() if by_crate else ("name",)))).value
     spec = found.pop("crate") if by_crate else spec_of(found.pop("name", None), found.pop("version", None))
     return Entry(spec, found)
 
@@ -278,18 +283,31 @@ BANS = {
     "std-replacements": table(STD_REPLACEMENTS),
 }
 
-# What no rule reads yet: such a policy is not judged.
-UNBUILT = [
-    "features", "external-default-features", "workspace-default-features", "wildcards", "allow-wildcard-paths",
-    "allow-build-scripts", "build", "workspace-dependencies",
-]
+# What no rule reads yet: such a policy is not judged, as one is not that wants to hear of wildcards.
+UNBUILT = ["allow-build-scripts", "build", "workspace-dependencies"]
+
+# ---- `[licenses]`
+
+LICENCES = array(lambda at: at.read("text", requirement_of))
+
+LICENSES = {
+    "version": unread,
+    "confidence-threshold": unread,
+    "allow": LICENCES,
+    "exceptions": array(entry_table(required=["allow"], allow=LICENCES)),
+    "private": table({"ignore": flag, "registries": TEXTS}),
+    "include-dev": flag,
+    "unused-allowed-license": LEVEL,
+}
+
+TABLES = {"bans": BANS, "licenses": LICENSES}
 
 
 class Policy:
-    """What `[bans]` says, and the text around it."""
+    """What `[bans]` says, and `[licenses]`, which is None where it is not written, and the text around them."""
 
-    def __init__(self, text, bans, writes_licenses):
-        self.text, self.bans, self.writes_licenses = text, bans, writes_licenses
+    def __init__(self, text, bans, licenses):
+        self.text, self.bans, self.licenses = text, bans, licenses
 
     def get(self, name, otherwise):
         return self.bans[name].value if name in self.bans else otherwise
@@ -306,7 +324,7 @@ class Policy:
         return [e for e in self.entries("deny") if e.get("deny-multiple-versions")]
 
     def is_built(self):
-        return not self.writes_licenses and not any(name in self.bans for name in UNBUILT)
+        return self.get("wildcards", "allow") == "allow" and not any(name in self.bans for name in UNBUILT)
 
 
 def read_tree(text):
@@ -327,12 +345,12 @@ def read_tree(text):
 def read_policy(text):
     """The policy of a text without faults."""
     root, faults = read_tree(text), []
-    bans = Spanned({}, None)
-    if "bans" in root.entries:
-        bans = table(BANS)(At(root.entries["bans"], ("bans",), text, faults))
+    at = lambda name: At(root.entries[name], (name,), text, faults)
+    read = {name: table(fields)(at(name)) for name, fields in TABLES.items() if name in root.entries}
     if faults:
         raise Faults(faults)
-    return Policy(text, bans.value, "licenses" in root.entries)
+    value = lambda name, otherwise: read[name].value if name in read else otherwise
+    return Policy(text, value("bans", {}), value("licenses", None))
 
 
 # ---- what contradicts itself

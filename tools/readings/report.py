@@ -2,6 +2,8 @@
 
 import json
 
+from readings.features import feature_rules
+from readings.licensing import licence_rules
 from readings.metadata import Fault, read_metadata
 from readings.policy import Faults, clashes, read_policy
 from readings.replaced import std_rules, table_for
@@ -79,10 +81,10 @@ def report(policy_text, metadata_text, replacements=None):
         table = table_for(policy, replacements)
     except Bad as bad:
         return stop_line("replacement", offset=bad.args[0]), 22
-    found = in_order([*crate_rules(policy, graph), *std_rules(policy, graph, table)])
-    fails = any(finding.severity == "error" for finding in found)
-    bits = 2 if fails else 0
-    verdict = line("verdict", {"bits": bits, "verdict": "fail" if fails else "pass"})
+    by_texts = [rules(policy, graph) for rules in (crate_rules, feature_rules, licence_rules)]
+    found = in_order(finding for findings in [*by_texts, std_rules(policy, graph, table)] for finding in findings)
+    bits = sum({finding.bit for finding in found if finding.severity == "error"})
+    verdict = line("verdict", {"bits": bits, "verdict": "fail" if bits else "pass"})
     return "".join(finding_line(finding, policy_text) for finding in found) + verdict, bits
 
 

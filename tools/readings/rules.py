@@ -2,12 +2,16 @@
 
 from readings.policy import Label
 
-SECTIONS = ["deprecated", "crates", "groups", "workspace", "unused", "std"]
+SECTIONS = ["deprecated", "crates", "groups", "workspace", "unused", "std", "licenses", "licenses-unused"]
 CODES = [
     "banned", "allowed", "not-allowed", "duplicate", "skipped", "wildcard", "unmatched-skip", "unnecessary-skip",
-    "allowed-by-wrapper", "unmatched-wrapper", "skipped-by-root", "unmatched-skip-root", "unused-wrapper",
-    "replaced-in-std", "unmatched-replacement-ignore",
+    "allowed-by-wrapper", "unmatched-wrapper", "skipped-by-root", "unmatched-skip-root", "exact-features-mismatch",
+    "feature-not-explicitly-allowed", "feature-banned", "unknown-feature", "default-feature-enabled", "unused-wrapper",
+    "replaced-in-std", "unmatched-replacement-ignore", "accepted", "rejected", "unlicensed", "parse-error",
+    "skipped-private-workspace-crate", "license-not-encountered", "license-exception-not-encountered",
 ]
+# The exit bit of the check that a section belongs to.
+BITS = {section: 4 if section.startswith("licenses") else 2 for section in SECTIONS}
 SEVERITY = {"allow": "note", "warn": "warning", "deny": "error"}
 NO_ENTRY = (0, 0)
 
@@ -16,15 +20,16 @@ class Finding:
     """What is told, and the key by which it is told once and in its place."""
 
     def __init__(
-        self, section, code, severity, message, labels=(), notes=(), place=0, entry=NO_ENTRY, other=0, places=()
+        self, section, code, severity, message, labels=(), notes=(), place=0, entry=NO_ENTRY, text="", other=0,
+        places=()
     ):
         self.code, self.severity, self.message = code, severity, message
-        self.labels, self.notes = list(labels), list(notes)
-        self.key = (SECTIONS.index(section), place, CODES.index(code), entry, "", other, tuple(places))
+        self.labels, self.notes, self.bit = list(labels), list(notes), BITS[section]
+        self.key = (SECTIONS.index(section), place, CODES.index(code), entry, text.encode(), other, tuple(places))
 
 
-def of_crate(crate, code, severity, message, labels=(), **key):
-    return Finding("crates", code, severity, message, labels, place=crate.place, **key)
+def of_crate(crate, code, severity, message, labels=(), notes=(), **key):
+    return Finding("crates", code, severity, message, labels, notes, place=crate.place, **key)
 
 
 def unused(code, message, labels):
