@@ -1,5 +1,5 @@
 -- What stands on a disk in memory stands at paths of the form of a file's, or at the root.
-use Rattle.std.proofs.Common.{◌≡◌, ◌+◌, ◌++◌, ◌==◌, ◌&&◌, ◌||◌, ℕ, suc, Bool, true, false, not, List, [], ◌∷◌, None, Some, cond, is_some, length, take, refl, sym, ap, ◌∙◌, subst, arith, append_assoc, length-append}
+use Rattle.std.proofs.Common.{◌≡◌, ◌+◌, ◌++◌, ◌==◌, ◌||◌, ℕ, suc, true, false, not, List, [], ◌∷◌, None, Some, cond, is_some, length, take, refl, sym, ap, ◌∙◌, subst, arith, append_assoc, length-append}
 use Rattle.std.specs.Prelude.{codes, OnErr, OnOk, Result, Ok, Err}
 use Rattle.deny_lists.specs.declared.memory.NoMemory.{NoMemory}
 use Rattle.std.specs.FinMap as finite

@@ -5,3 +5,4 @@ pub mod MemoryOut
 pub mod Out
 pub mod Paths
 pub mod Read
+pub mod SureDisk

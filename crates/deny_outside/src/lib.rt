@@ -10,6 +10,7 @@ mod path;
 mod read;
 mod real_disk;
 mod real_out;
+mod sure_disk;
 
 pub use disk::{Call, DiskError, PackageFiles, Place};
 pub use memory_disk::MemoryDisk;
@@ -19,3 +20,4 @@ pub use path::is_path;
 pub use read::{ReadEnd, read_whole};
 pub use real_disk::RealDisk;
 pub use real_out::RealOut;
+pub use sure_disk::SureDisk;

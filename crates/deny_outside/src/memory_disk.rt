@@ -58,7 +58,7 @@ fn folder_before(path: &str, place: usize) -> &str
 }
 
 /// The folders that the path goes through, the outermost first.
-fn folders_of(alloc: Global, path: &str) -> Result<List<Text>, NoMemory>
+pub(crate) fn folders_of(alloc: Global, path: &str) -> Result<List<Text>, NoMemory>
     ensures { IfOk result (λ folders. folders ≡ folders_of path.now) }
 {
     let mut folders = List::new(alloc);
@@ -71,7 +71,7 @@ fn folders_of(alloc: Global, path: &str) -> Result<List<Text>, NoMemory>
 }
 
 /// Puts the folders that are not there yet, and then the file.
-fn put_below(
+pub(crate) fn put_below(
     files: &mut TextMap<Place>,
     folders: &[Text],
     path: Text,
@@ -98,7 +98,7 @@ fn put_below(
 }
 
 /// Copies the text from `offset` on to the front of `buf`, at most `piece` bytes of it.
-fn copy_piece(text: &[u8], offset: u64, piece: usize, buf: &mut [u8]) -> usize
+pub(crate) fn copy_piece(text: &[u8], offset: u64, piece: usize, buf: &mut [u8]) -> usize
     requires { 1 ≤ piece }
     ensures count { result ≡ min (min piece (length buf.new)) (length text.now - offset) }
     ensures bytes { IsPieceOf text.now offset result buf.new }

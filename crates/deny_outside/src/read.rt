@@ -97,6 +97,8 @@ pub fn read_whole<D: PackageFiles>(
     ensures short { IfOk result (λ bytes. length bytes.items < 2 ^ 28) }
     ensures bytes { IfOk result (λ bytes. IfSome (D.seen disk.old).files
         (λ files. bytes.items ≡ bytes_at files path.now)) }
+    ensures given { IfOk result (λ bytes.
+        RoseBy (length bytes.items) (D.seen disk.old).given (D.seen disk.new).given) }
     ensures later { IsLater (D.seen disk.old) (D.seen disk.new) }
     ensures fault { IsErrOf result ReadEnd.Fault →
         FailedAt (D.seen disk.old) (D.seen disk.new) Call.Read path.now }

@@ -1,0 +1,101 @@
+ghost use Rattle.std.specs.Prelude.{◌≡◌, ◌-◌, ◌≤◌, length, min, Ok, IfOk, IsErrOf, IsTrue, OnOk, OnErr, MatchResult};
+ghost use Rattle.std.specs.FinMap as finite;
+ghost use Rattle.deny_outside.specs.Count.{counted};
+ghost use Rattle.deny_outside.specs.Disk.{IsLater, FailedAt, IsPieceOf, bytes_at};
+ghost use Rattle.deny_outside.specs.MemoryDisk.{takes_file, with_file};
+ghost use Rattle.deny_outside.specs.SureDisk.{Sure, sure_seen};
+
+use crate::disk::{Call, DiskError, PackageFiles, Place};
+use crate::memory_disk::{copy_piece, folders_of, put_below};
+use deny_lists::{List, NoMemory, Text, TextMap};
+use std::alloc::Global;
+use std::marker::Model;
+
+/// Files in memory that never fail: a path without a file reads as the empty text.
+#[derive(Debug, Drop)]
+pub struct SureDisk {
+    alloc: Global,
+    files: TextMap<Place>,
+    given: u64,
+}
+
+impl Model for SureDisk {
+    ghost use Rattle.std.specs.Coded.{codes, coded_ℕ, coded_list};
+    ghost use Rattle.std.specs.Ordering.{nat_cmp};
+    ghost use Rattle.std.specs.Cmp.Lexicographic.{slice_cmp};
+    ghost use Rattle.std.specs.FinMap as finite;
+    ghost use Rattle.deny_outside.specs.contracts.disk.Place as place;
+    ghost use Rattle.deny_outside.specs.MemoryDisk.{HoldsPaths};
+    ghost use Rattle.deny_outside.specs.SureDisk.{Sure};
+
+    ghost Value = { Sure };
+
+    ghost coded = { Prim.hlevel (codes, finite.code {R = slice_cmp nat_cmp} (coded_list coded_ℕ) place.the_row.coded) };
+
+    ghost view = { λ d. record { files = d.files; given = d.given } };
+
+    ghost invariant = { λ d. HoldsPaths d.files };
+}
+
+/// The text of the file that stands there, or the empty text.
+fn text_at<'d>(files: &'d TextMap<Place>, path: &str) -> &'d [u8]
+    ensures { result.now ≡ bytes_at files.now path.now }
+{
+    match files.get(path) {
+        Some(Place::File(bytes)) => bytes.as_slice(),
+        Some(Place::Folder) | None => &[],
+    }
+}
+
+impl SureDisk {
+    /// No files, and a count of 0.
+    pub fn new(alloc: Global) -> SureDisk
+        ensures { result ≡ record { files = finite.empty; given = 0 } }
+    {
+        SureDisk {
+            alloc,
+            files: TextMap::new(alloc),
+            given: 0,
+        }
+    }
+
+    /// Puts a file at `path`, in place of what stood there, and a folder for each slash of the path
+    /// where nothing stood. Where memory runs out nothing has changed.
+    pub fn put_file(&mut self, path: &str, bytes: &[u8]) -> Result<(), NoMemory>
+        requires { IsTrue (takes_file self.old.files path.now) }
+        ensures ok { OnOk result
+            (self.new ≡ record self.old { files = with_file self.old.files path.now bytes.now }) }
+        ensures err { OnErr result (self.new ≡ self.old) }
+    {
+        let folders = folders_of(self.alloc, path)?;
+        let key = Text::from_str(self.alloc, path)?;
+        let file = Place::File(List::from_vec(Vec::from_slice(self.alloc, bytes)?));
+        put_below(&mut self.files, folders.as_slice(), key, file)
+    }
+}
+
+impl PackageFiles for SureDisk {
+    ghost seen = { sure_seen };
+
+    /// Never fails, and gives as many bytes as the buffer and the rest of the text allow.
+    fn read_at(&mut self, path: &str, offset: u64, buf: &mut [u8]) -> Result<usize, DiskError>
+        ensures bound { IfOk result (λ n. n ≤ length buf.new) }
+        ensures bytes { IfOk result
+            (λ n. IsPieceOf (bytes_at self.old.files path.now) offset n buf.new) }
+        ensures later { IsLater (sure_seen self.old) (sure_seen self.new) }
+        ensures given { MatchResult result
+            (λ n. self.new.given ≡ counted self.old.given n)
+            (λ _. self.new.given ≡ self.old.given) }
+        ensures failed { IsErrOf result DiskError.Failed →
+            FailedAt (sure_seen self.old) (sure_seen self.new) Call.Read path.now }
+        ensures no_memory { IsErrOf result DiskError.Memory → ⊥ }
+
+        ensures exact { result ≡ Ok (min (length buf.new) (length (bytes_at self.old.files path.now) - offset)) }
+        ensures after { IfOk result (λ n. self.new ≡ record self.old { given = counted self.old.given n }) }
+    {
+        let text = text_at(&self.files, path);
+        let count = copy_piece(text, offset, buf.len().max(1), buf);
+        self.given = self.given.saturating_add(count as u64);
+        Ok(count)
+    }
+}
