@@ -1,13 +1,17 @@
 -- The run of a key in a list that is in order of it.
 use Rattle.deny_lists.proofs.Orders.{is_equal, not_both, not_equal_above, not_equal_below}
-use Rattle.std.proofs.Common.{inl, inr, add-zero, ◌+◌, zero, suc, take, drop, ◌≡◌, ◌≤◌, ◌<◌, ℕ, List, [], ◌∷◌, true, false, length, refl, arith, ◌∙◌, ap}
-use Rattle.std.specs.Prelude.{slice_index_or, filter}
+use Rattle.std.proofs.Common.{inl, inr, add-zero, ◌+◌, zero, suc, take, drop, ◌≡◌, ◌≤◌, ◌<◌, ℕ, List, [], ◌∷◌, Option, Some, None, true, false, length, refl, sym, arith, ◌∙◌, ap}
+use Rattle.std.specs.Prelude.{slice_index_or, filter, option_map, slice_get}
+use Rattle.std.specs.Option.{option_map_or}
+use Rattle.std.proofs.lemmas.Option.{same_Some, slice_get-get_or, slice_get_within}
 use Rattle.std.specs.Cmp.Lexicographic.{slice_cmp, texts_ties}
 use Rattle.std.specs.Ordering.{is_lt, is_le, is_eq, nat_cmp}
 use Rattle.std.proofs.lemmas.Bool.{cases_lt}
 use Rattle.std.proofs.Math.Seq.{take-nil, drop-nil}
 use Rattle.deny_model.specs.Groups.{has_name}
+use Rattle.deny_model.specs.Resolution.{passes_at}
 use Rattle.deny_model.specs.Text.{same_text}
+use Rattle.deny_krates.proofs.ResolutionLemmas.{crates-at}
 use Rattle.deny_krates.specs.Crates.{crate_view, crates_from}
 use Rattle.deny_krates.specs.declared.krate.Krate.{Krate}
 
@@ -76,3 +80,40 @@ upward name (k ∷ ks) s e room below above = elim (cases_lt e s) as (λ _. s �
       (above e k (omega arith) (omega (arith, past, room))))
   | inr before ↦ before
 ]
+
+-- a crate of a name stands among them
+pub named_inside : (name : List ℕ) (ks : List Krate) (s e place : ℕ)
+    → ((k : ℕ) (d : Krate) → k < s → is_lt (slice_cmp nat_cmp (slice_index_or ks k d).name name) ≡ true)
+    → ((k : ℕ) (d : Krate) → e ≤ k → k < length ks → is_le (slice_cmp nat_cmp (slice_index_or ks k d).name name)
+    ≡ false)
+    → passes_at (has_name name) (crates_from 0 ks) place ≡ true → (s ≤ place) × (place < e)
+unfolding has_name
+named_inside name ks s e place below above passes = by_crate (slice_get ks place) refl
+    (ap (λ o. option_map_or (has_name name) o false) (sym (crates-at ks place)) ∙ passes)
+  where
+    is_equal_there : (k : Krate) → slice_get ks place ≡ Some k → same_text k.name name ≡ true
+        → is_eq (slice_cmp nat_cmp (slice_index_or ks place k).name name) ≡ true
+    is_equal_there k at same = ap (λ (j : Krate). is_eq (slice_cmp nat_cmp j.name name))
+        (same_Some (slice_index_or ks place k) k
+        (sym (slice_get-get_or ks place k (slice_get_within ks place k at)) ∙ at))
+        ∙ (sym (texts_ties k.name name) ∙ same)
+
+    true-false : true ≡ false → ⊥
+    true-false e = absurd (cc)
+
+    by_crate : (o : Option Krate) → slice_get ks place ≡ o
+        → option_map_or (has_name name) (option_map (crate_view place) o) false ≡ true → (s ≤ place) × (place < e)
+    by_crate None at is = absurd (true-false (sym is))
+    by_crate (Some k) at is = (
+      elim (cases_lt place s) as (λ _. s ≤ place) [
+        | inl before ↦ absurd (true-false (sym (is_equal_there k at is)
+            ∙ not_equal_below (slice_cmp nat_cmp (slice_index_or ks place k).name name) (below place k before)))
+        | inr not_before ↦ not_before
+      ],
+      elim (cases_lt place e) as (λ _. place < e) [
+        | inl before ↦ before
+        | inr past ↦ absurd (true-false (sym (is_equal_there k at is)
+            ∙ not_equal_above (slice_cmp nat_cmp (slice_index_or ks place k).name name)
+            (above place k past (slice_get_within ks place k at))))
+      ],
+    )

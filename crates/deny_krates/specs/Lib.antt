@@ -11,7 +11,9 @@ pub mod Crates
 pub mod Dependents
 pub mod Filtered
 pub mod Ids
+pub mod InOrder
 pub mod Listed
+pub mod Nodes
 pub mod Orderly
 pub mod Packages
 pub mod Read

@@ -1,13 +1,15 @@
 ghost use Rattle.std.specs.Prelude.{Bool, List, ℕ, Ok, Some, None, ◌↔◌, IsTrue, All, Contains, MatchOption, option_copied, option_map, ◌≡◌, ◌≤◌, ◌<◌, ◌^◌, ◌-◌, ◌≢◌, true, false, length, take, drop, filter, IfOk, IfErr};
 ghost use Rattle.std.specs.Cmp.Lexicographic.{slice_cmp};
-ghost use Rattle.std.specs.List.Sorted.{IsPartitionPoint, IsSortedByKey, IsStrictlySortedBy};
+ghost use Rattle.std.specs.List.Sorted.{IsSortedByKey, IsStrictlySortedBy};
 ghost use Rattle.std.specs.Option.{option_and_then};
-ghost use Rattle.std.specs.Ordering.{nat_cmp, is_lt, is_le};
+ghost use Rattle.std.specs.Ordering.{nat_cmp};
 ghost use Rattle.deny_model.specs.Groups.{has_name};
 ghost use Rattle.deny_krates.specs.Bounds.{lock_length, node_count};
 ghost use Rattle.deny_krates.specs.Crates.{crate_view, crates_from, graph_of};
 ghost use Rattle.deny_krates.specs.private.Numbered.{IsNumbered, IsResolved};
 ghost use Rattle.deny_krates.specs.Orderly.{IsOrderly};
+ghost use Rattle.deny_krates.specs.private.NodeNumbers.{first_features_of};
+ghost use Rattle.deny_krates.specs.private.Resolved.{AreBetween};
 ghost use Rattle.deny_metadata.specs.Checked.{Resolved, checked, resolved};
 ghost use Rattle.deny_krates.specs.Read.{IsGraph, IsGraphOf};
 ghost use Rattle.deny_metadata.specs.Reading.{Fails};
@@ -25,8 +27,11 @@ use crate::filtered::ways;
 use crate::graph::{KeptPackage, edges_of, kept_of, members_of, places_in, target_edges_of};
 use crate::ids::{Entry, ids_of, place_of, ranks_of};
 use crate::krate::{DirectDependent, Krate};
+use crate::names::run_of;
+use crate::numbers::first_features;
 use crate::reach::reach;
 use crate::resolution::{declared, resolution};
+use crate::resolved::{ResolvedAt, resolved_between, resolved_of};
 use deny_base::{DepKind, Edge, Kid, edge_order};
 use deny_lists::{List, NoMemory, Text};
 use deny_metadata::{Document, MetadataFault, ResolvedNode, document_in, resolve, value_of};
@@ -48,6 +53,8 @@ pub struct Krates {
     dependents: List<List<DirectDependent>>,
     dependencies: List<List<DirectDependent>>,
     ids: List<Entry>,
+    starts: List<u32>,
+    resolved: List<ResolvedAt>,
 }
 
 impl Model for Krates {
@@ -66,7 +73,8 @@ impl Model for Krates {
 
     ghost view = { λ k. graph_of k.target_edges k.root k.krates k.members k.edges };
 
-    ghost invariant = { λ k. IsKept k.target_edges k.root k.krates k.members k.edges k.dependents k.dependencies k.ids };
+    ghost invariant = { λ k. IsKept k.target_edges k.root k.krates k.members k.edges k.dependents k.dependencies k.ids k.starts
+        k.resolved };
 }
 
 impl Krates {
@@ -176,6 +184,21 @@ impl Krates {
         let krates = self.krates.as_slice();
         let declaration = declared(krates, place, index)?;
         resolution(krates, self.target_edges.as_slice(), place, declaration)
+    }
+
+    /// The declarations of the crate at `parent` that resolve to the crate at `child`.
+    pub(crate) fn resolved_between(&self, child: u32, parent: u32) -> &[ResolvedAt]
+        requires { parent < length self.now.crates }
+        ensures { AreBetween self.now child parent result.now }
+    {
+        resolved_between(self.resolved.as_slice(), child, parent)
+    }
+
+    /// For each crate the number of the node of its first enabled feature.
+    pub(crate) fn first_features(&self) -> &[u32]
+        ensures { result.now ≡ first_features_of self.now }
+    {
+        self.starts.as_slice()
     }
 
     /// The place of the crate of an id.
@@ -314,6 +337,8 @@ fn finish(
         edges.as_slice(),
     )?;
     check_bounds(alloc, krates.as_slice())?;
+    let starts = first_features(alloc, krates.as_slice())?;
+    let resolved = resolved_of(alloc, krates.as_slice(), target_edges.as_slice())?;
     Ok(Krates {
         root,
         krates,
@@ -323,6 +348,8 @@ fn finish(
         dependents,
         dependencies,
         ids,
+        starts,
+        resolved,
     })
 }
 
@@ -352,36 +379,4 @@ fn filtered(
 {
     let rows = ways(alloc, edges, crates, kind)?;
     reach(alloc, rows.as_slice(), members)
-}
-
-// The places of the crates of a name, in a list that is in order of names.
-fn run_of(krates: &[Krate], name: &str) -> Range<u32>
-    requires few { length krates.now < 2 ^ 28 }
-    requires ordered { IsSortedByKey (λ k. k.name) (slice_cmp nat_cmp) krates.now }
-    ensures upward { result.start ≤ result.end }
-    ensures within { result.end ≤ length krates.now }
-    ensures named { take (result.end - result.start) (drop result.start (crates_from 0 krates.now))
-        ≡ filter (has_name name.now) (crates_from 0 krates.now) }
-{
-    let start = first_at_least(krates, name);
-    let end = first_above(krates, name);
-    start as u32..end as u32
-}
-
-fn first_at_least(krates: &[Krate], name: &str) -> usize
-    requires { IsSortedByKey (λ k. k.name) (slice_cmp nat_cmp) krates.now }
-    ensures within { result ≤ length krates.now }
-    ensures point { IsPartitionPoint (λ k. is_lt (slice_cmp nat_cmp k.name name.now) ≡ true)
-        (λ k. is_lt (slice_cmp nat_cmp k.name name.now) ≡ false) krates.now result }
-{
-    krates.partition_point(|krate| krate.name.as_str() < name)
-}
-
-fn first_above(krates: &[Krate], name: &str) -> usize
-    requires { IsSortedByKey (λ k. k.name) (slice_cmp nat_cmp) krates.now }
-    ensures within { result ≤ length krates.now }
-    ensures point { IsPartitionPoint (λ k. is_le (slice_cmp nat_cmp k.name name.now) ≡ true)
-        (λ k. is_le (slice_cmp nat_cmp k.name name.now) ≡ false) krates.now result }
-{
-    krates.partition_point(|krate| krate.name.as_str() <= name)
 }

@@ -1,16 +1,19 @@
-ghost use Rattle.std.specs.Prelude.{◌≡◌, ◌==◌, ◌&&◌, ◌≤◌, ◌-◌, true, false, drop, filter, find, length, nat_le, nat_lt, option_map, slice_get, take};
+ghost use Rattle.std.specs.Prelude.{◌≡◌, ◌&&◌, ◌≤◌, ◌<◌, ◌^◌, true, false, not, filter, find, length, option_map, slice_get};
+ghost use Rattle.std.specs.Cmp.Lexicographic.{slice_cmp};
 ghost use Rattle.std.specs.Option.{option_and_then};
-ghost use Rattle.std.specs.List.Sorted.{IsPartitionPoint, IsStrictlySortedBy};
+ghost use Rattle.std.specs.List.Sorted.{IsPartitionPoint, IsSortedByKey, IsStrictlySortedBy};
+ghost use Rattle.std.specs.Ordering.{nat_cmp};
 ghost use Rattle.deny_krates.specs.Crates.{crate_view, crates_from, dependency_view};
+ghost use Rattle.deny_krates.specs.private.Resolved.{is_before};
 ghost use Rattle.deny_model.specs.Graph.{Graph};
 ghost use Rattle.deny_model.specs.Groups.{has_name};
 ghost use Rattle.deny_model.specs.Resolution.{is_wanted, passes_at, resolution, suits};
 ghost use Rattle.deny_model.specs.TargetEdge.{target_edge_cmp};
 
 use crate::krate::{Dependency, Krate};
+use crate::names::run_of;
 use deny_lists::Text;
 use deny_model::TargetEdge;
-use std::ops::Range;
 
 /// The place of the crate that a declaration of the crate at `parent` resolves to, in a list of
 /// target edges that ascends.
@@ -20,54 +23,48 @@ pub fn resolution(
     parent: u32,
     declaration: &Dependency,
 ) -> Option<u32>
-    requires { IsStrictlySortedBy target_edge_cmp edges.now }
+    requires few { length krates.now < 2 ^ 28 }
+    requires names { IsSortedByKey (λ k. k.name) (slice_cmp nat_cmp) krates.now }
+    requires edges { IsStrictlySortedBy target_edge_cmp edges.now }
     ensures { (g : Graph) → g.crates ≡ crates_from 0 krates.now → g.target_edges ≡ edges.now
         → result ≡ resolution g parent (dependency_view declaration.now) }
 {
-    let own = edges_of_parent(edges, parent);
+    let named = run_of(krates, declaration.name.as_str());
+    let own = edges_between(edges, parent, named.start, named.end);
     match first_wanted(krates, own, declaration) {
         Some(place) => Some(place),
         None => first_suiting(krates, own, declaration),
     }
 }
 
-// The edges from a place, in a list that ascends.
-fn edges_of_parent(edges: &[TargetEdge], parent: u32) -> &[TargetEdge]
-    requires { IsStrictlySortedBy target_edge_cmp edges.now }
-    ensures { result.now ≡ filter (λ e. e.parent == parent) edges.now }
+// The edges from a place to the crates between two places, in a list that ascends.
+fn edges_between(edges: &[TargetEdge], parent: u32, start: u32, end: u32) -> &[TargetEdge]
+    requires ascending { IsStrictlySortedBy target_edge_cmp edges.now }
+    requires upward { start ≤ end }
+    ensures { result.now ≡ filter (λ e. not (is_before e.parent e.child parent start)
+        && is_before e.parent e.child parent end) edges.now }
 {
-    let run = run_of(edges, parent);
-    &edges[run.start..run.end]
+    let first = first_from(edges, parent, start);
+    let last = first_from(edges, parent, end);
+    &edges[first..last]
 }
 
-fn run_of(edges: &[TargetEdge], parent: u32) -> Range<usize>
-    requires { IsStrictlySortedBy target_edge_cmp edges.now }
-    ensures upward { result.start ≤ result.end }
-    ensures within { result.end ≤ length edges.now }
-    ensures own { take (result.end - result.start) (drop result.start edges.now)
-        ≡ filter (λ e. e.parent == parent) edges.now }
-{
-    let start = first_at_least(edges, parent);
-    let end = first_above(edges, parent);
-    start..end
-}
-
-fn first_at_least(edges: &[TargetEdge], parent: u32) -> usize
+// The first edge that does not come before a parent and a child.
+fn first_from(edges: &[TargetEdge], parent: u32, child: u32) -> usize
     requires { IsStrictlySortedBy target_edge_cmp edges.now }
     ensures within { result ≤ length edges.now }
-    ensures point { IsPartitionPoint (λ e. nat_lt e.parent parent ≡ true) (λ e. nat_lt e.parent parent ≡ false)
-        edges.now result }
+    ensures point { IsPartitionPoint (λ e. is_before e.parent e.child parent child ≡ true)
+        (λ e. is_before e.parent e.child parent child ≡ false) edges.now result }
 {
-    edges.partition_point(|edge| edge.parent < parent)
+    edges.partition_point(|edge| is_before(edge.parent, edge.child, parent, child))
 }
 
-fn first_above(edges: &[TargetEdge], parent: u32) -> usize
-    requires { IsStrictlySortedBy target_edge_cmp edges.now }
-    ensures within { result ≤ length edges.now }
-    ensures point { IsPartitionPoint (λ e. nat_le e.parent parent ≡ true) (λ e. nat_le e.parent parent ≡ false)
-        edges.now result }
+/// Whether the first two numbers come before the others, in order of the first ones and then the second.
+#[tactic(auto, unfolding(crate::specs::private::Resolved::is_before))]
+pub fn is_before(first: u32, second: u32, other_first: u32, other_second: u32) -> bool
+    ensures { result ≡ is_before first second other_first other_second }
 {
-    edges.partition_point(|edge| edge.parent <= parent)
+    first < other_first || (first == other_first && second < other_second)
 }
 
 // The child of the first edge that suits a declaration and whose version it wants.
@@ -137,8 +134,8 @@ pub fn declared(krates: &[Krate], place: u32, index: usize) -> Option<&Dependenc
     krate.deps.as_slice().get(index)
 }
 
-// The crate at a place.
-fn krate_at(krates: &[Krate], place: u32) -> Option<&Krate>
+/// The crate at a place.
+pub fn krate_at(krates: &[Krate], place: u32) -> Option<&Krate>
     ensures { option_map (λ k. crate_view place k.now) result ≡ slice_get (crates_from 0 krates.now) place }
 {
     krates.get(place as usize)

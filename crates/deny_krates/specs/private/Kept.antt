@@ -1,5 +1,5 @@
 -- What a graph keeps beside its crates.
-use Rattle.std.specs.Prelude.{◌<◌, ◌^◌, ℕ, List, length}
+use Rattle.std.specs.Prelude.{◌≡◌, ◌<◌, ◌^◌, ℕ, List, length}
 use Rattle.std.specs.Cmp.Lexicographic.{slice_cmp}
 use Rattle.std.specs.List.Sorted.{IsSortedByKey}
 use Rattle.std.specs.Ordering.{nat_cmp}
@@ -9,15 +9,18 @@ use Rattle.deny_krates.specs.Crates.{crates_from, graph_of}
 use Rattle.deny_krates.specs.Dependents.{AreDirectDependencies, AreDirectDependents, AreRows}
 use Rattle.deny_krates.specs.private.IdEntries.{AreIds}
 use Rattle.deny_krates.specs.Orderly.{IsOrderly}
+use Rattle.deny_krates.specs.private.NodeNumbers.{first_features_of}
+use Rattle.deny_krates.specs.private.Resolved.{AreResolved}
 use Rattle.deny_krates.specs.declared.ids.Entry.{Entry}
+use Rattle.deny_krates.specs.declared.resolved.ResolvedAt.{ResolvedAt}
 use Rattle.deny_krates.specs.declared.krate.DirectDependent.{DirectDependent}
 use Rattle.deny_krates.specs.declared.krate.Krate.{Krate}
 use Rattle.deny_model.specs.declared.target_edge.TargetEdge.{TargetEdge}
 
--- the crates are in order and few, their lock text and nodes too, and what is kept of the crates' neighbours and
--- ids is the graph's
+-- the crates are in order and few, their lock text and nodes too, and what is kept of the crates' neighbours,
+-- ids, features and declarations is the graph's
 pub record IsKept (targeted : List TargetEdge) (root : List ℕ) (krates : List Krate) (members : List ℕ) (edges : List Edge)
-    (dependents dependencies : List (List DirectDependent)) (entries : List Entry) : Type 0 where
+    (dependents dependencies : List (List DirectDependent)) (entries : List Entry) (starts : List ℕ) (resolved : List ResolvedAt) : Type 0 where
   pub few : length krates < 2 ^ 28
   pub names : IsSortedByKey (λ k. k.name) (slice_cmp nat_cmp) krates
   pub orderly : IsOrderly (graph_of targeted root krates members edges)
@@ -28,3 +31,5 @@ pub record IsKept (targeted : List TargetEdge) (root : List ℕ) (krates : List 
   pub ids : AreIds krates entries
   pub lock : lock_length (crates_from 0 krates) < 2 ^ 29
   pub nodes : node_count (crates_from 0 krates) < 2 ^ 32
+  pub first_features : starts ≡ first_features_of (graph_of targeted root krates members edges)
+  pub declarations : AreResolved (graph_of targeted root krates members edges) resolved

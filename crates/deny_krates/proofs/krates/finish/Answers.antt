@@ -1,9 +1,16 @@
-use Rattle.std.proofs.Common.{◌<◌, ◌^◌, ◌∙◌, sym, ℕ, List, length, subst}
+use Rattle.std.proofs.Common.{◌≡◌, ◌<◌, ◌^◌, ◌∙◌, ap, sym, ℕ, List, length, subst}
 use Rattle.std.specs.Prelude.{All}
+use Rattle.std.specs.Cmp.Lexicographic.{slice_cmp}
+use Rattle.std.specs.List.Sorted.{IsSortedByKey, IsStrictlySortedBy}
+use Rattle.std.specs.Ordering.{nat_cmp}
+use Rattle.deny_model.specs.TargetEdge.{target_edge_cmp}
+use Rattle.deny_model.specs.declared.target_edge.TargetEdge.{TargetEdge}
 use Rattle.deny_base.specs.declared.edge.Edge.{Edge}
 use Rattle.deny_krates.specs.private.Direct.{AreApart, AreDependencies, AreDependents, AreRanks}
 use Rattle.deny_krates.specs.Bounds.{lock_length, node_count}
-use Rattle.deny_krates.specs.Crates.{crates_from}
+use Rattle.deny_krates.specs.Crates.{crates_from, graph_of}
+use Rattle.deny_krates.specs.private.NodeNumbers.{features_from}
+use Rattle.deny_krates.proofs.Runs.{length-crates_from}
 use Rattle.deny_krates.specs.private.IdEntries.{AreIds}
 use Rattle.deny_krates.specs.declared.ids.Entry.{Entry}
 use Rattle.deny_krates.specs.declared.krate.Krate.{Krate}
@@ -76,4 +83,31 @@ invariant_of-result c = record {
       c.in_ok-check_bounds.ensures.lock;
   nodes = subst (λ (ks : List Krate). node_count (crates_from 0 ks) < 2 ^ 32) c.as_slice-10.ensures
       c.in_ok-check_bounds.ensures.nodes;
+  first_features = subst
+      (λ (ks : List Krate). c.in_ok-starts.starts ≡ features_from (length ks) (crates_from 0 ks)) c.as_slice-11.ensures
+      c.in_ok-starts.ensures
+      ∙ ap (λ n. features_from n (crates_from 0 c.args.krates)) (sym (length-crates_from 0 c.args.krates));
+  declarations = c.in_ok-resolved.ensures
+      (graph_of c.args.target_edges c.args.root c.args.krates c.args.members c.args.edges)
+      (ap (crates_from 0) (sym c.as_slice-12.ensures)) (sym c.as_slice-13.ensures);
 }
+
+pub first_features-requires : goal.first_features-requires
+first_features-requires c =
+    subst (λ (ks : List Krate). node_count (crates_from 0 ks) < 2 ^ 32) (sym c.as_slice-11.ensures)
+    (subst (λ (ks : List Krate). node_count (crates_from 0 ks) < 2 ^ 32) c.as_slice-10.ensures
+    c.in_ok-check_bounds.ensures.nodes)
+
+pub resolved_of-requires-clause-few : goal.resolved_of-requires-clause-few
+resolved_of-requires-clause-few c = subst (λ (ks : List Krate). length ks < 2 ^ 28) (sym c.as_slice-12.ensures)
+    c.requires.few
+
+pub resolved_of-requires-clause-names : goal.resolved_of-requires-clause-names
+resolved_of-requires-clause-names c =
+    subst (λ (ks : List Krate). IsSortedByKey (λ k. k.name) (slice_cmp nat_cmp) ks) (sym c.as_slice-12.ensures)
+    c.requires.names
+
+pub resolved_of-requires-clause-edges : goal.resolved_of-requires-clause-edges
+resolved_of-requires-clause-edges c =
+    subst (λ (ts : List TargetEdge). IsStrictlySortedBy target_edge_cmp ts) (sym c.as_slice-13.ensures)
+    c.requires.orderly.target_edges_ascend

@@ -1,7 +1,9 @@
-use Rattle.std.proofs.Common.{◌≡◌, ◌∙◌, ap, sym, subst, ℕ, List, Option, Some, None}
+use Rattle.std.proofs.Common.{◌≡◌, ◌<◌, ◌^◌, ◌∙◌, length, ap, sym, subst, ℕ, List, Option, Some, None}
 use Rattle.std.specs.Prelude.{slice_get}
 use Rattle.std.specs.Option.{option_and_then}
-use Rattle.std.specs.List.Sorted.{IsStrictlySortedBy}
+use Rattle.std.specs.List.Sorted.{IsSortedByKey, IsStrictlySortedBy}
+use Rattle.std.specs.Cmp.Lexicographic.{slice_cmp}
+use Rattle.std.specs.Ordering.{nat_cmp}
 use Rattle.deny_model.specs.Graph.{Crate, Dependency, Graph}
 use Rattle.deny_model.specs.Resolution.{declaration_at, resolution}
 use Rattle.deny_model.specs.TargetEdge.{target_edge_cmp}
@@ -29,8 +31,18 @@ returns-in_err-declaration c =
     subst (λ (h : Graph). Answers c.args.place c.args.index c.from_residual.result h) c.self.view_is
     (c.from_residual.ensures ∙ ap (option_and_then (resolution g c.args.place)) none)
 
-pub resolution-requires : goal.resolution-requires
-resolution-requires c = subst (λ (ts : List TargetEdge). IsStrictlySortedBy target_edge_cmp ts) (sym c.as_slice.ensures)
+pub resolution-requires-clause-few : goal.resolution-requires-clause-few
+resolution-requires-clause-few c = subst (λ (ks : List Krate). length ks < 2 ^ 28) (sym c.as_slice-krates.ensures)
+    c.self.invariant.few
+
+pub resolution-requires-clause-names : goal.resolution-requires-clause-names
+resolution-requires-clause-names c =
+    subst (λ (ks : List Krate). IsSortedByKey (λ k. k.name) (slice_cmp nat_cmp) ks) (sym c.as_slice-krates.ensures)
+    c.self.invariant.names
+
+pub resolution-requires-clause-edges : goal.resolution-requires-clause-edges
+resolution-requires-clause-edges c =
+    subst (λ (ts : List TargetEdge). IsStrictlySortedBy target_edge_cmp ts) (sym c.as_slice.ensures)
     c.self.invariant.orderly.target_edges_ascend
 
 pub returns : goal.returns

@@ -1,0 +1,12 @@
+use Rattle.std.proofs.Common.{◌≡◌, ◌++◌, None, Some, drop, filter, map}
+use Rattle.deny_krates.specs.Crates.{crate_view}
+use Rattle.deny_krates.specs.Nodes.{holds_plain}
+use Rattle.deny_krates.specs.private.Sources.{parent_in}
+use Rattle.deny_krates.proofs.incoming.add_own_leading.Given as goal
+
+abbrev pub invariant-loop-feature : goal.invariant-loop-feature
+invariant-loop-feature l =
+    l.parents ++ map (λ f. parent_in (crate_view l.place l.krate) None (Some f))
+    (filter (holds_plain (crate_view 0 l.krate) l.other) (drop l.feature-index l.enabled))
+    ≡ l.fn.parents ++ map (λ f. parent_in (crate_view l.place l.krate) None (Some f))
+    (filter (holds_plain (crate_view 0 l.krate) l.other) l.enabled)

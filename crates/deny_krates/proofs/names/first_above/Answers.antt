@@ -1,0 +1,16 @@
+use Rattle.std.proofs.Common.{rules}
+use Rattle.std.proofs.lemmas.List.Sorted.{IsPartitionPoint-from_clause, searchable_from_sorted}
+use Rattle.std.specs.Cmp.Lexicographic.{slice_cmp, nat_list_cmp_total}
+use Rattle.std.specs.Ordering.{nat_cmp, is_le}
+use Rattle.deny_lists.proofs.Orders.{partitioned_le}
+use Rattle.deny_krates.proofs.names.first_above.Goals as goal
+
+pub returns-clause-point : goal.returns-clause-point
+returns-clause-point c =
+    let krates = c.args.krates.now in
+    let name = c.args.name.now in
+    IsPartitionPoint-from_clause (λ k. is_le (slice_cmp nat_cmp k.name name)) krates c.partition_point.result
+    c.partition_point.ensures.partitioned
+    (partitioned_le (λ k. slice_cmp nat_cmp k.name name) krates
+    (searchable_from_sorted nat_list_cmp_total (λ k. k.name) krates name c.requires))
+    (λ a r f called. search rules)
