@@ -1,0 +1,142 @@
+-- Entries of other crates, or for other purposes, change nothing of a view, nor does their order.
+use Rattle.std.proofs.Common.{◌≡◌, ◌∙◌, ◌||◌, ℕ, Bool, true, false, List}
+use Rattle.std.proofs.Common.{◌++◌, Option, None, Some, refl, sym, ap, subst}
+use Rattle.std.specs.Prelude.{Contains}
+use Rattle.std.specs.Cmp.{Equal-is, eq_by_cmp_equiv}
+use Rattle.std.specs.List.Sorted.{IsPermutation}
+use Rattle.std.specs.Ordering.{eq_by_cmp}
+use Rattle.std.proofs.Math.Path.{fun_ext}
+use Rattle.std.proofs.lemmas.Bool.{false_from_ne_true}
+use Rattle.std.proofs.lemmas.List.Folds.{list_any-append}
+use Rattle.std.proofs.lemmas.List.Sorted.{list_any-IsPermutation}
+use Rattle.deny_lists.proofs.Members.{any_from, any_passes}
+use Rattle.deny_outside.specs.Disk.{Files, bytes_at}
+use Rattle.deny_base.specs.declared.span.Kid.{Kid}
+use Rattle.deny_unread.proofs.UnreadEqual.{unread_cmp-exact, unread_cmp-total}
+use Rattle.deny_unread.specs.Unread.{asked, is_unread, unread_cmp}
+use Rattle.deny_unread.specs.View.{unless, view_by, view_of}
+use Rattle.deny_unread.specs.declared.purpose.Purpose.{Purpose}
+use Rattle.deny_unread.specs.declared.unread.Unread.{Unread}
+
+-- ---- the test is membership
+
+pub stands_there : (us : List Unread) (krate : Option Kid) (purpose : Purpose) (path : List ℕ)
+    → is_unread us krate purpose path ≡ true → Contains us (asked krate purpose path)
+unfolding is_unread
+stands_there us krate purpose path is =
+    let entry : Unread = asked krate purpose path in
+    let found = any_passes (λ u. eq_by_cmp unread_cmp entry u) us is in
+    subst (λ (u : Unread). Contains us u)
+    (sym (unread_cmp-exact entry found.one ((Equal-is (unread_cmp entry found.one)).0 found.passes))) found.member
+
+pub is_left_out : (us : List Unread) (krate : Option Kid) (purpose : Purpose) (path : List ℕ)
+    → Contains us (asked krate purpose path) → is_unread us krate purpose path ≡ true
+unfolding is_unread
+is_left_out us krate purpose path there =
+    let entry : Unread = asked krate purpose path in
+    any_from (λ u. eq_by_cmp unread_cmp entry u) us entry there ((eq_by_cmp_equiv unread_cmp-total).refl entry)
+
+pub not_left_out : (us : List Unread) (krate : Option Kid) (purpose : Purpose) (path : List ℕ)
+    → (Contains us (asked krate purpose path) → ⊥) → is_unread us krate purpose path ≡ false
+not_left_out us krate purpose path absent =
+    false_from_ne_true (is_unread us krate purpose path) (λ is. absent (stands_there us krate purpose path is))
+
+-- ---- entries behind and in front
+
+or_none : (b : Bool) → (b || false) ≡ b
+or_none true = refl
+or_none false = refl
+
+is_unread-append : (us vs : List Unread) (krate : Option Kid) (purpose : Purpose) (path : List ℕ)
+    → is_unread (us ++ vs) krate purpose path ≡ (is_unread us krate purpose path || is_unread vs krate purpose path)
+unfolding is_unread
+is_unread-append us vs krate purpose path =
+    list_any-append (λ u. eq_by_cmp unread_cmp (asked krate purpose path) u) us vs
+
+-- entries behind that are not for this
+absent_behind : (us vs : List Unread) (krate : Option Kid) (purpose : Purpose) (path : List ℕ)
+    → (Contains vs (asked krate purpose path) → ⊥)
+    → is_unread (us ++ vs) krate purpose path ≡ is_unread us krate purpose path
+absent_behind us vs krate purpose path absent =
+    is_unread-append us vs krate purpose path
+    ∙ (ap (λ b. is_unread us krate purpose path || b) (not_left_out vs krate purpose path absent)
+    ∙ or_none (is_unread us krate purpose path))
+
+-- and in front
+absent_before : (us vs : List Unread) (krate : Option Kid) (purpose : Purpose) (path : List ℕ)
+    → (Contains us (asked krate purpose path) → ⊥)
+    → is_unread (us ++ vs) krate purpose path ≡ is_unread vs krate purpose path
+absent_before us vs krate purpose path absent =
+    is_unread-append us vs krate purpose path
+    ∙ ap (λ b. b || is_unread vs krate purpose path) (not_left_out us krate purpose path absent)
+
+-- ---- entries for other purposes
+
+-- no entry is for this purpose
+abbrev pub AreForOthers : Purpose → List Unread → Type 0
+AreForOthers purpose us = (u : Unread) → Contains us u → u.purpose ≡ purpose → ⊥
+
+pub unread_behind : (us vs : List Unread) (krate : Option Kid) (purpose : Purpose) (path : List ℕ)
+    → AreForOthers purpose vs → is_unread (us ++ vs) krate purpose path ≡ is_unread us krate purpose path
+unread_behind us vs krate purpose path others =
+    absent_behind us vs krate purpose path (λ there. others (asked krate purpose path) there refl)
+
+pub unread_last : (us vs : List Unread) (krate : Option Kid) (purpose : Purpose) (path : List ℕ)
+    → AreForOthers purpose us → is_unread (us ++ vs) krate purpose path ≡ is_unread vs krate purpose path
+unread_last us vs krate purpose path others =
+    absent_before us vs krate purpose path (λ there. others (asked krate purpose path) there refl)
+
+pub unread_middle : (us vs ws : List Unread) (krate : Option Kid) (purpose : Purpose) (path : List ℕ)
+    → AreForOthers purpose us → AreForOthers purpose ws
+    → is_unread (us ++ (vs ++ ws)) krate purpose path ≡ is_unread vs krate purpose path
+unread_middle us vs ws krate purpose path before behind =
+    unread_last us (vs ++ ws) krate purpose path before ∙ unread_behind vs ws krate purpose path behind
+
+-- ---- the view of one crate
+
+-- no entry is of this crate
+abbrev pub AreOfOthers : Option Kid → List Unread → Type 0
+AreOfOthers krate us = (u : Unread) → Contains us u → u.krate ≡ krate → ⊥
+
+same_view : (files : Files) (us vs : List Unread) (krate : Option Kid)
+    → ((purpose : Purpose) (path : List ℕ) → is_unread us krate purpose path ≡ is_unread vs krate purpose path)
+    → view_of files us krate ≡ view_of files vs krate
+unfolding view_of
+same_view files us vs krate same = ap (view_by files) (fun_ext (λ purpose. fun_ext (λ path. same purpose path)))
+
+pub view_left : (files : Files) (us vs : List Unread) (krate : Option Kid) → AreOfOthers krate vs
+    → view_of files (us ++ vs) krate ≡ view_of files us krate
+view_left files us vs krate others = same_view files (us ++ vs) us krate (λ purpose path.
+    absent_behind us vs krate purpose path (λ there. others (asked krate purpose path) there refl))
+
+pub view_right : (files : Files) (us vs : List Unread) (krate : Option Kid) → AreOfOthers krate us
+    → view_of files (us ++ vs) krate ≡ view_of files vs krate
+view_right files us vs krate others = same_view files (us ++ vs) vs krate (λ purpose path.
+    absent_before us vs krate purpose path (λ there. others (asked krate purpose path) there refl))
+
+is_unread-ordered : (us vs : List Unread) (krate : Option Kid) (purpose : Purpose) (path : List ℕ) → IsPermutation us vs
+    → is_unread us krate purpose path ≡ is_unread vs krate purpose path
+unfolding is_unread
+is_unread-ordered us vs krate purpose path ordered =
+    list_any-IsPermutation (λ u. eq_by_cmp unread_cmp (asked krate purpose path) u) us vs ordered
+
+pub view_ordered : (files : Files) (us vs : List Unread) (krate : Option Kid) → IsPermutation us vs
+    → view_of files us krate ≡ view_of files vs krate
+view_ordered files us vs krate ordered =
+    same_view files us vs krate (λ purpose path. is_unread-ordered us vs krate purpose path ordered)
+
+-- ---- the texts of a view
+
+-- a text is none exactly where its entry stands
+pub text_unread : (files : Files) (us : List Unread) (krate : Option Kid) (purpose : Purpose) (path : List ℕ)
+    → Contains us (asked krate purpose path) → (view_of files us krate).text purpose path ≡ None
+unfolding view_of view_by
+text_unread files us krate purpose path there =
+    ap (λ b. unless b (bytes_at files path)) (is_left_out us krate purpose path there)
+
+pub text_read : (files : Files) (us : List Unread) (krate : Option Kid) (purpose : Purpose) (path : List ℕ)
+    → (Contains us (asked krate purpose path) → ⊥)
+    → (view_of files us krate).text purpose path ≡ Some (bytes_at files path)
+unfolding view_of view_by
+text_read files us krate purpose path absent =
+    ap (λ b. unless b (bytes_at files path)) (not_left_out us krate purpose path absent)

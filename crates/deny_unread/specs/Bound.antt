@@ -1,0 +1,35 @@
+-- Whether a bound explains that something was not read. This is computed from the disk before and after: no one has to
+-- say which cause an entry has.
+use Rattle.std.specs.Prelude.{ℕ, Bool, false, nat_le, List, length, Option, None, Some, option_map}
+use Rattle.deny_outside.specs.Count.{counted}
+use Rattle.deny_outside.specs.Disk.{Disk, Files, bytes_at}
+use Rattle.deny_base.specs.declared.span.Kid.{Kid}
+use Rattle.deny_unread.specs.Purpose.{limit_for}
+use Rattle.deny_unread.specs.declared.purpose.Purpose.{Purpose}
+use Rattle.deny_unread.specs.declared.purpose.Purpose.TheVariants as purpose
+use Rattle.deny_unread.specs.declared.unread.Unread.{Unread}
+
+-- the folder of each crate
+abbrev pub Folders : Type 0
+Folders = Option Kid → List ℕ
+
+-- the size that the files tell, of what is read of a crate in this folder; for a list it is what all folders of the
+-- crate hold together, and that is not told yet
+abbrev pub size_told : Files → List ℕ → Purpose → List ℕ → ℕ
+size_told files folder purpose.Manifest path = length (bytes_at files path)
+size_told files folder purpose.Script path = length (bytes_at files path)
+size_told files folder purpose.List path = 0
+size_told files folder purpose.Header path = length (bytes_at files path)
+size_told files folder purpose.Sum path = length (bytes_at files path)
+
+-- a size reaches the limit; where no size is told, the count rose by as much
+abbrev pub is_past : Option ℕ → Option ℕ → ℕ → ℕ → Bool
+is_past None size before after = false
+is_past (Some limit) (Some size) before after = nat_le limit size
+is_past (Some limit) None before after = nat_le (counted before limit) after
+
+-- whether a bound explains an entry between the two disks, where this is the folder of each crate
+unfoldable pub is_bound : Folders → Disk → Disk → Unread → Bool
+is_bound folder old new u =
+    is_past (limit_for u.purpose) (option_map (λ files. size_told files (folder u.krate) u.purpose u.path) old.files)
+    old.given new.given

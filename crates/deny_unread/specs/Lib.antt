@@ -1,0 +1,6 @@
+pub mod Added
+pub mod Bound
+pub mod Causes
+pub mod Purpose
+pub mod Unread
+pub mod View

@@ -1,0 +1,36 @@
+-- What a file or a folder of a crate is read for: the order of these purposes, the call that reads for each, and the
+-- size from which on nothing is read for it.
+use Rattle.std.specs.Prelude.{ℕ, ◌^◌, Option, None, Some}
+use Rattle.std.specs.Ordering.{nat_cmp, on}
+use Rattle.std.specs.declared.cmp.Ordering.{Ordering}
+use Rattle.deny_outside.specs.declared.disk.Call.{Call}
+use Rattle.deny_outside.specs.declared.disk.Call.TheVariants as call
+use Rattle.deny_unread.specs.declared.purpose.Purpose.{Purpose}
+use Rattle.deny_unread.specs.declared.purpose.Purpose.TheVariants as purpose
+
+-- purposes are ordered as they are declared
+unfoldable pub purpose_number : Purpose → ℕ
+purpose_number purpose.Manifest = 0
+purpose_number purpose.Script = 1
+purpose_number purpose.List = 2
+purpose_number purpose.Header = 3
+purpose_number purpose.Sum = 4
+
+abbrev pub purpose_cmp : Purpose → Purpose → Ordering
+purpose_cmp = on purpose_number nat_cmp
+
+-- the call that may fail
+abbrev pub call_for : Purpose → Call
+call_for purpose.Manifest = call.Read
+call_for purpose.Script = call.Read
+call_for purpose.List = call.List
+call_for purpose.Header = call.Read
+call_for purpose.Sum = call.Read
+
+-- how many bytes are too many; a header is a file's front, and no disk lists a folder yet
+abbrev pub limit_for : Purpose → Option ℕ
+limit_for purpose.Manifest = Some (2 ^ 28)
+limit_for purpose.Script = Some (2 ^ 40)
+limit_for purpose.List = None
+limit_for purpose.Header = None
+limit_for purpose.Sum = Some (2 ^ 40)
