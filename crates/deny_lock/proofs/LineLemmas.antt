@@ -1,0 +1,44 @@
+-- How long a line is.
+use Rattle.std.proofs.Common.{◌≡◌, ◌+◌, ◌∙◌, ℕ, List, ◌++◌, length, ap, arith, length-append}
+use Rattle.std.specs.Prelude.{codes}
+use Rattle.semver.specs.Identifiers.{parts_text}
+use Rattle.deny_krates.specs.Bounds.{lock_line_length}
+use Rattle.deny_lock.specs.Line.{before_source, line_span, lock_line, source_shown}
+use Rattle.deny_lock.specs.declared.line.LockSpan.{LockSpan}
+use Rattle.deny_model.specs.Graph.{Crate}
+
+pub length-before_source : (c : Crate) → length (before_source c) ≡ length c.name + (length (parts_text c.version) + 2)
+length-before_source c =
+    length-append c.name (codes " " ++ (parts_text c.version ++ codes " "))
+    ∙ ap (λ n. length c.name + n) (length-append (codes " ") (parts_text c.version ++ codes " ")
+    ∙ ap (λ n. 1 + n) (length-append (parts_text c.version) (codes " ")) ∙ omega arith)
+
+-- a line is one byte shorter than with its end
+pub length-lock_line : (c : Crate) → length (lock_line c) + 1 ≡ lock_line_length c
+length-lock_line c =
+    let front : length (before_source c) ≡ length c.name + (length (parts_text c.version) + 2) =
+    length-before_source c in
+    let all : length (lock_line c) ≡ length (before_source c) + length (source_shown c) =
+    length-append (before_source c) (source_shown c) in
+    omega (arith, front, all)
+
+abbrev pub span_from : ℕ → ℕ → ℕ → LockSpan
+span_from start source end = record {
+  total = record { start = start; end = end };
+  source = record { start = source; end = end };
+}
+
+-- the offsets before, within and behind what was put
+pub span-is : (c : Crate) (old front text : List ℕ) (start source end : ℕ) → front ≡ old ++ before_source c
+    → text ≡ front ++ source_shown c → start ≡ length old → source ≡ length front → end ≡ length text
+    → span_from start source end ≡ line_span (length old) c
+unfolding line_span
+span-is c old front text start source end first second at_start at_source at_end =
+    let front_long : source ≡ length old + length (before_source c) =
+    at_source ∙ (ap length first ∙ length-append old (before_source c)) in
+    let line_long : length (lock_line c) ≡ length (before_source c) + length (source_shown c) =
+    length-append (before_source c) (source_shown c) in
+    let text_long : end ≡ length front + length (source_shown c) =
+    at_end ∙ (ap length second ∙ length-append front (source_shown c)) in
+    let whole : end ≡ length old + length (lock_line c) = omega (arith, front_long, line_long, text_long, at_source) in
+    λ i. span_from (at_start i) (front_long i) (whole i)
