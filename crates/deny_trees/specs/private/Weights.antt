@@ -1,0 +1,20 @@
+-- How many nodes trees have, and how much is left to do while they are let go.
+use Rattle.std.specs.Prelude.{ℕ, suc, ◌+◌, ◌*◌, List, Option, None, Some, sum, sum_by}
+use Rattle.deny_trees.specs.declared.node.GraphNode.{GraphNode, GraphNode-F, fold-GraphNode}
+
+abbrev pub weight_step : GraphNode-F ℕ → ℕ
+weight_step node = suc (sum node.parents)
+
+abbrev pub weight : GraphNode → ℕ
+weight = fold-GraphNode ℕ weight_step
+
+abbrev pub weights : List GraphNode → ℕ
+weights trees = sum_by weight trees
+
+-- a step lets a node go, or leads to a tree of fewer nodes
+unfoldable pub turns : ℕ → ℕ → ℕ
+turns all own = suc (all * all + own)
+
+abbrev pub turns_left : List GraphNode → Option GraphNode → ℕ
+turns_left trees None = 0
+turns_left trees (Some tree) = turns (weights trees + weight tree) (weight tree)

@@ -1,0 +1,256 @@
+//! The trees that a finding shows.
+ghost use Rattle.std.specs.Prelude.{◌≡◌, ◌≢◌, ◌<◌, ◌++◌, AllPairs, IfOk, OnOk, Some, filter_map, length, ok_or, option_copied};
+ghost use Rattle.std.specs.Option.{option_to_list};
+ghost use Rattle.deny_lists.specs.Reader.{Answers};
+ghost use Rattle.deny_krates.specs.Nodes.{node_at, nodes_of};
+ghost use Rattle.deny_trees.specs.Once.{ShowsOnce};
+ghost use Rattle.deny_trees.specs.Shown.{bans_is_of_path, crate_shown, depth_shown, graphs_shown, is_of_path};
+ghost use Rattle.deny_trees.specs.Tree.{graph_at, graph_of};
+
+use crate::apart::{let_go, push_tree};
+use crate::build::tree_of;
+use crate::node::GraphNode;
+use crate::shown::krate_inner;
+use deny_base::{Code, Diag, DiagnosticCode, Kid};
+use deny_krates::{Krates, NodeId};
+use deny_lists::{List, NoMemory};
+use std::alloc::Global;
+use thiserror::Error;
+
+/// Why there is no tree.
+#[derive(Debug, Clone, Copy, PartialEq, Eq, Error)]
+pub enum GraphEnd {
+    #[error("the graph has no such crate, or the feature is not enabled")]
+    NoNode,
+    #[error("memory ran out")]
+    Memory,
+}
+
+/// Makes trees of a graph.
+#[derive(Drop)]
+pub struct InclusionGrapher<'a> {
+    pub krates: &'a Krates,
+}
+
+impl<'a> InclusionGrapher<'a> {
+    /// A grapher of this graph.
+    pub fn new(krates: &'a Krates) -> InclusionGrapher<'a>
+        ensures { result.krates.now ≡ krates.now }
+    {
+        InclusionGrapher { krates }
+    }
+
+    /// The tree of a crate, or of an enabled feature of one: the nodes that lead to it, depth first. What
+    /// was met before is marked as a repeat. Above a node at a depth below `max_feature_depth` features
+    /// are shown, and crates alone above others; the root has depth 0. `NoNode` comes exactly where the
+    /// graph has no such node, and `Memory` where an allocation fails.
+    pub fn build_graph(
+        &self,
+        alloc: Global,
+        id: &deny_base::GraphNode,
+        max_feature_depth: usize,
+    ) -> Result<GraphNode, GraphEnd>
+        ensures tree { Answers GraphEnd.Memory
+            (ok_or (graph_of self.now.krates.now (Some max_feature_depth) id.now) GraphEnd.NoNode) result }
+        ensures once { IfOk result (ShowsOnce self.now.krates.now id.now.feature) }
+    {
+        match graph_of(alloc, self.krates, Some(max_feature_depth), id) {
+            Ok(Some(tree)) => Ok(tree),
+            Ok(None) => Err(GraphEnd::NoNode),
+            Err(NoMemory) => Err(GraphEnd::Memory),
+        }
+    }
+}
+
+/// The trees that are shown with a finding of this crate, or of no single one: of the nodes that it names,
+/// or else of its crate, but none with a finding about a file of a package. What the graph does not have
+/// has no tree.
+pub fn graphs_of(
+    alloc: Global,
+    grapher: &InclusionGrapher<'_>,
+    kid: Option<&Kid>,
+    diag: &Diag,
+) -> Result<List<GraphNode>, NoMemory>
+    ensures { IfOk result (λ trees. trees ≡ graphs_shown grapher.now.krates.now (option_copied kid.entry) diag.now) }
+{
+    let most = depth_shown(diag.with_features);
+    if !diag.graph_nodes.as_slice().is_empty() {
+        return trees_of(alloc, grapher.krates, most, diag.graph_nodes.as_slice());
+    }
+    let shown = crate_shown(alloc, is_of_path(diag.key.code), kid)?;
+    trees_of(alloc, grapher.krates, most, shown.as_slice())
+}
+
+// Features are shown at any depth, or not at all.
+fn depth_shown(with_features: bool) -> Option<usize>
+    ensures { result ≡ depth_shown with_features }
+{
+    if with_features { None } else { Some(0) }
+}
+
+// A tree for each of these nodes that the graph has.
+fn trees_of(
+    alloc: Global,
+    krates: &Krates,
+    most: Option<usize>,
+    shown: &[deny_base::GraphNode],
+) -> Result<List<GraphNode>, NoMemory>
+    ensures { IfOk result (λ trees. trees ≡ filter_map (graph_of krates.now most) shown.now) }
+{
+    let mut trees = List::new(alloc);
+    match add_trees(alloc, krates, most, shown, &mut trees) {
+        Ok(()) => Ok(trees),
+        Err(NoMemory) => {
+            let_go(trees);
+            Err(NoMemory)
+        },
+    }
+}
+
+fn add_trees(
+    alloc: Global,
+    krates: &Krates,
+    most: Option<usize>,
+    shown: &[deny_base::GraphNode],
+    trees: &mut List<GraphNode>,
+) -> Result<(), NoMemory>
+    ensures { OnOk result (trees.new ≡ trees.old ++ filter_map (graph_of krates.now most) shown.now) }
+{
+    for node in shown {
+        let tree = graph_of(alloc, krates, most, node)?;
+        push_shown(trees, tree)?;
+    }
+    Ok(())
+}
+
+fn push_shown(trees: &mut List<GraphNode>, tree: Option<GraphNode>) -> Result<(), NoMemory>
+    ensures { OnOk result (trees.new ≡ trees.old ++ option_to_list tree) }
+{
+    match tree {
+        Some(tree) => push_tree(trees, tree),
+        None => Ok(()),
+    }
+}
+
+// What is shown of a node, if the graph has it.
+fn graph_of(
+    alloc: Global,
+    krates: &Krates,
+    most: Option<usize>,
+    shown: &deny_base::GraphNode,
+) -> Result<Option<GraphNode>, NoMemory>
+    ensures { IfOk result (λ tree. tree ≡ graph_of krates.now most shown.now) }
+{
+    match krates.get_node(&shown.kid, feature_of(shown)) {
+        Some(node) => Ok(Some(graph_at(alloc, krates, most, node)?)),
+        None => Ok(None),
+    }
+}
+
+fn feature_of(shown: &deny_base::GraphNode) -> Option<&str>
+    ensures { option_copied result ≡ shown.now.feature }
+{
+    match &shown.feature {
+        Some(feature) => Some(feature.as_str()),
+        None => None,
+    }
+}
+
+// The tree of a node; that of a feature stands under its crate, as under a heading.
+fn graph_at(
+    alloc: Global,
+    krates: &Krates,
+    most: Option<usize>,
+    node: NodeId,
+) -> Result<GraphNode, NoMemory>
+    requires inside { node.0 < length (nodes_of krates.now) }
+    requires own { AllPairs (λ a b. a ≢ b) (nodes_of krates.now) }
+    ensures { IfOk result (λ tree. tree ≡ graph_at krates.now most (node_at krates.now node.0)) }
+{
+    if krates.node_feature(node).is_none() {
+        return tree_of(alloc, krates, most, node);
+    }
+    let inner = krate_inner(alloc, krates, krates.node_place(node), None)?;
+    let tree = tree_of(alloc, krates, most, node)?;
+    let mut parents = List::new(alloc);
+    push_tree(&mut parents, tree)?;
+    Ok(GraphNode {
+        inner,
+        repeat: false,
+        parents,
+    })
+}
+
+// The crate of a finding, unless it is one of a path.
+fn crate_shown(
+    alloc: Global,
+    is_of_path: bool,
+    kid: Option<&Kid>,
+) -> Result<List<deny_base::GraphNode>, NoMemory>
+    ensures { IfOk result (λ shown. shown ≡ crate_shown is_of_path (option_copied kid.entry)) }
+{
+    let mut shown = List::new(alloc);
+    if let Some(kid) = kid
+        && !is_of_path
+    {
+        shown.push(deny_base::GraphNode {
+            kid: kid.clone()?,
+            feature: None,
+        })?;
+    }
+    Ok(shown)
+}
+
+// Whether a finding is about a file of a package, or about an entry for one.
+#[tactic(auto, unfolding(crate::specs::Shown::is_of_path))]
+fn is_of_path(code: DiagnosticCode) -> bool
+    ensures { result ≡ is_of_path code }
+{
+    match code {
+        DiagnosticCode::Deprecated | DiagnosticCode::License(_) => false,
+        DiagnosticCode::Bans(code) => bans_is_of_path(code),
+    }
+}
+
+fn bans_is_of_path(code: Code) -> bool
+    ensures { result ≡ bans_is_of_path code }
+{
+    match code {
+        Code::PathBypassed
+        | Code::PathBypassedByGlob
+        | Code::ChecksumMatch
+        | Code::ChecksumMismatch
+        | Code::DeniedByExtension
+        | Code::DetectedExecutable
+        | Code::DetectedExecutableScript
+        | Code::UnableToCheckPath
+        | Code::FeaturesEnabled
+        | Code::UnmatchedBypass
+        | Code::UnmatchedPathBypass
+        | Code::UnmatchedGlob => true,
+        Code::Banned
+        | Code::Allowed
+        | Code::NotAllowed
+        | Code::Duplicate
+        | Code::Skipped
+        | Code::Wildcard
+        | Code::UnmatchedSkip
+        | Code::UnnecessarySkip
+        | Code::AllowedByWrapper
+        | Code::UnmatchedWrapper
+        | Code::SkippedByRoot
+        | Code::UnmatchedSkipRoot
+        | Code::BuildScriptNotAllowed
+        | Code::ExactFeaturesMismatch
+        | Code::FeatureNotExplicitlyAllowed
+        | Code::FeatureBanned
+        | Code::UnknownFeature
+        | Code::DefaultFeatureEnabled
+        | Code::UnusedWrapper
+        | Code::WorkspaceDuplicate
+        | Code::UnresolvedWorkspaceDependency
+        | Code::UnusedWorkspaceDependency
+        | Code::ReplacedInStd
+        | Code::UnmatchedReplacementIgnore => false,
+    }
+}

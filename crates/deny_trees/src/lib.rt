@@ -1,0 +1,19 @@
+//! The trees that findings show of a graph: what leads to a crate, or to one of its features.
+#![tactic(auto)]
+
+mod apart;
+mod build;
+mod graphs;
+mod node;
+mod parents;
+mod shown;
+mod text;
+
+/// Trees of the graph, by cargo-deny's names.
+pub mod grapher {
+    pub use crate::node::{GraphNode, NodeInner};
+}
+
+pub use apart::let_go;
+pub use graphs::{GraphEnd, InclusionGrapher, graphs_of};
+pub use text::write_graph_as_text;
