@@ -1,0 +1,9 @@
+pub mod FloatLemmas
+pub mod GraphLemmas
+pub mod GraphRows
+pub mod LineLemmas
+pub mod LineRows
+pub mod PlainLemmas
+pub mod QuoteLemmas
+pub mod ReadingLemmas
+pub mod WritingLemmas

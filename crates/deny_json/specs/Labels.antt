@@ -1,0 +1,49 @@
+-- Labels as JSON: where they lie, and what they mark.
+use Rattle.std.specs.Prelude.{ℕ, ◌+◌, ◌-◌, ◌==◌, ◌&&◌, nat_le, List, [], ◌∷◌, Option, Some, None, codes, drop, reverse, slice_get, take, if◌then◌else◌}
+use Rattle.serde_json.specs.Data.{Data, string, number, unsigned, object, member, no_members}
+use Rattle.deny_base.specs.Files.{is_boundary, location_in}
+use Rattle.deny_base.specs.declared.files.File.{File}
+use Rattle.deny_base.specs.declared.files.Location.{Location}
+use Rattle.deny_base.specs.declared.label.Label.{Label}
+use Rattle.deny_base.specs.declared.span.Span.{Span}
+
+-- lines and columns are told from 1. Every label of a report lies in its file; of one that did not, 0 would be told, and no text
+abbrev pub line_of : Option Location → ℕ
+line_of None = 0
+line_of (Some at) = at.line + 1
+
+abbrev pub column_of : Option Location → ℕ
+column_of None = 0
+column_of (Some at) = at.column + 1
+
+-- the text of a range, where that lies on character boundaries
+unfoldable pub range_in : List ℕ → Span → List ℕ
+range_in text span =
+    if nat_le span.start span.end && (is_boundary text span.start && is_boundary text span.end) then take
+    (span.end - span.start) (drop span.start text) else []
+
+-- a text without the quotes at its front, at its end, and at both
+abbrev pub without_front : List ℕ → List ℕ
+without_front [] = []
+without_front (byte ∷ bytes) = if byte == 34 then without_front bytes else byte ∷ bytes
+
+abbrev pub without_end : List ℕ → List ℕ
+without_end text = reverse (without_front (reverse text))
+
+unfoldable pub trimmed : List ℕ → List ℕ
+trimmed text = without_end (without_front text)
+
+abbrev pub marked_in : Option File → Span → List ℕ
+marked_in None span = []
+marked_in (Some file) span = trimmed (range_in file.source span)
+
+-- what a label marks, without the quotes at its ends
+unfoldable pub marked : List File → Label → List ℕ
+marked files label = marked_in (slice_get files label.file_id) label.span
+
+unfoldable pub label_value : List File → Label → Data
+label_value files label = object
+    (member (codes "column") (number (unsigned (column_of (location_in files label.file_id label.span.start))))
+    (member (codes "line") (number (unsigned (line_of (location_in files label.file_id label.span.start))))
+    (member (codes "message") (string label.message)
+    (member (codes "span") (string (marked files label)) no_members))))

@@ -1,0 +1,189 @@
+//! Trees as JSON values. A value is put together from a list of the nodes that are open, so that the
+//! depth of a tree takes no stack.
+ghost use Rattle.std.specs.Prelude.{◌≡◌, ◌+◌, ◌<◌, ◌≤◌, IfOk, [], map, sum_by};
+ghost use Rattle.serde_json.specs.Data.{no_members};
+ghost use Rattle.serde_json.specs.View.{members_view, view};
+ghost use Rattle.deny_trees.specs.declared.node.GraphNode.{out-GraphNode};
+ghost use Rattle.deny_json.specs.Graphs.{feature_value, graph_value, inner_member, krate_value, parents_member, repeat_member};
+ghost use Rattle.deny_json.specs.private.Weight.{weight};
+ghost use Rattle.deny_json.specs.private.Making.{making_value, making_weight, turn_value, turn_weight, value_with, whole_value};
+
+use deny_base::DepKind;
+use deny_lists::NoMemory;
+use deny_trees::grapher::{GraphNode, NodeInner};
+use serde_json::{Map, Value, json, put};
+use std::alloc::{AllocError, Global};
+
+/// A node whose value is being put together: the values of its first parents, and the parents that
+/// are still to come.
+#[derive(Drop)]
+struct Making<'g> {
+    graph: &'g GraphNode,
+    done: Vec<Value>,
+    rest: &'g [GraphNode],
+}
+
+/// What a step comes to: the node to go on with, or the value of the whole tree.
+#[derive(Drop)]
+enum Turn<'g> {
+    Next(Making<'g>),
+    Made(Value),
+}
+
+/// A crate as JSON.
+pub(crate) fn krate_value(
+    alloc: Global,
+    name: &str,
+    version: &str,
+    kind: Option<DepKind>,
+) -> Result<Value, AllocError>
+    ensures { IfOk result (λ value. view value ≡ krate_value name.now version.now kind) }
+{
+    match kind {
+        None | Some(DepKind::Normal) => json!(in alloc; {"name": name, "version": version}),
+        Some(DepKind::Dev) => { json!(in alloc; {"kind": "dev", "name": name, "version": version}) }
+        Some(DepKind::Build) => {
+            json!(in alloc; {"kind": "build", "name": name, "version": version})
+        }
+    }
+}
+
+/// A feature as JSON.
+pub(crate) fn feature_value(
+    alloc: Global,
+    crate_name: &str,
+    name: &str,
+) -> Result<Value, AllocError>
+    ensures { IfOk result (λ value. view value ≡ feature_value crate_name.now name.now) }
+{
+    json!(in alloc; {"crate_name": crate_name, "name": name})
+}
+
+/// The member that tells a repeat, where it is one.
+fn members_from_repeat(alloc: Global, repeat: bool) -> Result<Map<String, Value>, AllocError>
+    ensures { IfOk result (λ members. members_view members.entries ≡ repeat_member repeat) }
+{
+    let mut members = Map::new(alloc);
+    if repeat {
+        put(&mut members, alloc, "repeat", Value::from(true))?;
+    }
+    Ok(members)
+}
+
+/// The members from the parents on.
+fn members_from_parents(
+    alloc: Global,
+    parents: Vec<Value>,
+    repeat: bool,
+) -> Result<Map<String, Value>, AllocError>
+    ensures { IfOk result (λ members. members_view members.entries
+        ≡ parents_member (map view parents.items) (repeat_member repeat)) }
+{
+    let mut members = members_from_repeat(alloc, repeat)?;
+    if parents.is_empty() {
+        return Ok(members);
+    }
+    put(&mut members, alloc, "parents", Value::from(parents))?;
+    Ok(members)
+}
+
+/// The value of a node with these parents.
+fn node_value(alloc: Global, graph: &GraphNode, parents: Vec<Value>) -> Result<Value, AllocError>
+    ensures { IfOk result (λ value. view value ≡ value_with graph.now (map view parents.items)) }
+{
+    let mut members = members_from_parents(alloc, parents, graph.repeat)?;
+    match &graph.inner {
+        NodeInner::Krate {
+            name,
+            version,
+            kind,
+        } => {
+            let krate = krate_value(alloc, name.as_str(), version.as_str(), *kind)?;
+            put(&mut members, alloc, "Krate", krate)?;
+        }
+        NodeInner::Feature { crate_name, name } => {
+            let feature = feature_value(alloc, crate_name.as_str(), name.as_str())?;
+            put(&mut members, alloc, "Feature", feature)?;
+        }
+    }
+    Ok(Value::from(members))
+}
+
+/// A node none of whose parents has its value yet.
+fn begin<'g>(alloc: Global, graph: &'g GraphNode) -> Making<'g>
+    ensures value { making_value result ≡ graph_value graph.now }
+    ensures less { making_weight result + 1 ≡ weight graph.now }
+{
+    Making {
+        graph,
+        done: Vec::new(alloc),
+        rest: graph.parents.as_slice(),
+    }
+}
+
+/// One step: the next parent of the node on top is begun, or the node is made and goes to the one
+/// that waits for it.
+fn step<'g>(
+    alloc: Global,
+    top: Making<'g>,
+    below: &mut Vec<Making<'g>>,
+) -> Result<Turn<'g>, NoMemory>
+    ensures whole { IfOk result (λ turn. turn_value below.new.items turn ≡ whole_value below.old.items (making_value top.entry)) }
+    ensures less { IfOk result (λ turn. turn_weight below.new.items turn < sum_by making_weight below.old.items + making_weight top.entry) }
+{
+    match top.rest.split_first() {
+        Some((parent, rest)) => {
+            below.push(Making {
+                graph: top.graph,
+                done: top.done,
+                rest,
+            })?;
+            Ok(Turn::Next(begin(alloc, parent)))
+        }
+        None => {
+            let value = node_value(alloc, top.graph, top.done)?;
+            hand_on(value, below)
+        }
+    }
+}
+
+/// The value goes to the node that waits for it, or is the whole.
+fn hand_on<'g>(value: Value, below: &mut Vec<Making<'g>>) -> Result<Turn<'g>, NoMemory>
+    ensures whole { IfOk result (λ turn. turn_value below.new.items turn ≡ whole_value below.old.items (view value)) }
+    ensures less { IfOk result (λ turn. turn_weight below.new.items turn ≤ sum_by making_weight below.old.items) }
+{
+    match below.pop() {
+        Some(waiting) => {
+            let mut next = waiting;
+            next.done.push(value)?;
+            Ok(Turn::Next(next))
+        }
+        None => Ok(Turn::Made(value)),
+    }
+}
+
+/// A tree as JSON.
+fn graph_value(alloc: Global, graph: &GraphNode) -> Result<Value, NoMemory>
+    ensures { IfOk result (λ value. view value ≡ graph_value graph.now) }
+{
+    let mut below = Vec::new(alloc);
+    let mut now = Turn::Next(begin(alloc, graph));
+    while let Turn::Next(top) = now {
+        now = step(alloc, top, &mut below)?;
+    }
+    match now {
+        Turn::Made(value) => Ok(value),
+        Turn::Next(_) => unreachable!(),
+    }
+}
+
+/// Trees as JSON, in their order.
+pub(crate) fn graph_values(alloc: Global, graphs: &[GraphNode]) -> Result<Vec<Value>, NoMemory>
+    ensures { IfOk result (λ values. map view values.items ≡ map graph_value graphs.now) }
+{
+    let mut values = Vec::new(alloc);
+    for graph in graphs {
+        values.push(graph_value(alloc, graph)?)?;
+    }
+    Ok(values)
+}

@@ -1,0 +1,122 @@
+//! Labels as JSON: where they lie, and what they mark.
+ghost use Rattle.std.specs.Prelude.{◌≡◌, IsTrue, IfOk, map};
+ghost use Rattle.std.specs.Str.{IsCharBoundary};
+ghost use Rattle.serde_json.specs.View.{view};
+ghost use Rattle.deny_base.specs.Files.{is_boundary, location_in};
+ghost use Rattle.deny_json.specs.Labels.{column_of, label_value, line_of, marked, range_in, trimmed, without_end, without_front};
+
+use deny_base::{Files, Label, Location, Span};
+use serde_json::{Value, json};
+use std::alloc::{AllocError, Global};
+
+/// The line of a location, from 1; 0 where there is none.
+fn line_of(at: Option<Location>) -> u64
+    ensures { result ≡ line_of at }
+{
+    match at {
+        Some(at) => u64::from(at.line) + 1,
+        None => 0,
+    }
+}
+
+/// The column of a location, from 1; 0 where there is none.
+fn column_of(at: Option<Location>) -> u64
+    ensures { result ≡ column_of at }
+{
+    match at {
+        Some(at) => u64::from(at.column) + 1,
+        None => 0,
+    }
+}
+
+/// Whether a character of the text begins at an offset, or the text ends there.
+fn is_boundary(text: &str, offset: usize) -> bool
+    ensures test { result ≡ is_boundary text.now offset }
+    ensures boundary { IsTrue result → IsCharBoundary text.now offset }
+{
+    text.is_char_boundary(offset)
+}
+
+/// The text of a range; none where it does not lie on character boundaries.
+#[tactic(auto, unfolding(crate::specs::Labels::range_in))]
+fn range_in(text: &str, span: Span) -> &str
+    ensures { result.now ≡ range_in text.now span }
+{
+    let start = span.start as usize;
+    let end = span.end as usize;
+    if start <= end && is_boundary(text, start) && is_boundary(text, end) {
+        &text[start..end]
+    } else {
+        ""
+    }
+}
+
+fn without_front(text: &str) -> &str
+    ensures { result.now ≡ without_front text.now }
+{
+    let mut rest = text;
+    while let Some(shorter) = rest.strip_prefix('"') {
+        rest = shorter;
+    }
+    rest
+}
+
+fn without_end(text: &str) -> &str
+    ensures { result.now ≡ without_end text.now }
+{
+    let mut rest = text;
+    while let Some(shorter) = rest.strip_suffix('"') {
+        rest = shorter;
+    }
+    rest
+}
+
+/// A text without the quotes at its ends.
+#[tactic(auto, unfolding(crate::specs::Labels::trimmed))]
+fn trimmed(text: &str) -> &str
+    ensures { result.now ≡ trimmed text.now }
+{
+    without_end(without_front(text))
+}
+
+/// What a label marks, without the quotes at its ends.
+#[tactic(auto, unfolding(crate::specs::Labels::marked))]
+fn marked<'f>(files: &'f Files, label: &Label) -> &'f str
+    ensures { result.now ≡ marked files.now label.now }
+{
+    match files.source(label.file_id) {
+        Some(source) => trimmed(range_in(source, label.span)),
+        None => "",
+    }
+}
+
+/// A label as JSON.
+#[tactic(auto, unfolding(crate::specs::Labels::label_value))]
+fn label_value(alloc: Global, files: &Files, label: &Label) -> Result<Value, AllocError>
+    ensures { IfOk result (λ value. view value ≡ label_value files.now label.now) }
+{
+    let at = files.location(label.file_id, label.span.start);
+    let message = label.message.as_str();
+    let span = marked(files, label);
+    json!(in alloc; {
+        "column": column_of(at),
+        "line": line_of(at),
+        "message": message,
+        "span": span,
+    })
+}
+
+/// Labels as JSON, in their order.
+pub fn label_values(
+    alloc: Global,
+    files: &Files,
+    labels: &[Label],
+) -> Result<Vec<Value>, AllocError>
+    ensures { IfOk result (λ values. map view values.items ≡ map (label_value files.now) labels.now) }
+{
+    let mut values = Vec::new(alloc);
+    for label in labels {
+        values.push(label_value(alloc, files, label)?)?;
+    }
+    Ok(values)
+}

@@ -1,0 +1,24 @@
+//! Laws on what the lines are read as. The bodies are empty; what they ensure is proved.
+ghost use Rattle.std.specs.Prelude.{List};
+ghost use Rattle.serde_json.specs.Data.{Data};
+ghost use Rattle.serde_json.specs.Written.{compact_text};
+ghost use Rattle.deny_base.specs.declared.files.File.{File};
+ghost use Rattle.deny_base.specs.declared.finding.Diagnostic.{Diagnostic};
+ghost use Rattle.deny_trees.specs.declared.node.GraphNode.{GraphNode};
+ghost use Rattle.deny_json.specs.Diagnostics.{diagnostic_value};
+ghost use Rattle.deny_json.specs.Findings.{finding_value};
+ghost use Rattle.deny_json.specs.Reading.{AreShort, IsJsonOf, IsPlain};
+
+/// The text of a value whose keys ascend, with whole numbers of 64 bits alone, is that value in JSON.
+pub fn text_is_json()
+    ensures { (value : Data) → IsPlain value → IsJsonOf (compact_text value) value }
+{}
+
+/// A diagnostic and a finding with its trees have such values, where labels lie in files of less than
+/// 2^63 bytes.
+pub fn findings_are_plain()
+    ensures diagnostic { (files : List File) → (d : Diagnostic) → AreShort files
+        → IsPlain (diagnostic_value files d) }
+    ensures finding { (files : List File) → (d : Diagnostic) → (graphs : List GraphNode) → AreShort files
+        → IsPlain (finding_value files d graphs) }
+{}
