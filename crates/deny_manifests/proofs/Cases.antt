@@ -1,0 +1,28 @@
+-- Values of which small manifests are made. The numbers are where they begin.
+use Rattle.std.proofs.Common.{ℕ, List, Bool}
+use Rattle.deny_base.specs.declared.span.Span.{Span}
+use Rattle.deny_toml.specs.Key.{Key}
+use Rattle.deny_toml.specs.Scalar.TheVariants as scalar
+use Rattle.deny_toml.specs.Value.{span_of, table_with, value_with}
+use Rattle.deny_toml.specs.declared.value.Content.TheVariants as content
+use Rattle.deny_toml.specs.declared.value.Value.{Value}
+
+-- the range of one byte
+abbrev pub range : ℕ → Span
+range at = span_of at 1
+
+abbrev pub text : ℕ → List ℕ → Value
+text at bytes = value_with (range at) (content.Scalar (scalar.Text bytes))
+
+abbrev pub flag : ℕ → Bool → Value
+flag at b = value_with (range at) (content.Scalar (scalar.Boolean b))
+
+abbrev pub table : ℕ → List (Key × Value) → Value
+table at entries = value_with (range at) (content.Table (table_with entries))
+
+abbrev pub array : ℕ → List Value → Value
+array at values = value_with (range at) (content.Array values)
+
+-- a key with its value
+abbrev pub entry : ℕ → List ℕ → Value → Key × Value
+entry at name value = (record { name = name; span = range at }, value)

@@ -1,0 +1,51 @@
+-- The declarations of a crate that its manifest writes.
+use Rattle.std.specs.Prelude.{ℕ, Bool, List, Option, filter_map, option_and_then, option_map}
+use Rattle.std.specs.List.{enumerate_from}
+use Rattle.semver.specs.Parse.{Held}
+use Rattle.deny_base.specs.declared.span.Span.{Span}
+use Rattle.deny_base.specs.declared.span.Spanned.{Spanned}
+use Rattle.deny_manifests.specs.Found.{rename_of, version_of, workspace_of}
+use Rattle.deny_manifests.specs.Written.{found_in}
+use Rattle.deny_model.specs.Graph.{Crate, Dependency, Graph}
+use Rattle.deny_model.specs.Resolution.{resolution}
+use Rattle.deny_toml.specs.Key.{Key}
+use Rattle.deny_toml.specs.Value.{span_in}
+use Rattle.deny_toml.specs.declared.value.Value.{Value}
+
+-- a declaration of a crate that resolves and that its manifest writes
+pub record Declared : Type 0 where
+  -- its number among the declarations of the crate
+  pub index : ℕ
+  pub declaration : Dependency
+  -- the place of the crate that it resolves to
+  pub child : ℕ
+  -- the ranges of the key and the value that it is written by
+  pub key : Span
+  pub value : Span
+  pub version_req : Option (Spanned (List Held))
+  pub workspace : Option (Spanned Bool)
+  pub rename : Option (Spanned (List ℕ))
+
+abbrev pub declared_by : ℕ → Dependency → ℕ → Key × Value → Declared
+declared_by index d child entry = record {
+  index = index;
+  declaration = d;
+  child = child;
+  key = entry.0.span;
+  value = span_in entry.1;
+  version_req = version_of entry.1;
+  workspace = workspace_of entry.1;
+  rename = rename_of entry.1;
+}
+
+-- a test tells whether keys of targets agree; the tree is that of the manifest of the crate at a place
+module _ (agrees : List ℕ → List ℕ → Bool) (g : Graph) (place : ℕ) (tree : Value) where
+  -- a declaration of a number, where it resolves and is found
+  unfoldable pub declared_at : ℕ × Dependency → Option Declared
+  declared_at numbered = option_and_then
+      (λ child. option_map (declared_by numbered.0 numbered.1 child) (found_in agrees tree numbered.1))
+      (resolution g place numbered.1)
+
+-- the declarations of a crate that resolve and that its manifest writes, in their order
+unfoldable pub declared_in : (List ℕ → List ℕ → Bool) → Graph → Crate → Value → List Declared
+declared_in agrees g c tree = filter_map (declared_at agrees g c.place tree) (enumerate_from 0 c.deps)

@@ -1,0 +1,4 @@
+pub mod Firsts
+pub mod Ignored
+pub mod Sections
+pub mod Targets

@@ -1,0 +1,187 @@
+//! What a manifest writes of dependencies, by where it stands.
+ghost use Rattle.std.specs.Prelude.{◌≡◌, ◌++◌, [], ℕ, Bool, List, IfOk, MatchOption, OnOk, map, option_map};
+ghost use Rattle.std.specs.Option.{option_copied};
+ghost use Rattle.deny_krates.specs.Crates.{dependency_view};
+ghost use Rattle.deny_manifests.specs.Agreement.{TellsAgreement};
+ghost use Rattle.deny_manifests.specs.Written.{entries_at, found_in, key_name, section_name};
+ghost use Rattle.deny_manifests.specs.private.Sections.{FindsPlaced, IsIndexOf, Placed, kind_placed, placed_at, sections_placed, targets_placed};
+ghost use Rattle.deny_manifests.specs.private.Targets.{NumbersTargets, number_of};
+ghost use Rattle.deny_toml.specs.declared.value.Value.{Value};
+
+use crate::firsts::Firsts;
+use crate::found::below;
+use crate::targets::Targets;
+use deny_krates::{DepKind, Dependency};
+use deny_lists::{NoMemory, Text};
+use deny_toml::{Key, Value};
+use std::alloc::Global;
+
+/// Where a declaration stands: for all targets or under the keys of a number, in the section of a kind,
+/// under its key.
+#[derive(PartialEq, Eq, PartialOrd, Ord, Drop)]
+pub struct Place {
+    pub target: Option<usize>,
+    pub kind: DepKind,
+    pub name: Text,
+}
+
+/// The entries of a manifest's sections by where they stand, of those at one place the first.
+#[derive(Drop)]
+pub struct Sections<'m, 't> {
+    targets: Targets,
+    entries: Firsts<Place, &'m (Key<'t>, Value<'t>)>,
+}
+
+impl<'m, 't> Sections<'m, 't> {
+    /// Those of the tree of a manifest.
+    pub fn of(alloc: Global, tree: &'m Value<'t>) -> Result<Sections<'m, 't>, NoMemory>
+        ensures { IfOk result (IsIndexOf tree.now) }
+    {
+        let mut entries = Firsts::new(alloc);
+        add_sections(alloc, &mut entries, None, tree)?;
+        let Some(keys) = entries_at(tree, "target") else {
+            return Ok(Sections {
+                targets: Targets::none(alloc),
+                entries,
+            });
+        };
+        let targets = Targets::of(alloc, keys)?;
+        add_targets(alloc, &mut entries, &targets, keys)?;
+        Ok(Sections { targets, entries })
+    }
+
+    /// The entry by which a declaration is written.
+    pub fn find(
+        &self,
+        alloc: Global,
+        declaration: &Dependency,
+    ) -> Result<Option<&'m (Key<'t>, Value<'t>)>, NoMemory>
+        ensures { IfOk result (λ found. (agrees : List ℕ → List ℕ → Bool) → TellsAgreement agrees
+            → (tree : Value) → IsIndexOf tree self.now
+            → option_copied found ≡ found_in agrees tree (dependency_view declaration.now)) }
+    {
+        let place = Place {
+            target: self.number(alloc, &declaration.target)?,
+            kind: declaration.kind,
+            name: key_name(declaration).clone()?,
+        };
+        Ok(self.entries.find(&place))
+    }
+
+    /// The number of a target, if there is one.
+    fn number(&self, alloc: Global, target: &Option<Text>) -> Result<Option<usize>, NoMemory>
+        ensures { IfOk result (λ number. (agrees : List ℕ → List ℕ → Bool) → TellsAgreement agrees
+            → (keys : List (List ℕ)) → NumbersTargets keys self.now.targets
+            → number ≡ option_map (number_of agrees keys) target.now) }
+    {
+        match target {
+            Some(key) => Ok(Some(self.targets.number(alloc, key.as_str())?)),
+            None => Ok(None),
+        }
+    }
+}
+
+/// The key that a declaration has in its section.
+fn key_name(declaration: &Dependency) -> &Text
+    ensures { result.now ≡ key_name (dependency_view declaration.now) }
+{
+    match &declaration.rename {
+        Some(rename) => rename,
+        None => &declaration.name,
+    }
+}
+
+/// The section that declares the dependencies of a kind.
+fn section_name(kind: DepKind) -> &'static str
+    ensures { result.now ≡ section_name kind }
+{
+    match kind {
+        DepKind::Normal => "dependencies",
+        DepKind::Dev => "dev-dependencies",
+        DepKind::Build => "build-dependencies",
+    }
+}
+
+/// The entries of the table at a key, where there is such a table.
+#[tactic(auto, unfolding(crate::specs::Written::entries_of))]
+fn entries_at<'v, 't>(value: &'v Value<'t>, name: &str) -> Option<&'v [(Key<'t>, Value<'t>)]>
+    ensures { MatchOption result (entries_at name.now value.now ≡ [])
+        (λ entries. entries.now ≡ entries_at name.now value.now) }
+{
+    let table = below(value, name)?.as_table()?;
+    Some(table.entries())
+}
+
+/// Adds the entries of a section.
+fn add_section<'m, 't>(
+    alloc: Global,
+    entries: &mut Firsts<Place, &'m (Key<'t>, Value<'t>)>,
+    target: Option<usize>,
+    kind: DepKind,
+    section: &'m [(Key<'t>, Value<'t>)],
+) -> Result<(), NoMemory>
+    ensures { OnOk result ((placed : List Placed) → FindsPlaced placed entries.old
+        → FindsPlaced (placed ++ map (placed_at target kind) section.now) entries.new) }
+{
+    for entry in section {
+        let place = Place {
+            target,
+            kind,
+            name: Text::from_str(alloc, entry.0.name.as_str())?,
+        };
+        entries.add(place, entry)?;
+    }
+    Ok(())
+}
+
+/// Adds the section of a kind.
+fn add_kind<'m, 't>(
+    alloc: Global,
+    entries: &mut Firsts<Place, &'m (Key<'t>, Value<'t>)>,
+    target: Option<usize>,
+    value: &'m Value<'t>,
+    kind: DepKind,
+) -> Result<(), NoMemory>
+    ensures { OnOk result ((placed : List Placed) → FindsPlaced placed entries.old
+        → FindsPlaced (placed ++ kind_placed target value.now kind) entries.new) }
+{
+    match entries_at(value, section_name(kind)) {
+        Some(section) => add_section(alloc, entries, target, kind, section),
+        None => Ok(()),
+    }
+}
+
+/// Adds the sections of all kinds, for all targets or for one.
+fn add_sections<'m, 't>(
+    alloc: Global,
+    entries: &mut Firsts<Place, &'m (Key<'t>, Value<'t>)>,
+    target: Option<usize>,
+    value: &'m Value<'t>,
+) -> Result<(), NoMemory>
+    ensures { OnOk result ((placed : List Placed) → FindsPlaced placed entries.old
+        → FindsPlaced (placed ++ sections_placed target value.now) entries.new) }
+{
+    add_kind(alloc, entries, target, value, DepKind::Normal)?;
+    add_kind(alloc, entries, target, value, DepKind::Dev)?;
+    add_kind(alloc, entries, target, value, DepKind::Build)?;
+    Ok(())
+}
+
+/// Adds the sections of targets.
+fn add_targets<'m, 't>(
+    alloc: Global,
+    entries: &mut Firsts<Place, &'m (Key<'t>, Value<'t>)>,
+    targets: &Targets,
+    keys: &'m [(Key<'t>, Value<'t>)],
+) -> Result<(), NoMemory>
+    ensures { OnOk result ((agrees : List ℕ → List ℕ → Bool) → TellsAgreement agrees
+        → (names : List (List ℕ)) → NumbersTargets names targets.now
+        → (placed : List Placed) → FindsPlaced placed entries.old
+        → FindsPlaced (placed ++ targets_placed (number_of agrees names) keys.now) entries.new) }
+{
+    for entry in keys {
+        let number = targets.number(alloc, entry.0.name.as_str())?;
+        add_sections(alloc, entries, Some(number), &entry.1)?;
+    }
+    Ok(())
+}
