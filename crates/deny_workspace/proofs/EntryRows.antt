@@ -1,0 +1,64 @@
+-- Small cases of entries with patches in their places, worked out.
+use Rattle.std.proofs.Common.{◌≡◌, [], ◌∷◌, Some, None, codes, rules}
+use Rattle.semver.proofs.OnLiterals.{semver_on_literals}
+use Rattle.deny_manifests.specs.Found.{rename_of, requirement_in, version_of, versioned}
+use Rattle.deny_toml.specs.Key.{Key}
+use Rattle.deny_toml.specs.declared.value.Content.{the_lemmas}
+use Rattle.deny_toml.specs.declared.value.Value.{Value}
+use Rattle.deny_workspace.proofs.Cases.{at, entry, from_major, range, table, text}
+use Rattle.deny_workspace.specs.Entries.{entries_of, patch_of, patched_entry}
+use Rattle.deny_workspace.specs.EntryKey.{name_of}
+use Rattle.deny_workspace.specs.Origin.{origin_in}
+use Rattle.deny_workspace.specs.Wanted.{wanted_in}
+use Rattle.deny_workspace.specs.declared.origin.Origin.TheVariants.{Path, Registry}
+
+-- x = { version = "1", package = "y" }
+abbrev renamed : Key × Value
+renamed = entry 20 (codes "x")
+    (table 21 (entry 22 (codes "package") (text 23 (codes "y")) ∷ entry 24 (codes "version") (text 25 (codes "1")) ∷ []))
+
+-- x = { path = "x" }
+abbrev patch : Key × Value
+patch = entry 30 (codes "x") (table 31 (entry 32 (codes "path") (text 33 (codes "x")) ∷ []))
+
+-- with a patch what was written of the package is lost
+patched : entries_of (patch ∷ []) (renamed ∷ []) ≡ (record {
+  name = codes "x";
+  key = range 30;
+  value = range 21;
+  wanted = record { origin = Path (codes "x"); version = None; rename = None };
+  patched = Some (range 20);
+}) ∷ []
+unfolding entries_of patched_entry patch_of wanted_in origin_in name_of version_of versioned requirement_in rename_of
+    semver_on_literals
+patched = search (rules, the_lemmas)
+
+-- a patch of another key replaces nothing
+not_patched : entries_of (entry 30 (codes "y") patch.1 ∷ []) (renamed ∷ []) ≡ (record {
+  name = codes "x";
+  key = range 20;
+  value = range 21;
+  wanted = record { origin = Registry None; version = at 25 (from_major 1); rename = at 23 (codes "y") };
+  patched = None;
+}) ∷ []
+unfolding entries_of patched_entry patch_of wanted_in origin_in name_of version_of versioned requirement_in rename_of
+    semver_on_literals
+not_patched = search (rules, the_lemmas)
+
+-- nor does one that is passed over
+passed_over : entries_of (entry 30 (codes "x") (text 31 (codes "one")) ∷ []) (renamed ∷ [])
+    ≡ entries_of [] (renamed ∷ [])
+unfolding entries_of patched_entry patch_of wanted_in origin_in name_of version_of versioned requirement_in rename_of
+    semver_on_literals
+passed_over = search (rules, the_lemmas)
+
+-- an entry of a folder is not of crates.io, which is what is patched
+of_a_folder : entries_of (patch ∷ []) (entry 20 (codes "x") patch.1 ∷ []) ≡ (record {
+  name = codes "x";
+  key = range 20;
+  value = range 31;
+  wanted = record { origin = Path (codes "x"); version = None; rename = None };
+  patched = None;
+}) ∷ []
+unfolding entries_of patched_entry patch_of wanted_in origin_in name_of version_of versioned requirement_in rename_of
+of_a_folder = search (rules, the_lemmas)

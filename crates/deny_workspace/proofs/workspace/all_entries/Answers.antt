@@ -1,0 +1,15 @@
+use Rattle.std.proofs.Common.{◌∙◌, ap, map, subst, sym}
+use Rattle.deny_workspace.specs.Entries.{Ascends, entries_of, entry_view, keys_in, patches_in}
+use Rattle.deny_workspace.specs.declared.entry_key.EntryKey.TheVariants as key
+use Rattle.deny_workspace.proofs.EntryLemmas.{ascends_below}
+use Rattle.deny_workspace.proofs.workspace.all_entries.Goals as goal
+
+pub returns-in_default : goal.returns-in_default
+unfolding entries_of
+returns-in_default c =
+    ap (map entry_view) c.new.ensures
+    ∙ ap (λ table. entries_of (patches_in c.args.root.now) (keys_in table)) c.in_default.ensures
+
+pub entries_of-requires : goal.entries_of-requires
+entries_of-requires c = subst Ascends (sym c.table_below-patches.ensures)
+    (ascends_below key.Patch key.CratesIo c.args.root.now c.requires)

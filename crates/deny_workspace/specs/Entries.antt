@@ -1,0 +1,106 @@
+-- The entries of a workspace's dependencies, with the patches that stand in their places.
+use Rattle.std.specs.Prelude.{⊤, ℕ, Bool, true, false, List, [], Option, Some, None, filter_map, option_and_then, option_map, if◌then◌else◌}
+use Rattle.std.specs.Option.{option_map_or}
+use Rattle.deny_base.specs.declared.span.Span.{Span}
+use Rattle.deny_toml.specs.Key.{Key}
+use Rattle.deny_toml.specs.declared.value.Table.{Table}
+use Rattle.deny_toml.specs.declared.value.Value.{Value}
+use Rattle.deny_toml.specs.Value.{entries_in, span_in}
+use Rattle.deny_toml.specs.Calls.{entry_at, table_in}
+use Rattle.deny_toml.specs.TreeOrder.{NamesAscend}
+use Rattle.deny_workspace.specs.Origin.{value_at_key}
+use Rattle.deny_workspace.specs.Wanted.{Wanted, wanted_in, wanted_view}
+use Rattle.deny_workspace.specs.declared.entries.Entry.{Entry as Read}
+use Rattle.deny_workspace.specs.declared.entry_key.EntryKey.{EntryKey}
+use Rattle.deny_workspace.specs.declared.entry_key.EntryKey.TheVariants as key
+use Rattle.deny_workspace.specs.declared.origin.Origin.{Origin}
+use Rattle.deny_workspace.specs.declared.wanted.Wanted.{Wanted as AskedFor}
+use Rattle.deny_workspace.specs.declared.origin.Origin.TheVariants.{Git, Path, Registry}
+
+-- an entry by what stands for it
+pub record Entry : Type 0 where
+  -- the name of its key
+  pub name : List ℕ
+  -- the range of the key: the patch's, where one stands in its place
+  pub key : Span
+  -- the range of its own value
+  pub value : Span
+  pub wanted : Wanted
+  -- the range of its own key, where a patch stands in its place
+  pub patched : Option Span
+
+-- the table below two keys, one in the other
+abbrev pub table_below : EntryKey → EntryKey → Value → Option Table
+table_below outer inner tree = option_and_then table_in (option_and_then (value_at_key inner) (value_at_key outer tree))
+
+-- the keys of a table with their values; none where there is no table
+abbrev pub keys_in : Option Table → List (Key × Value)
+keys_in table = option_map_or entries_in table []
+
+-- the names of the keys ascend
+abbrev pub Ascends : Option Table → Type 0
+Ascends None = ⊤
+Ascends (Some table) = NamesAscend table
+
+-- the entries of `workspace.dependencies`, in byte order of their keys
+abbrev pub dependencies_in : Value → List (Key × Value)
+dependencies_in tree = keys_in (table_below key.Workspace key.Dependencies tree)
+
+-- the entries of `patch.crates-io`
+abbrev pub patches_in : Value → List (Key × Value)
+patches_in tree = keys_in (table_below key.Patch key.CratesIo tree)
+
+-- a registry that has no name is crates.io, whose crates can be patched
+abbrev pub may_be_patched : Origin → Bool
+may_be_patched (Registry name) = option_map_or (λ name. false) name true
+may_be_patched (Path path) = false
+may_be_patched (Git url reference) = false
+
+-- the patch of this name, with the range of its key; one that is passed over replaces nothing
+abbrev pub patch_from : Key × Value → Option (Span × Wanted)
+patch_from patch = option_map (λ wanted. (patch.0.span, wanted)) (wanted_in patch.1)
+
+unfoldable pub patch_of : List (Key × Value) → List ℕ → Option (Span × Wanted)
+patch_of patches name = option_and_then patch_from (entry_at name patches)
+
+-- the entry, or the patch in its place, whose key has the same name
+abbrev pub replaced_by : Option (Span × Wanted) → Key → Span → Wanted → Entry
+replaced_by None key value wanted = record {
+  name = key.name;
+  key = key.span;
+  value = value;
+  wanted = wanted;
+  patched = None;
+}
+replaced_by (Some patch) key value wanted = record {
+  name = key.name;
+  key = patch.0;
+  value = value;
+  wanted = patch.1;
+  patched = Some key.span;
+}
+
+unfoldable pub patched_entry : List (Key × Value) → Key → Span → Wanted → Entry
+patched_entry patches key value wanted =
+    replaced_by (if may_be_patched wanted.origin then patch_of patches key.name else None) key value wanted
+
+-- the entry of a key and its value, if it is not passed over
+abbrev pub entry_of : List (Key × Value) → Key × Value → Option Entry
+entry_of patches e = option_map (patched_entry patches e.0 (span_in e.1)) (wanted_in e.1)
+
+unfoldable pub entries_of : List (Key × Value) → List (Key × Value) → List Entry
+entries_of patches dependencies = filter_map (entry_of patches) dependencies
+
+-- a patch that was read
+abbrev pub patch_view : Span × AskedFor → Span × Wanted
+patch_view patch = (patch.0, wanted_view patch.1)
+
+-- an entry that was read
+abbrev pub entry_view : Read → Entry
+entry_view e = record {
+  name = e.name;
+  key = e.key;
+  value = e.value;
+  wanted = wanted_view e.wanted;
+  patched = e.patched;
+}

@@ -1,0 +1,9 @@
+pub mod Agreement
+pub mod Entries
+pub mod EntryKey
+pub mod Origin
+pub mod Paths
+pub mod Registries
+pub mod Repositories
+pub mod Wanted
+pub mod Workspace
