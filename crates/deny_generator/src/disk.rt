@@ -1,0 +1,20 @@
+//! The disk of the graph that is made.
+ghost use Rattle.std.specs.Prelude.{◌≡◌, codes, IfOk};
+ghost use Rattle.std.specs.FinMap as finite;
+ghost use Rattle.deny_outside.specs.MemoryDisk.{with_file};
+
+use deny_lists::NoMemory;
+use deny_outside::SureDisk;
+use std::alloc::Global;
+
+/// A disk that never fails and holds the manifest of `app`, the one member.
+pub fn disk_of(alloc: Global) -> Result<SureDisk, NoMemory>
+    ensures { IfOk result (λ disk. disk ≡ record {
+      files = with_file finite.empty (codes "/w/Cargo.toml") (codes "[package]\nname = \"app\"\n");
+      given = 0;
+    }) }
+{
+    let mut disk = SureDisk::new(alloc);
+    disk.put_file("/w/Cargo.toml", b"[package]\nname = \"app\"\n")?;
+    Ok(disk)
+}
