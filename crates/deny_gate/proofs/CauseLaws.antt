@@ -5,6 +5,8 @@ use Rattle.deny_base.specs.declared.files.File.{File}
 use Rattle.deny_cfg.specs.PolicyText.{policy_file}
 use Rattle.deny_cfg.specs.PolicyView.{policy_view}
 use Rattle.deny_cfg.specs.declared.policy.Policy.{Policy}
+use Rattle.deny_laws.specs.Dead.{DeadCanGo}
+use Rattle.deny_gate.specs.Dead.{CanDoWithoutDead}
 use Rattle.deny_gate.specs.Gating.{IsBuilt, IsCause, IsCauseBehind, IsReportOf, IsReportOn, Texts}
 use Rattle.deny_gate.specs.Headline.{IsHeadlineOf}
 use Rattle.deny_gate.specs.declared.report.GateError.{GateError}
@@ -12,6 +14,7 @@ use Rattle.deny_gate.specs.declared.report.GateError.TheVariants.{Config, Invali
 use Rattle.deny_gate.specs.declared.report.GateError.TheVariants.{Memory}
 use Rattle.deny_gate.specs.declared.report.Report.{Report}
 use Rattle.deny_gate.specs.Stats.{code_of, exit_code}
+use Rattle.deny_gate.proofs.DeadLaws.{without_dead}
 use Rattle.deny_gate.proofs.ExitLaws.{exit_of}
 use Rattle.deny_gate.proofs.HeadlineLaws.{headline_of}
 
@@ -80,3 +83,9 @@ module _ (read texts : Texts) (same : read ≡ texts) (said : Policy) (built : I
         → IfOk result (λ report. exit_code report.stats ≡ code_of report.verdict)
     code_then (Ok report) on in_files = exit_of texts report (report_is report on in_files)
     code_then (Err error) on in_files = tt
+
+    pub dead_then : DeadCanGo → (result : Result Report GateError)
+        → IfOk result (IsReportOn said read.metadata read.replacements)
+        → IfOk result (λ report. report.files ≡ files) → IfOk result (CanDoWithoutDead texts)
+    dead_then law (Ok report) on in_files = without_dead law texts report (report_is report on in_files)
+    dead_then law (Err error) on in_files = tt

@@ -1,4 +1,4 @@
--- The findings of packs that tell keys: those of the bans check, and then those of the licence check.
+-- The findings of packs that tell keys, and the hits: those of the bans check, and then those of the licence check.
 use Rattle.std.proofs.Common.{◌≡◌, ◌++◌, ℕ, Bool, false, List, [], ◌∷◌, Option, None, Some, refl, sym, ap, subst, ◌∙◌}
 use Rattle.std.specs.Prelude.{filter, is_some, map, option_map}
 use Rattle.std.specs.List.{flat_map}
@@ -6,6 +6,7 @@ use Rattle.std.specs.List.Sorted.{IsStrictlySortedBy}
 use Rattle.std.proofs.lemmas.List.{append-nil, map-append}
 use Rattle.std.proofs.lemmas.List.Elements.{filter-append}
 use Rattle.deny_base.specs.KeyOrder.{key_cmp}
+use Rattle.deny_base.specs.declared.entry.Hit.{Hit}
 use Rattle.deny_base.specs.declared.finding.Pack.{Pack}
 use Rattle.deny_base.specs.declared.key.Key.{Key}
 use Rattle.deny_lists.specs.Ascending.{Lists}
@@ -15,23 +16,28 @@ use Rattle.deny_lists.proofs.Members.{no_member}
 use Rattle.deny_cfg.specs.LicensingView.{licensing_of, licensing_view}
 use Rattle.deny_cfg.specs.PolicyView.{policy_view}
 use Rattle.deny_cfg.specs.declared.policy.Policy as cfg
-use Rattle.deny_model.specs.Graph.{Graph}
+use Rattle.deny_model.specs.Graph.{Crate, Graph}
 use Rattle.deny_model.specs.Licensing.{Licensing}
 use Rattle.deny_codes.specs.Circumstances.{Circumstances, View, licensed, seen_by, tabled}
 use Rattle.deny_codes.specs.Codes.{is_of_bans, is_of_licenses}
 use Rattle.deny_codes.specs.Facts.{Facts}
-use Rattle.deny_codes.specs.Saying.{bytes_of}
+use Rattle.deny_codes.specs.Hits.{TellsLicensed, both_hits, hits_in, licence_hits_in}
+use Rattle.deny_codes.specs.Saying.{bytes_of, said_by}
 use Rattle.deny_codes.specs.Standing.{ListsOwn, Stands, StandsIn}
-use Rattle.deny_codes.specs.Told.{pack_of, pack_told}
+use Rattle.deny_codes.specs.Told.{diag_of, pack_of, pack_told, words_told}
 use Rattle.deny_dup_edges.specs.DupEdges.{ShowsEach, is_of_duplicate}
 use Rattle.deny_rules.specs.Check.{IsChecked}
 use Rattle.deny_rules.specs.declared.check.BansEnd.{BansEnd}
 use Rattle.deny_dup_edges.specs.declared.dup_edges.DupEdges.{DupEdges}
-use Rattle.deny_gate.specs.Gating.{IsReportSeen, IsTold, IsToldOn, TellsLicencesIf}
-use Rattle.deny_gate.specs.Report.{finding_told, findings_of, policy_id, verdict_of}
+use Rattle.deny_laws.specs.Dead.{AreDead}
+use Rattle.deny_gate.specs.Gating.{AreEntriesApart, IsLicensedIf, IsReportSeen, IsTold, IsToldOn}
+use Rattle.deny_gate.specs.Hits.{AreHits, IsOneEach}
+use Rattle.deny_gate.specs.Report.{finding_told, findings_of, keys_in, policy_id, verdict_of}
 use Rattle.deny_gate.specs.Stats.{all_stats}
+use Rattle.deny_gate.specs.declared.checks.Told.{Told}
 use Rattle.deny_gate.specs.declared.report.Finding.{Finding}
 use Rattle.deny_gate.specs.declared.report.Report.{Report}
+use Rattle.deny_gate.proofs.HitsApart.{hits_apart}
 use Rattle.deny_gate.proofs.Standing.{no_duplicate, none_of_licences}
 
 -- the finding of what is handed out for a key
@@ -46,6 +52,22 @@ all_told c (key ∷ keys) =
     ap (λ (fs : List Finding). fs ++ flat_map findings_of (map (pack_told c) keys)) (one_each c key)
     ∙ ap (λ (fs : List Finding). finding_told c key ∷ fs) (all_told c keys)
 
+-- what is told of a key is told under it
+pub key_told : (c : Circumstances) (key : Key) → (finding_told c key).diag.key ≡ key
+unfolding finding_told diag_of
+key_told c key = refl
+
+pub keys_told : (c : Circumstances) (keys : List Key) → keys_in (map (finding_told c) keys) ≡ keys
+keys_told c [] = refl
+keys_told c (key ∷ keys) = ap (λ (k : Key). k ∷ keys_in (map (finding_told c) keys)) (key_told c key)
+    ∙ ap (λ (ks : List Key). key ∷ ks) (keys_told c keys)
+
+-- and by words of one severity at that severity
+pub severity_told : (c d : Circumstances) (key : Key) → (words_told d key).severity ≡ (words_told c key).severity
+    → (words_told d (finding_told c key).diag.key).severity ≡ (finding_told c key).diag.diag.severity
+unfolding finding_told diag_of
+severity_told c d key same = same
+
 -- what is known of the two checks
 pub record CheckLaws : Type 0 where
   pub stands : (c : Circumstances) → (licensing : Option Licensing) → (facts : Facts) → (keys : List Key)
@@ -55,11 +77,14 @@ pub record CheckLaws : Type 0 where
   pub joined : (c : Circumstances) → (facts : Facts) → (xs ys : List Key) → ListsOwn is_of_bans c facts xs
       → ListsOwn is_of_licenses c facts ys → Lists key_cmp (Stands c facts) (xs ++ ys)
 
--- what the licence check tells, key by key
-record LicenceKeys (c : Circumstances) (facts : Facts) (old new : List Pack) : Type 0 where
+-- what the licence check tells, key by key, and what it finds hit
+record LicenceKeys (c : Circumstances) (facts : Facts) (old new : List Pack) (hits : List Hit) : Type 0 where
   keys : List Key
   listed : ListsOwn is_of_licenses c facts keys
   told : new ≡ old ++ map (pack_told c) keys
+  counts : Crate → Bool
+  tells : TellsLicensed c.licensing c.graph counts
+  hits_are : hits ≡ licence_hits_in counts c
 
 -- of the keys of the licence check none is of a duplicate
 no_duplicates : (c : Circumstances) (facts : Facts) (keys : List Key) → ListsOwn is_of_licenses c facts keys
@@ -88,29 +113,37 @@ none_listed c facts none = record {
   sound = λ key is. absurd (no_member key is);
 }
 
-licence_keys : (c : Circumstances) (licensing : Option Licensing) (facts : Facts) (old new : List Pack)
-    → TellsLicencesIf licensing c.graph c.files.policy old new → LicenceKeys (licensed c licensing) facts old new
-licence_keys c None facts old new same = record {
+licence_keys : (c : Circumstances) (licensing : Option Licensing) (facts : Facts) (old new : List Pack) (hits : List Hit)
+    → IsLicensedIf licensing c.graph c.files.policy old new hits
+    → LicenceKeys (licensed c licensing) facts old new hits
+licence_keys c None facts old new hits same = record {
   keys = [];
   listed = none_listed (licensed c None) facts refl;
-  told = same ∙ sym (append-nil old);
+  told = same.0 ∙ sym (append-nil old);
+  counts = λ k. false;
+  tells = tt;
+  hits_are = same.1;
 }
-licence_keys c (Some l) facts old new tells = record {
-  keys = tells.licensed.keys;
-  listed = tells.licensed.listed c facts;
-  told = tells.licensed.told c;
+licence_keys c (Some l) facts old new hits of = record {
+  keys = of.keys;
+  listed = of.listed c facts;
+  told = of.told c;
+  counts = of.counts;
+  tells = of.tells;
+  hits_are = of.hits_are;
 }
 
 module _ (laws : CheckLaws) where
-  -- findings of packs that the bans check put behind none, and the licence check behind these
+  -- findings of packs that the bans check put behind none, and the licence check behind these, and the hits of both
   told_by : (c : Circumstances) (licensing : Option Licensing) (none between packs : List Pack) (end : BansEnd)
-      (findings : List Finding) → IsChecked c none between end → none ≡ []
-      → TellsLicencesIf licensing c.graph c.files.policy between packs → findings ≡ flat_map findings_of packs
-      → IsTold (licensed c licensing) findings end.dup_edges
-  told_by c licensing none between packs end findings checked empty tells are =
+      (others : List Hit) (told : Told) → IsChecked c none between end → none ≡ []
+      → IsLicensedIf licensing c.graph c.files.policy between packs others
+      → AreHits (end.hits ++ others) told.hits → told.findings ≡ flat_map findings_of packs
+      → told.dup_edges ≡ end.dup_edges → IsTold (licensed c licensing) told
+  told_by c licensing none between packs end others told checked empty tells hit are shown =
       let all = licensed c licensing in
       let facts = checked.listed.facts in
-      let more = licence_keys c licensing facts between packs tells in
+      let more = licence_keys c licensing facts between packs others tells in
       let bans : ListsOwn is_of_bans all facts checked.keys =
       laws.stands c licensing facts checked.keys checked.listed.listed in
       let alike : map (pack_told c) checked.keys ≡ map (pack_told all) checked.keys =
@@ -121,6 +154,9 @@ module _ (laws : CheckLaws) where
       let together : packs ≡ map (pack_told all) (checked.keys ++ more.keys) =
       more.told ∙ (ap (λ (ps : List Pack). ps ++ map (pack_told all) more.keys) first
       ∙ sym (map-append (pack_told all) checked.keys more.keys)) in
+      let hits : end.hits ++ others ≡ both_hits all facts more.counts =
+      ap (λ (hs : List Hit). hs ++ others) checked.hits
+      ∙ ap (λ (hs : List Hit). hits_in all facts ++ hs) more.hits_are in
       record {
         keys = checked.keys ++ more.keys;
         listed = record {
@@ -128,42 +164,74 @@ module _ (laws : CheckLaws) where
           true_facts = record { chains = checked.listed.true_facts.chains };
           listed = laws.joined all facts checked.keys more.keys bans more.listed;
         };
-        told = are ∙ (ap (flat_map findings_of) together ∙ all_told all (checked.keys ++ more.keys));
-        each = shown_of_all all facts checked.keys more.keys end.dup_edges more.listed checked.dup_edges;
+        findings = are ∙ (ap (flat_map findings_of) together ∙ all_told all (checked.keys ++ more.keys));
+        shown = subst (ShowsEach c.policy c.graph (filter is_of_duplicate (checked.keys ++ more.keys))) (sym shown)
+            (shown_of_all all facts checked.keys more.keys end.dup_edges more.listed checked.dup_edges);
+        counts = more.counts;
+        tells = more.tells;
+        hits = subst (λ (hs : List Hit). AreHits hs told.hits) hits hit;
       }
 
   -- the same, where the policy is the first file
   pub told_on : (said : cfg.Policy) (g : Graph) (replacements : Option (List ℕ)) (file : ℕ) (view : View)
-      (none between packs : List Pack) (end : BansEnd) (findings : List Finding) → file ≡ policy_id
+      (none between packs : List Pack) (end : BansEnd) (others : List Hit) (told : Told) → file ≡ policy_id
       → IsChecked (tabled (seen_by (policy_view said.bans) g file view) (bytes_of replacements)) none between end
-      → none ≡ [] → TellsLicencesIf (licensing_of said.licenses) g file between packs
-      → findings ≡ flat_map findings_of packs → IsToldOn said g replacements findings end.dup_edges
-  told_on said g replacements file view none between packs end findings first checked empty tells are =
+      → none ≡ [] → IsLicensedIf (licensing_of said.licenses) g file between packs others
+      → AreHits (end.hits ++ others) told.hits → told.findings ≡ flat_map findings_of packs
+      → told.dup_edges ≡ end.dup_edges → IsToldOn said g replacements told
+  told_on said g replacements file view none between packs end others told first checked empty tells hit are shown =
       let at : ℕ → Circumstances = λ n. tabled (seen_by (policy_view said.bans) g n view) (bytes_of replacements) in
       record {
         view = view;
-        is_told = subst (λ (n : ℕ). IsTold (licensed (at n) (licensing_of said.licenses)) findings end.dup_edges) first
-            (told_by (at file) (licensing_of said.licenses) none between packs end findings checked empty tells are);
+        is_told = subst (λ (n : ℕ). IsTold (licensed (at n) (licensing_of said.licenses)) told) first
+            (told_by (at file) (licensing_of said.licenses) none between packs end others told checked empty tells hit
+            are shown);
       }
+
+-- no two hits of both checks are of one entry, where no two entries have one range
+pub hits_differ : (said : cfg.Policy) (g : Graph) (table : List ℕ) (file : ℕ) (view : View)
+    (none between packs : List Pack) (end : BansEnd) (others : List Hit) → AreEntriesApart said
+    → IsChecked (tabled (seen_by (policy_view said.bans) g file view) table) none between end
+    → IsLicensedIf (licensing_of said.licenses) g file between packs others → IsOneEach (end.hits ++ others)
+hits_differ said g table file view none between packs end others apart checked tells =
+    let c = tabled (seen_by (policy_view said.bans) g file view) table in
+    let more = licence_keys c (licensing_of said.licenses) checked.listed.facts between packs others tells in
+    subst (λ (hits : List Hit). IsOneEach hits)
+    (sym (ap (λ (hits : List Hit). hits ++ others) checked.hits
+    ∙ ap (λ (hits : List Hit). hits_in c checked.listed.facts ++ hits) more.hits_are))
+    (hits_apart said.bans said.licenses g checked.listed.facts.chains (said_by table) more.counts apart.bans
+    apart.licences)
 
 -- whether a policy speaks of licences is what its text says
 speaks : {X Y : Type 0} (f : X → Y) (o : Option X) → is_some (option_map f o) ≡ is_some o
 speaks f None = refl
 speaks f (Some x) = refl
 
--- and with the counts of them, and the verdict on them
-pub seen_report : (said : cfg.Policy) (g : Graph) (replacements : Option (List ℕ)) (report : Report)
-    → IsToldOn said g replacements report.findings report.dup_edges
+-- and with what is dead, the counts of them, and the verdict on them
+pub seen_report : (said : cfg.Policy) (g : Graph) (replacements : Option (List ℕ)) (told : Told) (report : Report)
+    → IsToldOn said g replacements told → report.krates ≡ g → report.findings ≡ told.findings
+    → report.dup_edges ≡ told.dup_edges → report.hits ≡ told.hits
+    → AreDead (keys_in report.findings) report.hits report.dead
     → report.stats ≡ all_stats (is_some said.licenses) report.findings → report.verdict ≡ verdict_of report.findings
     → IsReportSeen said g replacements report
-seen_report said g replacements report told stats verdict = record {
-  view = told.view;
-  is_report = record {
-    keys = told.is_told.keys;
-    listed = told.is_told.listed;
-    told = told.is_told.told;
-    shown = told.is_told.each;
-    stats = stats ∙ sym (ap (λ (has : Bool). all_stats has report.findings) (speaks licensing_view said.licenses));
-    verdict = verdict;
-  };
-}
+seen_report said g replacements told report of graph findings dup_edges hits dead stats verdict =
+    let is = of.is_told in
+    let all = licensed (tabled (seen_by (policy_view said.bans) g policy_id of.view) (bytes_of replacements))
+    (licensing_of said.licenses) in
+    record {
+      view = of.view;
+      is_report = record {
+        graph = graph;
+        keys = is.keys;
+        listed = is.listed;
+        told = findings ∙ is.findings;
+        shown = subst (ShowsEach all.policy g (filter is_of_duplicate is.keys)) (sym dup_edges) is.shown;
+        counts = is.counts;
+        tells = is.tells;
+        hits = subst (AreHits (both_hits all is.listed.facts is.counts)) (sym hits) is.hits;
+        dead = subst (λ (keys : List Key). AreDead keys report.hits report.dead)
+            (ap keys_in (findings ∙ is.findings) ∙ keys_told all is.keys) dead;
+        stats = stats ∙ sym (ap (λ (has : Bool). all_stats has report.findings) (speaks licensing_view said.licenses));
+        verdict = verdict;
+      };
+    }

@@ -28,15 +28,12 @@ use Rattle.deny_gate.specs.Report.{IsReport, fails_as, finding_told, has_error, 
 use Rattle.deny_gate.specs.Stats.{same_check}
 use Rattle.deny_gate.specs.declared.report.Finding.{Finding}
 use Rattle.deny_gate.specs.declared.report.Report.{Report}
+use Rattle.deny_gate.proofs.FindingLaws.{key_told}
 use Rattle.deny_gate.proofs.OtherErrors.{grave, minds, rule_written}
 use Rattle.deny_gate.proofs.Placed.{ArePlaced, are_placed}
 use Rattle.deny_gate.proofs.Violations.{error_is, violation_error, violation_from, violation_stands}
 
 -- ---- the violations
-
-key_told : (c : Circumstances) (key : Key) → (finding_told c key).diag.key ≡ key
-unfolding finding_told diag_of
-key_told c key = refl
 
 abbrev is_error_key : Circumstances → Key → Bool
 is_error_key c key = is_crate_error (finding_told c key)

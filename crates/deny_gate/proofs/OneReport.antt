@@ -2,12 +2,14 @@
 use Rattle.std.proofs.Common.{◌≡◌, ◌∙◌, ◌<◌, ℕ, Bool, true, false, List, [], ◌∷◌, Option, None, Some, map, ap, refl}
 use Rattle.std.proofs.Common.{sym, subst, arith}
 use Rattle.std.specs.Prelude.{Contains, IsTrue, filter, is_some}
-use Rattle.std.specs.Cmp.{nat_cmp_total}
+use Rattle.std.specs.Cmp.{nat_cmp_total, on_total}
 use Rattle.std.specs.List.{AllZip}
 use Rattle.deny_base.specs.declared.edge.Edge.{Edge}
+use Rattle.deny_base.specs.declared.entry.Hit.{Hit}
 use Rattle.deny_base.specs.declared.key.Key.{Key}
 use Rattle.deny_lists.proofs.Sorted.{one_list}
 use Rattle.deny_base.proofs.EdgeEqual.{edge_cmp-total}
+use Rattle.deny_base.proofs.EntryEqual.{entry_cmp-total}
 use Rattle.deny_cfg.specs.LicensingView.{licensing_of}
 use Rattle.deny_cfg.specs.PolicyText.{IsPolicyOf}
 use Rattle.deny_cfg.specs.PolicyView.{policy_view}
@@ -26,11 +28,14 @@ use Rattle.deny_codes.specs.Told.{check_told, diag_of, words_told}
 use Rattle.deny_codes.specs.declared.words.Words.{Words}
 use Rattle.deny_lists.proofs.Agreement.{filter_on, map_on}
 use Rattle.deny_lists.proofs.Filters.{filter-all}
+use Rattle.deny_laws.specs.Dead.{AreDead}
+use Rattle.deny_gate.specs.Hits.{AreHits, entry_of}
 use Rattle.deny_gate.specs.Gating.{IsReportBy, IsReportOf, Texts, circumstances_of, circumstances_on}
 use Rattle.deny_gate.specs.Report.{IsReport, finding_told, policy_id, verdict_of}
 use Rattle.deny_gate.specs.Stats.{all_stats}
 use Rattle.deny_gate.specs.declared.report.Finding.{Finding}
 use Rattle.deny_gate.proofs.OneGraph.{one_graph}
+use Rattle.deny_gate.proofs.OneHits.{hits_alike}
 use Rattle.deny_gate.proofs.Standing.{asks_none}
 
 -- what determines each of its items determines the list
@@ -130,13 +135,26 @@ of_keys c view a b this that keys alike files =
     a.dup_edges b.dup_edges
     (subst (λ (ks : List Key). ShowsEach c.policy c.graph (filter is_of_duplicate ks) a.dup_edges) keys this.shown)
     that.shown in
+    let krates : a.krates ≡ b.krates = this.graph ∙ sym that.graph in
+    let hits : a.hits ≡ b.hits =
+    one_list (on_total entry_of entry_cmp-total) a.hits b.hits
+    (subst (λ (all : List Hit). AreHits all a.hits)
+    (hits_alike c this.listed.facts that.listed.facts this.counts that.counts this.listed.true_facts
+    (record { chains = that.listed.true_facts.chains }) this.tells that.tells) this.hits) that.hits in
+    let dead : a.dead ≡ b.dead =
+    one_list entry_cmp-total a.dead b.dead
+    (subst (λ (hs : List Hit). AreDead that.keys hs a.dead) hits
+    (subst (λ (ks : List Key). AreDead ks a.hits a.dead) keys this.dead)) that.dead in
     let stats : a.stats ≡ b.stats =
     this.stats ∙ (ap (all_stats (is_some c.licensing)) findings ∙ sym that.stats) in
     let verdict : a.verdict ≡ b.verdict = this.verdict ∙ (ap verdict_of findings ∙ sym that.verdict) in
     λ i. record {
       files = files i;
+      krates = krates i;
       findings = findings i;
       dup_edges = dup_edges i;
+      hits = hits i;
+      dead = dead i;
       stats = stats i;
       verdict = verdict i;
     }

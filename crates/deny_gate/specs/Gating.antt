@@ -1,11 +1,13 @@
 -- What the gate promises of the texts that it is handed.
-use Rattle.std.specs.Prelude.{◌≡◌, ◌≢◌, ◌⊎◌, ◌<◌, ◌^◌, ℕ, true, false, IsTrue, List, [], ◌∷◌, length, map, filter}
+use Rattle.std.specs.Prelude.{◌≡◌, ◌≢◌, ◌⊎◌, ◌<◌, ◌^◌, ℕ, Bool, true, false, IsTrue, List, [], ◌∷◌, length, map}
+use Rattle.std.specs.Prelude.{filter}
 use Rattle.std.specs.Prelude.{Option, None, Some, Ok, Err, IfSome, option_map}
 use Rattle.deny_base.specs.declared.check.Which.TheVariants as which
 use Rattle.deny_base.specs.declared.entry.Hit.{Hit}
 use Rattle.deny_base.specs.declared.finding.Pack.{Pack}
 use Rattle.deny_base.specs.declared.key.Key.{Key}
 use Rattle.deny_base.specs.declared.span.Span.{Span}
+use Rattle.deny_cfg.specs.Lawful.{IsLawful, IsLawfulLicensing}
 use Rattle.deny_cfg.specs.LicensingView.{licensing_of}
 use Rattle.deny_cfg.specs.PolicyText.{IsPolicyOf, ListsFaults, TellsClashes, policy_file}
 use Rattle.deny_cfg.specs.PolicyView.{policy_view}
@@ -14,20 +16,21 @@ use Rattle.deny_krates.specs.Checked.{Resolved, checked}
 use Rattle.deny_krates.specs.Read.{IsGraphOf}
 use Rattle.deny_krates.specs.fault.MetadataFault.{MetadataFault}
 use Rattle.deny_krates.specs.fault.MetadataFault.TheVariants as fault
-use Rattle.deny_model.specs.Graph.{Graph}
+use Rattle.deny_model.specs.Graph.{Crate, Graph}
 use Rattle.deny_model.specs.Licensing.{Licensing}
 use Rattle.deny_model.specs.Policy as model
 use Rattle.deny_codes.specs.Circumstances.{Circumstances, View, licensed, seen_by, tabled}
+use Rattle.deny_codes.specs.Hits.{TellsLicensed, both_hits}
 use Rattle.deny_codes.specs.Saying.{HasTable, IsBreakIn, bytes_of}
 use Rattle.deny_codes.specs.Standing.{AreKeys}
 use Rattle.deny_codes.specs.StdReplacements.{asks_for_table}
 use Rattle.deny_dup_edges.specs.DupEdges.{ShowsEach, is_of_duplicate}
-use Rattle.deny_dup_edges.specs.declared.dup_edges.DupEdges.{DupEdges}
 use Rattle.deny_licenses.specs.Check.{IsLicensed}
 use Rattle.deny_toml.specs.Faults.{fault_at}
 use Rattle.deny_toml.specs.declared.error.FaultKind.TheVariants.{Grammar}
+use Rattle.deny_gate.specs.Hits.{AreHits}
 use Rattle.deny_gate.specs.Report.{IsReport, finding_told, policy_id}
-use Rattle.deny_gate.specs.declared.report.Finding.{Finding}
+use Rattle.deny_gate.specs.declared.checks.Told.{Told}
 use Rattle.deny_gate.specs.declared.report.GateError.{GateError}
 use Rattle.deny_gate.specs.declared.report.GateError.TheVariants.{Config, Invalid, NotBuilt, Metadata, Replacement}
 use Rattle.deny_gate.specs.declared.report.GateError.TheVariants.{Memory}
@@ -191,25 +194,27 @@ IsCauseBehind p metadata replacements (Replacement at) =
     HasGraph metadata × IsTableCauseFor p replacements (Replacement at)
 IsCauseBehind p metadata replacements Memory = Unit {0}
 
--- what stands is told and shown so
-pub record IsTold (c : Circumstances) (findings : List Finding) (shown : List DupEdges) : Type 0 where
+-- no two entries of the policy have one range
+pub record AreEntriesApart (said : Policy) : Type 0 where
+  pub bans : IsLawful said.bans
+  pub licences : IfSome said.licenses IsLawfulLicensing
+
+-- what stands is told and shown so, and these are the hits
+pub record IsTold (c : Circumstances) (told : Told) : Type 0 where
   pub keys : List Key
   pub listed : AreKeys c keys
-  pub told : findings ≡ map (finding_told c) keys
-  pub each : ShowsEach c.policy c.graph (filter is_of_duplicate keys) shown
+  pub findings : told.findings ≡ map (finding_told c) keys
+  pub shown : ShowsEach c.policy c.graph (filter is_of_duplicate keys) told.dup_edges
+  pub counts : Crate → Bool
+  pub tells : TellsLicensed c.licensing c.graph counts
+  pub hits : AreHits (both_hits c listed.facts counts) told.hits
 
 -- by some view of files
-pub record IsToldOn (said : Policy) (g : Graph) (replacements : Option (List ℕ)) (findings : List Finding)
-    (shown : List DupEdges) : Type 0 where
+pub record IsToldOn (said : Policy) (g : Graph) (replacements : Option (List ℕ)) (told : Told) : Type 0 where
   pub view : View
-  pub is_told : IsTold (circumstances_of said g replacements view) findings shown
+  pub is_told : IsTold (circumstances_of said g replacements view) told
 
--- what the licence check tells by what a policy says of licences
-pub record TellsLicences (l : Licensing) (g : Graph) (file : ℕ) (old new : List Pack) : Type 0 where
-  pub hits : List Hit
-  pub licensed : IsLicensed l g file old new hits
-
--- nothing where the policy does not speak of licences
-abbrev pub TellsLicencesIf : Option Licensing → Graph → ℕ → List Pack → List Pack → Type 0
-TellsLicencesIf None g file old new = new ≡ old
-TellsLicencesIf (Some l) g file old new = TellsLicences l g file old new
+-- what the licence check tells and hands out by what a policy says of licences: nothing where it does not speak of them
+abbrev pub IsLicensedIf : Option Licensing → Graph → ℕ → List Pack → List Pack → List Hit → Type 0
+IsLicensedIf None g file old new hits = (new ≡ old) × (hits ≡ [])
+IsLicensedIf (Some l) g file old new hits = IsLicensed l g file old new hits

@@ -1,4 +1,5 @@
--- The report in circumstances: one finding for each key that stands, what is shown of duplicates, and the verdict.
+-- The report in circumstances: one finding for each key that stands, what is shown of duplicates, which entries are hit
+-- and which are dead, and the verdict.
 use Rattle.std.specs.Prelude.{◌≡◌, ◌&&◌, ℕ, Bool, true, false, List, Option, is_some, map, filter}
 use Rattle.std.specs.List.{list_any}
 use Rattle.deny_base.specs.declared.check.Check.{Check}
@@ -10,9 +11,13 @@ use Rattle.deny_base.specs.declared.level.Severity.{Severity}
 use Rattle.deny_base.specs.declared.level.Severity.TheVariants.{Bug, Error, Warning, Note, Help}
 use Rattle.deny_base.specs.declared.span.Kid.{Kid}
 use Rattle.deny_codes.specs.Circumstances.{Circumstances}
+use Rattle.deny_codes.specs.Hits.{TellsLicensed, both_hits}
 use Rattle.deny_codes.specs.Standing.{AreKeys}
 use Rattle.deny_codes.specs.Told.{check_told, diag_told, words_told}
 use Rattle.deny_dup_edges.specs.DupEdges.{ShowsEach, is_of_duplicate}
+use Rattle.deny_laws.specs.Dead.{AreDead}
+use Rattle.deny_model.specs.Graph.{Crate}
+use Rattle.deny_gate.specs.Hits.{AreHits}
 use Rattle.deny_gate.specs.Stats.{all_stats, same_check}
 use Rattle.deny_gate.specs.declared.report.Finding.{Finding}
 use Rattle.deny_gate.specs.declared.report.Report.{Report}
@@ -62,7 +67,13 @@ verdict_by true true = Fail 6
 abbrev pub verdict_of : List Finding → Verdict
 verdict_of findings = verdict_by (list_any (fails_as Bans) findings) (list_any (fails_as Licenses) findings)
 
+-- the keys of what is told
+abbrev pub keys_in : List Finding → List Key
+keys_in findings = map (λ f. f.diag.key) findings
+
 pub record IsReport (c : Circumstances) (report : Report) : Type 0 where
+  -- the graph is the one that was judged
+  pub graph : report.krates ≡ c.graph
   -- what stands, ascending, each once
   pub keys : List Key
   pub listed : AreKeys c keys
@@ -70,6 +81,12 @@ pub record IsReport (c : Circumstances) (report : Report) : Type 0 where
   pub told : report.findings ≡ map (finding_told c) keys
   -- and shows what leads to each duplicate
   pub shown : ShowsEach c.policy c.graph (filter is_of_duplicate keys) report.dup_edges
-  -- it counts them by check: those of licences where the policy speaks of licences
+  -- each entry that is hit has its first hit, by a test that tells which crates the licence check runs over
+  pub counts : Crate → Bool
+  pub tells : TellsLicensed c.licensing c.graph counts
+  pub hits : AreHits (both_hits c listed.facts counts) report.hits
+  -- an entry that a key names as unused, and that has no hit, is dead
+  pub dead : AreDead keys report.hits report.dead
+  -- it counts its findings by check: those of licences where the policy speaks of licences
   pub stats : report.stats ≡ all_stats (is_some c.licensing) report.findings
   pub verdict : report.verdict ≡ verdict_of report.findings

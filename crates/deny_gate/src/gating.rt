@@ -1,31 +1,32 @@
 ghost use Rattle.std.specs.Prelude.{◌≡◌, ◌<◌, ◌^◌, [], ◌∷◌, length, IfOk, IfErr, OnOk};
 ghost use Rattle.std.specs.Prelude.{option_copied};
 ghost use Rattle.deny_cfg.specs.LabelRanges.{AreLabels, licence_ranges, word_labels};
-ghost use Rattle.deny_cfg.specs.LicensingView.{licensing_of};
 ghost use Rattle.deny_cfg.specs.PolicyText.{policy_file};
 ghost use Rattle.deny_cfg.specs.PolicyView.{policy_view};
 ghost use Rattle.deny_krates.specs.Read.{IsGraphOf};
 ghost use Rattle.deny_outside.specs.Disk.{IsLater};
 ghost use Rattle.deny_codes.specs.Saying.{HasTable};
 ghost use Rattle.deny_codes.specs.StdReplacements.{asks_for_table};
-ghost use Rattle.deny_gate.specs.Gating.{AreShort, IsBuilt, IsCause, IsCauseBehind};
+ghost use Rattle.deny_gate.specs.Gating.{AreEntriesApart, AreShort, IsBuilt, IsCause, IsCauseBehind};
 ghost use Rattle.deny_gate.specs.Gating.{IsMetadataCause, IsPolicyCause, IsReportOf, IsReportOn};
 ghost use Rattle.deny_gate.specs.Gating.{IsReportSeen, IsTableCause, IsTableCauseFor, IsTableFor};
-ghost use Rattle.deny_gate.specs.Gating.{IsToldOn, TellsLicencesIf, texts_in};
+ghost use Rattle.deny_gate.specs.Gating.{texts_in};
+ghost use Rattle.deny_gate.specs.Dead.{CanDoWithoutDead};
 ghost use Rattle.deny_gate.specs.Headline.{IsHeadlineOf};
 ghost use Rattle.deny_gate.specs.Labels.{AreLabelled, IsLabelledCause};
 ghost use Rattle.deny_gate.specs.Stats.{code_of, exit_code};
 
-use crate::findings::{findings_in, verdict_of};
-use crate::report::{Finding, GateError, Inputs, Report};
+use crate::checks::told_by_checks;
+use crate::dead::dead_of;
+use crate::findings::verdict_of;
+use crate::report::{GateError, Inputs, Report};
 use crate::stats::all_stats;
-use deny_base::{Files, Pack, Which};
+use deny_base::{Files, Which};
 use deny_cfg::bans::cfg::ValidConfig;
 use deny_cfg::{Policy, PolicyError, Scope, read_policy};
 use deny_krates::{Krates, MetadataFault};
-use deny_lists::{List, NoMemory};
+use deny_lists::NoMemory;
 use deny_outside::PackageFiles;
-use deny_rules::{CheckCtx, DupEdges, bans};
 use deny_std::{ReplacementData, ReplacementError};
 use std::alloc::Global;
 
@@ -36,6 +37,7 @@ fn built_policy(alloc: Global, text: &[u8], files: &mut Files) -> Result<Policy,
     ensures ok { IfOk result (IsBuilt text.now) }
     ensures labels { IfOk result (λ policy. AreLabels text.now (word_labels policy.bans)) }
     ensures licence_labels { IfOk result (λ policy. AreLabels text.now (licence_ranges policy.licenses)) }
+    ensures apart { IfOk result AreEntriesApart }
     ensures err { IfErr result (IsPolicyCause text.now) }
     ensures files { OnOk result (files.new ≡ policy_file text.now ∷ []) }
 {
@@ -101,78 +103,35 @@ fn check_table_for(alloc: Global, cfg: &ValidConfig, table: Option<&[u8]>) -> Re
     }
 }
 
-/// Appends what the licence check finds, where the policy speaks of licences.
-fn add_licenses(
-    alloc: Global,
-    policy: &Policy,
-    krates: &Krates,
-    packs: &mut List<Pack>,
-) -> Result<(), NoMemory>
-    ensures { OnOk result (TellsLicencesIf (licensing_of policy.now.licenses) krates.now policy.now.bans.file_id
-        packs.old packs.new) }
-{
-    match &policy.licenses {
-        Some(cfg) => {
-            let _hits = deny_licenses::check(alloc, cfg, krates, policy.bans.file_id, packs)?;
-            Ok(())
-        }
-        None => Ok(()),
-    }
-}
-
-/// The findings of a policy on a graph, and what is shown of duplicates.
-fn told<D: PackageFiles>(
-    alloc: Global,
-    policy: &Policy,
-    krates: &Krates,
-    table: Option<&[u8]>,
-    disk: &mut D,
-) -> Result<(List<Finding>, List<DupEdges>), NoMemory>
-    requires file { policy.now.bans.file_id ≡ 0 }
-    requires table { IsTableFor (policy_view policy.now.bans) (option_copied table) }
-    ensures told { IfOk result (λ told.
-        IsToldOn policy.now krates.now (option_copied table.entry) told.0 told.1) }
-    ensures untouched { disk.new ≡ disk.old }
-    ensures later { IsLater (D.seen disk.old) (D.seen disk.new) }
-{
-    deny_codes::bans_unlicensed();
-    deny_codes::joined_keys();
-    let ctx = CheckCtx {
-        cfg: &policy.bans,
-        krates,
-        table,
-    };
-    let mut packs = List::new(alloc);
-    let end = bans::check(alloc, &ctx, disk, &mut packs)?;
-    add_licenses(alloc, policy, krates, &mut packs)?;
-    let findings = findings_in(alloc, packs)?;
-    Ok((findings, end.dup_edges))
-}
-
 /// The report of a policy on a graph.
 #[tactic(auto, using(crate::proofs::FindingLaws::seen_report))]
 fn report_on<D: PackageFiles>(
     alloc: Global,
     files: Files,
     policy: &Policy,
-    krates: &Krates,
+    krates: Krates,
     table: Option<&[u8]>,
     disk: &mut D,
 ) -> Result<Report, NoMemory>
     requires file { policy.now.bans.file_id ≡ 0 }
+    requires apart { AreEntriesApart policy.now }
     requires table { IsTableFor (policy_view policy.now.bans) (option_copied table) }
-    ensures report { IfOk result (IsReportSeen policy.now krates.now (option_copied table.entry)) }
+    ensures report { IfOk result (IsReportSeen policy.now krates (option_copied table.entry)) }
     ensures files { IfOk result (λ report. report.files ≡ files) }
     ensures untouched { disk.new ≡ disk.old }
     ensures later { IsLater (D.seen disk.old) (D.seen disk.new) }
 {
-    let (findings, dup_edges) = told(alloc, policy, krates, table, disk)?;
-    let stats = all_stats(policy.licenses.is_some(), findings.as_slice());
-    let verdict = verdict_of(findings.as_slice());
+    let told = told_by_checks(alloc, policy, &krates, table, disk)?;
+    let dead = dead_of(alloc, told.findings.as_slice(), told.hits.as_slice())?;
+    let stats = all_stats(policy.licenses.is_some(), told.findings.as_slice());
+    let verdict = verdict_of(told.findings.as_slice());
     Ok(Report {
         files,
-        findings,
-        dup_edges,
+        krates,
+        findings: told.findings,
+        dup_edges: told.dup_edges,
+        hits: told.hits,
+        dead,
         stats,
         verdict,
     })
@@ -188,6 +147,7 @@ fn report_of<D: PackageFiles>(
     disk: &mut D,
 ) -> Result<Report, GateError>
     requires file { policy.now.bans.file_id ≡ 0 }
+    requires apart { AreEntriesApart policy.now }
     requires small { length metadata.now < 2 ^ 28 }
     ensures report { IfOk result (IsReportOn policy.now metadata.now (option_copied table.entry)) }
     ensures files { IfOk result (λ report. report.files ≡ files) }
@@ -198,12 +158,14 @@ fn report_of<D: PackageFiles>(
 {
     let krates = read_graph(alloc, metadata)?;
     check_table_for(alloc, &policy.bans, table)?;
-    Ok(report_on(alloc, files, policy, &krates, table, disk)?)
+    Ok(report_on(alloc, files, policy, krates, table, disk)?)
 }
 
 /// Reads a policy, cargo's metadata and, where the policy asks for one, a table of replacements, and
 /// reports what stands: what the bans check finds, and behind it, where the policy writes `licenses`,
-/// what the licence check finds. The report fails by a bit for each check that has an error.
+/// what the licence check finds. The report fails by a bit for each check that has an error. It names
+/// the entries of the policy that are hit, and those that are dead: a finding calls them unused, and
+/// nothing hits them.
 ///
 /// Each text has to be under 2^28 bytes. `Config` comes exactly where the policy's text has faults,
 /// `Invalid` exactly where it has none and entries clash, `NotBuilt` exactly where there is a policy
@@ -221,12 +183,16 @@ pub fn gate<D: PackageFiles>(
     ensures report { IfOk result (IsReportOf (texts_in inputs.now)) }
     ensures cause { IfErr result (IsCause (texts_in inputs.now)) }
     ensures headline { IfOk result (IsHeadlineOf (texts_in inputs.now)) }
+    // Any dead entries can go from the policy, where no list of wrappers is emptied: what stands
+    // without them is what the report tells, but for what names one of them as unused.
+    ensures dead_can_go { IfOk result (CanDoWithoutDead (texts_in inputs.now)) }
     ensures exit_code { IfOk result (λ report. exit_code report.stats ≡ code_of report.verdict) }
     ensures labels { IfOk result (λ report. AreLabelled report.files report.findings) }
     ensures clash_labels { IfErr result (IsLabelledCause inputs.now.policy.items) }
     ensures untouched { disk.new ≡ disk.old }
     ensures later { IsLater (D.seen disk.old) (D.seen disk.new) }
 {
+    deny_laws::dead_can_go();
     let mut files = Files::new(alloc);
     let policy = built_policy(alloc, inputs.policy.as_slice(), &mut files)?;
     let table = inputs.replacements.as_deref();

@@ -1,10 +1,15 @@
 //! What follows from the words of the gate's contract.
-ghost use Rattle.std.specs.Prelude.{◌≡◌, ◌≢◌};
-ghost use Rattle.deny_codes.specs.Circumstances.{View};
+ghost use Rattle.std.specs.Prelude.{◌≡◌, ◌≢◌, List};
+ghost use Rattle.deny_base.specs.declared.entry.EntryId.{EntryId};
+ghost use Rattle.deny_codes.specs.Circumstances.{Circumstances, View};
 ghost use Rattle.deny_codes.specs.Saying.{HasTable};
+ghost use Rattle.deny_laws.specs.Dead.{AreAmong};
+ghost use Rattle.deny_laws.specs.Removal.{EmptyNone, without_in};
+ghost use Rattle.deny_gate.specs.Dead.{CanDoWithoutDead, LosesOnly};
 ghost use Rattle.deny_gate.specs.Gating.{AreOneCause, AsksForTable, HasGraph, HasPolicy, IsCause};
 ghost use Rattle.deny_gate.specs.Gating.{IsReportBy, IsReportOf, Texts};
 ghost use Rattle.deny_gate.specs.Headline.{IsHeadlineOf};
+ghost use Rattle.deny_gate.specs.Report.{IsReport};
 ghost use Rattle.deny_gate.specs.Stats.{code_of, exit_code};
 ghost use Rattle.deny_gate.specs.declared.report.GateError.{GateError};
 ghost use Rattle.deny_gate.specs.declared.report.GateError.TheVariants as gate;
@@ -42,6 +47,21 @@ pub fn headline()
     ensures { (texts : Texts) → (report : Report)
         → IsReportOf texts report → IsHeadlineOf texts report }
 {}
+
+/// Any of a report's dead entries can go, as long as no list of wrappers is emptied. The report of the
+/// policy without them has the same keys, but for those that name one of them as unused, and the same
+/// hits.
+pub fn dead_can_go()
+    ensures texts { (texts : Texts) → (report : Report)
+        → IsReportOf texts report → CanDoWithoutDead texts report }
+    ensures reports { (c : Circumstances) → (taken : List EntryId) → (report other : Report)
+        → IsReport c report → AreAmong report.dead taken → EmptyNone c.policy taken
+        → IsReport (without_in c taken) other → LosesOnly taken report other }
+{
+    deny_base::entry_order();
+    deny_codes::one_report();
+    deny_laws::dead_can_go();
+}
 
 /// The code that a program exits with, by the counts of a report, has the bits of its verdict: there is
 /// one exactly where the report fails, and it is these bits.

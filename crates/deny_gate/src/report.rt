@@ -1,8 +1,8 @@
 ghost use Rattle.std.proofs.Common.{rules};
 
 use crate::stats::AllStats;
-use deny_base::{Check, Diag, Diagnostic, Files, Kid, Which};
-use deny_krates::MetadataFault;
+use deny_base::{Check, Diag, Diagnostic, EntryId, Files, Hit, Kid, Which};
+use deny_krates::{Krates, MetadataFault};
 use deny_lists::{List, NoMemory, Plain};
 use deny_rules::DupEdges;
 use deny_toml::ConfigFault;
@@ -42,14 +42,21 @@ impl Plain for Verdict {
 }
 
 /// What the gate finds.
-#[derive(Debug, Drop)]
+#[derive(Drop)]
 pub struct Report {
     /// The files that labels point into: the policy alone, as `deny.toml`.
     pub files: Files,
+    /// The graph that was judged.
+    pub krates: Krates,
     /// They ascend by their keys, and no two have one key.
     pub findings: List<Finding>,
     /// What is shown of each duplicate, in the order of their findings.
     pub dup_edges: List<DupEdges>,
+    /// One for each entry of the policy that is hit, by range and kind: by its first crate in graph
+    /// order, and then that crate's first dependent.
+    pub hits: List<Hit>,
+    /// The entries that a finding names as unused and that have no hit, by range and kind.
+    pub dead: List<EntryId>,
     /// How many findings of each severity a check has: the bans check always, and the licence check
     /// where the policy writes `licenses`; no other.
     pub stats: AllStats,

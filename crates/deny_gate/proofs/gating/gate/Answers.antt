@@ -1,6 +1,6 @@
 use Rattle.deny_cfg.specs.PolicyView.{policy_view}
 use Rattle.deny_gate.specs.Gating.{Texts}
-use Rattle.deny_gate.proofs.CauseLaws.{cause_then, code_then, headline_then, report_then, same_texts}
+use Rattle.deny_gate.proofs.CauseLaws.{cause_then, code_then, dead_then, headline_then, report_then, same_texts}
 use Rattle.deny_gate.proofs.ClashLabels.{cause_behind_labelled, policy_cause_labelled}
 use Rattle.deny_gate.proofs.PolicyLabels.{labels_then}
 use Rattle.deny_gate.proofs.gating.gate.Goals as goal
@@ -46,3 +46,10 @@ returns-in_err-policy-clause-clash_labels g c =
 pub returns-clause-clash_labels : goal.returns-clause-clash_labels
 returns-clause-clash_labels g c = cause_behind_labelled _ _ (policy_view c.in_ok-policy.policy.bans) _
     c.report_of.result c.report_of.ensures.cause
+
+pub returns-clause-dead_can_go : goal.returns-clause-dead_can_go
+returns-clause-dead_can_go g c =
+    let read : Texts = record { policy = _; metadata = _; replacements = _ } in
+    let same = same_texts read _ c.as_slice.ensures.value c.as_slice-2.ensures.value c.as_deref-table.ensures.value in
+    dead_then read _ same c.in_ok-policy.policy c.in_ok-policy.ensures.ok _ c.in_ok-policy.ensures.files
+    c.dead_can_go.ensures c.report_of.result c.report_of.ensures.report c.report_of.ensures.files

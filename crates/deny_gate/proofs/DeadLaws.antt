@@ -1,0 +1,114 @@
+-- The dead entries of a report can go.
+use Rattle.std.proofs.Common.{◌≡◌, ◌∙◌, ◌++◌, Bool, List, Option, None, Some, ap, subst, sym}
+use Rattle.std.specs.Prelude.{Contains, option_map}
+use Rattle.std.specs.Cmp.{IsTotalOrder, on_total}
+use Rattle.deny_lists.specs.Ascending.{Lists}
+use Rattle.deny_lists.proofs.Members.{from_contains_map}
+use Rattle.deny_lists.proofs.Sorted.{one_list}
+use Rattle.deny_base.specs.Entry.{entry_cmp}
+use Rattle.deny_base.specs.KeyOrder.{key_cmp}
+use Rattle.deny_base.specs.declared.entry.EntryId.{EntryId}
+use Rattle.deny_base.specs.declared.entry.Hit.{Hit}
+use Rattle.deny_base.specs.declared.key.Key.{Key}
+use Rattle.deny_model.specs.Graph.{Crate, Graph}
+use Rattle.deny_model.specs.Licensing.{Licensing}
+use Rattle.deny_codes.specs.Circumstances.{Circumstances}
+use Rattle.deny_codes.specs.Hits.{TellsLicensed, both_hits, hits_in, licence_hits_in}
+use Rattle.deny_codes.specs.Standing.{AreKeys, Stands}
+use Rattle.deny_codes.specs.Told.{words_told}
+use Rattle.deny_laws.specs.Dead.{AreAmong, AreDead, DeadCanGo}
+use Rattle.deny_laws.specs.Removal.{AreGone, EmptyNone, cut_licensing, unnaming, without_in}
+use Rattle.deny_gate.specs.Dead.{CanDoWithoutDead, LosesOnly, TellsTheRest}
+use Rattle.deny_gate.specs.Gating.{IsReportOf, Texts}
+use Rattle.deny_gate.specs.Hits.{AreHits, entry_of}
+use Rattle.deny_gate.specs.Report.{IsReport, finding_told, keys_in}
+use Rattle.deny_gate.specs.declared.report.Finding.{Finding}
+use Rattle.deny_gate.specs.declared.report.Report.{Report}
+use Rattle.deny_gate.proofs.FindingLaws.{keys_told, severity_told}
+use Rattle.deny_gate.proofs.OneHits.{hits_alike}
+use Rattle.deny_gate.proofs.Severities.{severity_alike}
+
+-- what is dead by the hits of a report is dead by all hits, since they are the same
+dead_by_all : (keys : List Key) (all hits : List Hit) (dead : List EntryId) → AreHits all hits → AreDead keys hits dead
+    → AreDead keys all dead
+dead_by_all keys all hits dead are listed = record {
+  ascending = listed.ascending;
+  whole = λ e is. listed.whole e (record {
+    reported = is.reported;
+    unhit = λ h at. is.unhit h (are.sound h at);
+  });
+  sound = λ e at. let is = listed.sound e at in record {
+    reported = is.reported;
+    unhit = λ h at. is.unhit h (are.whole h at);
+  };
+}
+
+-- a test that tells which crates count for a policy's licences tells it for fewer entries
+tells_less : (o : Option Licensing) (taken : List EntryId) (g : Graph) (counts : Crate → Bool)
+    → TellsLicensed o g counts → TellsLicensed (option_map (cut_licensing taken) o) g counts
+tells_less None taken g counts tells = tt
+tells_less (Some l) taken g counts tells = tells
+
+module _ (law : DeadCanGo) (c : Circumstances) (taken : List EntryId) (report : Report) (is : IsReport c report)
+    (among : AreAmong report.dead taken) (kept : EmptyNone c.policy taken) where
+  keys_are : keys_in report.findings ≡ is.keys
+  keys_are = ap keys_in is.told ∙ keys_told c is.keys
+
+  gone : AreGone c (without_in c taken) is.listed.facts taken is.keys
+  gone = law c is.listed.facts is.counts is.keys report.dead taken is.listed.true_facts is.tells is.listed.listed
+      (dead_by_all is.keys (both_hits c is.listed.facts is.counts) report.hits report.dead is.hits is.dead) among kept
+
+  hits_stay : both_hits c is.listed.facts is.counts ≡ both_hits (without_in c taken) is.listed.facts is.counts
+  hits_stay = sym
+      (ap (λ (hits : List Hit). hits ++ licence_hits_in is.counts (without_in c taken)) gone.hits
+      ∙ ap (λ (hits : List Hit). hits_in c is.listed.facts ++ hits) (gone.licence_hits is.counts is.tells))
+
+  rest_keys : AreKeys (without_in c taken) (unnaming taken (keys_in report.findings))
+  rest_keys = record {
+    facts = is.listed.facts;
+    true_facts = gone.facts_hold;
+    listed = subst (λ (keys : List Key). Lists key_cmp (Stands (without_in c taken) is.listed.facts)
+        (unnaming taken keys)) (sym keys_are) gone.listed;
+  }
+
+  same_severity : (f : Finding) → Contains report.findings f
+      → (words_told (without_in c taken) f.diag.key).severity ≡ f.diag.diag.severity
+  same_severity f at =
+      let from = from_contains_map (finding_told c) is.keys f (subst (λ (fs : List Finding). Contains fs f) is.told at) in
+      subst (λ (g : Finding). (words_told (without_in c taken) g.diag.key).severity ≡ g.diag.diag.severity) from.2
+      (severity_told c (without_in c taken) from.0 (severity_alike c taken from.0))
+
+  pub tells_the_rest : TellsTheRest c taken report
+  unfolding rest_keys
+  tells_the_rest = record {
+    keys = rest_keys;
+    severities = same_severity;
+    counts = is.counts;
+    tells = tells_less c.licensing taken c.graph is.counts is.tells;
+    hits = subst (λ (all : List Hit). AreHits all report.hits) hits_stay is.hits;
+  }
+
+  -- and so a report of the policy without them
+  pub loses_only : IsTotalOrder entry_cmp
+      → ((d : Circumstances) → (xs ys : List Key) → AreKeys d xs → AreKeys d ys → xs ≡ ys)
+      → (other : Report) → IsReport (without_in c taken) other → LosesOnly taken report other
+  loses_only total one other that = record {
+    keys = (ap keys_in that.told ∙ keys_told (without_in c taken) that.keys)
+        ∙ one (without_in c taken) that.keys (unnaming taken (keys_in report.findings)) that.listed rest_keys;
+    hits = one_list (on_total entry_of total) other.hits report.hits that.hits
+        (subst (λ (all : List Hit). AreHits all report.hits)
+        (hits_stay ∙ hits_alike (without_in c taken) is.listed.facts that.listed.facts is.counts that.counts
+        gone.facts_hold that.listed.true_facts (tells_less c.licensing taken c.graph is.counts is.tells) that.tells)
+        is.hits);
+  }
+
+pub without_dead : DeadCanGo → (texts : Texts) (report : Report) → IsReportOf texts report
+    → CanDoWithoutDead texts report
+without_dead law texts report is = record {
+  said = is.by.said;
+  is_said = is.by.is_said;
+  graph = is.by.graph;
+  is_graph = is.by.is_graph;
+  view = is.view;
+  can = λ taken among kept. tells_the_rest law _ taken report is.by.is_report among kept;
+}

@@ -1,0 +1,62 @@
+-- The dead entries of a report, and what the report of a policy without them is.
+use Rattle.std.specs.Prelude.{◌≡◌, Bool, List, Option, None, Some, Contains, option_and_then, if◌then◌else◌}
+use Rattle.std.specs.List.{list_any}
+use Rattle.std.specs.Ordering.{eq_by_cmp}
+use Rattle.deny_base.specs.Entry.{entry_cmp}
+use Rattle.deny_base.specs.declared.entry.EntryId.{EntryId}
+use Rattle.deny_base.specs.declared.key.Key.{Key}
+use Rattle.deny_cfg.specs.declared.policy.Policy.{Policy}
+use Rattle.deny_codes.specs.Circumstances.{Circumstances, View}
+use Rattle.deny_codes.specs.Hits.{TellsLicensed, both_hits}
+use Rattle.deny_codes.specs.Standing.{AreKeys}
+use Rattle.deny_codes.specs.Told.{words_told}
+use Rattle.deny_krates.specs.Read.{IsGraphOf}
+use Rattle.deny_laws.specs.Dead.{AreAmong, unused_entry}
+use Rattle.deny_laws.specs.Removal.{EmptyNone, unnaming, without_in}
+use Rattle.deny_model.specs.Graph.{Crate, Graph}
+use Rattle.deny_gate.specs.Gating.{IsBuilt, Texts, circumstances_of}
+use Rattle.deny_gate.specs.Hits.{AreHits}
+use Rattle.deny_gate.specs.Report.{keys_in}
+use Rattle.deny_gate.specs.declared.report.Finding.{Finding}
+use Rattle.deny_gate.specs.declared.report.Report.{Report}
+
+-- what a policy without these entries comes to, by a report of the policy with them
+pub record TellsTheRest (c : Circumstances) (taken : List EntryId) (report : Report) : Type 0 where
+  -- the report's keys stand, but for those that name one of these as unused, and nothing else
+  pub keys : AreKeys (without_in c taken) (unnaming taken (keys_in report.findings))
+  -- at the severities of the report
+  pub severities : (f : Finding) → Contains report.findings f
+      → (words_told (without_in c taken) f.diag.key).severity ≡ f.diag.diag.severity
+  -- and the report's entries are hit, each by the same first witness
+  pub counts : Crate → Bool
+  pub tells : TellsLicensed (without_in c taken).licensing c.graph counts
+  pub hits : AreHits (both_hits (without_in c taken) keys.facts counts) report.hits
+
+-- so it is for any of the report's dead entries, as long as no list of wrappers is emptied
+abbrev pub DeadCanGoIn : Circumstances → Report → Type 0
+DeadCanGoIn c report = (taken : List EntryId) → AreAmong report.dead taken → EmptyNone c.policy taken
+    → TellsTheRest c taken report
+
+-- so it is of the policy and the graph of texts
+pub record CanDoWithoutDead (texts : Texts) (report : Report) : Type 0 where
+  pub said : Policy
+  pub is_said : IsBuilt texts.policy said
+  pub graph : Graph
+  pub is_graph : IsGraphOf texts.metadata graph
+  pub view : View
+  pub can : DeadCanGoIn (circumstances_of said graph texts.replacements view) report
+
+-- a report has the keys of another but for those that name one of these as unused, and the same hits
+pub record LosesOnly (taken : List EntryId) (report other : Report) : Type 0 where
+  pub keys : keys_in other.findings ≡ unnaming taken (keys_in report.findings)
+  pub hits : other.hits ≡ report.hits
+
+-- ---- for private clauses
+
+-- an entry is one of these
+unfoldable pub is_among : List EntryId → EntryId → Bool
+is_among entries e = list_any (λ other. eq_by_cmp entry_cmp other e) entries
+
+-- the entry that a key names as unused, unless it is one of those that are hit
+unfoldable pub dead_entry : List EntryId → Key → Option EntryId
+dead_entry hit key = option_and_then (λ e. if is_among hit e then None else Some e) (unused_entry key)

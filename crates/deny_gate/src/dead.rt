@@ -1,0 +1,159 @@
+//! Dead entries: what a finding names as unused, and nothing hits.
+ghost use Rattle.std.specs.Prelude.{◌≡◌, IfOk, filter_map, map};
+ghost use Rattle.std.specs.List.Sorted.{IsStrictlySortedBy};
+ghost use Rattle.deny_base.specs.Entry.{entry_cmp};
+ghost use Rattle.deny_codes.specs.Codes.{bans_unused_kind, license_unused_kind, unused_kind};
+ghost use Rattle.deny_laws.specs.Dead.{AreDead, unused_entry};
+ghost use Rattle.deny_gate.specs.Dead.{dead_entry, is_among};
+ghost use Rattle.deny_gate.specs.Hits.{entry_of, hit_cmp};
+ghost use Rattle.deny_gate.specs.Report.{keys_in};
+
+use crate::report::Finding;
+use deny_base::{Code, DiagnosticCode, EntryId, EntryKind, Hit, Key, LicenseCode, entry_order};
+use deny_lists::{List, NoMemory, put_in_order};
+use std::alloc::Global;
+
+/// The kind of entry that a finding of the bans check says came to nothing.
+fn bans_unused_kind(code: Code) -> Option<EntryKind>
+    ensures { result ≡ bans_unused_kind code }
+{
+    match code {
+        Code::UnmatchedSkip => Some(EntryKind::Skip),
+        Code::UnmatchedSkipRoot => Some(EntryKind::SkipRoot),
+        Code::UnusedWrapper => Some(EntryKind::Wrapper),
+        Code::UnmatchedBypass => Some(EntryKind::Bypass),
+        Code::UnmatchedPathBypass => Some(EntryKind::BypassPath),
+        Code::UnmatchedGlob => Some(EntryKind::BypassGlob),
+        Code::UnmatchedReplacementIgnore => Some(EntryKind::ReplacementIgnore),
+        Code::Banned
+        | Code::Allowed
+        | Code::NotAllowed
+        | Code::Duplicate
+        | Code::Skipped
+        | Code::Wildcard
+        | Code::UnnecessarySkip
+        | Code::AllowedByWrapper
+        | Code::UnmatchedWrapper
+        | Code::SkippedByRoot
+        | Code::BuildScriptNotAllowed
+        | Code::ExactFeaturesMismatch
+        | Code::FeatureNotExplicitlyAllowed
+        | Code::FeatureBanned
+        | Code::UnknownFeature
+        | Code::DefaultFeatureEnabled
+        | Code::PathBypassed
+        | Code::PathBypassedByGlob
+        | Code::ChecksumMatch
+        | Code::ChecksumMismatch
+        | Code::DeniedByExtension
+        | Code::DetectedExecutable
+        | Code::DetectedExecutableScript
+        | Code::UnableToCheckPath
+        | Code::FeaturesEnabled
+        | Code::WorkspaceDuplicate
+        | Code::UnresolvedWorkspaceDependency
+        | Code::UnusedWorkspaceDependency
+        | Code::ReplacedInStd => None,
+    }
+}
+
+/// The same of a finding of the licence check.
+fn license_unused_kind(code: LicenseCode) -> Option<EntryKind>
+    ensures { result ≡ license_unused_kind code }
+{
+    match code {
+        LicenseCode::LicenseNotEncountered => Some(EntryKind::LicenseAllow),
+        LicenseCode::LicenseExceptionNotEncountered => Some(EntryKind::LicenseException),
+        LicenseCode::Accepted
+        | LicenseCode::Rejected
+        | LicenseCode::Unlicensed
+        | LicenseCode::ParseError
+        | LicenseCode::SkippedPrivateWorkspaceCrate => None,
+    }
+}
+
+fn unused_kind(code: DiagnosticCode) -> Option<EntryKind>
+    ensures { result ≡ unused_kind code }
+{
+    match code {
+        DiagnosticCode::Deprecated => None,
+        DiagnosticCode::Bans(code) => bans_unused_kind(code),
+        DiagnosticCode::License(code) => license_unused_kind(code),
+    }
+}
+
+/// The entry that a key names as unused.
+#[tactic(auto, unfolding(deny_laws::specs::Dead::unused_entry))]
+fn unused_entry(key: &Key) -> Option<EntryId>
+    ensures { result ≡ unused_entry key.now }
+{
+    let kind = unused_kind(key.code)?;
+    Some(EntryId {
+        kind,
+        range: key.entry,
+    })
+}
+
+/// The entries of hits, in their order.
+fn hit_entries(alloc: Global, hits: &[Hit]) -> Result<List<EntryId>, NoMemory>
+    ensures { IfOk result (λ entries. entries ≡ map entry_of hits.now) }
+{
+    let mut entries = List::new(alloc);
+    for hit in hits {
+        entries.push(hit.entry)?;
+    }
+    Ok(entries)
+}
+
+/// Whether an entry is one of these, which ascend.
+fn is_among(entries: &[EntryId], entry: &EntryId) -> bool
+    requires { IsStrictlySortedBy entry_cmp entries.now }
+    ensures { result ≡ is_among entries.now entry.now }
+{
+    entry_order();
+    entries.binary_search(entry).is_ok()
+}
+
+/// The entry that a key names as unused, unless it is one of those that are hit.
+#[tactic(auto, unfolding(crate::specs::Dead::dead_entry))]
+fn dead_entry(key: &Key, hit: &[EntryId]) -> Option<EntryId>
+    requires { IsStrictlySortedBy entry_cmp hit.now }
+    ensures { result ≡ dead_entry hit.now key.now }
+{
+    let entry = unused_entry(key)?;
+    if is_among(hit, &entry) {
+        None
+    } else {
+        Some(entry)
+    }
+}
+
+/// The dead entries that findings name, in the order of these.
+fn dead_entries(
+    alloc: Global,
+    findings: &[Finding],
+    hit: &[EntryId],
+) -> Result<List<EntryId>, NoMemory>
+    requires { IsStrictlySortedBy entry_cmp hit.now }
+    ensures { IfOk result (λ entries. entries ≡ filter_map (λ f. dead_entry hit.now f.diag.key) findings.now) }
+{
+    let mut entries = List::new(alloc);
+    for finding in findings {
+        if let Some(entry) = dead_entry(&finding.diag.key, hit) {
+            entries.push(entry)?;
+        }
+    }
+    Ok(entries)
+}
+
+/// The entries that findings name as unused and that have no hit, by range and kind.
+pub fn dead_of(alloc: Global, findings: &[Finding], hits: &[Hit]) -> Result<List<EntryId>, NoMemory>
+    requires { IsStrictlySortedBy hit_cmp hits.now }
+    ensures { IfOk result (AreDead (keys_in findings.now) hits.now) }
+{
+    entry_order();
+    let hit = hit_entries(alloc, hits)?;
+    let mut dead = dead_entries(alloc, findings, hit.as_slice())?;
+    put_in_order(&mut dead)?;
+    Ok(dead)
+}

@@ -1,0 +1,3 @@
+//! The check of `[licenses]`.
+
+pub use deny_licenses::check;
