@@ -1,8 +1,10 @@
 -- What follows from the causes of a run's outcomes.
-use Rattle.std.proofs.Common.{◌∙◌, ◌≡◌, ◌≢◌, ◌<◌, ◌==◌, ◌+◌, ◌^◌, ℕ, IsTrue, Bool, true, false, List, length, Option, None, Some, ap, refl, sym, subst, rules, arith, if◌then◌else◌}
+use Rattle.std.proofs.Common.{◌∙◌, ◌≡◌, ◌≢◌, ◌<◌, ◌≤◌, ◌==◌, ◌+◌, ◌^◌, ℕ, IsTrue, Bool, true, false, List, length, Option, None, Some, ap, refl, sym, subst, rules, arith, if◌then◌else◌}
 use Rattle.std.specs.List.{list_any}
+use Rattle.std.proofs.lemmas.Option.{none-some}
 use Rattle.std.specs.Prelude.{IfSome, not, option_map}
 use Rattle.deny_outside.specs.Count.{Rose}
+use Rattle.deny_outside.specs.Out.{Appends}
 use Rattle.deny_outside.specs.Read.{IsWhole}
 use Rattle.deny_outside.specs.Disk.{Disk, Files, bytes_at}
 use Rattle.deny_base.specs.declared.check.Check.TheVariants.{Bans, Licenses}
@@ -14,18 +16,21 @@ use Rattle.deny_cfg.specs.declared.policy.Policy as cfg
 use Rattle.deny_model.specs.Policy as model
 use Rattle.deny_codes.specs.Saying.{HasTable}
 use Rattle.deny_codes.specs.StdReplacements.{asks_for_table}
+use Rattle.deny_generator.proofs.LengthLemmas.{short_metadata, short_policy}
 use Rattle.deny_gate.specs.Gating.{AreOneCause, AreShort, AsksForTable, HasGraph, HasPolicy, IsReportOf, IsCause, Texts}
 use Rattle.deny_gate.specs.declared.report.GateError.{GateError}
 use Rattle.deny_gate.specs.declared.report.GateError.TheVariants as gate
+use Rattle.deny_gate.specs.Dead.{CanDoWithoutDead}
 use Rattle.deny_gate.specs.Headline.{IsHeadlineOf, is_failure}
 use Rattle.deny_gate.specs.Report.{fails_as, has_error, policy_id, verdict_by}
 use Rattle.deny_gate.specs.declared.report.Report.{Report}
-use Rattle.deny_cli.specs.Causes.{read_or_none, text_at, texts_at, texts_of, IsShort, IsFirstLong, IsLongThere, IsReadIfNamed, AreTextsOf, AreTold, IsReportOn, IsStopOn, IsLongOn, IsReadFault, IsRefusedRun, IsValidRun, IsHeadlineOn, IsReadable, IsTextOfClashes, ComesBy, StopsAt}
+use Rattle.deny_cli.specs.Causes.{known_texts, made_texts, texts_at, IsShort, IsFirstLong, IsLongThere, IsReadIfNamed, IsPolicyAt, AreTextsOf, AreTold, IsReportOn, IsStopOn, IsLongOn, IsReadFault, IsRefusedRun, IsValidRun, IsHeadlineOn, CanDoWithoutDeadOn, IsReadable, IsTextOfClashes, ComesBy, StopsAt}
 use Rattle.deny_cli.specs.Outcome.{AreOneStop, IfDone, IfReported, IsUsage, IsDoneOrMemory, IsStopOrMemory, bits_of, failing_bits, status_of}
-use Rattle.deny_cli.specs.Outputs.{LeavesOut}
+use Rattle.deny_cli.specs.Outputs.{FailsWriting, LeavesOut, WritesReport}
 use Rattle.deny_cli.specs.Stops.{IsTextOf}
-use Rattle.deny_cli.specs.Words.{Command, Asks, IsAccepted, path_of}
-use Rattle.deny_cli.proofs.WordsLemmas.{one_command}
+use Rattle.deny_cli.specs.Summary.{answer_lines, lines_for}
+use Rattle.deny_cli.specs.Words.{Command, check, generate, Asks, AsksForFew, IsAccepted, most_crates}
+use Rattle.deny_cli.proofs.WordsLemmas.{asks_for_few, one_command}
 use Rattle.deny_cli.specs.declared.outcome.Outcome.{Outcome}
 use Rattle.deny_cli.specs.declared.outcome.Outcome.TheVariants.{Done, Usage, Read, Long, Gate, Write, Memory}
 
@@ -87,6 +92,14 @@ no_cause : AnswerLaws → (texts : Texts) (report : Report) (error : GateError) 
 no_cause laws texts report error of other = laws.valid texts error other (has_policy texts report of)
     (has_graph texts report of) (has_table laws texts report of)
 
+-- texts that are made are short
+pub made_short : (crates : ℕ) → crates ≤ most_crates → AreShort (made_texts crates)
+made_short crates few = record {
+  policy = short_policy crates few;
+  metadata = short_metadata crates few;
+  replacements = tt;
+}
+
 -- ---- of a run
 
 -- where the disk tells its files, a text that was read is the one that stands there
@@ -101,21 +114,29 @@ named_there old files None text told read = read
 named_there old files (Some path) None told read = absurd read
 named_there old files (Some path) (Some text) told read = ap Some (read_there old files path text told read.whole)
 
--- so the texts of a run are those
+-- the files that are told, by what stands on them
+files_of : (make : Files → Texts) (told : Option Files) (texts : Texts) → option_map make told ≡ Some texts
+    → (files : Files) × (told ≡ Some files) × (make files ≡ texts)
+files_of make None texts is = absurd (none-some texts is)
+files_of make (Some files) texts is = (files, refl, cc is)
+
+-- so where the texts of a command are known, they are those
+one_text : (old : Disk) (command : Command) (texts known : Texts) → AreTextsOf old command texts
+    → known_texts old.files command ≡ Some known → texts ≡ known
+one_text old (check asked) texts known read is =
+    let there = files_of (λ files. texts_at files asked) old.files known is in
+    let policy = read_there old there.0 asked.policy texts.policy there.1 read.policy.whole in
+    let metadata = read_there old there.0 asked.metadata texts.metadata there.1 read.metadata.whole in
+    let replacements = named_there old there.0 asked.replacements texts.replacements there.1 read.replacements in
+    (λ i. record { policy = policy i; metadata = metadata i; replacements = replacements i }) ∙ there.2
+one_text old (generate crates) texts known made is = made ∙ cc is
+
 same_texts : (old : Disk) (words : List (List ℕ)) (named : AreTold old words) (command : Command) (texts : Texts)
-    → Asks words command → AreTextsOf old command texts → texts ≡ texts_of named
+    → Asks words command → AreTextsOf old command texts → texts ≡ named.texts
 same_texts old words named command texts asks read =
-    let there : (which : Which) → (text : Option (List ℕ)) → IsReadIfNamed old (path_of command which) text
-    → text ≡ text_at named.files named.command which =
-    λ which text read. named_there old named.files (path_of command which) text named.told read
-    ∙ ap (λ (c : Command). text_at named.files c which) (one_command words command named.command asks named.asks) in
-    let policy : texts.policy ≡ (texts_of named).policy = ap read_or_none (there Policy (Some texts.policy) read.policy)
-    in
-    let metadata : texts.metadata ≡ (texts_of named).metadata =
-    ap read_or_none (there Metadata (Some texts.metadata) read.metadata) in
-    let replacements : texts.replacements ≡ (texts_of named).replacements =
-    there Replacements texts.replacements read.replacements in
-    λ i. record { policy = policy i; metadata = metadata i; replacements = replacements i }
+    one_text old named.command texts named.texts
+    (subst (λ (c : Command). AreTextsOf old c texts) (one_command words command named.command asks named.asks) read)
+    named.told
 
 -- a text that was read to its end is short
 short_read : (old : Disk) (path text : Option (List ℕ)) → IsReadIfNamed old path text → IfSome text IsShort
@@ -123,12 +144,30 @@ short_read old None text read = subst (λ (t : Option (List ℕ)). IfSome t IsSh
 short_read old (Some path) None read = absurd read
 short_read old (Some path) (Some text) read = read.short
 
-pub are_short : (old : Disk) (command : Command) (texts : Texts) → AreTextsOf old command texts → AreShort texts
-are_short old command texts read = record {
-  policy = short_read old (path_of command Policy) (Some texts.policy) read.policy;
-  metadata = short_read old (path_of command Metadata) (Some texts.metadata) read.metadata;
-  replacements = short_read old (path_of command Replacements) texts.replacements read.replacements;
+-- and those that are made are
+short_texts : (old : Disk) (command : Command) (texts : Texts) → AsksForFew command → AreTextsOf old command texts
+    → AreShort texts
+short_texts old (check asked) texts few read = record {
+  policy = read.policy.short;
+  metadata = read.metadata.short;
+  replacements = short_read old asked.replacements texts.replacements read.replacements;
 }
+short_texts old (generate crates) texts few made = subst (λ (t : Texts). AreShort t) (sym made) (made_short crates few)
+
+are_short : (old : Disk) (words : List (List ℕ)) (command : Command) (texts : Texts) → Asks words command
+    → AreTextsOf old command texts → AreShort texts
+are_short old words command texts asks read = short_texts old command texts (asks_for_few words command asks) read
+
+short_policy_at : (old : Disk) (command : Command) (policy : List ℕ) → AsksForFew command
+    → IsPolicyAt old command policy → IsShort policy
+short_policy_at old (check asked) policy few read = read.short
+short_policy_at old (generate crates) policy few made = subst (λ (t : List ℕ). IsShort t) (sym made)
+    (short_policy crates few)
+
+policy_at : (old : Disk) (command : Command) (texts : Texts) → AreTextsOf old command texts
+    → IsPolicyAt old command texts.policy
+policy_at old (check asked) texts read = read.policy
+policy_at old (generate crates) texts made = ap (λ (t : Texts). t.policy) made
 
 module _ (laws : AnswerLaws) (old new : Disk) (words : List (List ℕ)) where
   -- texts that have a report stop no run
@@ -136,7 +175,7 @@ module _ (laws : AnswerLaws) (old new : Disk) (words : List (List ℕ)) where
   not_both (Long which) report is on =
       let at = on.is_theirs in
       let same = same_texts old words is.named on.command at.texts on.asks at.read in
-      not_long at.texts which (are_short old on.command at.texts at.read)
+      not_long at.texts which (are_short old words on.command at.texts on.asks at.read)
       (subst (λ (t : Texts). IsFirstLong t which) (sym same) is.refused)
   not_both (Gate error) report is on =
       let at = on.is_theirs in
@@ -155,7 +194,7 @@ module _ (laws : AnswerLaws) (old new : Disk) (words : List (List ℕ)) where
   same_gate (Long which) error is on other =
       let at = on.is_theirs in
       let same = same_texts old words is.named on.command at.texts on.asks at.read in
-      absurd (not_long at.texts which (are_short old on.command at.texts at.read)
+      absurd (not_long at.texts which (are_short old words on.command at.texts on.asks at.read)
       (subst (λ (t : Texts). IsFirstLong t which) (sym same) is.refused))
   same_gate (Gate wanted) error is on other =
       let at = on.is_theirs in
@@ -168,20 +207,19 @@ module _ (laws : AnswerLaws) (old new : Disk) (words : List (List ℕ)) where
   same_gate (Write other) error is on differs = absurd is.refused
   same_gate Memory error is on differs = absurd is.refused
 
-  -- where the disk tells its files, a long text is the first of those that stand there
+  -- where the texts of the run are known, a long text is the first of them
   long_there : (named : AreTold old words) (which : Which) → IsLongOn old new words which
-      → IsFirstLong (texts_of named) which
+      → IsFirstLong named.texts which
   long_there named which on =
-      subst (λ (c : Command). IsFirstLong (texts_at named.files c) which)
-      (one_command words on.command named.command on.asks named.asks)
-      (subst (λ (f : Option Files). IfSome f (λ files. IsFirstLong (texts_at files on.command) which)) named.told
-      on.is_theirs.first)
+      let first = subst (λ (c : Command). IfSome (known_texts old.files c) (λ texts. IsFirstLong texts which))
+      (one_command words on.command named.command on.asks named.asks) on.is_theirs.first in
+      subst (λ (known : Option Texts). IfSome known (λ texts. IsFirstLong texts which)) named.told first
 
   -- a long text is that of the run
   same_long : (stop : Outcome) (found : Which) → (is : IsRefusedRun old words stop)
-      → IsFirstLong (texts_of is.named) found → AreOneStop stop (Long found)
-  same_long (Long which) found is first = ap Long (one_long (texts_of is.named) found which first is.refused)
-  same_long (Gate wanted) found is first = absurd (not_long (texts_of is.named) found is.refused.1 first)
+      → IsFirstLong is.named.texts found → AreOneStop stop (Long found)
+  same_long (Long which) found is first = ap Long (one_long is.named.texts found which first is.refused)
+  same_long (Gate wanted) found is first = absurd (not_long is.named.texts found is.refused.1 first)
   same_long (Done other) found is first = absurd is.refused
   same_long (Usage at) found is first = absurd is.refused
   same_long (Read which) found is first = absurd is.refused
@@ -217,7 +255,7 @@ module _ (laws : AnswerLaws) (old new : Disk) (words : List (List ℕ)) where
   not_valid error is on other =
       let at = on.is_theirs in
       let same = same_texts old words is.named on.command at.texts on.asks at.read in
-      laws.valid (texts_of is.named) error other is.policy is.metadata is.table
+      laws.valid is.named.texts error other is.policy is.metadata is.table
       (subst (λ (t : Texts). IsCause t error) same at.is_theirs)
 
   done_or_memory : (error : GateError) → (error ≢ gate.Memory → ⊥) → IsDoneOrMemory (Gate error)
@@ -234,7 +272,7 @@ module _ (laws : AnswerLaws) (old new : Disk) (words : List (List ℕ)) where
   completes (Usage at) is readable written comes = absurd (comes.refused (is.named.command, is.named.asks))
   completes (Read which) is readable written comes = absurd (not_readable which readable comes)
   completes (Long which) is readable written comes = absurd
-      (not_long (texts_of is.named) which is.short (long_there is.named which comes))
+      (not_long is.named.texts which is.short (long_there is.named which comes))
   completes (Gate error) is readable written comes = done_or_memory error (not_valid error is comes)
   completes (Write report) is readable written comes = absurd written
   completes Memory is readable written comes = tt
@@ -242,15 +280,32 @@ module _ (laws : AnswerLaws) (old new : Disk) (words : List (List ℕ)) where
 -- ---- what is left in the outputs, and the texts that lines tell of
 
 -- a report that was not written comes only where the output failed
-pub not_written : {W : Type 0} (written : W → Option (List ℕ)) (faults : W → ℕ) (old new : W) (outcome : Outcome)
-    → LeavesOut written faults old new outcome → (¬ Rose (faults old) (faults new)) → IsNotWritten outcome
-not_written written faults old new (Write report) left quiet = absurd (quiet left.0)
-not_written written faults old new (Done report) left quiet = tt
-not_written written faults old new (Usage at) left quiet = tt
-not_written written faults old new (Read which) left quiet = tt
-not_written written faults old new (Long which) left quiet = tt
-not_written written faults old new (Gate error) left quiet = tt
-not_written written faults old new Memory left quiet = tt
+pub not_written : {W : Type 0} (written : W → Option (List ℕ)) (faults : W → ℕ) (old new : W) (asked : Option Command)
+    (outcome : Outcome) → LeavesOut written faults old new asked outcome → (¬ Rose (faults old) (faults new))
+    → IsNotWritten outcome
+not_written written faults old new asked (Write report) left quiet = absurd (quiet left.0)
+not_written written faults old new asked (Done report) left quiet = tt
+not_written written faults old new asked (Usage at) left quiet = tt
+not_written written faults old new asked (Read which) left quiet = tt
+not_written written faults old new asked (Long which) left quiet = tt
+not_written written faults old new asked (Gate error) left quiet = tt
+not_written written faults old new asked Memory left quiet = tt
+
+-- what was written of a report is what the words ask for
+pub leaves : {W : Type 0} (written : W → Option (List ℕ)) (faults : W → ℕ) (old new : W) (asked : Option Command)
+    (command : Command) (report : Report) (outcome : Outcome) → asked ≡ Some command
+    → WritesReport written faults old new command report outcome → LeavesOut written faults old new asked outcome
+leaves written faults old new asked command report (Done told) is wrote =
+    let same = ap (answer_lines command) (sym wrote.0) ∙ ap (λ (c : Option Command). lines_for c told) (sym is) in
+    subst (λ (text : List ℕ). Appends (written old) (written new) text) same wrote.1
+leaves written faults old new asked command report (Write told) is wrote =
+    let same = ap (answer_lines command) (sym wrote.0) ∙ ap (λ (c : Option Command). lines_for c told) (sym is) in
+    subst (λ (text : List ℕ). FailsWriting written faults old new text) same wrote.1
+leaves written faults old new asked command report (Usage at) is wrote = absurd wrote
+leaves written faults old new asked command report (Read which) is wrote = absurd wrote
+leaves written faults old new asked command report (Long which) is wrote = absurd wrote
+leaves written faults old new asked command report (Gate error) is wrote = absurd wrote
+leaves written faults old new asked command report Memory is wrote = wrote
 
 -- clashes are those of the text that was read
 pub text_of_clashes : (old new : Disk) (words : List (List ℕ)) (command : Command) (text : List ℕ) (outcome : Outcome)
@@ -260,7 +315,7 @@ text_of_clashes old new words command text (Gate (gate.Invalid told)) asks stops
     record {
       command = command;
       asks = asks;
-      read = subst (λ (t : List ℕ). IsReadIfNamed old (path_of command Policy) (Some t)) same stops.read.policy;
+      read = subst (λ (t : List ℕ). IsPolicyAt old command t) same (policy_at old command stops.texts stops.read);
       tells = subst (λ (t : List ℕ). TellsClashes t policy_id told) same stops.is_theirs;
       labelled = stops.labelled;
     }
@@ -279,8 +334,10 @@ text_of_clashes old new words command text Memory asks stops = tt
 pub is_text : (old : Disk) (words : List (List ℕ)) (policy text : List ℕ) (outcome : Outcome) → text ≡ policy
     → IsTextOfClashes old words outcome policy → IsTextOf outcome text
 is_text old words policy text (Gate (gate.Invalid told)) same is = subst
-    (λ (t : List ℕ). IsTextOf (Gate (gate.Invalid told)) t) (sym same)
-    (is.tells.says.utf8, short_read old (path_of is.command Policy) (Some policy) is.read)
+    (λ (t : List ℕ). IsTextOf (Gate (gate.Invalid told)) t) (sym same) (
+      is.tells.says.utf8,
+      short_policy_at old is.command policy (asks_for_few words is.command is.asks) is.read,
+    )
 is_text old words policy text (Gate (gate.Config faults)) same is = tt
 is_text old words policy text (Gate (gate.NotBuilt which)) same is = tt
 is_text old words policy text (Gate (gate.Metadata f)) same is = tt
@@ -329,6 +386,29 @@ headline_on law old new words (Read which) comes = tt
 headline_on law old new words (Long which) comes = tt
 headline_on law old new words (Gate error) comes = tt
 headline_on law old new words Memory comes = tt
+
+dead_of_report : ((texts : Texts) → (report : Report) → IsReportOf texts report → CanDoWithoutDead texts report)
+    → (old : Disk) (words : List (List ℕ)) (report : Report) → IsReportOn old words report
+    → CanDoWithoutDeadOn old words report
+dead_of_report law old words report on =
+    let at = on.is_theirs in record {
+      command = on.command;
+      asks = on.asks;
+      texts = at.texts;
+      read = at.read;
+      can = law at.texts report at.is_theirs;
+    }
+
+pub dead_on : ((texts : Texts) → (report : Report) → IsReportOf texts report → CanDoWithoutDead texts report)
+    → (old new : Disk) (words : List (List ℕ)) (outcome : Outcome) → ComesBy old new words outcome
+    → IfReported outcome (CanDoWithoutDeadOn old words)
+dead_on law old new words (Done report) comes = dead_of_report law old words report comes
+dead_on law old new words (Write report) comes = dead_of_report law old words report comes
+dead_on law old new words (Usage at) comes = tt
+dead_on law old new words (Read which) comes = tt
+dead_on law old new words (Long which) comes = tt
+dead_on law old new words (Gate error) comes = tt
+dead_on law old new words Memory comes = tt
 
 bits_by : (bans licenses : Bool)
     → bits_of (verdict_by bans licenses) ≡ (if bans then 2 else 0) + (if licenses then 4 else 0)

@@ -1,66 +1,27 @@
--- No line holds a float.
-use Rattle.std.proofs.Common.{◌≡◌, ℕ, false, List, [], ◌∷◌, Option, Some, None, codes, refl}
+-- No line of a dead entry, none of a stop and no summary holds a float.
+use Rattle.std.proofs.Common.{◌≡◌, ℕ, false, List, [], ◌∷◌, codes, refl}
 use Rattle.std.specs.Prelude.{map}
-use Rattle.std.proofs.lemmas.Bool.{or_from}
-use Rattle.serde_json.specs.Data.{Data, Members, array, member, no_members, string}
+use Rattle.serde_json.specs.Data.{array}
 use Rattle.serde_json.specs.View.{items_of}
-use Rattle.serde_json.specs.Written.{has_float, items_have_float, members_have_float}
-use Rattle.deny_base.specs.declared.code.DiagnosticCode.{DiagnosticCode}
-use Rattle.deny_base.specs.declared.files.File.{File}
-use Rattle.deny_base.specs.declared.finding.Diagnostic.{Diagnostic}
-use Rattle.deny_base.specs.declared.label.Label.{Label}
+use Rattle.serde_json.specs.Written.{has_float, members_have_float}
+use Rattle.deny_base.specs.declared.entry.EntryId.{EntryId}
 use Rattle.deny_cfg.specs.PolicyText.{policy_file}
 use Rattle.deny_toml.specs.declared.error.ConfigFault.{ConfigFault}
 use Rattle.deny_gate.specs.declared.report.GateError.TheVariants as gate
-use Rattle.deny_cli.specs.Diagnostics.{code_member, diagnostic_value, fields_after_code, fields_after_labels, fields_of, label_value, labels_member, notes_member, notes_of, severity_word, tells}
+use Rattle.deny_gate.specs.declared.report.Report.{Report}
+use Rattle.deny_json.specs.Diagnostics.{diagnostic_value, tells}
+use Rattle.deny_json.proofs.FloatLemmas.{in_diagnostic, in_front, in_items, in_tells}
+use Rattle.deny_cli.specs.Dead.{dead_value}
 use Rattle.deny_cli.specs.Stops.{fault_value, stop_fields, stop_word}
+use Rattle.deny_cli.specs.Summary.{report_summary}
 use Rattle.deny_cli.specs.declared.outcome.Outcome.{Outcome}
 use Rattle.deny_cli.specs.declared.outcome.Outcome.TheVariants.{Done, Usage, Read, Long, Gate, Write, Memory}
 
-in_items : {X : Type 0} (f : X → Data) → ((x : X) → has_float (f x) ≡ false) → (xs : List X)
-    → items_have_float (items_of (map f xs)) ≡ false
-in_items f each [] = refl
-in_items f each (x ∷ xs) = or_from (has_float (f x)) (items_have_float (items_of (map f xs))) (each x)
-    (in_items f each xs)
+pub in_dead : (e : EntryId) → has_float (dead_value e) ≡ false
+in_dead e = refl
 
-in_front : (key : List ℕ) (value : Data) (others : Members) → has_float value ≡ false
-    → members_have_float others ≡ false → members_have_float (member key value others) ≡ false
-in_front key value others here later = or_from (has_float value) (members_have_float others) here later
-
-in_tells : (kind : List ℕ) (fields : Members) → members_have_float fields ≡ false
-    → has_float (tells kind fields) ≡ false
-in_tells kind fields is = or_from (members_have_float fields) _ is refl
-
-in_label : (files : List File) (label : Label) → has_float (label_value files label) ≡ false
-unfolding label_value
-in_label files label = refl
-
-in_code : (code : Option DiagnosticCode) (others : Members) → members_have_float others ≡ false
-    → members_have_float (code_member code others) ≡ false
-in_code None others is = is
-in_code (Some code) others is = is
-
-in_labels : (files : List File) (labels : List Label) (others : Members) → members_have_float others ≡ false
-    → members_have_float (labels_member files labels others) ≡ false
-in_labels files [] others is = is
-in_labels files (label ∷ labels) others is =
-    in_front (codes "labels") (array (items_of (map (label_value files) (label ∷ labels)))) others
-    (in_items (label_value files) (in_label files) (label ∷ labels)) is
-
-in_notes : (notes : List (List ℕ)) (others : Members) → members_have_float others ≡ false
-    → members_have_float (notes_member notes others) ≡ false
-in_notes [] others is = is
-in_notes (note ∷ notes) others is = in_front (codes "notes") (array (items_of (map string (note ∷ notes)))) others
-    (in_items string (λ s. refl) (note ∷ notes)) is
-
-pub in_diagnostic : (files : List File) (d : Diagnostic) → has_float (diagnostic_value files d) ≡ false
-unfolding diagnostic_value
-in_diagnostic files d =
-    in_tells (codes "diagnostic") (fields_of files d)
-    (in_code d.code (fields_after_code files d)
-    (in_labels files d.labels (fields_after_labels d)
-    (in_front (codes "message") (string d.message) (notes_of d) refl
-    (in_notes d.notes (member (codes "severity") (string (severity_word d.severity)) no_members) refl))))
+pub in_summary : (made : ℕ) (report : Report) → has_float (report_summary made report) ≡ false
+in_summary made report = refl
 
 in_fault : (fault : ConfigFault) → has_float (fault_value fault) ≡ false
 unfolding fault_value

@@ -1,13 +1,14 @@
 -- Readings that stop a run: of which text, and that it was asked for.
 use Rattle.std.proofs.Common.{◌≡◌, ◌∙◌, ◌≤◌, ◌^◌, ℕ, List, [], Option, None, Some, Result, Ok, Err, refl, sym, subst, arith}
-use Rattle.std.specs.Prelude.{IfErr, IfSome, IsErrAnd, option_map}
+use Rattle.std.specs.Prelude.{IfErr, IfSome, IsErrAnd, option_map, ⊤}
 use Rattle.deny_outside.specs.Count.{RoseBy}
 use Rattle.deny_outside.specs.Disk.{Disk, Files, FailedAt, IsLater, bytes_at}
 use Rattle.deny_base.specs.declared.check.Which.{Which}
 use Rattle.deny_base.specs.declared.check.Which.TheVariants.{Policy, Metadata, Replacements}
 use Rattle.deny_outside.specs.declared.disk.Call.TheVariants as call
-use Rattle.deny_cli.specs.Causes.{AreShortBefore, IsAskedFor, IsFaultAt, IsFirstLong, IsLong, IsLongAt, IsLongThere, IsReadAt, IsReadStop, IsShort, StopsAt, read_or_none, texts_at}
-use Rattle.deny_cli.specs.Words.{Asked, Command, check, path_of}
+use Rattle.deny_gate.specs.Gating.{Texts}
+use Rattle.deny_cli.specs.Causes.{AreShortBefore, IsAskedFor, IsFaultAt, IsFirstLong, IsLong, IsLongAt, IsLongThere, IsReadAt, IsReadStop, IsShort, StopsAt, known_texts, texts_at}
+use Rattle.deny_cli.specs.Words.{Asked, check, path_of}
 use Rattle.deny_cli.specs.declared.outcome.Outcome.{Outcome}
 use Rattle.deny_cli.specs.declared.outcome.Outcome.TheVariants.{Done, Usage, Read, Long, Gate, Write, Memory}
 
@@ -54,19 +55,33 @@ short_there : (told : Option Files) (path text : List ℕ) → IfSome told (λ f
 short_there None path text whole short = tt
 short_there (Some files) path text whole short = subst (λ (t : List ℕ). IsShort t) whole short
 
-always : (told : Option Files) (command : Command)
-    → IfSome told (λ files. AreShortBefore (texts_at files command) Policy)
-always None command = tt
-always (Some files) command = tt
+always : (told : Option Files) → IfSome told (λ files. ⊤)
+always None = tt
+always (Some files) = tt
+
+-- what is so of the texts that stand on a disk, where it tells its files, is so of those that are known
+are_known : (told : Option Files) (asked : Asked) (P : Texts → Type 0) → IfSome told (λ files. P (texts_at files asked))
+    → IfSome (known_texts told (check asked)) P
+are_known None asked P is = tt
+are_known (Some files) asked P is = is
+
+are_there : (told : Option Files) (asked : Asked) (P : Texts → Type 0) → IfSome (known_texts told (check asked)) P
+    → IfSome told (λ files. P (texts_at files asked))
+are_there None asked P is = tt
+are_there (Some files) asked P is = is
 
 pub policy_asked_for : (old : Disk) (asked : Asked) → IsAskedFor old (check asked) Policy asked.policy
-policy_asked_for old asked = record { is_its_path = refl; before = always old.files (check asked) }
+policy_asked_for old asked = record {
+  is_its_path = refl;
+  before = are_known old.files asked (λ texts. AreShortBefore texts Policy) (always old.files);
+}
 
 pub metadata_asked_for : (old : Disk) (asked : Asked) (policy : List ℕ) → IsReadAt old asked.policy policy
     → IsAskedFor old (check asked) Metadata asked.metadata
 metadata_asked_for old asked policy read = record {
   is_its_path = refl;
-  before = short_there old.files asked.policy policy read.whole read.short;
+  before = are_known old.files asked (λ texts. AreShortBefore texts Metadata)
+      (short_there old.files asked.policy policy read.whole read.short);
 }
 
 pub replacements_asked_for : (old between : Disk) (asked : Asked) (policy metadata path : List ℕ)
@@ -77,66 +92,71 @@ replacements_asked_for old between asked policy metadata path named later first 
     second.whole in
     record {
       is_its_path = named;
-      before = both_told {P = λ files. IsShort (bytes_at files asked.policy)}
+      before = are_known old.files asked (λ texts. AreShortBefore texts Replacements)
+          (both_told {P = λ files. IsShort (bytes_at files asked.policy)}
           {Q = λ files. IsShort (bytes_at files asked.metadata)}
-          {R = λ files. AreShortBefore (texts_at files (check asked)) Replacements} old.files (λ files p q. (p, q))
+          {R = λ files. AreShortBefore (texts_at files asked) Replacements} old.files (λ files p q. (p, q))
           (short_there old.files asked.policy policy first.whole first.short)
-          (short_there old.files asked.metadata metadata whole second.short);
+          (short_there old.files asked.metadata metadata whole second.short));
     }
 
 -- ---- a reading that stops a run
 
 -- a long text behind short ones is the first
-first_long : (files : Files) (command : Command) (which : Which) (path : List ℕ) → path_of command which ≡ Some path
-    → AreShortBefore (texts_at files command) which → IsLong (bytes_at files path)
-    → IsFirstLong (texts_at files command) which
-first_long files command Policy path is before long =
-    subst (λ (p : Option (List ℕ)). IsLong (read_or_none (option_map (bytes_at files) p))) (sym is) long
-first_long files command Metadata path is before long =
-    (before, subst (λ (p : Option (List ℕ)). IsLong (read_or_none (option_map (bytes_at files) p))) (sym is) long)
-first_long files command Replacements path is before long = (
+first_long : (files : Files) (asked : Asked) (which : Which) (path : List ℕ) → path_of (check asked) which ≡ Some path
+    → AreShortBefore (texts_at files asked) which → IsLong (bytes_at files path)
+    → IsFirstLong (texts_at files asked) which
+first_long files asked Policy path is before long =
+    let same : asked.policy ≡ path = cc is in
+    subst (λ (p : List ℕ). IsLong (bytes_at files p)) (sym same) long
+first_long files asked Metadata path is before long =
+    let same : asked.metadata ≡ path = cc is in
+    (before, subst (λ (p : List ℕ). IsLong (bytes_at files p)) (sym same) long)
+first_long files asked Replacements path is before long = (
   before.0,
   before.1,
   subst (λ (p : Option (List ℕ)). IsLongThere (option_map (bytes_at files) p)) (sym is) long,
 )
 
-first_told : (old : Disk) (command : Command) (which : Which) (path : List ℕ) → IsAskedFor old command which path
+first_told : (old : Disk) (asked : Asked) (which : Which) (path : List ℕ) → IsAskedFor old (check asked) which path
     → IfSome old.files (λ files. IsLong (bytes_at files path))
-    → IfSome old.files (λ files. IsFirstLong (texts_at files command) which)
-first_told old command which path asked long =
-    both_told {P = λ files. AreShortBefore (texts_at files command) which} {Q = λ files. IsLong (bytes_at files path)}
-    {R = λ files. IsFirstLong (texts_at files command) which} old.files
-    (λ files before is. first_long files command which path asked.is_its_path before is) asked.before long
+    → IfSome (known_texts old.files (check asked)) (λ texts. IsFirstLong texts which)
+first_told old asked which path named long =
+    are_known old.files asked (λ texts. IsFirstLong texts which)
+    (both_told {P = λ files. AreShortBefore (texts_at files asked) which} {Q = λ files. IsLong (bytes_at files path)}
+    {R = λ files. IsFirstLong (texts_at files asked) which} old.files
+    (λ files before is. first_long files asked which path named.is_its_path before is)
+    (are_there old.files asked (λ texts. AreShortBefore texts which) named.before) long)
 
-stops : (old between new : Disk) (command : Command) (which : Which) (path : List ℕ) (outcome : Outcome)
-    → IsLater old between → IsAskedFor old command which path → IsReadStop between new which path outcome
-    → StopsAt old new command outcome []
-stops old between new command which path (Read found) later asked stop =
-    subst (λ (w : Which). IsFaultAt old new command w) (sym stop.0) (record {
+stops : (old between new : Disk) (asked : Asked) (which : Which) (path : List ℕ) (outcome : Outcome)
+    → IsLater old between → IsAskedFor old (check asked) which path → IsReadStop between new which path outcome
+    → StopsAt old new (check asked) outcome []
+stops old between new asked which path (Read found) later named stop =
+    subst (λ (w : Which). IsFaultAt old new (check asked) w) (sym stop.0) (record {
       path = path;
-      asked_for = asked;
+      asked_for = named;
       failed = failed_since old between new path later stop.1;
     })
-stops old between new command which path (Long found) later asked stop =
-    subst (λ (w : Which). IsLongAt old new command w) (sym stop.0) (record {
+stops old between new asked which path (Long found) later named stop =
+    subst (λ (w : Which). IsLongAt old new (check asked) w) (sym stop.0) (record {
       path = path;
-      asked_for = asked;
+      asked_for = named;
       given = rose_since (2 ^ 28) old.given between.given new.given later.given stop.1;
-      first = first_told old command which path asked
+      first = first_told old asked which path named
           (subst (λ (f : Option Files). IfSome f (λ files. IsLong (bytes_at files path))) later.files stop.2);
     })
-stops old between new command which path (Done report) later asked stop = absurd stop
-stops old between new command which path (Usage at) later asked stop = absurd stop
-stops old between new command which path (Gate error) later asked stop = absurd stop
-stops old between new command which path (Write report) later asked stop = absurd stop
-stops old between new command which path Memory later asked stop = tt
+stops old between new asked which path (Done report) later named stop = absurd stop
+stops old between new asked which path (Usage at) later named stop = absurd stop
+stops old between new asked which path (Gate error) later named stop = absurd stop
+stops old between new asked which path (Write report) later named stop = absurd stop
+stops old between new asked which path Memory later named stop = tt
 
 -- and where it is handed on
-pub handed_on : {T : Type 0} (old between new : Disk) (command : Command) (which : Which) (path : List ℕ)
+pub handed_on : {T : Type 0} (old between new : Disk) (asked : Asked) (which : Which) (path : List ℕ)
     (result : Result T Outcome) (outcome : Outcome) → IsErrAnd result (λ handed. handed ≡ outcome)
-    → IsLater old between → IsAskedFor old command which path → IsReadStop between new which path outcome
-    → IfErr result (λ handed. StopsAt old new command handed [])
-handed_on old between new command which path (Ok inputs) outcome is later asked stop = absurd is
-handed_on old between new command which path (Err handed) outcome is later asked stop =
-    subst (λ (o : Outcome). StopsAt old new command o []) (sym is)
-    (stops old between new command which path outcome later asked stop)
+    → IsLater old between → IsAskedFor old (check asked) which path → IsReadStop between new which path outcome
+    → IfErr result (λ handed. StopsAt old new (check asked) handed [])
+handed_on old between new asked which path (Ok inputs) outcome is later named stop = absurd is
+handed_on old between new asked which path (Err handed) outcome is later named stop =
+    subst (λ (o : Outcome). StopsAt old new (check asked) o []) (sym is)
+    (stops old between new asked which path outcome later named stop)

@@ -1,29 +1,17 @@
--- Lines as they are read: the definitions of the lines, computed.
-use Rattle.std.proofs.Common.{◌≡◌, ◌∙◌, ℕ, false, List, [], ◌∷◌, codes, Option, Some, None, ap, refl}
+-- Lines as they are read: the definitions of the lines, computed. Those of findings stand with their own definitions.
+use Rattle.std.proofs.Common.{◌≡◌, false, [], ◌∷◌, codes, refl}
 use Rattle.std.specs.Fmt.{digits}
-use Rattle.std.specs.Str.{chars}
 use Rattle.serde_json.proofs.OnLiterals.{serde_json_on_literals}
-use Rattle.serde_json.specs.Data.{Data, array, item, member, no_items, no_members, number, object, string, unsigned}
-use Rattle.deny_base.specs.Code.{code_name}
-use Rattle.deny_base.specs.Files.{location_at, location_in}
-use Rattle.deny_base.specs.declared.check.Check.TheVariants as check
 use Rattle.deny_base.specs.declared.check.Which.TheVariants as which
-use Rattle.deny_base.specs.declared.code.Code.TheVariants.{Banned}
-use Rattle.deny_base.specs.declared.code.DiagnosticCode.TheVariants.{Bans}
-use Rattle.deny_base.specs.declared.level.Severity.TheVariants as severity
+use Rattle.deny_base.specs.declared.entry.EntryKind.TheVariants as entry
 use Rattle.deny_krates.specs.fault.MetadataFault.TheVariants as fault
-use Rattle.deny_gate.specs.declared.report.Finding.{Finding}
 use Rattle.deny_gate.specs.declared.report.GateError.TheVariants as gate
 use Rattle.deny_gate.specs.declared.report.Verdict.TheVariants.{Pass, Fail}
-use Rattle.deny_base.specs.declared.files.File.{File}
-use Rattle.deny_base.specs.declared.files.Location.{Location}
-use Rattle.deny_base.specs.declared.label.Label.{Label}
-use Rattle.deny_base.specs.declared.label.LabelStyle.TheVariants.{Primary}
-use Rattle.deny_model.specs.Keys.{crate_key, no_span}
+use Rattle.deny_json.specs.Lines.{line}
 use Rattle.deny_toml.specs.declared.error.FaultKind.TheVariants as kind
-use Rattle.deny_cli.specs.Diagnostics.{column_of, diagnostic_value, label_value, line_of, marked, range_in, tells, trimmed}
-use Rattle.deny_cli.specs.Lines.{finding_line, line, verdict_line}
+use Rattle.deny_cli.specs.Lines.{dead_line, verdict_line}
 use Rattle.deny_cli.specs.Stops.{fault_value, stop_line}
+use Rattle.deny_cli.specs.Summary.{summary_value}
 use Rattle.deny_cli.specs.declared.outcome.Outcome.TheVariants.{Usage, Long, Gate}
 
 pub passes : verdict_line Pass ≡ codes "{\"fields\":{\"bits\":0,\"verdict\":\"pass\"},\"type\":\"verdict\"}\n"
@@ -38,70 +26,27 @@ pub fails_twice : verdict_line (Fail 6) ≡ codes "{\"fields\":{\"bits\":6,\"ver
 unfolding serde_json_on_literals digits verdict_line
 fails_twice = refl
 
--- `[bans]`, a newline, `deny = ["x"]` and a newline
-abbrev pub a_policy : List ℕ
-a_policy = codes "[bans]\ndeny = [\"x\"]\n"
+-- a dead entry is told by its kind and its range
+pub is_dead : dead_line (record { kind = entry.Wrapper; range = record { start = 45; end = 46 } })
+    ≡ codes "{\"fields\":{\"end\":46,\"kind\":\"wrapper\",\"start\":45},\"type\":\"dead\"}\n"
+unfolding serde_json_on_literals digits dead_line
+is_dead = refl
 
-abbrev pub the_files : List File
-the_files = record { path = codes "deny.toml"; source = a_policy } ∷ []
+pub is_dead_exception : dead_line (record { kind = entry.LicenseException; range = record { start = 0; end = 7 } })
+    ≡ codes "{\"fields\":{\"end\":7,\"kind\":\"license-exception\",\"start\":0},\"type\":\"dead\"}\n"
+unfolding serde_json_on_literals digits dead_line
+is_dead_exception = refl
 
-abbrev pub a_label : Label
-a_label = record { style = Primary; file_id = 0; span = record { start = 16; end = 17 }; message = codes "banned here" }
+-- of four crates and the member above them, three findings are errors
+pub sums_up : line (summary_value 4 5 0 3 (Fail 2)) ≡ codes
+    "{\"fields\":{\"crates\":5,\"dead\":0,\"errors\":3,\"generated\":4,\"verdict\":\"fail\"},\"type\":\"summary\"}\n"
+unfolding serde_json_on_literals digits
+sums_up = refl
 
-abbrev pub a_finding : Finding
-a_finding = record {
-  check = check.Bans;
-  kid = None;
-  diag = record {
-    key = crate_key Banned 1 no_span;
-    diag = record {
-      severity = severity.Error;
-      code = Some (Bans Banned);
-      message = codes "crate 'x = 1.0.0' is explicitly banned";
-      labels = a_label ∷ [];
-      notes = [];
-    };
-    graph_nodes = [];
-    with_features = false;
-  };
-}
-
-lies_in : location_in the_files 0 16 ≡ Some (record { line = 1; column = 9 })
-unfolding location_at chars
-lies_in = refl
-
-marks : marked the_files a_label ≡ codes "x"
-unfolding marked range_in trimmed
-marks = refl
-
-abbrev label_told : Option Location → List ℕ → Data
-label_told at text = object
-    (member (codes "column") (number (unsigned (column_of at)))
-    (member (codes "line") (number (unsigned (line_of at)))
-    (member (codes "message") (string (codes "banned here"))
-    (member (codes "span") (string text) no_members))))
-
-is_labelled : label_value the_files a_label ≡ label_told (Some (record { line = 1; column = 9 })) (codes "x")
-unfolding label_value
-is_labelled = ap (λ (at : Option Location). label_told at (marked the_files a_label)) lies_in
-    ∙ ap (label_told (Some (record { line = 1; column = 9 }))) marks
-
-abbrev finding_told : Data → Data
-finding_told label = tells (codes "diagnostic")
-    (member (codes "code") (string (codes "banned"))
-    (member (codes "labels") (array (item label no_items))
-    (member (codes "message") (string (codes "crate 'x = 1.0.0' is explicitly banned"))
-    (member (codes "severity") (string (codes "error")) no_members))))
-
-pub is_banned : finding_line the_files a_finding
-    ≡ codes "{\"fields\":{\"code\":\"banned\",\"labels\":[{\"column\":10,\"line\":2,\"message\":\"banned here\",\"span\":\"x\"}],\"message\":\"crate 'x = 1.0.0' is explicitly banned\",\"severity\":\"error\"},\"type\":\"diagnostic\"}\n"
-unfolding serde_json_on_literals digits finding_line diagnostic_value code_name
-is_banned = ap (λ (label : Data). line (finding_told label)) is_labelled
-
--- the quotes at both ends go, those between stay
-pub quotes_go : trimmed (codes "\"\"a \"b\" c\"") ≡ codes "a \"b\" c"
-unfolding trimmed
-quotes_go = refl
+pub sums_up_nothing : line (summary_value 0 1 0 0 Pass) ≡ codes
+    "{\"fields\":{\"crates\":1,\"dead\":0,\"errors\":0,\"generated\":0,\"verdict\":\"pass\"},\"type\":\"summary\"}\n"
+unfolding serde_json_on_literals digits
+sums_up_nothing = refl
 
 pub ends_early : stop_line [] (Usage 1) ≡ codes "{\"fields\":{\"at\":1,\"stop\":\"usage\"},\"type\":\"stop\"}\n"
 unfolding serde_json_on_literals digits stop_line

@@ -1,12 +1,15 @@
 -- Where lists of words break off, by the form that they fill.
 use Rattle.std.proofs.Common.{◌≡◌, ℕ, ◌+◌, ◌<◌, ◌≤◌, ◌++◌, ◌∙◌, List, [], ◌∷◌, Option, Some, None, length, take, drop, codes, ap, append_assoc, refl, sym, subst, take-take, arith}
-use Rattle.std.specs.Prelude.{String, option_and_then, slice_index_or, string_bytes}
+use Rattle.std.specs.Prelude.{◌&&◌, Bool, true, false, IfSome, nat_le, option_map, ⊤, String, option_and_then, slice_index_or, string_bytes, if◌then◌else◌}
+use Rattle.std.specs.Str.Parse.{digits_value}
+use Rattle.deny_model.specs.Text.{same_text}
 use Rattle.std.specs.declared.alloc.Global.{Global}
 use Rattle.std.proofs.Common.{add-one}
 use Rattle.std.proofs.Math.Seq.{take-suc}
 use Rattle.std.proofs.lemmas.List.{map-append, take-append-drop, take-map, take_all}
+use Rattle.std.proofs.lemmas.Bool.{leb-true}
 use Rattle.std.proofs.lemmas.Option.{none-some}
-use Rattle.deny_cli.specs.Words.{Command, Form, nothing, checking, names_file, step, filled, command_of, asked_by, Asks, IsAccepted, GoesOn, IsUsageAt, texts}
+use Rattle.deny_cli.specs.Words.{AskedSoFar, AsksForFew, Command, Form, begun, nothing, checking, check_of, generating, generating_some, count_of, is_plain, leads_with_zero, most_crates, names_file, path_added, step, filled, command_of, asked_by, Asks, IsAccepted, GoesOn, IsUsageAt, texts}
 
 -- ---- each form can be filled
 
@@ -28,9 +31,11 @@ fillable_check (Some policy) None replacements = record { rest = a_path ∷ []; 
 fillable_check (Some policy) (Some metadata) replacements = record { rest = []; command = _; fills = refl }
 
 pub fillable : (form : Form) → IsFillable form
-unfolding step names_file
+unfolding step names_file count_of is_plain leads_with_zero
 fillable nothing = record { rest = codes "check" ∷ a_path ∷ a_path ∷ []; command = _; fills = refl }
 fillable (checking asked) = fillable_check asked.policy asked.metadata asked.replacements
+fillable (generating None) = record { rest = codes "0" ∷ []; command = _; fills = refl }
+fillable (generating (Some crates)) = record { rest = []; command = _; fills = refl }
 
 -- ---- words one after another
 
@@ -138,3 +143,64 @@ one_usage words i j one other = grind (arith, not_later words i j one other, not
 
 pub one_command : (words : List (List ℕ)) (a b : Command) → Asks words a → Asks words b → a ≡ b
 one_command words a b this that = let both : Some a ≡ Some b = sym this ∙ that in cc both
+
+-- ---- no more crates are asked for than may be
+
+-- a form asks for no more
+abbrev IsFew : Form → Type 0
+IsFew nothing = ⊤
+IsFew (checking asked) = ⊤
+IsFew (generating None) = ⊤
+IsFew (generating (Some crates)) = crates ≤ most_crates
+
+few_first : (is_check is_generate : Bool)
+    → IfSome (if is_check then Some (checking begun) else if is_generate then Some (generating None) else None) IsFew
+few_first true is_generate = tt
+few_first false true = tt
+few_first false false = tt
+
+few_path : (names : Bool) (asked : Option AskedSoFar)
+    → IfSome (if names then option_map checking asked else None) IsFew
+few_path true None = tt
+few_path true (Some asked) = tt
+few_path false asked = tt
+
+few_by : (crates : ℕ) (few : Bool) → nat_le crates most_crates ≡ few
+    → IfSome (option_map generating_some (if few then Some crates else None)) IsFew
+few_by crates true is = leb-true crates most_crates is
+few_by crates false is = tt
+
+few_if : (plain : Bool) (crates : ℕ)
+    → IfSome (option_map generating_some (if plain && nat_le crates most_crates then Some crates else None)) IsFew
+few_if false crates = tt
+few_if true crates = few_by crates (nat_le crates most_crates) refl
+
+few_after : (form : Form) (word : List ℕ) → IfSome (step form word) IsFew
+unfolding step count_of
+few_after nothing word = few_first (same_text word (codes "check")) (same_text word (codes "generate"))
+few_after (checking asked) word = few_path (names_file word) (path_added asked word)
+few_after (generating None) word = few_if (is_plain word) (digits_value 10 word)
+few_after (generating (Some crates)) word = tt
+
+few_filled : (form : Option Form) (words : List (List ℕ)) → IfSome form IsFew → IfSome (filled form words) IsFew
+few_filled form [] few = few
+few_filled None (word ∷ words) few = few_filled None words tt
+few_filled (Some form) (word ∷ words) few = few_filled (step form word) words (few_after form word)
+
+few_check : (policy metadata replacements : Option (List ℕ)) → IfSome (check_of policy metadata replacements) AsksForFew
+few_check None metadata replacements = tt
+few_check (Some policy) None replacements = tt
+few_check (Some policy) (Some metadata) replacements = tt
+
+few_of : (form : Option Form) → IfSome form IsFew → IfSome (option_and_then command_of form) AsksForFew
+few_of None few = tt
+few_of (Some nothing) few = tt
+few_of (Some (checking asked)) few = few_check asked.policy asked.metadata asked.replacements
+few_of (Some (generating None)) few = tt
+few_of (Some (generating (Some crates))) few = few
+
+pub asks_for_few : (words : List (List ℕ)) (command : Command) → Asks words command → AsksForFew command
+unfolding asked_by
+asks_for_few words command asks =
+    subst (λ (c : Option Command). IfSome c AsksForFew) asks
+    (few_of (filled (Some nothing) words) (few_filled (Some nothing) words tt))

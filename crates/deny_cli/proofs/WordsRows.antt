@@ -1,6 +1,6 @@
 -- The words of a run as they are read: what lists of words ask for, computed; and which lists those are.
 use Rattle.std.proofs.Common.{◌≡◌, [], ◌∷◌, Some, None, codes, refl}
-use Rattle.deny_cli.specs.Words.{check, names_file, asked_by, step}
+use Rattle.deny_cli.specs.Words.{check, generate, asked_by, count_of, is_plain, leads_with_zero, names_file, step}
 
 pub asks_for_two : asked_by (codes "check" ∷ codes "deny.toml" ∷ codes "metadata.json" ∷ [])
     ≡ Some (check (record { policy = codes "deny.toml"; metadata = codes "metadata.json"; replacements = None }))
@@ -31,3 +31,41 @@ asks_for_no_name = refl
 pub asks_for_another : asked_by (codes "checks" ∷ codes "a" ∷ codes "b" ∷ []) ≡ None
 unfolding asked_by step names_file
 asks_for_another = refl
+
+-- ---- crates that are made
+
+pub asks_for_four : asked_by (codes "generate" ∷ codes "4" ∷ []) ≡ Some (generate 4)
+unfolding asked_by step count_of is_plain leads_with_zero
+asks_for_four = refl
+
+pub asks_for_none : asked_by (codes "generate" ∷ codes "0" ∷ []) ≡ Some (generate 0)
+unfolding asked_by step count_of is_plain leads_with_zero
+asks_for_none = refl
+
+pub asks_for_the_most : asked_by (codes "generate" ∷ codes "20000" ∷ []) ≡ Some (generate 20000)
+unfolding asked_by step count_of is_plain leads_with_zero
+asks_for_the_most = refl
+
+pub asks_for_more : asked_by (codes "generate" ∷ codes "20001" ∷ []) ≡ None
+unfolding asked_by step count_of is_plain leads_with_zero
+asks_for_more = refl
+
+pub asks_behind_a_zero : asked_by (codes "generate" ∷ codes "04" ∷ []) ≡ None
+unfolding asked_by step count_of is_plain leads_with_zero
+asks_behind_a_zero = refl
+
+pub asks_behind_a_plus : asked_by (codes "generate" ∷ codes "+4" ∷ []) ≡ None
+unfolding asked_by step count_of is_plain leads_with_zero
+asks_behind_a_plus = refl
+
+pub asks_for_no_number : asked_by (codes "generate" ∷ [] ∷ []) ≡ None
+unfolding asked_by step count_of is_plain leads_with_zero
+asks_for_no_number = refl
+
+pub asks_for_two_numbers : asked_by (codes "generate" ∷ codes "4" ∷ codes "4" ∷ []) ≡ None
+unfolding asked_by step count_of is_plain leads_with_zero
+asks_for_two_numbers = refl
+
+pub asks_without_a_number : asked_by (codes "generate" ∷ []) ≡ None
+unfolding asked_by step
+asks_without_a_number = refl

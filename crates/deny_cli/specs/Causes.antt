@@ -1,5 +1,5 @@
 -- When each outcome of a run comes. `old` is the disk as the run begins, `new` as it ends.
-use Rattle.std.specs.Prelude.{◌≡◌, ◌≢◌, ℕ, ◌<◌, ◌≤◌, ◌^◌, List, [], length, Option, Some, None, IfSome, option_map, ⊤}
+use Rattle.std.specs.Prelude.{◌≡◌, ◌≢◌, ℕ, ◌<◌, ◌≤◌, ◌^◌, List, length, Option, Some, None, IfSome, option_map, ⊤}
 use Rattle.deny_outside.specs.Count.{Rose, RoseBy}
 use Rattle.deny_outside.specs.Disk.{Disk, Files, FailedAt, bytes_at}
 use Rattle.deny_outside.specs.Read.{IsWhole}
@@ -11,6 +11,7 @@ use Rattle.deny_outside.specs.declared.read.ReadEnd.{ReadEnd}
 use Rattle.deny_outside.specs.declared.read.ReadEnd.TheVariants as end
 use Rattle.deny_cfg.specs.PolicyText.{TellsClashes}
 use Rattle.deny_codes.specs.Saying.{HasTable}
+use Rattle.deny_gate.specs.Dead.{CanDoWithoutDead}
 use Rattle.deny_gate.specs.Gating.{AreShort, AsksForTable, HasGraph, HasPolicy, IsCause, IsReportOf, Texts}
 use Rattle.deny_gate.specs.Headline.{IsHeadlineOf}
 use Rattle.deny_gate.specs.Labels.{AreLabelledClashes, IsLabelledCause}
@@ -18,7 +19,9 @@ use Rattle.deny_gate.specs.Report.{policy_id}
 use Rattle.deny_gate.specs.declared.report.GateError.{GateError}
 use Rattle.deny_gate.specs.declared.report.GateError.TheVariants as gate
 use Rattle.deny_gate.specs.declared.report.Report.{Report}
-use Rattle.deny_cli.specs.Words.{Command, path_of, Asks, IsAccepted, IsUsageAt}
+use Rattle.deny_generator.specs.MetadataText.{metadata_text}
+use Rattle.deny_generator.specs.PolicyText.{policy_text}
+use Rattle.deny_cli.specs.Words.{Asked, Command, check, generate, path_of, Asks, IsAccepted, IsUsageAt}
 use Rattle.deny_cli.specs.declared.outcome.Outcome.{Outcome}
 use Rattle.deny_cli.specs.declared.outcome.Outcome.TheVariants.{Done, Usage, Read, Long, Gate, Write, Memory}
 
@@ -31,22 +34,27 @@ IsLong text = 2 ^ 28 ≤ length text
 abbrev pub IsShort : List ℕ → Type 0
 IsShort text = length text < 2 ^ 28
 
--- what stands at the path of a text that a command reads
-abbrev pub text_at : Files → Command → Which → Option (List ℕ)
-text_at files command which = option_map (bytes_at files) (path_of command which)
-
--- a text that a command reads
-abbrev pub read_or_none : Option (List ℕ) → List ℕ
-read_or_none None = []
-read_or_none (Some text) = text
-
--- those that stand at the paths of a command
-abbrev pub texts_at : Files → Command → Texts
-texts_at files command = record {
-  policy = read_or_none (text_at files command Policy);
-  metadata = read_or_none (text_at files command Metadata);
-  replacements = text_at files command Replacements;
+-- those that stand at the paths of a check
+abbrev pub texts_at : Files → Asked → Texts
+texts_at files asked = record {
+  policy = bytes_at files asked.policy;
+  metadata = bytes_at files asked.metadata;
+  replacements = option_map (bytes_at files) asked.replacements;
 }
+
+-- those that are made for so many crates
+abbrev pub made_texts : ℕ → Texts
+made_texts crates = record {
+  policy = policy_text crates;
+  metadata = metadata_text crates;
+  replacements = None;
+}
+
+-- the texts of a command, where they are known: those of a check where the disk tells its files, and those that are
+-- made whatever the disk is
+abbrev pub known_texts : Option Files → Command → Option Texts
+known_texts told (check asked) = option_map (λ files. texts_at files asked) told
+known_texts told (generate crates) = Some (made_texts crates)
 
 -- a text that is not there is not long
 abbrev pub IsLongThere : Option (List ℕ) → Type 0
@@ -67,11 +75,11 @@ AreShortBefore texts Policy = ⊤
 AreShortBefore texts Metadata = IsShort texts.policy
 AreShortBefore texts Replacements = IsShort texts.policy × IsShort texts.metadata
 
--- a text of a command is asked for once each text before it was read to its end, and is short: where the disk tells
--- its files, those that stand there are. This is its path.
+-- a text of a command is asked for once each text before it was read to its end, and is short: where they are known,
+-- they are. This is its path; a text that is made has none.
 pub record IsAskedFor (old : Disk) (command : Command) (which : Which) (path : List ℕ) : Type 0 where
   pub is_its_path : path_of command which ≡ Some path
-  pub before : IfSome old.files (λ files. AreShortBefore (texts_at files command) which)
+  pub before : IfSome (known_texts old.files command) (λ texts. AreShortBefore texts which)
 
 -- the text at a path was read to its end; where the disk tells its files, it is the one that stands there
 pub record IsReadAt (old : Disk) (path text : List ℕ) : Type 0 where
@@ -84,11 +92,21 @@ IsReadIfNamed old None text = text ≡ None
 IsReadIfNamed old (Some path) None = ⊥
 IsReadIfNamed old (Some path) (Some text) = IsReadAt old path text
 
--- all were read to their ends; where the disk tells its files, they are those that stand there
-pub record AreTextsOf (old : Disk) (command : Command) (texts : Texts) : Type 0 where
-  pub policy : IsReadIfNamed old (path_of command Policy) (Some texts.policy)
-  pub metadata : IsReadIfNamed old (path_of command Metadata) (Some texts.metadata)
-  pub replacements : IsReadIfNamed old (path_of command Replacements) texts.replacements
+-- all of a check were read to their ends; where the disk tells its files, they are those that stand there
+pub record AreRead (old : Disk) (asked : Asked) (texts : Texts) : Type 0 where
+  pub policy : IsReadAt old asked.policy texts.policy
+  pub metadata : IsReadAt old asked.metadata texts.metadata
+  pub replacements : IsReadIfNamed old asked.replacements texts.replacements
+
+-- these are the texts of a command: those of a check were read, and others are made
+abbrev pub AreTextsOf : Disk → Command → Texts → Type 0
+AreTextsOf old (check asked) texts = AreRead old asked texts
+AreTextsOf old (generate crates) texts = texts ≡ made_texts crates
+
+-- this is the policy among them
+abbrev pub IsPolicyAt : Disk → Command → List ℕ → Type 0
+IsPolicyAt old (check asked) policy = IsReadAt old asked.policy policy
+IsPolicyAt old (generate crates) policy = policy ≡ policy_text crates
 
 -- the report is the one of the texts of a command
 pub record IsReportAt (old : Disk) (command : Command) (report : Report) : Type 0 where
@@ -111,13 +129,12 @@ pub record IsFaultAt (old new : Disk) (command : Command) (which : Which) : Type
   pub asked_for : IsAskedFor old command which path
   pub failed : FailedAt old new call.Read path
 
--- the bytes of a long text were given, and where the disk tells its files, this is the first of the
--- command's that is long
+-- the bytes of a long text were given, and where the command's texts are known, this is the first that is long
 pub record IsLongAt (old new : Disk) (command : Command) (which : Which) : Type 0 where
   pub path : List ℕ
   pub asked_for : IsAskedFor old command which path
   pub given : RoseBy (2 ^ 28) old.given new.given
-  pub first : IfSome old.files (λ files. IsFirstLong (texts_at files command) which)
+  pub first : IfSome (known_texts old.files command) (λ texts. IsFirstLong texts which)
 
 -- ---- the texts that words ask for
 
@@ -142,25 +159,21 @@ pub record IsLongOn (old new : Disk) (words : List (List ℕ)) (which : Which) :
   pub asks : Asks words command
   pub is_theirs : IsLongAt old new command which
 
--- the words ask for a command, and the disk tells its files, so that it names the command's texts
+-- the words ask for a command, and its texts are known
 pub record AreTold (old : Disk) (words : List (List ℕ)) : Type 0 where
   pub command : Command
   pub asks : Asks words command
-  pub files : Files
-  pub told : old.files ≡ Some files
-
--- by a disk that tells its files
-abbrev pub texts_of : {old : Disk} {words : List (List ℕ)} → AreTold old words → Texts
-texts_of named = texts_at named.files named.command
+  pub texts : Texts
+  pub told : known_texts old.files command ≡ Some texts
 
 -- the texts that the words name are short, the policy is one whose rules are there, the metadata has a graph, and
 -- there is the table that the policy asks for
 pub record IsValidRun (old : Disk) (words : List (List ℕ)) : Type 0 where
   pub named : AreTold old words
-  pub short : AreShort (texts_of named)
-  pub policy : HasPolicy (texts_of named).policy
-  pub metadata : HasGraph (texts_of named).metadata
-  pub table : AsksForTable (texts_of named).policy → HasTable (texts_of named).replacements
+  pub short : AreShort named.texts
+  pub policy : HasPolicy named.texts.policy
+  pub metadata : HasGraph named.texts.metadata
+  pub table : AsksForTable named.texts.policy → HasTable named.texts.replacements
 
 -- texts stop a run so: one is long, or all are short and the gate refuses them
 abbrev pub AreRefused : Texts → Outcome → Type 0
@@ -175,7 +188,7 @@ AreRefused texts Memory = ⊥
 -- the texts that the words name stop a run so
 pub record IsRefusedRun (old : Disk) (words : List (List ℕ)) (stop : Outcome) : Type 0 where
   pub named : AreTold old words
-  pub refused : AreRefused (texts_of named) stop
+  pub refused : AreRefused named.texts stop
 
 -- no reading of a text that is asked for failed
 abbrev pub IsReadable : Disk → Disk → List (List ℕ) → Type 0
@@ -202,12 +215,19 @@ pub record IsHeadlineOn (old : Disk) (words : List (List ℕ)) (report : Report)
   pub read : AreTextsOf old command texts
   pub headline : IsHeadlineOf texts report
 
--- this is the text of the policy that the words ask for, as it was read, its entries clash so, and the
--- labels lie in it
+-- the dead entries of a report can go from the policy that the words ask for
+pub record CanDoWithoutDeadOn (old : Disk) (words : List (List ℕ)) (report : Report) : Type 0 where
+  pub command : Command
+  pub asks : Asks words command
+  pub texts : Texts
+  pub read : AreTextsOf old command texts
+  pub can : CanDoWithoutDead texts report
+
+-- this is the text of the policy that the words ask for, its entries clash so, and the labels lie in it
 pub record ClashesIn (old : Disk) (words : List (List ℕ)) (told : List Diagnostic) (policy : List ℕ) : Type 0 where
   pub command : Command
   pub asks : Asks words command
-  pub read : IsReadIfNamed old (path_of command Policy) (Some policy)
+  pub read : IsPolicyAt old command policy
   pub tells : TellsClashes policy policy_id told
   pub labelled : AreLabelledClashes policy told
 

@@ -5,9 +5,9 @@ use Rattle.deny_cli.specs.Words as word
 use Rattle.deny_cli.specs.declared.words.Asked.{Asked}
 use Rattle.deny_cli.specs.declared.words.AskedSoFar.{AskedSoFar}
 use Rattle.deny_cli.specs.declared.words.Command.{Command}
-use Rattle.deny_cli.specs.declared.words.Command.TheVariants.{Check}
+use Rattle.deny_cli.specs.declared.words.Command.TheVariants.{Check, Generate}
 use Rattle.deny_cli.specs.declared.words.Form.{Form}
-use Rattle.deny_cli.specs.declared.words.Form.TheVariants.{Nothing, Checking}
+use Rattle.deny_cli.specs.declared.words.Form.TheVariants.{Nothing, Checking, Generating}
 
 abbrev pub text_view : Bor (List ℕ) → List ℕ
 text_view text = text.now
@@ -21,6 +21,7 @@ asked_view asked = record {
 
 abbrev pub command_view : Command → word.Command
 command_view (Check asked) = word.check (asked_view asked)
+command_view (Generate crates) = word.generate crates
 
 abbrev pub so_far_view : AskedSoFar → word.AskedSoFar
 so_far_view asked = record {
@@ -32,3 +33,4 @@ so_far_view asked = record {
 abbrev pub form_view : Form → word.Form
 form_view Nothing = word.nothing
 form_view (Checking asked) = word.checking (so_far_view asked)
+form_view (Generating crates) = word.generating crates

@@ -1,8 +1,10 @@
 pub mod Causes
 pub mod Commands
-pub mod Diagnostics
+pub mod Dead
 pub mod Lines
 pub mod Outcome
 pub mod Outputs
 pub mod Stops
+pub mod Summary
+pub mod Told
 pub mod Words

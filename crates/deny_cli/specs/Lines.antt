@@ -1,18 +1,18 @@
 -- The lines of a report: each is compact JSON with its keys in byte order, and a newline.
-use Rattle.std.specs.Prelude.{ℕ, List, [], ◌∷◌, ◌++◌, codes}
+use Rattle.std.specs.Prelude.{ℕ, List, ◌++◌, codes}
 use Rattle.std.specs.List.{flat_map}
 use Rattle.serde_json.specs.Data.{Data, string, number, unsigned, member, no_members}
-use Rattle.serde_json.specs.Written.{compact_text}
+use Rattle.deny_base.specs.declared.entry.EntryId.{EntryId}
 use Rattle.deny_base.specs.declared.files.File.{File}
+use Rattle.deny_model.specs.Graph.{Graph}
+use Rattle.deny_json.specs.Diagnostics.{tells}
+use Rattle.deny_json.specs.Lines.{diag_line, line}
 use Rattle.deny_gate.specs.declared.report.Finding.{Finding}
 use Rattle.deny_gate.specs.declared.report.Report.{Report}
 use Rattle.deny_gate.specs.declared.report.Verdict.{Verdict}
 use Rattle.deny_gate.specs.declared.report.Verdict.TheVariants.{Pass, Fail}
-use Rattle.deny_cli.specs.Diagnostics.{diagnostic_value, tells}
+use Rattle.deny_cli.specs.Dead.{dead_value}
 use Rattle.deny_cli.specs.Outcome.{bits_of}
-
-abbrev pub line : Data → List ℕ
-line value = compact_text value ++ 10 ∷ []
 
 abbrev pub verdict_word : Verdict → List ℕ
 verdict_word Pass = codes "pass"
@@ -23,13 +23,17 @@ verdict_value verdict = tells (codes "verdict")
     (member (codes "bits") (number (unsigned (bits_of verdict)))
     (member (codes "verdict") (string (verdict_word verdict)) no_members))
 
--- the line of a finding, whose labels lie in these files
-unfoldable pub finding_line : List File → Finding → List ℕ
-finding_line files finding = line (diagnostic_value files finding.diag.diag)
+-- the line of a finding, whose labels lie in these files, with the trees that it shows of the graph
+unfoldable pub finding_line : List File → Graph → Finding → List ℕ
+finding_line files g finding = diag_line files g finding.kid finding.diag
+
+unfoldable pub dead_line : EntryId → List ℕ
+dead_line e = line (dead_value e)
 
 unfoldable pub verdict_line : Verdict → List ℕ
 verdict_line verdict = line (verdict_value verdict)
 
--- the lines of a report: its findings in order, and its verdict
+-- the lines of a report: its findings in order with their trees, then its dead entries, and its verdict
 unfoldable pub lines : Report → List ℕ
-lines report = flat_map (finding_line report.files) report.findings ++ verdict_line report.verdict
+lines report = flat_map (finding_line report.files report.krates) report.findings
+    ++ (flat_map dead_line report.dead ++ verdict_line report.verdict)

@@ -4,8 +4,9 @@ use Rattle.std.specs.Prelude.{◌≡◌, ◌⊎◌, ℕ, List, Option}
 use Rattle.deny_outside.specs.Count.{Rose}
 use Rattle.deny_outside.specs.Out.{Appends, AppendsFront}
 use Rattle.deny_gate.specs.declared.report.Report.{Report}
-use Rattle.deny_cli.specs.Lines.{lines}
 use Rattle.deny_cli.specs.Stops.{stop_line, memory_line}
+use Rattle.deny_cli.specs.Summary.{answer_lines, lines_for}
+use Rattle.deny_cli.specs.Words.{Command}
 use Rattle.deny_cli.specs.declared.outcome.Outcome.{Outcome}
 use Rattle.deny_cli.specs.declared.outcome.Outcome.TheVariants.{Done, Usage, Read, Long, Gate, Write, Memory}
 
@@ -14,15 +15,15 @@ abbrev pub FailsWriting : {W : Type 0} → (W → Option (List ℕ)) → (W → 
 FailsWriting written faults old new bytes =
     Rose (faults old) (faults new) × AppendsFront (written old) (written new) bytes
 
--- the standard output: the lines of the report, or nothing
-abbrev pub LeavesOut : {W : Type 0} → (W → Option (List ℕ)) → (W → ℕ) → W → W → Outcome → Type 0
-LeavesOut written faults old new (Done report) = Appends (written old) (written new) (lines report)
-LeavesOut written faults old new (Usage at) = new ≡ old
-LeavesOut written faults old new (Read which) = new ≡ old
-LeavesOut written faults old new (Long which) = new ≡ old
-LeavesOut written faults old new (Gate error) = new ≡ old
-LeavesOut written faults old new (Write report) = FailsWriting written faults old new (lines report)
-LeavesOut written faults old new Memory = new ≡ old
+-- the standard output: what this command tells of the report, or nothing
+abbrev pub LeavesOut : {W : Type 0} → (W → Option (List ℕ)) → (W → ℕ) → W → W → Option Command → Outcome → Type 0
+LeavesOut written faults old new asked (Done report) = Appends (written old) (written new) (lines_for asked report)
+LeavesOut written faults old new asked (Usage at) = new ≡ old
+LeavesOut written faults old new asked (Read which) = new ≡ old
+LeavesOut written faults old new asked (Long which) = new ≡ old
+LeavesOut written faults old new asked (Gate error) = new ≡ old
+LeavesOut written faults old new asked (Write report) = FailsWriting written faults old new (lines_for asked report)
+LeavesOut written faults old new asked Memory = new ≡ old
 
 -- this one line, or what a failing output took of it
 abbrev pub PutsLine : {W : Type 0} → (W → Option (List ℕ)) → (W → ℕ) → W → W → List ℕ → Type 0
@@ -47,14 +48,14 @@ LeavesErr written faults old new Memory policy = TellsStop written faults old ne
 
 -- ---- for a private clause
 
--- writing the report's lines comes to this
-abbrev pub WritesReport : {W : Type 0} → (W → Option (List ℕ)) → (W → ℕ) → W → W → Report → Outcome → Type 0
-WritesReport written faults old new report (Done told) = (told ≡ report)
-    × Appends (written old) (written new) (lines report)
-WritesReport written faults old new report (Usage at) = ⊥
-WritesReport written faults old new report (Read which) = ⊥
-WritesReport written faults old new report (Long which) = ⊥
-WritesReport written faults old new report (Gate error) = ⊥
-WritesReport written faults old new report (Write told) = (told ≡ report)
-    × FailsWriting written faults old new (lines report)
-WritesReport written faults old new report Memory = new ≡ old
+-- writing what the command tells of the report comes to this
+abbrev pub WritesReport : {W : Type 0} → (W → Option (List ℕ)) → (W → ℕ) → W → W → Command → Report → Outcome → Type 0
+WritesReport written faults old new command report (Done told) = (told ≡ report)
+    × Appends (written old) (written new) (answer_lines command report)
+WritesReport written faults old new command report (Usage at) = ⊥
+WritesReport written faults old new command report (Read which) = ⊥
+WritesReport written faults old new command report (Long which) = ⊥
+WritesReport written faults old new command report (Gate error) = ⊥
+WritesReport written faults old new command report (Write told) = (told ≡ report)
+    × FailsWriting written faults old new (answer_lines command report)
+WritesReport written faults old new command report Memory = new ≡ old

@@ -13,8 +13,8 @@ use Rattle.deny_toml.specs.declared.error.ConfigFault.{ConfigFault}
 use Rattle.deny_toml.specs.declared.error.FaultKind.{FaultKind}
 use Rattle.deny_toml.specs.declared.error.FaultKind.TheVariants as kind
 use Rattle.deny_gate.specs.declared.report.GateError.TheVariants as gate
-use Rattle.deny_cli.specs.Diagnostics.{diagnostic_value, tells}
-use Rattle.deny_cli.specs.Lines.{line}
+use Rattle.deny_json.specs.Diagnostics.{diagnostic_value, tells}
+use Rattle.deny_json.specs.Lines.{line}
 use Rattle.deny_cli.specs.declared.outcome.Outcome.{Outcome}
 use Rattle.deny_cli.specs.declared.outcome.Outcome.TheVariants.{Done, Usage, Read, Long, Gate, Write, Memory}
 

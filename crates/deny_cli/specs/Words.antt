@@ -1,5 +1,8 @@
 -- The words of a run: what they ask for, which lists are accepted, and where the others break off.
-use Rattle.std.specs.Prelude.{◌≡◌, ℕ, ◌+◌, ◌<◌, ◌≤◌, ◌==◌, Bool, false, not, List, [], ◌∷◌, ◌++◌, Option, Some, None, is_none, option_map, option_and_then, length, take, map, codes, String, string_bytes, if◌then◌else◌}
+use Rattle.std.specs.Prelude.{◌≡◌, ℕ, ◌+◌, ◌<◌, ◌≤◌, ◌==◌, ◌&&◌, Bool, false, not, nat_le, List, [], ◌∷◌, ◌++◌, Option, Some, None, is_none, option_map, option_and_then, length, take, map, codes, ⊤, String, string_bytes, if◌then◌else◌}
+use Rattle.std.specs.Char.{is_ascii_digit}
+use Rattle.std.specs.List.{list_all}
+use Rattle.std.specs.Str.Parse.{digits_value}
 use Rattle.std.specs.declared.alloc.Global.{Global}
 use Rattle.deny_base.specs.declared.check.Which.{Which}
 use Rattle.deny_base.specs.declared.check.Which.TheVariants.{Policy, Metadata, Replacements}
@@ -14,6 +17,25 @@ unfoldable pub names_file : List ℕ → Bool
 names_file [] = false
 names_file (byte ∷ bytes) = not (byte == 45)
 
+-- the most crates that can be asked for
+abbrev pub most_crates : ℕ
+most_crates = 20000
+
+-- whether a zero stands before other bytes
+unfoldable pub leads_with_zero : List ℕ → Bool
+leads_with_zero [] = false
+leads_with_zero (only ∷ []) = false
+leads_with_zero (first ∷ second ∷ others) = first == 48
+
+-- whether a word is a number in digits alone, and without a zero before others
+unfoldable pub is_plain : List ℕ → Bool
+is_plain word = not (length word == 0) && (list_all is_ascii_digit word && not (leads_with_zero word))
+
+-- the number of crates that a word asks for
+unfoldable pub count_of : List ℕ → Option ℕ
+count_of word =
+    if is_plain word && nat_le (digits_value 10 word) most_crates then Some (digits_value 10 word) else None
+
 -- ---- what words ask for
 
 -- what a check looks at: the paths of its texts, and of a table of replacements, if one is named
@@ -24,12 +46,15 @@ pub record Asked : Type 0 where
 
 pub data Command : Type 0 where
   check : Asked → Command
+  -- to make so many crates, and to check them
+  generate : ℕ → Command
 
 -- the path of a text; none of a text that the command does not read
 abbrev pub path_of : Command → Which → Option (List ℕ)
 path_of (check asked) Policy = Some asked.policy
 path_of (check asked) Metadata = Some asked.metadata
 path_of (check asked) Replacements = asked.replacements
+path_of (generate crates) which = None
 
 -- ---- the same as far as words were read
 
@@ -41,6 +66,8 @@ pub record AskedSoFar : Type 0 where
 pub data Form : Type 0 where
   nothing : Form
   checking : AskedSoFar → Form
+  -- the number of crates, where that was said
+  generating : Option ℕ → Form
 
 -- a check that asks for nothing yet
 abbrev pub begun : AskedSoFar
@@ -54,11 +81,20 @@ path_added asked path =
     else if is_none asked.replacements then Some (record asked { replacements = Some path })
     else None
 
+-- so many crates
+abbrev pub generating_some : ℕ → Form
+generating_some crates = generating (Some crates)
+
 -- what a word adds; none where it may not stand here
 unfoldable pub step : Form → List ℕ → Option Form
-step nothing word = if same_text word (codes "check") then Some (checking begun) else None
+step nothing word =
+    if same_text word (codes "check") then Some (checking begun)
+    else if same_text word (codes "generate") then Some (generating None)
+    else None
 step (checking asked) word =
     if names_file word then option_map checking (path_added asked word) else None
+step (generating None) word = option_map generating_some (count_of word)
+step (generating (Some crates)) word = None
 
 abbrev pub filled : Option Form → List (List ℕ) → Option Form
 filled form [] = form
@@ -75,6 +111,7 @@ check_of (Some policy) (Some metadata) replacements =
 abbrev pub command_of : Form → Option Command
 command_of nothing = None
 command_of (checking asked) = check_of asked.policy asked.metadata asked.replacements
+command_of (generating crates) = option_map generate crates
 
 -- ---- which words are accepted
 
@@ -99,3 +136,10 @@ pub record IsUsageAt (words : List (List ℕ)) (at : ℕ) : Type 0 where
   pub within : at ≤ length words
   pub before : GoesOn (take at words)
   pub here : at < length words → ¬ GoesOn (take (at + 1) words)
+
+-- ---- for private clauses
+
+-- no more crates than can be asked for
+abbrev pub AsksForFew : Command → Type 0
+AsksForFew (check asked) = ⊤
+AsksForFew (generate crates) = crates ≤ most_crates

@@ -1,13 +1,15 @@
 //! The command line as a library call: from words to texts, the gate, lines and a status.
 #![tactic(auto)]
 
-mod diagnostics;
-mod fields;
+mod dead;
+mod laws;
 mod lines;
 mod outcome;
 mod program;
 mod stops;
+mod summary;
 mod words;
 
+pub use laws::lines_are_json;
 pub use outcome::{Ended, Outcome};
 pub use program::run;

@@ -1,47 +1,52 @@
 //! The lines of a report.
-ghost use Rattle.std.specs.Prelude.{◌≡◌, IfOk, false};
+ghost use Rattle.std.specs.Prelude.{◌≡◌, ◌++◌, IfOk, OnOk};
+ghost use Rattle.std.specs.List.{flat_map};
 ghost use Rattle.serde_json.specs.View.{view};
-ghost use Rattle.serde_json.specs.Written.{has_float};
-ghost use Rattle.deny_cli.specs.Lines.{finding_line, line, lines, verdict_line, verdict_value};
+ghost use Rattle.deny_cli.specs.Lines.{dead_line, finding_line, lines, verdict_line, verdict_value, verdict_word};
 
-use crate::fields::diagnostic_value;
+use crate::dead::dead_value;
 use crate::outcome::bits;
-use deny_base::Files;
+use deny_base::{EntryId, Files};
 use deny_gate::{Finding, Report, Verdict};
+use deny_json::{diag_line, line};
 use deny_lists::{NoMemory, Text};
+use deny_trees::InclusionGrapher;
 use serde_json::{Value, json};
 use std::alloc::{AllocError, Global};
+
+/// The word of a verdict.
+pub fn verdict_word(verdict: Verdict) -> &'static str
+    ensures { result.now ≡ verdict_word verdict }
+{
+    match verdict {
+        Verdict::Pass => "pass",
+        Verdict::Fail(_) => "fail",
+    }
+}
 
 /// A verdict as JSON.
 fn verdict_value(alloc: Global, verdict: Verdict) -> Result<Value, AllocError>
     ensures { IfOk result (λ value. view value ≡ verdict_value verdict) }
 {
-    let word = match verdict {
-        Verdict::Pass => "pass",
-        Verdict::Fail(_) => "fail",
-    };
+    let word = verdict_word(verdict);
     json!(in alloc; {
         "fields": {"bits": bits(verdict), "verdict": word},
         "type": "verdict",
     })
 }
 
-/// A value as a line.
-pub fn line(alloc: Global, value: &Value) -> Result<Text, NoMemory>
-    requires { has_float (view value.now) ≡ false }
-    ensures { IfOk result (λ text. text ≡ line (view value.now)) }
-{
-    let mut text = Text::from_string(value.to_string(alloc)?);
-    text.push_str("\n")?;
-    Ok(text)
-}
-
-/// The line of a finding.
+/// The line of a finding, with its trees.
 #[tactic(auto, unfolding(crate::specs::Lines::finding_line))]
-fn finding_line(alloc: Global, files: &Files, finding: &Finding) -> Result<Text, NoMemory>
-    ensures { IfOk result (λ text. text ≡ finding_line files.now finding.now) }
+fn finding_line(
+    alloc: Global,
+    files: &Files,
+    grapher: &InclusionGrapher<'_>,
+    finding: &Finding,
+) -> Result<Text, NoMemory>
+    ensures { IfOk result (λ text. text
+        ≡ finding_line files.now grapher.now.krates.now finding.now) }
 {
-    line(alloc, &diagnostic_value(alloc, files, &finding.diag.diag)?)
+    diag_line(alloc, files, grapher, finding.kid.as_ref(), &finding.diag)
 }
 
 /// The line of a verdict.
@@ -52,15 +57,51 @@ fn verdict_line(alloc: Global, verdict: Verdict) -> Result<Text, NoMemory>
     line(alloc, &verdict_value(alloc, verdict)?)
 }
 
-/// The lines of a report: its findings in order, and its verdict.
+/// The line of a dead entry.
+#[tactic(auto, unfolding(crate::specs::Lines::dead_line))]
+fn dead_line(alloc: Global, entry: EntryId) -> Result<Text, NoMemory>
+    ensures { IfOk result (λ text. text ≡ dead_line entry) }
+{
+    line(alloc, &dead_value(alloc, entry)?)
+}
+
+/// Adds the lines of findings, in their order.
+fn push_findings(
+    alloc: Global,
+    files: &Files,
+    grapher: &InclusionGrapher<'_>,
+    findings: &[Finding],
+    text: &mut Text,
+) -> Result<(), NoMemory>
+    ensures { OnOk result (text.new
+        ≡ text.old ++ flat_map (finding_line files.now grapher.now.krates.now) findings.now) }
+{
+    for finding in findings {
+        text.push_str(finding_line(alloc, files, grapher, finding)?.as_str())?;
+    }
+    Ok(())
+}
+
+/// Adds the lines of dead entries, in their order.
+fn push_dead(alloc: Global, dead: &[EntryId], text: &mut Text) -> Result<(), NoMemory>
+    ensures { OnOk result (text.new ≡ text.old ++ flat_map dead_line dead.now) }
+{
+    for entry in dead {
+        text.push_str(dead_line(alloc, *entry)?.as_str())?;
+    }
+    Ok(())
+}
+
+/// The lines of a report: its findings in order, with their trees, its dead entries, and its verdict.
 #[tactic(auto, unfolding(crate::specs::Lines::lines))]
 pub fn lines(alloc: Global, report: &Report) -> Result<Text, NoMemory>
     ensures { IfOk result (λ text. text ≡ lines report.now) }
 {
     let mut text = Text::new(alloc);
-    for finding in report.findings.as_slice() {
-        text.push_str(finding_line(alloc, &report.files, finding)?.as_str())?;
-    }
+    let grapher = InclusionGrapher::new(&report.krates);
+    let findings = report.findings.as_slice();
+    push_findings(alloc, &report.files, &grapher, findings, &mut text)?;
+    push_dead(alloc, report.dead.as_slice(), &mut text)?;
     text.push_str(verdict_line(alloc, report.verdict)?.as_str())?;
     Ok(text)
 }

@@ -5,7 +5,7 @@ use deny_base::Which;
 use deny_gate::{GateError, Report, Verdict};
 
 /// What a run comes to.
-#[derive(Debug, Drop)]
+#[derive(Drop)]
 pub enum Outcome {
     /// The report was written whole.
     Done(Report),
@@ -60,7 +60,7 @@ pub(crate) fn bits(verdict: Verdict) -> u8
 }
 
 /// What a run comes to, and the status that the program ends with.
-#[derive(Debug, Drop)]
+#[derive(Drop)]
 pub struct Ended {
     pub status: u8,
     pub outcome: Outcome,

@@ -1,24 +1,25 @@
-ghost use Rattle.std.specs.Prelude.{◌≡◌, ◌==◌, ℕ, List, [], IfOk, IfErr, not};
+ghost use Rattle.std.specs.Prelude.{◌≡◌, ◌==◌, ◌≤◌, ℕ, List, [], IfOk, IfErr, not};
 ghost use Rattle.std.specs.List.{list_any};
 ghost use Rattle.deny_outside.specs.Count.{Rose};
-ghost use Rattle.deny_outside.specs.Disk.{IsLater};
+ghost use Rattle.deny_outside.specs.Disk.{Disk, IsLater};
 ghost use Rattle.deny_gate.specs.Gating.{AreShort, IsReportOf, texts_in};
 ghost use Rattle.deny_gate.specs.Labels.{AreLabelled};
 ghost use Rattle.deny_gate.specs.Report.{has_error};
-ghost use Rattle.deny_cli.specs.Causes.{AreTextsOf, ComesBy, StopsBy, StopsAt, IsHeadlineOn, IsReadAt, IsReadStop, IsReportAt, IsReportOn, IsValidRun, IsRefusedRun, IsReadable, IsGateStop, IsTextOfClashes, end_stop};
+ghost use Rattle.deny_cli.specs.Causes.{AreTextsOf, ComesBy, StopsBy, StopsAt, IsHeadlineOn, CanDoWithoutDeadOn, IsReadAt, IsReadStop, IsReportAt, IsReportOn, IsValidRun, IsRefusedRun, IsReadable, IsGateStop, IsTextOfClashes, end_stop, made_texts};
 ghost use Rattle.deny_cli.specs.Commands.{asked_view, command_view};
 ghost use Rattle.deny_cli.specs.Outcome.{IfDone, IfReported, IsUsage, IsDoneOrMemory, IsStopOrMemory, failing_bits, status_of};
 ghost use Rattle.deny_cli.specs.declared.outcome.Outcome.{Outcome};
 ghost use Rattle.deny_cli.specs.Stops.{IsTextOf};
 ghost use Rattle.deny_cli.specs.Outputs.{LeavesOut, LeavesErr, PutsLine, WritesReport};
-ghost use Rattle.deny_cli.specs.Words.{check, texts, IsAccepted};
+ghost use Rattle.deny_cli.specs.Words.{check, generate, texts, Asks, AsksForFew, IsAccepted, asked_by, most_crates};
 
-use crate::lines::lines;
 use crate::outcome::{Ended, Outcome};
 use crate::stops::{memory_line, stop_line};
+use crate::summary::answer_lines;
 use crate::words::{Asked, Command, read_words};
 use deny_base::Which;
 use deny_gate::{Inputs, Report, gate};
+use deny_generator::{disk_of, metadata_of, policy_of};
 use deny_lists::NoMemory;
 use deny_outside::{Out, OutFault, PackageFiles, ReadEnd, read_whole};
 use std::alloc::Global;
@@ -29,6 +30,13 @@ use std::alloc::Global;
 struct Ending {
     outcome: Outcome,
     policy: Vec<u8>,
+}
+
+/// A command, and the report on it.
+#[derive(Drop)]
+struct Answer<'w> {
+    command: Command<'w>,
+    report: Report,
 }
 
 /// Why a text that was not read to its end stops a run.
@@ -113,53 +121,96 @@ fn report_of<D: PackageFiles>(alloc: Global, inputs: Inputs, disk: &mut D) -> Re
     }
 }
 
+/// The texts that are made for so many crates.
+fn made_inputs(alloc: Global, crates: u32) -> Result<Inputs, NoMemory>
+    ensures { IfOk result (λ inputs. texts_in inputs ≡ made_texts crates) }
+{
+    let policy = policy_of(alloc, crates)?;
+    let metadata = metadata_of(alloc, crates)?;
+    Ok(Inputs {
+        policy: Vec::from_slice(alloc, policy.as_str().as_bytes())?,
+        metadata: Vec::from_slice(alloc, metadata.as_str().as_bytes())?,
+        replacements: None,
+    })
+}
+
+/// The report on so many crates that are made, or why there is none. It stands on a disk of its own.
+fn made_report(alloc: Global, crates: u32) -> Result<Report, Ending>
+    requires { crates ≤ most_crates }
+    ensures report { IfOk result (IsReportOf (made_texts crates)) }
+    ensures labels { IfOk result (λ report. AreLabelled report.files report.findings) }
+    ensures stop { IfErr result (λ ending. (old new : Disk)
+        → StopsAt old new (generate crates) ending.outcome ending.policy.items) }
+{
+    let Ok(inputs) = made_inputs(alloc, crates) else {
+        return Err(ends_by(alloc, Outcome::Memory));
+    };
+    let Ok(mut disk) = disk_of(alloc) else {
+        return Err(ends_by(alloc, Outcome::Memory));
+    };
+    report_of(alloc, inputs, &mut disk)
+}
+
 /// The report on the texts of a command, or why there is none.
 fn report_at<D: PackageFiles>(
     alloc: Global,
     command: Command<'_>,
     disk: &mut D,
 ) -> Result<Report, Ending>
+    requires { AsksForFew (command_view command) }
     ensures report { IfOk result (IsReportAt (D.seen disk.old) (command_view command.entry)) }
     ensures labels { IfOk result (λ report. AreLabelled report.files report.findings) }
     ensures stop { IfErr result (λ ending. StopsAt (D.seen disk.old) (D.seen disk.new)
         (command_view command.entry) ending.outcome ending.policy.items) }
     ensures later { IsLater (D.seen disk.old) (D.seen disk.new) }
+    ensures untouched { (crates : ℕ) → command_view command.entry ≡ generate crates
+        → disk.new ≡ disk.old }
 {
-    let Command::Check(asked) = command;
-    match read_inputs(alloc, asked, disk) {
-        Ok(inputs) => report_of(alloc, inputs, disk),
-        Err(outcome) => Err(ends_by(alloc, outcome)),
+    match command {
+        Command::Check(asked) => match read_inputs(alloc, asked, disk) {
+            Ok(inputs) => report_of(alloc, inputs, disk),
+            Err(outcome) => Err(ends_by(alloc, outcome)),
+        },
+        Command::Generate(crates) => made_report(alloc, crates),
     }
 }
 
-/// The report on what the words ask for, or why there is none.
-fn report_on<D: PackageFiles>(
+/// What the words ask for and the report on it, or why there is none.
+fn answer_to<'w, D: PackageFiles>(
     alloc: Global,
-    words: &[String],
+    words: &'w [String],
     disk: &mut D,
-) -> Result<Report, Ending>
-    ensures report { IfOk result (IsReportOn (D.seen disk.old) (texts words.now)) }
-    ensures labels { IfOk result (λ report. AreLabelled report.files report.findings) }
+) -> Result<Answer<'w>, Ending>
+    ensures asks { IfOk result (λ answer. Asks (texts words.now) (command_view answer.command)) }
+    ensures report { IfOk result (λ answer.
+        IsReportOn (D.seen disk.old) (texts words.now) answer.report) }
+    ensures labels { IfOk result (λ answer. AreLabelled answer.report.files answer.report.findings) }
     ensures stop { IfErr result (λ ending.
         StopsBy (D.seen disk.old) (D.seen disk.new) (texts words.now) ending.outcome) }
     ensures policy { IfErr result (λ ending.
         IsTextOfClashes (D.seen disk.old) (texts words.now) ending.outcome ending.policy.items) }
     ensures later { IsLater (D.seen disk.old) (D.seen disk.new) }
+    ensures untouched { (crates : ℕ) → Asks (texts words.now) (generate crates) → disk.new ≡ disk.old }
 {
-    match read_words(words) {
-        Ok(command) => report_at(alloc, command, disk),
-        Err(at) => Err(ends_by(alloc, Outcome::Usage(at))),
+    let command = match read_words(words) {
+        Ok(command) => command,
+        Err(at) => return Err(ends_by(alloc, Outcome::Usage(at))),
+    };
+    match report_at(alloc, command, disk) {
+        Ok(report) => Ok(Answer { command, report }),
+        Err(ending) => Err(ending),
     }
 }
 
-/// Writes the lines of a report, all at once.
-fn write_report<W: Out>(alloc: Global, report: Report, out: &mut W) -> Outcome
-    ensures { WritesReport W.written W.faults out.old out.new report result }
+/// Writes what a command tells of its report, all at once.
+fn write_answer<W: Out>(alloc: Global, answer: Answer<'_>, out: &mut W) -> Outcome
+    ensures { WritesReport W.written W.faults out.old out.new
+        (command_view answer.entry.command) answer.entry.report result }
 {
-    match lines(alloc, &report) {
+    match answer_lines(alloc, answer.command, &answer.report) {
         Ok(text) => match out.put(text.as_str().as_bytes()) {
-            Ok(()) => Outcome::Done(report),
-            Err(OutFault) => Outcome::Write(report),
+            Ok(()) => Outcome::Done(answer.report),
+            Err(OutFault) => Outcome::Write(answer.report),
         },
         Err(NoMemory) => Outcome::Memory,
     }
@@ -175,11 +226,12 @@ fn ending_of<D: PackageFiles, W: Out>(
     ensures cause { ComesBy (D.seen disk.old) (D.seen disk.new) (texts words.now) result.outcome }
     ensures labels { IfReported result.outcome (λ report. AreLabelled report.files report.findings) }
     ensures policy { IsTextOfClashes (D.seen disk.old) (texts words.now) result.outcome result.policy.items }
-    ensures out { LeavesOut W.written W.faults out.old out.new result.outcome }
+    ensures out { LeavesOut W.written W.faults out.old out.new (asked_by (texts words.now)) result.outcome }
     ensures later { IsLater (D.seen disk.old) (D.seen disk.new) }
+    ensures untouched { (crates : ℕ) → Asks (texts words.now) (generate crates) → disk.new ≡ disk.old }
 {
-    match report_on(alloc, words, disk) {
-        Ok(report) => ends_by(alloc, write_report(alloc, report, out)),
+    match answer_to(alloc, words, disk) {
+        Ok(answer) => ends_by(alloc, write_answer(alloc, answer, out)),
         Err(ending) => ending,
     }
 }
@@ -206,14 +258,17 @@ fn tell<E: Out>(alloc: Global, outcome: &Outcome, policy: &[u8], err: &mut E)
 }
 
 /// Runs the program on these words, without the program's own name:
-/// `check POLICY METADATA [REPLACEMENTS]`.
+/// `check POLICY METADATA [REPLACEMENTS]`, or `generate N` with N from 0 to 20000.
 ///
-/// The texts at these paths are read from `disk`, in this order. The lines of the report go to
-/// `out`, in one piece, and the one line that tells a stop to `err`; what a failing `err` makes of
-/// it changes nothing. The order of the causes is: words, reading the policy, its length, reading
-/// the metadata, its length, the same of the table of replacements where one is named, what the
-/// gate refuses in them (in the same order), the output. Want of memory can come at any point but
-/// the first.
+/// For a check the texts at these paths are read from `disk`, in this order, and the lines of the
+/// report go to `out`. For `generate N` a policy and the metadata of N crates are made, the report on
+/// them is made on a disk of its own, and one line that sums it up goes to `out`. What goes to `out`
+/// goes there in one piece, and the one line that tells a stop to `err`; what a failing `err` makes of
+/// it changes nothing.
+///
+/// The order of the causes is: words, reading the policy, its length, reading the metadata, its
+/// length, the same of the table of replacements where one is named, what the gate refuses in them
+/// (in the same order), the output. Want of memory can come at any point but the first.
 pub fn run<D: PackageFiles, W: Out, E: Out>(
     alloc: Global,
     words: &[String],
@@ -241,6 +296,10 @@ pub fn run<D: PackageFiles, W: Out, E: Out>(
 
     // What is told at level deny is exactly what violates a rule, and nothing covers.
     ensures headline { IfReported result.outcome (IsHeadlineOn (D.seen disk.old) (texts words.now)) }
+    // Any entries that are told as dead can go from the policy, where no list of wrappers is emptied:
+    // what stands without them is what the report tells, but for what names one of them as unused.
+    ensures dead_can_go { IfReported result.outcome
+        (CanDoWithoutDeadOn (D.seen disk.old) (texts words.now)) }
     // Each label of a finding marks a range of its file.
     ensures labels { IfReported result.outcome (λ report. AreLabelled report.files report.findings) }
 
@@ -251,13 +310,16 @@ pub fn run<D: PackageFiles, W: Out, E: Out>(
     // By check: 2 where the bans check has an error, 4 where the licence check has one, or their sum.
     ensures bits { IfDone result.outcome (λ report. result.status ≡ failing_bits report.findings) }
 
-    ensures out { LeavesOut W.written W.faults out.old out.new result.outcome }
+    ensures out { LeavesOut W.written W.faults out.old out.new (asked_by (texts words.now)) result.outcome }
     ensures err { (policy : List ℕ) × IsTextOfClashes (D.seen disk.old) (texts words.now) result.outcome policy
         × LeavesErr E.written E.faults err.old err.new result.outcome policy }
     ensures later { IsLater (D.seen disk.old) (D.seen disk.new) }
+    // Crates that are made are checked on a disk that is made too.
+    ensures untouched { (crates : ℕ) → Asks (texts words.now) (generate crates) → disk.new ≡ disk.old }
 {
     deny_cfg::one_policy();
     deny_gate::headline();
+    deny_gate::dead_can_go();
     deny_gate::one_answer();
     let ending = ending_of(alloc, words, disk, out);
     tell(alloc, &ending.outcome, ending.policy.as_slice(), err);

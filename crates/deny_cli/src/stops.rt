@@ -2,14 +2,13 @@
 ghost use Rattle.std.specs.Prelude.{◌≡◌, ◌<◌, ◌^◌, ◌∷◌, [], IfOk, IsUtf8, codes, length, map};
 ghost use Rattle.serde_json.specs.View.{view};
 ghost use Rattle.deny_cfg.specs.PolicyText.{policy_file};
-ghost use Rattle.deny_cli.specs.Diagnostics.{diagnostic_value, tells};
+ghost use Rattle.deny_json.specs.Diagnostics.{diagnostic_value, tells};
 ghost use Rattle.deny_cli.specs.Stops.{IsTextOf, config_fields, fault_value, fault_detail, fault_fields, fault_word, file_word, invalid_fields, kind_word, memory_line, replacement_fields, stop_at_file, stop_fields, stop_line};
 
-use crate::fields::diagnostic_value;
-use crate::lines::line;
 use crate::outcome::Outcome;
 use deny_base::{Diagnostic, Files, Which};
 use deny_gate::GateError;
+use deny_json::{diagnostic_value, line};
 use deny_krates::MetadataFault;
 use deny_lists::{List, NoMemory, Text};
 use deny_toml::{ConfigFault, FaultKind};

@@ -1,6 +1,8 @@
 ghost use Rattle.std.specs.Prelude.{◌≡◌, ◌↔◌, IsTrue, MatchResult, codes, option_map};
+ghost use Rattle.std.specs.Char.{is_ascii_digit};
+ghost use Rattle.std.specs.List.{list_all};
 ghost use Rattle.deny_cli.specs.Commands.{command_view, form_view, so_far_view};
-ghost use Rattle.deny_cli.specs.Words.{names_file, texts, Asks, IsUsageAt, command_of, path_added, step};
+ghost use Rattle.deny_cli.specs.Words.{count_of, is_plain, leads_with_zero, names_file, texts, Asks, IsUsageAt, command_of, path_added, step};
 
 /// What a check looks at: the paths of its texts, and of a table of replacements, if one is named.
 #[derive(Debug, Clone, Copy)]
@@ -10,10 +12,15 @@ pub struct Asked<'a> {
     pub replacements: Option<&'a str>,
 }
 
+/// The most crates that can be asked for.
+const MOST_CRATES: u32 = 20000;
+
 /// What accepted words ask for.
 #[derive(Debug, Clone, Copy)]
 pub enum Command<'a> {
     Check(Asked<'a>),
+    /// To make so many crates, at most 20000, and to check them.
+    Generate(u32),
 }
 
 /// The same as far as words were read.
@@ -29,6 +36,8 @@ struct AskedSoFar<'a> {
 enum Form<'a> {
     Nothing,
     Checking(AskedSoFar<'a>),
+    /// How many crates are to be made, where that was said.
+    Generating(Option<u32>),
 }
 
 /// Whether a word can name a file: it is not empty, and does not begin with a dash.
@@ -39,6 +48,51 @@ fn names_file(word: &str) -> bool
     match word.as_bytes() {
         [first, ..] => *first != b'-',
         [] => false,
+    }
+}
+
+/// Whether a zero stands before other bytes.
+#[tactic(auto, unfolding(crate::specs::Words::leads_with_zero))]
+fn leads_with_zero(word: &[u8]) -> bool
+    ensures { result ≡ leads_with_zero word.now }
+{
+    match word {
+        [first, _, ..] => *first == b'0',
+        [_] | [] => false,
+    }
+}
+
+fn are_digits(word: &[u8]) -> bool
+    ensures { result ≡ list_all is_ascii_digit word.now }
+{
+    word.iter().all(|byte| byte.is_ascii_digit())
+}
+
+/// Whether a word is a number in digits alone, and without a zero before others.
+#[tactic(auto, unfolding(crate::specs::Words::is_plain))]
+fn is_plain(word: &[u8]) -> bool
+    ensures { result ≡ is_plain word.now }
+{
+    !word.is_empty() && are_digits(word) && !leads_with_zero(word)
+}
+
+/// The number of crates that a word asks for: digits, without a zero before others, and not too many.
+#[tactic(auto, unfolding(crate::specs::Words::count_of))]
+fn count_of(word: &str) -> Option<u32>
+    ensures { result ≡ count_of word.now }
+{
+    if !is_plain(word.as_bytes()) {
+        return None;
+    }
+    match word.parse::<u32>() {
+        Ok(crates) => {
+            if crates <= MOST_CRATES {
+                Some(crates)
+            } else {
+                None
+            }
+        }
+        Err(_) => None,
     }
 }
 
@@ -78,10 +132,12 @@ fn step<'a>(form: Form<'a>, word: &'a str) -> Option<Form<'a>>
             metadata: None,
             replacements: None,
         })),
+        Form::Nothing if word == "generate" => Some(Form::Generating(None)),
         Form::Checking(asked) if names_file(word) => {
             Some(Form::Checking(with_path(asked, word)?))
         }
-        Form::Nothing | Form::Checking(_) => None,
+        Form::Generating(None) => Some(Form::Generating(Some(count_of(word)?))),
+        Form::Nothing | Form::Checking(_) | Form::Generating(Some(_)) => None,
     }
 }
 
@@ -96,6 +152,7 @@ fn command_of(form: Form<'_>) -> Option<Command<'_>>
             metadata: asked.metadata?,
             replacements: asked.replacements,
         })),
+        Form::Generating(crates) => Some(Command::Generate(crates?)),
     }
 }
 

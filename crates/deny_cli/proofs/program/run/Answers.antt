@@ -1,7 +1,7 @@
 use Rattle.std.proofs.Common.{subst, List, ℕ}
 use Rattle.deny_cli.specs.Outputs.{LeavesErr}
 use Rattle.deny_cli.specs.Words.{texts}
-use Rattle.deny_cli.proofs.CausesLemmas.{AnswerLaws, completes, fails_by, headline_on, is_refused, is_text, not_written, refused_words, status_by}
+use Rattle.deny_cli.proofs.CausesLemmas.{AnswerLaws, completes, dead_on, fails_by, headline_on, is_refused, is_text, not_written, refused_words, status_by}
 use Rattle.deny_cli.proofs.program.run.Goals as goal
 
 pub tell-requires : goal.tell-requires
@@ -22,7 +22,7 @@ returns-clause-completes g c valid readable quiet =
     } in
     let made = c.ending_of-ending.ensures in
     completes laws _ _ _ c.ending_of-ending.result.outcome valid readable
-    (not_written g.W.Out.written g.W.Out.faults c.args.out.now c.ending_of-ending.new.out
+    (not_written g.W.Out.written g.W.Out.faults c.args.out.now c.ending_of-ending.new.out _
     c.ending_of-ending.result.outcome made.out quiet) made.cause
 
 pub returns-clause-refuses : goal.returns-clause-refuses
@@ -36,6 +36,10 @@ returns-clause-refuses g c stop refused readable =
 
 pub returns-clause-headline : goal.returns-clause-headline
 returns-clause-headline g c = headline_on c.headline.ensures _ _ _ c.ending_of-ending.result.outcome
+    c.ending_of-ending.ensures.cause
+
+pub returns-clause-dead_can_go : goal.returns-clause-dead_can_go
+returns-clause-dead_can_go g c = dead_on c.dead_can_go.ensures.texts _ _ _ c.ending_of-ending.result.outcome
     c.ending_of-ending.ensures.cause
 
 pub returns-clause-fails : goal.returns-clause-fails

@@ -1,7 +1,7 @@
 use Rattle.std.proofs.Common.{◌≡◌, ◌++◌, drop}
 use Rattle.std.specs.Prelude.{map}
 use Rattle.serde_json.specs.View.{view}
-use Rattle.deny_cli.specs.Diagnostics.{diagnostic_value}
+use Rattle.deny_json.specs.Diagnostics.{diagnostic_value}
 use Rattle.deny_cli.proofs.stops.diagnostic_values.Given as goal
 
 abbrev pub invariant-loop-diagnostic : goal.invariant-loop-diagnostic

@@ -1,9 +1,0 @@
-use Rattle.std.proofs.Common.{◌≡◌, ◌++◌, drop}
-use Rattle.std.specs.Prelude.{map}
-use Rattle.serde_json.specs.View.{view}
-use Rattle.deny_cli.specs.Diagnostics.{label_value}
-use Rattle.deny_cli.proofs.diagnostics.label_values.Given as goal
-
-abbrev pub invariant-loop-label : goal.invariant-loop-label
-invariant-loop-label l = map view l.values.items ++ map (label_value l.files) (drop l.label-index l.labels)
-    ≡ map (label_value l.files) l.labels

@@ -1,0 +1,36 @@
+//! Entries that are dead, as JSON.
+ghost use Rattle.std.specs.Prelude.{◌≡◌, IfOk};
+ghost use Rattle.serde_json.specs.View.{view};
+ghost use Rattle.deny_cli.specs.Dead.{dead_value, entry_word};
+
+use deny_base::{EntryId, EntryKind};
+use serde_json::{Value, json};
+use std::alloc::{AllocError, Global};
+
+/// The word of a kind of entry.
+fn entry_word(kind: EntryKind) -> &'static str
+    ensures { result.now ≡ entry_word kind }
+{
+    match kind {
+        EntryKind::Skip => "skip",
+        EntryKind::SkipRoot => "skip-root",
+        EntryKind::Wrapper => "wrapper",
+        EntryKind::Bypass => "bypass",
+        EntryKind::BypassPath => "bypass-path",
+        EntryKind::BypassGlob => "bypass-glob",
+        EntryKind::ReplacementIgnore => "replacement-ignore",
+        EntryKind::LicenseAllow => "license-allow",
+        EntryKind::LicenseException => "license-exception",
+    }
+}
+
+/// A dead entry as JSON.
+pub fn dead_value(alloc: Global, entry: EntryId) -> Result<Value, AllocError>
+    ensures { IfOk result (λ value. view value ≡ dead_value entry) }
+{
+    let kind = entry_word(entry.kind);
+    json!(in alloc; {
+        "fields": {"end": entry.range.end, "kind": kind, "start": entry.range.start},
+        "type": "dead",
+    })
+}

@@ -1,0 +1,76 @@
+//! The line of a report on crates that were made, and what a command tells of a report.
+ghost use Rattle.std.specs.Prelude.{◌≡◌, filter, length, IfOk};
+ghost use Rattle.serde_json.specs.View.{view};
+ghost use Rattle.deny_gate.specs.Report.{has_error};
+ghost use Rattle.deny_cli.specs.Commands.{command_view};
+ghost use Rattle.deny_cli.specs.Summary.{answer_lines, report_summary, summary_line};
+
+use crate::lines::{lines, verdict_word};
+use crate::words::Command;
+use deny_base::Severity;
+use deny_gate::{Finding, Report};
+use deny_json::line;
+use deny_krates::Krates;
+use deny_lists::{NoMemory, Text};
+use serde_json::{Value, json};
+use std::alloc::{AllocError, Global};
+
+/// Whether a finding has severity error.
+#[tactic(auto, unfolding(deny_gate::specs::Report::has_error))]
+fn has_error(finding: &Finding) -> bool
+    ensures { result ≡ has_error finding.now }
+{
+    matches!(finding.diag.diag.severity, Severity::Error)
+}
+
+/// How many findings have severity error.
+fn error_count(findings: &[Finding]) -> usize
+    ensures { result ≡ length (filter has_error findings.now) }
+{
+    let mut errors = 0;
+    for finding in findings {
+        if has_error(finding) {
+            errors += 1;
+        }
+    }
+    errors
+}
+
+/// How many crates a graph has.
+fn crate_count(krates: &Krates) -> usize
+    ensures { result ≡ length krates.now.crates }
+{
+    krates.krates().len()
+}
+
+/// A report on so many crates that were made, as JSON.
+fn report_summary(alloc: Global, made: u32, report: &Report) -> Result<Value, AllocError>
+    ensures { IfOk result (λ value. view value ≡ report_summary made report.now) }
+{
+    let crates = crate_count(&report.krates);
+    let dead = report.dead.len();
+    let errors = error_count(report.findings.as_slice());
+    let word = verdict_word(report.verdict);
+    json!(in alloc; {
+        "fields": {"crates": crates, "dead": dead, "errors": errors, "generated": made, "verdict": word},
+        "type": "summary",
+    })
+}
+
+/// The line of a report on so many crates that were made.
+#[tactic(auto, unfolding(crate::specs::Summary::summary_line))]
+fn summary_line(alloc: Global, made: u32, report: &Report) -> Result<Text, NoMemory>
+    ensures { IfOk result (λ text. text ≡ summary_line made report.now) }
+{
+    line(alloc, &report_summary(alloc, made, report)?)
+}
+
+/// What a command tells of a report: its lines, or one where the crates were made.
+pub fn answer_lines(alloc: Global, command: Command<'_>, report: &Report) -> Result<Text, NoMemory>
+    ensures { IfOk result (λ text. text ≡ answer_lines (command_view command.entry) report.now) }
+{
+    match command {
+        Command::Check(_) => lines(alloc, report),
+        Command::Generate(crates) => summary_line(alloc, crates, report),
+    }
+}
