@@ -1,5 +1,5 @@
 #!/usr/bin/env python3
-"""Says whether runs over many licences and features take time in step with their texts.
+"""Says whether runs over many licences, features, trees and dead entries take time in step with their texts.
 
     tools/growth.py PROGRAM     for each form a line: that it is in step, or the processor time of both sizes
 
@@ -22,10 +22,11 @@ def crate(name, **more):
     return dict({"id": name, "manifest_path": "/", "name": name, "version": "1.0.0", "license": "MIT"}, **more)
 
 
-def metadata(packages, enabled=()):
-    """A graph in which the first package is the member and needs all others."""
+def metadata(packages, enabled=(), needed=None):
+    """A graph in which the first package is the member and needs all others, or each what `needed` says."""
     ids = [package["id"] for package in packages]
-    needs = {ids[0]: {"deps": [{"pkg": id_} for id_ in ids[1:]]}}
+    needed = {ids[0]: ids[1:]} if needed is None else needed
+    needs = {id_: {"deps": [{"pkg": one} for one in list_]} for id_, list_ in needed.items()}
     nodes = [{"id": id_, **needs.get(id_, {}), **dict(enabled).get(id_, {})} for id_ in ids]
     resolve = {"nodes": nodes}
     return {"packages": packages, "resolve": resolve, "workspace_members": ids[:1], "workspace_root": "/"}
@@ -83,7 +84,39 @@ def exact(size):
     return with_features("exact = true\nallow = %s" % quoted(names[::-1]), {name: [] for name in names})
 
 
-FORMS = [(crates, 20000), (exceptions, 5000), (allowances, 10000), (chain, 20000), (features, 10000), (exact, 20000)]
+def with_tree(packages, needed):
+    """A graph in which the default feature of `x` is told, with the tree of what leads to it."""
+    return "[bans]\nexternal-default-features = 'warn'\n", metadata(packages, {"x": {"features": ["default"]}}, needed)
+
+
+def deep(size):
+    """A chain of SIZE crates above the one of which something is told."""
+    names = ["c%05d" % number for number in range(size)]
+    packages = [crate("app"), crate("x", features={"default": []})] + [crate(name) for name in names]
+    packages[-1]["dependencies"] = [{"name": "x", "req": "*"}]
+    return with_tree(packages, {name: [below] for name, below in zip(["app"] + names, names + ["x"])})
+
+
+def wide(size):
+    """SIZE crates that need the one of which something is told."""
+    names = ["c%05d" % number for number in range(size)]
+    declared = [{"name": "x", "req": "*"}]
+    packages = [crate("app"), crate("x", features={"default": []})]
+    packages += [crate(name, dependencies=declared) for name in names]
+    return with_tree(packages, dict({name: ["x"] for name in names}, app=names))
+
+
+def dead(size):
+    """SIZE skips, trees that are skipped and wrappers, which nothing hits."""
+    names = quoted("c%05d" % number for number in range(size))
+    policy = "[bans]\nskip = %s\nskip-tree = %s\ndeny = [{ crate = 'y', wrappers = %s }]\n" % (names, names, names)
+    return policy, metadata([crate("app"), crate("x")])
+
+
+FORMS = [
+    (crates, 20000), (exceptions, 5000), (allowances, 10000), (chain, 20000), (features, 10000), (exact, 20000),
+    (deep, 20000), (wide, 20000), (dead, 20000),
+]
 
 
 def time_of(program, folder, texts):

@@ -1,4 +1,4 @@
-"""What the cases are made of: metadata, and runs over it."""
+"""What the cases are made of: metadata, runs over it, and what is told of them by hand."""
 
 import json
 import re
@@ -86,11 +86,45 @@ def furnished(value, packages=(), nodes=()):
 
 
 def featured(text, tables, enabled=(), members="app"):
-    """A graph as above whose crates have features: the tables by crate, and those that are enabled, all where a crate is
-    not named."""
+    """A graph as above whose crates have features: the tables by crate, and those that are enabled, all where a crate
+    is not named."""
     enabled = {**{word: list(table) for word, table in tables.items()}, **dict(enabled)}
     packages = {word: {"features": table} for word, table in tables.items()}
     return furnished(graph(text, members), packages, {word: {"features": list_} for word, list_ in enabled.items()})
+
+
+def asks(name, req="*", **more):
+    """A declaration, by the members of the metadata; `default=False` where default features are not used."""
+    if not more.pop("default", True):
+        more["uses_default_features"] = False
+    return dict({"name": name, "req": req}, **more)
+
+
+def declaring(value, declared=None):
+    """Metadata whose packages have declarations: those that are given by `name` or `name@version`, or else one for
+    each kind of each dependency, which asks for its version and uses default features."""
+    if declared is not None:
+        return furnished(value, {word: {"dependencies": list_} for word, list_ in declared.items()})
+    packages = {one["id"]: one for one in value["packages"]}
+    for node in value["resolve"]["nodes"]:
+        packages[node["id"]]["dependencies"] = [
+            asks(packages[needed["pkg"]]["name"], packages[needed["pkg"]]["version"], kind=kind["kind"])
+            for needed in node.get("deps", []) for kind in needed.get("dep_kinds", [{"kind": None}])
+        ]
+    return value
+
+
+def row_graph(text, tables=(), enabled=()):
+    """A graph as above with the members at `/w` and the other crates from the registry, below `/r`, and with a
+    declaration for each dependency."""
+    value = public_graph(text)
+    for one in value["packages"]:
+        is_member = one["id"] in value["workspace_members"]
+        one["manifest_path"] = "/w/Cargo.toml" if is_member else "/r/%(name)s-%(version)s/Cargo.toml" % one
+    enabled = {**{word: list(table) for word, table in dict(tables).items()}, **dict(enabled)}
+    packages = {word: {"features": table} for word, table in dict(tables).items()}
+    nodes = {word: {"features": list_} for word, list_ in enabled.items()}
+    return declaring(furnished(value, packages, nodes))
 
 
 def licensed(text, licences, publish=(), members="app"):
@@ -114,6 +148,45 @@ def lean(value):
     return value
 
 
+# ---- what is told, by hand
+
+
+def crate_tree(word, *parents, kind=None, repeat=False):
+    """A crate `name` or `name@version` in a tree, 1.0.0 where no version is written, below it what leads to it."""
+    name, _, version = word.partition("@")
+    own = dict({"kind": kind} if kind else {}, name=name, version=version or "1.0.0")
+    return tree_node({"Krate": own}, parents, repeat)
+
+
+def feature_tree(word, *parents, repeat=False):
+    """A feature `crate/name` in a tree."""
+    crate, _, name = word.partition("/")
+    return tree_node({"Feature": {"crate_name": crate, "name": name}}, parents, repeat)
+
+
+def tree_node(value, parents, repeat):
+    return dict(value, **({"parents": list(parents)} if parents else {}), **({"repeat": True} if repeat else {}))
+
+
+BY_APP = crate_tree("app@0.1.0")
+TREES_OF_APP, TREES_OF_X = [BY_APP], [crate_tree("x", BY_APP)]
+
+
+def told(code, severity, message, *labels, notes=(), graphs=()):
+    """The line of a finding, its labels by line, column, text and what they label, and its trees."""
+    fields = {"code": code, "graphs": list(graphs), "message": message, "severity": severity}
+    if notes:
+        fields["notes"] = list(notes)
+    if labels:
+        fields["labels"] = [dict(zip(("line", "column", "message", "span"), label)) for label in labels]
+    return compact({"fields": fields, "type": "diagnostic"}) + "\n"
+
+
+def dead_line(kind, start, end):
+    """The line of a dead entry."""
+    return compact({"fields": {"end": end, "kind": kind, "start": start}, "type": "dead"}) + "\n"
+
+
 X, X2, Y, Z = package("x"), package("x", "2.0.0"), package("y"), package("z")
 ALONE = compact(metadata([]))
 PASSED = '{"fields":{"bits":0,"verdict":"pass"},"type":"verdict"}\n'
@@ -130,7 +203,8 @@ TABLE = "std.bin"
 
 def case(name, policy="", text=ALONE, table=None, **more):
     """A run over a policy and metadata, and over a table of replacements where there is one: its bytes, or a text.
-    `by_hand` says what the run tells, as `told` of check_cases.py puts it."""
+    Of what the run tells `by_hand` says the findings in short and `dead` the dead entries, `trees` the trees of each
+    finding as text, `lines` all lines and `stop` that of a stop, as check_by_hand of check_cases.py compares them."""
     text = text if isinstance(text, (str, list)) else compact(text)
     words, files = WORDS, {WORDS[1]: policy, WORDS[2]: text}
     if table is not None:

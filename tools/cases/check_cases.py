@@ -2,8 +2,8 @@
 """Writes the cases of crates/deny_cases, and what each must print.
 
 The expected output comes from a reading of the rules that is written here anew: it shares nothing with the program
-that the cases try, and stands in tools/readings. The cases stand in feature_cases, licence_check_cases,
-metadata_cases, policy_cases, rule_cases and std_cases.
+that the cases try, and stands in tools/readings. The cases stand in dead_cases, feature_cases, licence_check_cases,
+metadata_cases, policy_cases, rule_cases, std_cases and tree_cases.
 
     check_cases.py cases FOLDER                             writes the files stdin and stdout of crates/deny_cases
     check_cases.py check POLICY METADATA [REPLACEMENTS]     does what the program does with these files
@@ -17,19 +17,31 @@ from pathlib import Path
 sys.path.insert(0, str(Path(__file__).resolve().parent.parent))
 
 from case_parts import ALONE, DENY_X, WITH_X, case
+from dead_cases import dead_cases
 from feature_cases import feature_cases
 from licence_check_cases import licence_check_cases
 from readings import toml
-from readings.report import LIMIT, compact, report, run, stop_line
+from readings.dead import UNUSED
+from readings.metadata import read_metadata
+from readings.policy import read_policy
+from readings.replaced import table_for
+from readings.report import LIMIT, compact, findings_of, report, run, stop_line
+from readings.trees import Trees, text_of
 from metadata_cases import metadata_cases
 from policy_cases import policy_cases
 from rule_cases import rule_cases
 from std_cases import long_tables, std_cases
+from tree_cases import tree_cases
 
 # The statuses of runs that are done: the bits of the checks that failed.
 DONE = (0, 2, 4, 6)
 
 # ---- cases of words, files and outputs
+
+
+USAGE = '{"fields":{"at":%d,"stop":"usage"},"type":"stop"}\n'
+# The place of the word that is missing or too many.
+WRONG_AT = {(): 0, ("check",): 1, ("check", "p", "m", "r", "s"): 4}
 
 
 def words():
@@ -41,7 +53,8 @@ def words():
         ["check", "p", ""], ["check", "p", "-"], ["check", "p", "--m", "r"], ["generate", "0"],
         ["check", "--home=/h", "p", "m"], ["checks", "p"], ["check", "p", "m", ""],
     ):
-        yield {"name": "words %s" % compact(list_), "words": list_, "files": {"p": "", "m": ALONE}}
+        stop = {"stop": USAGE % WRONG_AT[tuple(list_)]} if tuple(list_) in WRONG_AT else {}
+        yield dict({"name": "words %s" % compact(list_), "words": list_, "files": {"p": "", "m": ALONE}}, **stop)
     yield {"name": "paths with spaces", "words": ["check", " ", "a b/ü"], "files": {" ": "", "a b/ü": ALONE}}
     yield {"name": "one path for both texts", "words": ["check", "m", "m"], "files": {"m": ALONE}}
     yield {"name": "one path for all texts", "words": ["check", "m", "m", "m"], "files": {"m": ALONE}}
@@ -59,7 +72,8 @@ def outside():
     yield dict(case("no files"), files={})
     for piece in (1, 2, 7, 1000):
         yield case("pieces of %d bytes" % piece, DENY_X, WITH_X, piece=piece)
-    yield case("room for ten bytes", DENY_X, WITH_X, room=10)
+    write = '{"fields":{"stop":"write"},"type":"stop"}\n'
+    yield case("room for ten bytes", DENY_X, WITH_X, room=10, lines='{"fields":', stop=write)
     whole = len(report(b"", ALONE.encode())[0])
     for room in (0, 1, 20, whole // 2, whole - 1, whole, whole + 1):
         yield case("room for %d bytes of %d" % (room, whole), room=room)
@@ -84,7 +98,7 @@ def long_texts():
 
 def cases():
     subjects = (rule_cases, feature_cases, licence_check_cases, policy_cases, metadata_cases, std_cases)
-    for part in (words, outside, *subjects, long_texts, long_tables):
+    for part in (words, outside, *subjects, tree_cases, dead_cases, long_texts, long_tables):
         yield from filter(is_wanted, part())
 
 
@@ -98,12 +112,12 @@ def is_wanted(case):
 # ---- what a case has to print
 
 
-def text_of(text):
+def text_of_case(text):
     """The bytes of a text of a case: a string, bytes in hex, a repeated string, or several."""
     if isinstance(text, str):
         return text.encode()
     if isinstance(text, list):
-        return b"".join(text_of(part) for part in text)
+        return b"".join(text_of_case(part) for part in text)
     if "hex" in text:
         return bytes.fromhex(text["hex"])
     return text["repeat"].encode() * text["times"]
@@ -112,7 +126,7 @@ def text_of(text):
 def expected(case):
     """What a run over the case's disk writes, and its status."""
     room, err_room = case.get("room", 1 << 20), case.get("err_room", 1 << 20)
-    texts = {path: lambda text=text: text_of(text) for path, text in case.get("files", {}).items()}
+    texts = {path: lambda text=text: text_of_case(text) for path, text in case.get("files", {}).items()}
     out, (err, status) = "", run(case["words"], texts, case.get("fail", []))
     if status in DONE:
         out, err = err, ""
@@ -124,14 +138,25 @@ def expected(case):
 # ---- what a row says by hand
 
 
+# The trees of a finding nest as deep as the graph, so they are cut out of its line before it is read as JSON.
+GRAPHS = re.compile(r'"graphs":\[.*?\],(?="(?:labels|message)":)')
+
+
+def values_of(answer):
+    return [json.loads(GRAPHS.sub("", line, 1)) for line in lines_of(answer["out"] or answer["err"])]
+
+
+def lines_of(text):
+    return text.removesuffix("\n").split("\n")
+
+
 def told(answer):
     """An answer in short: code and crate of each finding, or the faults, or the places of labels, or the stop."""
-    values = [json.loads(line) for line in (answer["out"] or answer["err"]).splitlines()]
-    return "; ".join(part for value in values for part in told_of(value["type"], value["fields"]))
+    return "; ".join(part for value in values_of(answer) for part in told_of(value["type"], value["fields"]))
 
 
 def told_of(kind, fields):
-    if kind == "verdict":
+    if kind in ("verdict", "dead"):
         return []
     if kind == "diagnostic":
         return [told_finding(fields)]
@@ -166,12 +191,79 @@ def told_finding(fields):
 ABOUT_A_FEATURE = ("feature-not-explicitly-allowed", "feature-banned", "unknown-feature", "default-feature-enabled")
 
 
-def check_by_hand(by_hand, lines, answer):
+def dead_told(case, answer):
+    """The dead entries of an answer: of each its kind and its text."""
+    policy = text_of_case(case["files"]["deny.toml"])
+    dead = [value["fields"] for value in values_of(answer) if value["type"] == "dead"]
+    return "; ".join("%s %s" % (one["kind"], policy[one["start"] : one["end"]].decode()) for one in dead)
+
+
+def place_of(text, offset):
+    """The line and the column of an offset, from 1 and in characters."""
+    before = text[:offset].decode()
+    return before.count("\n") + 1, len(before) - before.rfind("\n")
+
+
+def check_dead(case, answer):
+    """Of the kinds that are judged now, what is reported is dead, but for skips that are unnecessary."""
+    values = values_of(answer)
+    told = [one["fields"] for one in values if one["type"] == "diagnostic" and one["fields"]["code"] in UNUSED]
+    reported = [one["labels"][0] for one in told if one["code"] != "unnecessary-skip"]
+    places = sorted((label["line"], label["column"]) for label in reported)
+    starts = [one["fields"]["start"] for one in values if one["type"] == "dead"]
+    policy = text_of_case(case["files"][case["words"][1]]) if starts else b""
+    if places != [place_of(policy, start) for start in starts]:
+        sys.exit("%s: reported at %s, dead at %s" % (answer["name"], places, starts))
+
+
+def trees_told(case, answer):
+    """The trees of each finding as text, which is also what the values of its line say."""
+    texts = [text_of_case(case["files"][path]) for path in case["words"][1:]]
+    policy, graph = read_policy(texts[0]), read_metadata(texts[1])
+    found, trees = findings_of(policy, graph, table_for(policy, *texts[2:] or [None])), Trees(graph)
+    written = ["".join(text_of(graph, tree) for tree in trees.of_finding(finding)) for finding in found]
+    fields = [json.loads(line)["fields"] for line in lines_of(answer["out"])]
+    of_lines = ["".join(map(text_of_value, one["graphs"])) for one in fields if "graphs" in one]
+    return written if written == of_lines else ["a line says another tree", of_lines]
+
+
+def text_of_node(value):
+    if "Feature" in value:
+        own = "%(crate_name)s feature '%(name)s' " % value["Feature"]
+    else:
+        krate = value["Krate"]
+        own = ("(%s) " % krate["kind"] if "kind" in krate else "") + "%(name)s v%(version)s" % krate
+    return own + (" (*)" if value.get("repeat") else "") + "\n"
+
+
+def text_of_value(tree):
+    """The text of a tree by the value that stands in a line."""
+    text, waiting = "", [("", "", tree)]
+    while waiting:
+        before, below, value = waiting.pop()
+        text += before + text_of_node(value)
+        *others, last = value.get("parents", []) or [None]
+        waiting += [(below + "└── ", below + "    ", last)] if last else []
+        waiting += [(below + "├── ", below + "│   ", one) for one in reversed(others)]
+    return text
+
+
+# What a row says by hand, and how that is read off its answer.
+BY_HAND = {
+    "by_hand": lambda case, answer: told(answer),
+    "dead": dead_told,
+    "lines": lambda case, answer: answer["out"],
+    "stop": lambda case, answer: answer["err"],
+    "trees": trees_told,
+}
+
+
+def check_by_hand(by_hand, case, answer):
     """The reading says what a row says by hand."""
-    if by_hand is not None and told(answer) != by_hand:
-        sys.exit("%s: by hand %r, read %r" % (answer["name"], by_hand, told(answer)))
-    if lines is not None and answer["out"] != lines:
-        sys.exit("%s: by hand %r, read %r" % (answer["name"], lines, answer["out"]))
+    for name, wanted in by_hand.items():
+        found = BY_HAND[name](case, answer)
+        if found != wanted:
+            sys.exit("%s: %s by hand %r, read %r" % (answer["name"], name, wanted, found))
 
 
 # ---- the files
@@ -185,9 +277,11 @@ def write_cases(folder):
             if one["name"] in names:
                 sys.exit("%r stands twice" % one["name"])
             names.add(one["name"])
-            by_hand, lines = one.pop("by_hand", None), one.pop("lines", None)
+            by_hand = {name: one.pop(name) for name in BY_HAND if name in one}
             answer = expected(one)
-            check_by_hand(by_hand, lines, answer)
+            check_by_hand(by_hand, one, answer)
+            if answer["status"] in DONE:
+                check_dead(one, answer)
             stdin.write(compact(one) + "\n")
             stdout.write(compact(answer) + "\n")
 

@@ -1,7 +1,9 @@
 """Cases of features: levels of `default`, lists of what is allowed and denied, exact sets, and all of it by chance."""
 
-from case_parts import BANS_FAILED, PASSED, case, draws, featured
-from rule_cases import some_graph, some_spec, told
+from case_parts import (
+    BANS_FAILED, BY_APP, TREES_OF_X, PASSED, case, crate_tree, draws, feature_tree, featured, told,
+)
+from rule_cases import some_graph, some_spec
 
 LOOP = {"x": {"a": ["b"], "b": ["a"]}}
 # `default` asks for `std`, and `std` for nothing.
@@ -42,7 +44,10 @@ def rows():
     message = "feature 'std' for crate 'x = 1.0.0' is explicitly denied"
     yield feature(
         "a denied one", '{ crate = "x", deny = ["std"] }', STD,
-        lines=told("feature-banned", "error", message, (3, 37, "feature denied here", "std")) + BANS_FAILED
+        lines=told(
+            "feature-banned", "error", message, (3, 37, "feature denied here", "std"),
+            graphs=[crate_tree("x", feature_tree("x/std", feature_tree("x/default")))]
+        ) + BANS_FAILED
     )
 
 
@@ -51,16 +56,23 @@ def whole_lines():
     denied = "feature 'd' for crate 'x = 1.0.0' is explicitly denied"
     not_listed = lambda name: "feature '%s' for crate 'x = 1.0.0' was not explicitly allowed" % name
     unknown = lambda name: "found unknown feature '%s' for crate 'x = 1.0.0'" % name
+    # No declaration asks for a feature, so none of them leads on.
+    whole = [crate_tree("x", BY_APP, *(feature_tree("x/" + name) for name in ("a", "d", "z", "é")))]
+    not_allowed_line = lambda name: told(
+        "feature-not-explicitly-allowed", "error", not_listed(name), (3, 69, "allowed features", '["a", "p"]'),
+        graphs=whole
+    )
     yield feature(
         "the lines of lists", '{ crate = "x", reason = "r", deny = ["d", "q"], allow = ["a", "p"] }',
         {"x": {"a": [], "d": [], "é": [], "z": []}},
         lines="".join([
-            told("feature-not-explicitly-allowed", "error", not_listed("d"), (3, 69, "allowed features", '["a", "p"]')),
-            told("feature-not-explicitly-allowed", "error", not_listed("z"), (3, 69, "allowed features", '["a", "p"]')),
-            told("feature-not-explicitly-allowed", "error", not_listed("é"), (3, 69, "allowed features", '["a", "p"]')),
-            told("feature-banned", "error", denied, (3, 51, "feature denied here", "d")),
-            told("unknown-feature", "warning", unknown("q"), (3, 56, "unknown feature", "q")),
-            told("unknown-feature", "warning", unknown("p"), (3, 76, "unknown feature", "p")),
+            not_allowed_line("d"), not_allowed_line("z"), not_allowed_line("é"),
+            told(
+                "feature-banned", "error", denied, (3, 51, "feature denied here", "d"),
+                graphs=[crate_tree("x", feature_tree("x/d"))]
+            ),
+            told("unknown-feature", "warning", unknown("q"), (3, 56, "unknown feature", "q"), graphs=TREES_OF_X),
+            told("unknown-feature", "warning", unknown("p"), (3, 76, "unknown feature", "p"), graphs=TREES_OF_X),
             BANS_FAILED,
         ])
     )
@@ -72,7 +84,8 @@ def whole_lines():
             "exact-features-mismatch", "error", "feature set for crate 'x = 1.0.0' did not match exactly",
             (3, 35, "exact enabled here", "true"), (4, 7, "allowed feature not present", "b"),
             (4, 14, "allowed feature not present", "\nc"), (5, 8, "allowed feature not present", "b"),
-            notes=[note % "d", note % "e"]
+            notes=[note % "d", note % "e"],
+            graphs=[crate_tree("x", feature_tree("x/d")), crate_tree("x", feature_tree("x/e"))]
         ) + BANS_FAILED
     )
     for level, severity in (("warn", "warning"), ("deny", "error")):
@@ -81,9 +94,13 @@ def whole_lines():
             "features: the lines of default at %s" % level,
             "[bans]\nexternal-default-features = '%s'\nworkspace-default-features = \"%s\"\n" % (level, level),
             featured("app -> x", {"app": {"default": []}, "x": {"default": []}}),
-            lines=told("default-feature-enabled", severity, message % "app = 0.1.0", (3, 31, "lint level", level)) +
-            told("default-feature-enabled", severity, message % "x = 1.0.0", (2, 30, "lint level", level)) +
-            (BANS_FAILED if level == "deny" else PASSED)
+            lines=told(
+                "default-feature-enabled", severity, message % "app = 0.1.0", (3, 31, "lint level", level),
+                graphs=[crate_tree("app@0.1.0", feature_tree("app/default"))]
+            ) + told(
+                "default-feature-enabled", severity, message % "x = 1.0.0", (2, 30, "lint level", level),
+                graphs=[crate_tree("x", feature_tree("x/default"))]
+            ) + (BANS_FAILED if level == "deny" else PASSED)
         )
 
 
@@ -353,10 +370,11 @@ def many():
     star = dict({"all": names}, **{name: [] for name in names})
     yield feature("2,000 features of one", "{ crate = 'x', allow = ['all'] }", {"x": star}, "")
     lists = lambda names: ", ".join("'%s'" % name for name in names)
-    half = dict({"all": names[:-200]}, **{name: [] for name in names})
+    some = names[:400]
+    most = dict({"all": some[:-20]}, **{name: [] for name in some})
     yield feature(
-        "all but 200 of 2,000 features of one", "{ crate = 'x', allow = ['all'] }", {"x": half},
-        not_allowed(" ".join(sorted(names[-200:])))
+        "all but 20 of 400 features of one", "{ crate = 'x', allow = ['all'] }", {"x": most},
+        not_allowed(" ".join(sorted(some[-20:])))
     )
     yield feature(
         "2,000 features and an exact set", "{ crate = 'x', exact = true, allow = [%s] }" % lists(reversed(names)),

@@ -1,8 +1,11 @@
 """Cases of the licence check: expressions, crates that are passed over, exceptions, and what of a policy is unused."""
 
-from case_parts import BANS_FAILED, BOTH_FAILED, LICENCES_FAILED, PASSED, case, draws, licensed
+from case_parts import (
+    BANS_FAILED, BOTH_FAILED, BY_APP, LICENCES_FAILED, PASSED, TREES_OF_APP, TREES_OF_X, case, crate_tree, dead_line,
+    draws, licensed, told,
+)
 from readings.report import compact
-from rule_cases import some_graph, some_spec, told
+from rule_cases import some_graph, some_spec
 
 
 def licence(name, policy, licences, by_hand=None, text="app -> x", publish=(), members="app", bans="", **more):
@@ -48,12 +51,16 @@ def unused_exceptions(*names):
 # ---- whole lines
 
 
-def judged(text, *requirements):
-    """The line of a licence that is accepted, or rejected for these requirements."""
+def judged(graphs, text, *requirements):
+    """The line of a crate's licence that is accepted, or rejected for these requirements."""
     notes = ["license = '%s'" % text] + ["rejected = '%s'" % one for one in requirements]
     if requirements:
-        return told("rejected", "error", "failed to satisfy license requirements", notes=notes)
-    return told("accepted", "note", "license requirements satisfied", notes=notes)
+        return told("rejected", "error", "failed to satisfy license requirements", notes=notes, graphs=graphs)
+    return told("accepted", "note", "license requirements satisfied", notes=notes, graphs=graphs)
+
+
+def both_mit():
+    return judged(TREES_OF_APP, "MIT") + judged(TREES_OF_X, "MIT")
 
 
 def unused_line(severity, place, text):
@@ -65,8 +72,9 @@ def rows():
     """Runs as a user meets them."""
     yield licence(
         "a licence in use and one that is not", allow("Apache-2.0", "Zlib"),
-        {"app": "Apache-2.0", "x": "MIT/Apache-2.0"}, lines=judged("Apache-2.0") + judged("MIT/Apache-2.0") +
-        unused_line("warning", (4, 25), "Zlib") + PASSED
+        {"app": "Apache-2.0", "x": "MIT/Apache-2.0"},
+        lines=judged(TREES_OF_APP, "Apache-2.0") + judged(TREES_OF_X, "MIT/Apache-2.0") +
+        unused_line("warning", (4, 25), "Zlib") + dead_line("license-allow", 70, 74) + PASSED
     )
     not_encountered = told(
         "license-exception-not-encountered", "warning", "license exception was not encountered",
@@ -75,24 +83,29 @@ def rows():
     yield licence(
         "two exceptions of one crate, the second of which lists its licence",
         "%s\nexceptions = [%s, %s]" % (allow("Apache-2.0"), exception("x", "Zlib"), exception("x", "MIT")),
-        {"app": "Apache-2.0", "x": "MIT"}, lines=judged("Apache-2.0") + judged("MIT") + not_encountered + PASSED
+        {"app": "Apache-2.0", "x": "MIT"}, lines=judged(TREES_OF_APP, "Apache-2.0") + judged(TREES_OF_X, "MIT") +
+        not_encountered + dead_line("license-exception", 94, 95) + PASSED
     )
     bad = "license expression of crate 'x = 1.0.0' can't be read at byte 7"
     yield licence(
-        "one that breaks off", allow("MIT"), {"app": "MIT", "x": "MIT AND"}, lines=judged("MIT") +
-        told("parse-error", "error", bad, notes=["license = 'MIT AND'"]) + LICENCES_FAILED
+        "one that breaks off", allow("MIT"), {"app": "MIT", "x": "MIT AND"}, lines=judged(TREES_OF_APP, "MIT") +
+        told("parse-error", "error", bad, notes=["license = 'MIT AND'"], graphs=TREES_OF_X) + LICENCES_FAILED
     )
     for text, requirements in (("(MIT OR GPL-2.0+) AND MIT", ()), ("MIT AND GPL-2.0 WITH E", ("GPL-2.0 WITH E",))):
         yield licence(
             "`%s`" % text, allow("MIT"), {"app": "MIT", "x": text},
-            lines=judged("MIT") + judged(text, *requirements) + (LICENCES_FAILED if requirements else PASSED)
+            lines=judged(TREES_OF_APP, "MIT") + judged(TREES_OF_X, text, *requirements) +
+            (LICENCES_FAILED if requirements else PASSED)
         )
     yield licence(
         "none, and private", "private = { ignore = true }", {"app": None}, text="app -> x, app -> y",
         publish={"app": []}, lines=told(
-            "skipped-private-workspace-crate", "note", "skipping private workspace crate 'app = 0.1.0'"
-        ) + "".join(told("unlicensed", "error", "crate '%s = 1.0.0' is unlicensed" % name) for name in "xy") +
-        LICENCES_FAILED
+            "skipped-private-workspace-crate", "note", "skipping private workspace crate 'app = 0.1.0'",
+            graphs=TREES_OF_APP
+        ) + "".join(
+            told("unlicensed", "error", "crate '%s = 1.0.0' is unlicensed" % name, graphs=[crate_tree(name, BY_APP)])
+            for name in "xy"
+        ) + LICENCES_FAILED
     )
     for level, severity, verdict in (
         ("allow", "note", PASSED), ("warn", "warning", PASSED), ("deny", "error", LICENCES_FAILED),
@@ -103,7 +116,7 @@ def rows():
         written += "\nunused-allowed-license = '%s'" % level if level else ""
         yield licence(
             "an unused one at %s" % name, written, {"app": "MIT", "x": "MIT"},
-            lines=judged("MIT") * 2 + unused_line(severity, (6, 2), other) + verdict
+            lines=both_mit() + unused_line(severity, (6, 2), other) + dead_line("license-allow", 69, 99) + verdict
         )
         yield licence("none unused at %s" % name, written, {"app": "MIT", "x": other}, accepted("MIT", other))
 
@@ -113,11 +126,12 @@ def both_checks():
     for bans, refused in (("", ""), ("deny = ['x']\n", "banned x")):
         for text, verdict in (("MIT", accepted("MIT")), ("Zlib", rejected("Zlib", "Zlib"))):
             failed = [[PASSED, LICENCES_FAILED], [BANS_FAILED, BOTH_FAILED]][bool(refused)][text == "Zlib"]
-            line = told("banned", "error", "crate 'x = 1.0.0' is explicitly banned", (3, 10, "banned here", "x"))
+            message, label = "crate 'x = 1.0.0' is explicitly banned", (3, 10, "banned here", "x")
+            line = told("banned", "error", message, label, graphs=TREES_OF_X)
             yield licence(
                 "%s, x %s" % (text, "banned" if refused else "not banned"), allow("MIT"), {"app": "MIT", "x": text},
-                bans=bans, lines=(line if refused else "") + judged("MIT") +
-                (judged(text, text) if text == "Zlib" else judged(text)) + failed
+                bans=bans, lines=(line if refused else "") + judged(TREES_OF_APP, "MIT") +
+                judged(TREES_OF_X, *([text] * (2 if text == "Zlib" else 1))) + failed
             )
     yield licence(
         "what is unused, as an error", "unused-allowed-license = 'deny'\n" + allow("Zlib", "MIT"),
@@ -184,9 +198,10 @@ def expressions():
         all_of(accepted("A WITH E", "B OR A+ WITH E"), unused("A"))
     )
     yield licence(
-        "an odd text", allow("MIT"), {"app": "MIT", "x": "MIT\tAND\té\n\u0001"}, lines=judged("MIT") + told(
+        "an odd text", allow("MIT"), {"app": "MIT", "x": "MIT\tAND\té\n\u0001"},
+        lines=judged(TREES_OF_APP, "MIT") + told(
             "parse-error", "error", "license expression of crate 'x = 1.0.0' can't be read at byte 8",
-            notes=["license = 'MIT\tAND\té\n\u0001'"]
+            notes=["license = 'MIT\tAND\té\n\u0001'"], graphs=TREES_OF_X
         ) + LICENCES_FAILED
     )
 
@@ -388,9 +403,9 @@ def exceptions():
     yield licence(
         "exceptions at the level of what is unused",
         "unused-allowed-license = 'deny'\nexceptions = [{ allow = [], crate = \"q@1\" }]", {"app": "A"}, text="app",
-        lines=judged("A", "A") + told(
+        lines=judged(TREES_OF_APP, "A", "A") + told(
             "license-exception-not-encountered", "warning", "license exception was not encountered", label
-        ) + LICENCES_FAILED
+        ) + dead_line("license-exception", 115, 116) + LICENCES_FAILED
     )
 
 

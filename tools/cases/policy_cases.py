@@ -1,9 +1,10 @@
 """Cases of policies: what each key takes, how an entry is written, what contradicts itself, what is not judged yet."""
 
-from case_parts import ALONE, DENY_X, PASSED, TWO_X, WITH_X, case, featured, graph, licensed, public_graph
+from case_parts import (
+    ALONE, DENY_X, PASSED, TREES_OF_APP, TREES_OF_X, TWO_X, WITH_X, case, featured, graph, licensed, public_graph, told,
+)
 from readings.report import compact
 from replacement_cases import WORKED
-from rule_cases import told
 
 BOTH_X = compact(graph("app -> x, app -> x@2.0.0"))
 PUBLIC_X = compact(public_graph("app -> x, app -> x@2.0.0, app -> y", rust={"app": "1.69"}))
@@ -587,8 +588,8 @@ def template():
     """The policy that a project begins with, whole and in parts."""
     licences = licensed("app -> x", {"app": "MIT", "x": "MIT OR Apache-2.0"})
     accepted = "".join(
-        told("accepted", "note", "license requirements satisfied", notes=["license = '%s'" % text])
-        for text in ("MIT", "MIT OR Apache-2.0")
+        told("accepted", "note", "license requirements satisfied", notes=["license = '%s'" % text], graphs=graphs)
+        for graphs, text in ((TREES_OF_APP, "MIT"), (TREES_OF_X, "MIT OR Apache-2.0"))
     )
     yield case(
         "the template", TEMPLATE, licences, by_hand="accepted: MIT; accepted: MIT OR Apache-2.0",

@@ -1,7 +1,8 @@
 """Cases of the crate rules: rows as users meet them, each rule by itself, and policies and graphs by chance."""
 
-from case_parts import DENY_SEVERAL, TWO_X, WITH_X, case, draws, graph, metadata
-from readings.report import compact
+from case_parts import (
+    DENY_SEVERAL, TREES_OF_APP, TREES_OF_X, TWO_X, WITH_X, case, crate_tree, dead_line, draws, graph, metadata, told,
+)
 
 TWO = "app -> x, app -> x@2.0.0"
 LINE = "app -> a, a -> b, b -> c, c -> d, a -> e, e -> d, d -> f, a -> z, z -> y, y -> e"
@@ -27,7 +28,9 @@ def rows():
     yield case("one crate and an empty policy", by_hand="")
     yield case("no crates and an empty policy", text=nothing, by_hand="")
     banned = (
-        '{"fields":{"code":"banned","labels":[{"column":10,"line":2,"message":"banned here","span":"x"}],'
+        '{"fields":{"code":"banned","graphs":[{"Krate":{"name":"x","version":"1.0.0"},'
+        '"parents":[{"Krate":{"name":"app","version":"0.1.0"}}]}],'
+        '"labels":[{"column":10,"line":2,"message":"banned here","span":"x"}],'
         '"message":"crate \'x = 1.0.0\' is explicitly banned","severity":"error"},"type":"diagnostic"}\n'
     )
     failed = '{"fields":{"bits":2,"verdict":"fail"},"type":"verdict"}\n'
@@ -73,42 +76,35 @@ def rows():
 # ---- whole lines
 
 
-def told(code, severity, message, *labels, notes=()):
-    """The line of a finding, its labels by line, column, text and what they label."""
-    fields = {"code": code, "message": message, "severity": severity}
-    if notes:
-        fields["notes"] = list(notes)
-    if labels:
-        fields["labels"] = [dict(zip(("line", "column", "message", "span"), label)) for label in labels]
-    return compact({"fields": fields, "type": "diagnostic"}) + "\n"
-
-
 def whole_lines():
     """Each kind of finding with its text and its labels."""
     failed = '{"fields":{"bits":2,"verdict":"fail"},"type":"verdict"}\n'
     ban = [(2, 19, "banned here", "x"), (2, 58, "reason", "r"), (2, 77, "use instead", "u")]
+    app = crate_tree("app@0.1.0")
+    of_x = [crate_tree("x", app, crate_tree("y", crate_tree("app@0.1.0", repeat=True)))]
+    of_y = [crate_tree("y", app)]
     yield rule(
         "the lines of bans, skips and trees", "app -> x, app -> y, y -> x",
         'deny = [{ name = "x", wrappers = ["app", "q"], reason = "r", use-instead = "u" }]\n'
         'skip = [{ name = "y", reason = "s" }, { crate = "z@1", reason = "t" }]\n'
         'skip-tree = [{ name = "x", depth = 1, reason = "v" }, { name = "n", reason = "w" }]',
         lines="".join([
-            told("banned", "error", "crate 'x = 1.0.0' is explicitly banned", *ban),
+            told("banned", "error", "crate 'x = 1.0.0' is explicitly banned", *ban, graphs=of_x),
             told(
                 "allowed-by-wrapper", "note", "banned crate 'x = 1.0.0' allowed by wrapper 'app = 0.1.0'",
-                (2, 19, "banned here", "x"), (2, 36, "allowed wrapper", "app")
+                (2, 19, "banned here", "x"), (2, 36, "allowed wrapper", "app"), graphs=of_x
             ),
             told(
                 "unmatched-wrapper", "warning",
-                "direct parent 'y = 1.0.0' of banned crate 'x = 1.0.0' was not marked as a wrapper", *ban
+                "direct parent 'y = 1.0.0' of banned crate 'x = 1.0.0' was not marked as a wrapper", *ban, graphs=of_x
             ),
             told(
                 "skipped-by-root", "note", "skipping crate 'x = 1.0.0' due to root skip",
-                (4, 24, "matched skip root", "x"), (4, 49, "reason", "v")
+                (4, 24, "matched skip root", "x"), (4, 49, "reason", "v"), graphs=of_x
             ),
             told(
                 "skipped", "note", "crate 'y = 1.0.0' skipped when checking for duplicates",
-                (3, 19, "skipped here", "y"), (3, 33, "reason", "s")
+                (3, 19, "skipped here", "y"), (3, 33, "reason", "s"), graphs=of_y
             ),
             told(
                 "unmatched-skip", "warning", "skipped crate 'z = 1' was not encountered",
@@ -126,20 +122,21 @@ def whole_lines():
                 "unused-wrapper", "warning", "wrapper for banned crate was not encountered",
                 (2, 43, "unmatched wrapper", "q")
             ),
-            failed,
+            dead_line("wrapper", 49, 50), dead_line("skip", 138, 139), dead_line("skip-root", 224, 225), failed,
         ])
     )
+    of_x2 = [crate_tree("x@2.0.0", app)]
     yield rule(
         "the lines of an allow list and of two versions", TWO,
         'multiple-versions = "deny"\nallow = [ # é\n "é", { crate = "x@1", reason = """\nours""" } ]',
         lines="".join([
-            told("not-allowed", "error", "crate 'app = 0.1.0' is not explicitly allowed"),
+            told("not-allowed", "error", "crate 'app = 0.1.0' is not explicitly allowed", graphs=TREES_OF_APP),
             told(
                 "allowed", "note", "crate 'x = 1.0.0' is explicitly allowed",
-                (4, 18, "allowed here", "x"), (4, 36, "reason", "\nours")
+                (4, 18, "allowed here", "x"), (4, 36, "reason", "\nours"), graphs=TREES_OF_X
             ),
-            told("not-allowed", "error", "crate 'x = 2.0.0' is not explicitly allowed"),
-            told("duplicate", "error", "found 2 duplicate entries for crate 'x'"),
+            told("not-allowed", "error", "crate 'x = 2.0.0' is not explicitly allowed", graphs=of_x2),
+            told("duplicate", "error", "found 2 duplicate entries for crate 'x'", graphs=TREES_OF_X + of_x2),
             failed,
         ])
     )
@@ -588,10 +585,10 @@ def many():
             "a tree of 100 steps, depth %d" % depth, "app -> c0, " + chain,
             "skip-tree = [{ name = 'c0', depth = %d }]" % depth
         )
-    parents = ", ".join("app -> p%d, p%d -> x" % (n, n) for n in range(100))
+    parents = ", ".join("app -> p%d, p%d -> x" % (n, n) for n in range(60))
     yield rule(
-        "100 parents, all wrappers but one", parents,
-        "deny = [{ name = 'x', wrappers = [%s] }]" % lists("p%d" % n for n in range(99))
+        "60 parents, all wrappers but one", parents,
+        "deny = [{ name = 'x', wrappers = [%s] }]" % lists("p%d" % n for n in range(59))
     )
     versions = ", ".join("app -> x@%d.0.0" % n for n in range(100))
     yield rule(

@@ -1,8 +1,11 @@
 """Cases of what the standard library replaces: tables, policies that ask for one, and both by chance."""
 
 from case_parts import BANS_FAILED as FAILED
-from case_parts import PASSED, REGISTRY, TABLE, WITH_X, WORDS, case, draws, public_graph
-from readings.report import LIMIT, compact
+from case_parts import (
+    BY_APP, PASSED, REGISTRY, TABLE, WITH_X, WORDS, case, crate_tree, dead_line, draws, public_graph,
+)
+from case_parts import told as told_line
+from readings.report import LIMIT
 from replacement_cases import FIRST, PLAIN, SECOND, WORKED
 from rule_cases import some_entries, some_graph
 
@@ -28,12 +31,10 @@ def since(minor, *names, writer=FIRST):
 
 
 def told(crate, note, severity="error"):
-    """The line of a replaced crate, with these lines of its note."""
-    fields = {
-        "code": "replaced-in-std", "message": "crate '%s' is partially or fully replaced in std and/or core" % crate,
-        "notes": ["".join(line + "\n" for line in note)], "severity": severity,
-    }
-    return compact({"fields": fields, "type": "diagnostic"}) + "\n"
+    """The line of a replaced crate that `app` needs, with these lines of its note."""
+    message = "crate '%s = 1.0.0' is partially or fully replaced in std and/or core" % crate
+    more = {"notes": ["".join(line + "\n" for line in note)], "graphs": [crate_tree(crate, BY_APP)]}
+    return told_line("replaced-in-std", severity, message, **more)
 
 
 F_BY_G = ["```diff", "- [x::f]()", "+ [g]()", "```", ""]
@@ -42,7 +43,7 @@ F_BY_G = ["```diff", "- [x::f]()", "+ [g]()", "```", ""]
 
 
 def rows():
-    yield std("a replaced crate", "app -> x", lines=told("x = 1.0.0", ["## Stable", "### 1.70.0"] + F_BY_G) + FAILED)
+    yield std("a replaced crate", "app -> x", lines=told("x", ["## Stable", "### 1.70.0"] + F_BY_G) + FAILED)
     yield std("a replaced crate, without a table", "app -> x", table=None, by_hand="replacement 0")
     yield std("a replaced crate, with an empty table", "app -> x", table=b"", by_hand="replacement 0")
     for cut in range(len(WORKED)):
@@ -199,7 +200,7 @@ def crates():
     yield std("two versions, one needed by a member", "app -> x, app -> y, y -> x@2.0.0", "", replaced("x"))
     yield std("crates in order", "app -> b, app -> a, app -> c", "", replaced("a b c"), since(70, "a", "b", "c"))
     for level, severity in (("allow", "note"), ("warn", "warning"), ("deny", "error")):
-        line = told("x = 1.0.0", ["## Stable", "### 1.70.0"] + F_BY_G, severity)
+        line = told("x", ["## Stable", "### 1.70.0"] + F_BY_G, severity)
         verdict = FAILED if severity == "error" else PASSED
         yield std("a replaced crate at level %s" % level, "app -> x", "level = '%s'" % level, lines=line + verdict)
 
@@ -232,15 +233,12 @@ def ignores():
     )
     yield std("ignores with the scope of no crate", "app -> x", "scope = 'none'\nignore = ['y']", "")
     reason, name = (5, 39, "ignore reason", "ours"), (5, 22, "unmatched ignore configuration", "y")
-    labels = [dict(zip(("line", "column", "message", "span"), label)) for label in (name, reason)]
-    fields = {
-        "code": "unmatched-replacement-ignore", "labels": labels,
-        "message": "std replacement ignore 'y = ^1' was not encountered", "severity": "warning",
-    }
+    message = "std replacement ignore 'y = ^1' was not encountered"
     yield std(
         "the line of an unmatched ignore", "app",
         'level = "warn"\nignore = [{ crate = "y@^1", reason = "ours" }]',
-        lines=compact({"fields": fields, "type": "diagnostic"}) + "\n" + PASSED
+        lines=told_line("unmatched-replacement-ignore", "warning", message, name, reason) +
+        dead_line("replacement-ignore", 95, 96) + PASSED
     )
     yield case(
         "findings of all rules in their order",
@@ -257,7 +255,7 @@ def ignores():
 
 def noted(name, entry, note, crate="x"):
     """The whole line of a crate of which a table says this."""
-    lines = told("%s = 1.0.0" % crate, note) + FAILED
+    lines = told(crate, note) + FAILED
     return std("the note of %s" % name, "app -> %s" % crate, table=FIRST.table([entry]), lines=lines)
 
 
@@ -311,7 +309,7 @@ def notes():
     )
     long = "n" * 0xFFFF
     table = SECOND.table([SECOND.entry("x", groups=[(70, [("f", "", "g", "", long)])])])
-    line = told("x = 1.0.0", ["## Stable", "### 1.70.0"] + F_BY_G + ["  " + long, ""])
+    line = told("x", ["## Stable", "### 1.70.0"] + F_BY_G + ["  " + long, ""])
     yield std("the note of a long remark", "app -> x", table=table, lines=line + FAILED)
 
 

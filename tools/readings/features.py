@@ -2,8 +2,15 @@
 
 from readings.policy import Label
 from readings.rules import SEVERITY, of_crate
+from readings.trees import crate_node, feature_nodes
 
 DEFAULT = "default"
+
+
+def of_features(crate, code, severity, message, labels=(), notes=(), features=(), **key):
+    """A finding whose trees are those of features, or that of the crate where there are none, and show features."""
+    more = {"nodes": feature_nodes(crate, features) or [crate_node(crate)], "with_features": True}
+    return of_crate(crate, code, severity, message, labels, notes, **more, **key)
 
 
 class Listed:
@@ -36,7 +43,8 @@ def default_feature(policy, crate, entries):
     level = level_of_default(policy, crate)
     if level and DEFAULT in crate.enabled and default_stands(level, entries):
         message, label = "'default' feature enabled for crate '%s'" % crate, Label(level.span, "lint level")
-        yield of_crate(crate, "default-feature-enabled", SEVERITY[level.value], message, [label], entry=level.span)
+        more = {"features": [DEFAULT], "entry": level.span}
+        yield of_features(crate, "default-feature-enabled", SEVERITY[level.value], message, [label], **more)
 
 
 def unlisted_features(policy, crate, entry):
@@ -65,7 +73,8 @@ def exact_mismatch(policy, crate, entry):
         labels += [Label(feature.span, "allowed feature not present") for feature in missing]
         notes = ["'%s' feature was enabled but not explicitly allowed" % feature for feature in unlisted]
         message = "feature set for crate '%s' did not match exactly" % crate
-        yield of_crate(crate, "exact-features-mismatch", "error", message, labels, notes, entry=entry.at)
+        more = {"features": unlisted, "entry": entry.at}
+        yield of_features(crate, "exact-features-mismatch", "error", message, labels, notes, **more)
 
 
 def not_allowed(policy, crate, entry):
@@ -75,7 +84,7 @@ def not_allowed(policy, crate, entry):
             message = "feature '%s' for crate '%s' was not explicitly allowed" % (feature, crate)
             labels = [Label(entry.entry.more["allow"].span, "allowed features")]
             key = {"entry": entry.at, "text": feature}
-            yield of_crate(crate, "feature-not-explicitly-allowed", "error", message, labels, **key)
+            yield of_features(crate, "feature-not-explicitly-allowed", "error", message, labels, **key)
 
 
 def denied(crate, entry):
@@ -83,7 +92,8 @@ def denied(crate, entry):
         if feature.value in crate.enabled:
             message = "feature '%s' for crate '%s' is explicitly denied" % (feature.value, crate)
             labels = [Label(feature.span, "feature denied here")]
-            yield of_crate(crate, "feature-banned", "error", message, labels, entry=feature.span)
+            more = {"features": [feature.value], "entry": feature.span}
+            yield of_features(crate, "feature-banned", "error", message, labels, **more)
 
 
 def unknown(crate, entry):

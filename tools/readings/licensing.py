@@ -4,7 +4,7 @@ from functools import cache
 
 from readings.licences import Expression
 from readings.policy import Label
-from readings.rules import SEVERITY, Finding
+from readings.rules import SEVERITY, Finding, of_crate
 
 expression_of = cache(Expression)
 
@@ -38,17 +38,24 @@ class Licensing:
         matching = [one for one in self.exceptions if one.spec.matches(crate)]
         return [(one.spec.span, {listed.value for listed in one.get("allow")}) for one in matching]
 
+    def granting(self, exceptions, requirement):
+        """The kind and the range of the entry that satisfies a requirement: the first exception that lists it, or else
+        the first allowance; or None."""
+        found = [("license-exception", span) for span, listed in exceptions if requirement in listed]
+        if requirement in self.allowances:
+            found.append(("license-allow", self.allowances[requirement].span))
+        return found[0] if found else None
+
     def satisfied(self, exceptions, requirement):
         """Whether something satisfies a requirement; what does is hit."""
-        spans = [span for span, listed in exceptions if requirement in listed]
-        if not spans and requirement in self.allowances:
-            spans = [self.allowances[requirement].span]
-        self.hit.update(spans[:1])
-        return bool(spans)
+        granting = self.granting(exceptions, requirement)
+        if granting:
+            self.hit.add(granting[1])
+        return granting is not None
 
 
 def of_licence(crate, code, severity, message, notes=()):
-    return Finding("licenses", code, severity, message, notes=notes, place=crate.place)
+    return of_crate(crate, code, severity, message, notes=notes, section="licenses")
 
 
 def judged(licensing, crate, text):

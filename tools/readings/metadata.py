@@ -2,8 +2,9 @@
 
 import json
 import re
+from collections import namedtuple
 
-from readings.versions import precedence, read_requirement, read_version
+from readings.versions import matches, precedence, read_requirement, read_version
 
 DEPTH = 127  # JSON nests no deeper than this
 
@@ -163,15 +164,19 @@ def read_target(target):
     target.text("src_path")
 
 
+# What a package asks for: by which name, of which version, of which kind and for which target, and which features.
+Declaration = namedtuple("Declaration", "name req kind rename target path features uses_default_features")
+
+
 def read_declaration(declaration):
-    declaration.text("name")
-    requirement = declaration.text("req")
-    declaration.maybe(declaration.kind, "kind")
-    for name in ("rename", "target", "path"):
-        declaration.maybe(declaration.text, name)
-    declaration.maybe(declaration.texts, "features")
-    declaration.maybe(lambda name: declaration.member(name).take(bool), "uses_default_features")
-    return requirement
+    name, requirement = declaration.text("name"), declaration.text("req")
+    kind = declaration.maybe(declaration.kind, "kind", "normal")
+    texts = [declaration.maybe(declaration.text, member) for member in ("rename", "target", "path")]
+    features = declaration.maybe(declaration.texts, "features", [])
+    uses_default = declaration.maybe(
+        lambda member: declaration.member(member).take(bool), "uses_default_features", True
+    )
+    return Declaration(name, requirement, kind, *texts, features, uses_default)
 
 
 def read_package(package):
@@ -182,19 +187,18 @@ def read_package(package):
     package.maybe(lambda name: package.objects(name, read_target), "targets")
     declared = package.maybe(lambda name: package.objects(name, read_declaration), "dependencies", [])
     names = ("name", "version", "id", "manifest_path", "source", "license", "rust_version")
-    return dict(zip(names, texts + more), requirements=declared, publish=publish, features=features)
+    return dict(zip(names, texts + more), declarations=declared, publish=publish, features=features)
 
 
 def read_dep_kind(dep_kind):
-    kind = dep_kind.maybe(dep_kind.kind, "kind", "normal")
-    dep_kind.maybe(dep_kind.text, "target")
-    return kind
+    """The kind of an edge, and the target that it is for, or None."""
+    return dep_kind.maybe(dep_kind.kind, "kind", "normal"), dep_kind.maybe(dep_kind.text, "target")
 
 
 def read_dependency(dependency):
     needed = dependency.text("pkg")
     kinds = dependency.maybe(lambda name: dependency.objects(name, read_dep_kind), "dep_kinds")
-    return needed, kinds or ["normal"]
+    return needed, kinds or [("normal", None)]
 
 
 def read_node(node):
@@ -241,7 +245,7 @@ def check_texts(packages):
     rust = lambda text: text is None or is_rust_version(text)
     for fault, is_good in (
         ("version", lambda p: read_version(p["version"]) and rust(p["rust_version"])),
-        ("requirement", lambda p: all(read_requirement(r) is not None for r in p["requirements"])),
+        ("requirement", lambda p: all(read_requirement(d.req) is not None for d in p["declarations"])),
         ("source", lambda p: p["source"] is None or is_source(p["source"])),
         ("manifest-path", lambda p: "/" in p["manifest_path"]),
     ):
@@ -255,15 +259,16 @@ def reached_by(nodes, members, kinds):
     reached, open_ = set(members), list(members)
     while open_:
         for needed, its_kinds in nodes[open_.pop()]:
-            if needed not in reached and set(its_kinds) & kinds:
+            if needed not in reached and any(kind in kinds for kind, _ in its_kinds):
                 reached.add(needed)
                 open_.append(needed)
     return reached
 
 
 class Crate:
-    """A crate of the graph. `needs` and `dependents` are the places of others, by edges of every kind; `features` is
-    its table of features, and `enabled` are those that are enabled, in order."""
+    """A crate of the graph. `needs` and `dependents` are the places of others, by edges of every kind, and `edges` are
+    those that lead from it, each a place, a kind and a target. `features` is its table of features, and `enabled` are
+    those that are enabled, in order."""
 
     def __init__(self, place, package, is_member, is_built, enabled):
         self.place, self.id = place, package["id"]
@@ -273,7 +278,9 @@ class Crate:
         self.is_public, self.rust_minor = package["source"] in CRATES_IO, minor_of(package["rust_version"])
         self.license, self.publish = package["license"], package["publish"]
         self.features, self.enabled = package["features"], sorted(set(enabled), key=str.encode)
-        self.needs, self.dependents = set(), set()
+        self.has_enabled = set(enabled).__contains__
+        self.declarations = package["declarations"]
+        self.needs, self.dependents, self.edges = set(), set(), set()
 
     def __str__(self):
         return "%s = %s" % (self.name, self.version)
@@ -297,15 +304,25 @@ class Graph:
         self.by_name = {}
         for crate in self.crates:
             self.by_name.setdefault(crate.name, []).append(crate)
-            for needed, _ in nodes[crate.id]:
+            for needed, kinds in nodes[crate.id]:
                 crate.needs.add(places[needed])
                 self.crates[places[needed]].dependents.add(crate.place)
+                crate.edges.update((places[needed], kind, target) for kind, target in kinds)
 
     def named(self, name):
         return self.by_name.get(name, [])
 
     def dependents(self, crate):
         return [self.crates[place] for place in sorted(crate.dependents)]
+
+    def resolved(self, crate, declaration):
+        """The crate that a declaration of a crate is for: of those that it needs by this name, for this kind and this
+        target, the first whose version matches, else the first; or None."""
+        by_edge = sorted({place for place, *rest in crate.edges if rest == [declaration.kind, declaration.target]})
+        children = [self.crates[place] for place in by_edge if self.crates[place].name == declaration.name]
+        comparators = read_requirement(declaration.req)
+        fitting = [child for child in children if matches(comparators, child.read_version)]
+        return (fitting or children or [None])[0]
 
 
 def place_in_order(package):

@@ -3,7 +3,7 @@
 from readings.metadata import minor_of
 from readings.policy import Label
 from readings.replacements import Bad, read_table
-from readings.rules import SEVERITY, Finding
+from readings.rules import SEVERITY, Finding, of_crate
 
 
 class Replacing:
@@ -100,7 +100,7 @@ def replaced_finding(replacing, table, crate):
     message = "crate '%s' is partially or fully replaced in std and/or core" % crate
     notes = [note_of(crate.name, table[crate.name.encode()])]
     severity = SEVERITY[replacing.level]
-    return Finding("std", "replaced-in-std", severity, message, notes=notes, place=crate.place)
+    return of_crate(crate, "replaced-in-std", severity, message, notes=notes, section="std")
 
 
 def unmatched_finding(entry):

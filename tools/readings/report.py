@@ -2,6 +2,7 @@
 
 import json
 
+from readings.dead import dead_entries
 from readings.features import feature_rules
 from readings.licensing import licence_rules
 from readings.metadata import Fault, read_metadata
@@ -9,6 +10,7 @@ from readings.policy import Faults, clashes, read_policy
 from readings.replaced import std_rules, table_for
 from readings.replacements import Bad
 from readings.rules import crate_rules, in_order
+from readings.trees import Trees
 
 LIMIT = 2**28  # a text that is read has fewer bytes than this
 
@@ -18,8 +20,11 @@ def compact(value):
     return json.dumps(value, ensure_ascii=False, separators=(",", ":"), sort_keys=True)
 
 
-def line(kind, fields):
-    return compact({"fields": fields, "type": kind}) + "\n"
+def line(kind, fields, **written):
+    """A line; `written` are members of its fields that are JSON already."""
+    members = {name: compact(value) for name, value in fields.items()} | written
+    inner = ",".join("%s:%s" % (compact(name), members[name]) for name in sorted(members))
+    return '{"fields":{%s},"type":%s}\n' % (inner, compact(kind))
 
 
 def stop_line(stop, **fields):
@@ -42,11 +47,16 @@ def with_labels(fields, text, labels):
     return dict(fields, labels=[labelled(text, label) for label in labels]) if labels else fields
 
 
-def finding_line(finding, text):
+def finding_line(finding, text, trees):
     fields = {"code": finding.code, "message": finding.message, "severity": finding.severity}
     if finding.notes:
         fields["notes"] = finding.notes
-    return line("diagnostic", with_labels(fields, text, finding.labels))
+    return line("diagnostic", with_labels(fields, text, finding.labels), graphs=trees.graphs_of(finding))
+
+
+def dead_line(entry):
+    kind, (start, end) = entry
+    return line("dead", {"end": end, "kind": kind, "start": start})
 
 
 def clash_value(diagnostic, text):
@@ -60,6 +70,12 @@ def fault_value(fault):
 
 
 # ---- runs
+
+
+def findings_of(policy, graph, table):
+    """What stands, in order."""
+    by_texts = [rules(policy, graph) for rules in (crate_rules, feature_rules, licence_rules)]
+    return in_order(finding for findings in [*by_texts, std_rules(policy, graph, table)] for finding in findings)
 
 
 def report(policy_text, metadata_text, replacements=None):
@@ -81,11 +97,12 @@ def report(policy_text, metadata_text, replacements=None):
         table = table_for(policy, replacements)
     except Bad as bad:
         return stop_line("replacement", offset=bad.args[0]), 22
-    by_texts = [rules(policy, graph) for rules in (crate_rules, feature_rules, licence_rules)]
-    found = in_order(finding for findings in [*by_texts, std_rules(policy, graph, table)] for finding in findings)
+    found, trees = findings_of(policy, graph, table), Trees(graph)
+    lines = [finding_line(finding, policy_text, trees) for finding in found]
+    lines += [dead_line(entry) for entry in dead_entries(policy, graph, table, found)]
     bits = sum({finding.bit for finding in found if finding.severity == "error"})
-    verdict = line("verdict", {"bits": bits, "verdict": "fail" if bits else "pass"})
-    return "".join(finding_line(finding, policy_text) for finding in found) + verdict, bits
+    lines.append(line("verdict", {"bits": bits, "verdict": "fail" if bits else "pass"}))
+    return "".join(lines), bits
 
 
 def usage_place(words):

@@ -1,6 +1,7 @@
 """The crate rules: what stands of a policy on a graph, in the order of the report."""
 
 from readings.policy import Label
+from readings.trees import crate_node
 
 SECTIONS = ["deprecated", "crates", "groups", "workspace", "unused", "std", "licenses", "licenses-unused"]
 CODES = [
@@ -17,19 +18,22 @@ NO_ENTRY = (0, 0)
 
 
 class Finding:
-    """What is told, and the key by which it is told once and in its place."""
+    """What is told, the nodes whose trees are shown, and the key by which it is told once and in its place."""
 
     def __init__(
         self, section, code, severity, message, labels=(), notes=(), place=0, entry=NO_ENTRY, text="", other=0,
-        places=()
+        places=(), nodes=(), with_features=False
     ):
         self.code, self.severity, self.message = code, severity, message
         self.labels, self.notes, self.bit = list(labels), list(notes), BITS[section]
+        self.nodes, self.with_features, self.entry = list(nodes), with_features, entry
         self.key = (SECTIONS.index(section), place, CODES.index(code), entry, text.encode(), other, tuple(places))
 
 
-def of_crate(crate, code, severity, message, labels=(), notes=(), **key):
-    return Finding("crates", code, severity, message, labels, notes, place=crate.place, **key)
+def of_crate(crate, code, severity, message, labels=(), notes=(), section="crates", **more):
+    """A finding of a crate, whose tree is that of the crate where no other nodes are given."""
+    more.setdefault("nodes", [crate_node(crate)])
+    return Finding(section, code, severity, message, labels, notes, place=crate.place, **more)
 
 
 def unused(code, message, labels):
@@ -180,9 +184,11 @@ def duplicates(rules):
         several = any(crate.place in wanted_once for crate in crates)
         level = "deny" if several else rules.policy.get("multiple-versions", "warn")
         if len(crates) >= 2 and level != "allow":
-            places = [crate.place for crate in sorted(crates, key=lambda crate: crate.order())]
+            in_order_ = sorted(crates, key=lambda crate: crate.order())
+            places, nodes = [crate.place for crate in in_order_], [crate_node(crate) for crate in in_order_]
             message = "found %d duplicate entries for crate '%s'" % (len(crates), name)
-            yield Finding("groups", "duplicate", SEVERITY[level], message, place=places[0], places=places)
+            more = {"place": places[0], "places": places, "nodes": nodes}
+            yield Finding("groups", "duplicate", SEVERITY[level], message, **more)
 
 
 def crate_rules(policy, graph):

@@ -91,13 +91,35 @@ impl Case {
         let mut disk = self.disk(alloc)?;
         let mut out = MemoryOut::new(alloc, self.number("room", ROOM))?;
         let mut err = MemoryOut::new(alloc, self.number("err_room", ROOM))?;
-        let ended = run(alloc, words.as_slice(), &mut disk, &mut out, &mut err);
-        let told = json!(in alloc; {
-            "err": output_text(alloc, &err)?,
-            "name": name,
-            "out": output_text(alloc, &out)?,
-            "status": ended.status,
-        })?;
-        Ok(told.to_string(alloc)?)
+        let status = status_of(alloc, words.as_slice(), &mut disk, &mut out, &mut err);
+        told(alloc, name, &out, &err, status)
     }
+}
+
+/// Runs the program on these words in a world of its own, and gives the status that it ends with.
+fn status_of(
+    alloc: Global,
+    words: &[String],
+    disk: &mut MemoryDisk,
+    out: &mut MemoryOut,
+    err: &mut MemoryOut,
+) -> u8 {
+    run(alloc, words, disk, out, err).status
+}
+
+/// What came of a case, as a line of JSON.
+fn told(
+    alloc: Global,
+    name: &str,
+    out: &MemoryOut,
+    err: &MemoryOut,
+    status: u8,
+) -> Result<String, CaseError> {
+    let told = json!(in alloc; {
+        "err": output_text(alloc, err)?,
+        "name": name,
+        "out": output_text(alloc, out)?,
+        "status": status,
+    })?;
+    Ok(told.to_string(alloc)?)
 }
