@@ -41,7 +41,12 @@ DONE = (0, 2, 4, 6)
 
 USAGE = '{"fields":{"at":%d,"stop":"usage"},"type":"stop"}\n'
 # The place of the word that is missing or too many.
-WRONG_AT = {(): 0, ("check",): 1, ("check", "p", "m", "r", "s"): 4}
+WRONG_AT = {(): 0, ("check",): 1, ("check", "p", "m", "r", "s"): 4, ("generate", "20001"): 1}
+
+SUMMARY = '{"fields":{"crates":%d,"dead":0,"errors":%d,"generated":%d,"verdict":"%s"},"type":"summary"}\n'
+MADE = {
+    "0": SUMMARY % (1, 0, 0, "pass"), "4": SUMMARY % (5, 3, 4, "fail"), "20000": SUMMARY % (20001, 9002, 20000, "fail"),
+}
 
 
 def words():
@@ -50,11 +55,16 @@ def words():
         ["check", "p", "m", "-r"], ["check", "p", "m", "r", ""], ["check", "p", "m", "r", "-s"],
         ["check", "-p", "m", "r"],
         ["Check", "p", "m"], ["", "p", "m"], ["check", "", "m"], ["check", "-p", "m"],
-        ["check", "p", ""], ["check", "p", "-"], ["check", "p", "--m", "r"], ["generate", "0"],
+        ["check", "p", ""], ["check", "p", "-"], ["check", "p", "--m", "r"], ["generate"], ["generate", ""],
+        ["generate", "20001"], ["generate", "04"], ["generate", "+4"], ["generate", "4 "], ["generate", "4", "5"],
         ["check", "--home=/h", "p", "m"], ["checks", "p"], ["check", "p", "m", ""],
     ):
         stop = {"stop": USAGE % WRONG_AT[tuple(list_)]} if tuple(list_) in WRONG_AT else {}
         yield dict({"name": "words %s" % compact(list_), "words": list_, "files": {"p": "", "m": ALONE}}, **stop)
+    for number, wanted in MADE.items():
+        yield {"name": "made of %s" % number, "words": ["generate", number], "lines": wanted}
+    for number in 1, 2, 3, 5, 19, 20, 21, 22, 401:
+        yield {"name": "made of %d" % number, "words": ["generate", str(number)], "fail": ["p", "m"]}
     yield {"name": "paths with spaces", "words": ["check", " ", "a b/ü"], "files": {" ": "", "a b/ü": ALONE}}
     yield {"name": "one path for both texts", "words": ["check", "m", "m"], "files": {"m": ALONE}}
     yield {"name": "one path for all texts", "words": ["check", "m", "m", "m"], "files": {"m": ALONE}}

@@ -1,6 +1,7 @@
-"""What a run of `check POLICY METADATA [REPLACEMENTS]` writes, and its status."""
+"""What a run of `check POLICY METADATA [REPLACEMENTS]` or `generate N` writes, and its status."""
 
 import json
+import re
 
 from readings.dead import dead_entries
 from readings.features import feature_rules
@@ -13,6 +14,8 @@ from readings.rules import crate_rules, in_order
 from readings.trees import Trees
 
 LIMIT = 2**28  # a text that is read has fewer bytes than this
+MOST_MADE = 20000  # crates that can be asked for
+REGISTRY = "registry+https://github.com/rust-lang/crates.io-index"
 
 
 def compact(value):
@@ -105,14 +108,58 @@ def report(policy_text, metadata_text, replacements=None):
     return "".join(lines), bits
 
 
+def is_path(word):
+    return word != "" and not word.startswith("-")
+
+
+def is_number(word):
+    return re.fullmatch("0|[1-9][0-9]*", word) is not None and int(word) <= MOST_MADE
+
+
+# What a word behind the command has to be, and how many words there are at least.
+FORMS = {"check": ([is_path, is_path, is_path], 3), "generate": ([is_number], 2)}
+
+
 def usage_place(words):
-    """Where the words break off from `check POLICY METADATA [REPLACEMENTS]`, or None."""
-    is_path = lambda word: word != "" and not word.startswith("-")
-    tests, fewest = [lambda word: word == "check", is_path, is_path, is_path], 3
-    for place, word in enumerate(words):
-        if place >= len(tests) or not tests[place](word):
+    """Where the words break off from `check POLICY METADATA [REPLACEMENTS]` or `generate N`, or None."""
+    if not words or words[0] not in FORMS:
+        return 0
+    tests, fewest = FORMS[words[0]]
+    for place, word in enumerate(words[1:], 1):
+        if place > len(tests) or not tests[place - 1](word):
             return place
     return len(words) if len(words) < fewest else None
+
+
+def made(number):
+    """A policy, and the metadata of so many crates, which `app` needs."""
+    crates = [("c%d" % (i // 2), "%d.0.0" % (1 + i % 2)) for i in range(number)]
+    skipped = ['"c%d@=1.0.0"' % k for k in range((number + 1) // 2) if k % 10 == 0]
+    policy = '[bans]\nmultiple-versions = "deny"\ndeny = ["c1"]\nskip = [%s]\n' % ", ".join(skipped)
+    packages = [{
+        "id": "%s %s" % crate, "name": crate[0], "version": crate[1], "source": REGISTRY,
+        "manifest_path": "/r/%s-%s/Cargo.toml" % crate,
+    } for crate in crates]
+    declared = [{"name": name, "req": version} for name, version in crates]
+    app = {"id": "app", "name": "app", "version": "0.1.0", "manifest_path": "/w/Cargo.toml", "dependencies": declared}
+    nodes = [{"id": "app", "deps": [{"pkg": package["id"]} for package in packages]}]
+    nodes += [{"id": package["id"]} for package in packages]
+    members = {"workspace_members": ["app"], "workspace_root": "/w"}
+    graph = dict(members, packages=[app] + packages, resolve={"nodes": nodes})
+    return policy.encode(), compact(graph).encode()
+
+
+def summary(number):
+    """The line that sums up the report on what is made of a number, and the status."""
+    policy_text, metadata_text = made(number)
+    policy, graph = read_policy(policy_text), read_metadata(metadata_text)
+    found = findings_of(policy, graph, None)
+    bits = sum({finding.bit for finding in found if finding.severity == "error"})
+    return line("summary", {
+        "crates": len(graph.crates), "dead": len(dead_entries(policy, graph, None, found)),
+        "errors": sum(finding.severity == "error" for finding in found), "generated": number,
+        "verdict": "fail" if bits else "pass",
+    }), bits
 
 
 def run(words, texts, failing=()):
@@ -120,6 +167,8 @@ def run(words, texts, failing=()):
     place = usage_place(words)
     if place is not None:
         return stop_line("usage", at=place), 16
+    if words[0] == "generate":
+        return summary(int(words[1]))
     read = []
     for file, path in zip(("policy", "metadata", "replacements"), words[1:]):
         if path not in texts or path in failing:
