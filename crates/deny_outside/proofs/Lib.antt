@@ -1,3 +1,4 @@
+pub mod ChildrenLemmas
 pub mod PathsLemmas
 pub mod PieceLemmas
 pub mod WritingLemmas

@@ -35,6 +35,7 @@ reading_more start old new path bytes buf at n fits here reading later given nex
     faults = omega arith;
     faults_at = λ call path. omega (arith, reading.later.faults_at call path, later.faults_at call path);
     given = omega arith;
+    listed = omega arith;
   };
   given = omega (arith, given, reading.given, length-append bytes (take n buf), length-take-le n buf fits);
   text = (let P : Option Files → Type 0 = λ known. IfSome known (λ files. IsPieceOf (bytes_at files path) at n buf) in

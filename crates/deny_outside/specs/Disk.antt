@@ -1,5 +1,5 @@
 -- A disk as contracts see it: what stands at each path, where that is told, and its counts.
-use Rattle.std.specs.Prelude.{◌≡◌, ℕ, ◌-◌, ◌<◌, ◌≤◌, List, [], length, take, drop, Option, Some, None}
+use Rattle.std.specs.Prelude.{◌≡◌, ℕ, ◌-◌, ◌<◌, ◌≤◌, Bool, true, false, List, [], length, take, drop, Option, Some, None}
 use Rattle.std.specs.Ordering.{nat_cmp}
 use Rattle.std.specs.Cmp.Lexicographic.{slice_cmp}
 use Rattle.std.specs.FinMap as map
@@ -21,10 +21,13 @@ pub record Disk : Type 0 where
   pub faults_at : Call → List ℕ → ℕ
   -- the bytes that reading gave
   pub given : ℕ
+  -- the entries that listing gave
+  pub listed : ℕ
 
 -- a disk that tells nothing of what it holds, and has one count of failures for every call and path
-abbrev pub untold : ℕ → ℕ → Disk
-untold faults given = record { files = None; faults = faults; faults_at = λ _ _. faults; given = given }
+abbrev pub untold : ℕ → ℕ → ℕ → Disk
+untold faults given listed =
+    record { files = None; faults = faults; faults_at = λ _ _. faults; given = given; listed = listed }
 
 -- the same disk later: what it holds stays, and no count falls
 pub record IsLater (old new : Disk) : Type 0 where
@@ -32,11 +35,17 @@ pub record IsLater (old new : Disk) : Type 0 where
   pub faults : old.faults ≤ new.faults
   pub faults_at : (call : Call) (path : List ℕ) → old.faults_at call path ≤ new.faults_at call path
   pub given : old.given ≤ new.given
+  pub listed : old.listed ≤ new.listed
 
 -- a call of this kind on this path failed in between
 pub record FailedAt (old new : Disk) (call : Call) (path : List ℕ) : Type 0 where
   pub faults : Rose old.faults new.faults
   pub faults_at : Rose (old.faults_at call path) (new.faults_at call path)
+
+abbrev pub is_folder : Option Place → Bool
+is_folder None = false
+is_folder (Some Folder) = true
+is_folder (Some (File bytes)) = false
 
 -- the text of the file that stands there, if any
 abbrev pub text_of : Option Place → List ℕ

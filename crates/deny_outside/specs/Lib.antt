@@ -1,3 +1,4 @@
+pub mod Children
 pub mod Count
 pub mod Disk
 pub mod MemoryDisk

@@ -1,10 +1,13 @@
 -- A disk in memory, as contracts see it.
-use Rattle.std.specs.Prelude.{◌≡◌, ℕ, ◌==◌, ◌&&◌, ◌||◌, not, true, false, if◌then◌else◌, Bool, is_some, List, [], ◌∷◌, take, codes, Option, Some, None}
+use Rattle.std.specs.Prelude.{◌≡◌, ℕ, ◌==◌, ◌&&◌, ◌||◌, not, true, if◌then◌else◌, Bool, is_some, List, [], ◌∷◌, take, codes, Option, Some, None}
 use Rattle.std.specs.List.{filter_map, enumerate_from, list_any}
 use Rattle.std.specs.Str.{bytes_eq}
 use Rattle.std.specs.FinMap as finite
-use Rattle.deny_outside.specs.Disk.{Disk, Files}
+use Rattle.deny_outside.specs.Count.{counted}
+use Rattle.deny_outside.specs.Disk.{Disk, Files, is_folder}
 use Rattle.deny_outside.specs.Paths.{is_path}
+use Rattle.deny_outside.specs.declared.disk.DiskError.{DiskError}
+use Rattle.deny_outside.specs.declared.disk.DiskError.TheVariants.{Failed, Memory as OutOfMemory}
 use Rattle.deny_outside.specs.declared.disk.Place.{Place}
 use Rattle.deny_outside.specs.declared.disk.Place.TheVariants.{Folder, File}
 
@@ -12,12 +15,18 @@ pub record Memory : Type 0 where
   pub files : Files
   -- the paths on which every call fails
   pub failing : List (List ℕ)
+  -- the numbers of the calls that fail, whatever their paths
+  pub failing_calls : List ℕ
   -- the most bytes that a call gives
   pub piece : ℕ
+  -- the calls of both kinds so far: the number of the next call
+  pub calls : ℕ
   -- the calls that failed
   pub faults : ℕ
   -- the bytes that reading gave
   pub given : ℕ
+  -- the entries that listing gave
+  pub listed : ℕ
 
 -- it tells its files, and has one count of failures for every call and path
 abbrev pub memory_seen : Memory → Disk
@@ -26,10 +35,18 @@ memory_seen memory = record {
   faults = memory.faults;
   faults_at = λ _ _. memory.faults;
   given = memory.given;
+  listed = memory.listed;
 }
 
 abbrev pub is_failing : List (List ℕ) → List ℕ → Bool
 is_failing failing path = list_any (λ other. bytes_eq other path) failing
+
+abbrev pub is_failing_call : List ℕ → ℕ → Bool
+is_failing_call failing number = list_any (λ other. other == number) failing
+
+-- whether the next call is to fail, if it is on this path
+abbrev pub fails_next : Memory → List ℕ → Bool
+fails_next memory path = is_failing memory.failing path || is_failing_call memory.failing_calls memory.calls
 
 -- the text of a file, and of nothing else
 abbrev pub file_text : Option Place → Option (List ℕ)
@@ -40,7 +57,20 @@ file_text (Some (File bytes)) = Some bytes
 -- the text that a call reads; it fails where there is none
 abbrev pub text_to_read : Memory → List ℕ → Option (List ℕ)
 text_to_read memory path =
-    if is_failing memory.failing path then None else file_text (finite.get memory.files path)
+    if fails_next memory path then None else file_text (finite.get memory.files path)
+
+-- whether a call lists; it fails where no folder stands
+abbrev pub is_listing : Memory → List ℕ → Bool
+is_listing memory path = not (fails_next memory path) && is_folder (finite.get memory.files path)
+
+-- the disk after a call that gave nothing
+abbrev pub called : Memory → Memory
+called memory = record memory { calls = counted memory.calls 1 }
+
+-- the disk after a call that ended with this error
+abbrev pub failed_by : DiskError → Memory → Memory
+failed_by Failed memory = record memory { calls = counted memory.calls 1; faults = counted memory.faults 1 }
+failed_by OutOfMemory memory = called memory
 
 -- the path of the folder whose name ends before the slash at this place; the root is its slash
 abbrev pub folder_before : List ℕ → ℕ → List ℕ
@@ -66,11 +96,6 @@ with_folders files (folder ∷ folders) = with_folders (with_folder files folder
 -- the file and the folders that its path goes through; it stands in place of what stood at its path
 abbrev pub with_file : Files → List ℕ → List ℕ → Files
 with_file files path bytes = finite.insert (with_folders files (folders_of path)) path (File bytes)
-
-abbrev pub is_folder : Option Place → Bool
-is_folder None = false
-is_folder (Some Folder) = true
-is_folder (Some (File bytes)) = false
 
 abbrev pub is_file : Option Place → Bool
 is_file place = is_some (file_text place)

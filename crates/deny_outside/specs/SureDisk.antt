@@ -6,7 +6,10 @@ pub record Sure : Type 0 where
   pub files : Files
   -- the bytes that reading gave
   pub given : ℕ
+  -- the entries that listing gave
+  pub listed : ℕ
 
 -- it tells its files, and no call failed
 abbrev pub sure_seen : Sure → Disk
-sure_seen sure = record { files = Some sure.files; faults = 0; faults_at = λ _ _. 0; given = sure.given }
+sure_seen sure =
+    record { files = Some sure.files; faults = 0; faults_at = λ _ _. 0; given = sure.given; listed = sure.listed }

@@ -1,9 +1,11 @@
 ghost use Rattle.std.specs.Prelude.{◌≡◌, ◌≤◌, length, IfOk, IfSome, IsErrOf, MatchResult};
+ghost use Rattle.std.proofs.Common.{rules};
+ghost use Rattle.deny_outside.specs.Children.{AreListed, children};
 ghost use Rattle.deny_outside.specs.Count.{counted};
 ghost use Rattle.deny_outside.specs.Disk.{Disk, IsLater, FailedAt, IsPieceOf, bytes_at};
 
-use deny_lists::{List, NoMemory};
-use std::alloc::{AllocError, AllocFailed};
+use deny_lists::{Keyed, List, NoMemory, Plain, Text};
+use std::alloc::{AllocError, AllocFailed, Global};
 use thiserror::Error;
 
 /// What stands at a path of a disk.
@@ -11,6 +13,29 @@ use thiserror::Error;
 pub enum Place {
     Folder,
     File(List<u8>),
+}
+
+/// What a folder holds under a name.
+#[derive(Debug, Clone, PartialEq, Eq, Drop)]
+pub struct Entry {
+    /// The name, without the folder's path.
+    pub name: Text,
+    /// Whether it is a folder. What is none counts as a file, a link too.
+    pub folder: bool,
+}
+
+impl Plain for Entry {
+    ghost clone_is_equal = { Prim.search rules };
+}
+
+impl Keyed for Entry {
+    type Key = Text;
+
+    ghost key = { λ entry. entry.name };
+
+    fn key(&self) -> &Text {
+        &self.name
+    }
 }
 
 /// The kinds of call that a disk can fail. Contracts count the failures of each kind at each path.
@@ -68,13 +93,30 @@ where
 }
 
 /// The files that are read. `seen` is what contracts know of them: what stands at each path, where
-/// the disk tells that, and counts of failed calls and of bytes given, which never fall.
+/// the disk tells that, and counts of failed calls, of bytes given and of entries listed, which
+/// never fall.
 ///
 /// A failed call raises the count of its own kind and path, and no clause says that a call raises
 /// the count of another: so code over any disk shows such a rise only by a failed call on that
 /// path.
 pub trait PackageFiles {
     ghost seen: { Self → Disk };
+
+    /// What the folder at `dir` holds, by the names in byte order. Where a disk answers for a path
+    /// at which no folder stands, there is nothing.
+    ///
+    /// `Failed` comes where the disk failed the call, `Memory` where the entries found no room.
+    fn list(&mut self, alloc: Global, dir: &str) -> Result<List<Entry>, DiskError>
+        ensures names { IfOk result AreListed }
+        ensures entries { IfOk result (λ entries. IfSome (seen self.old).files
+            (λ files. entries ≡ children files dir.now)) }
+        ensures later { IsLater (seen self.old) (seen self.new) }
+        ensures listed { MatchResult result
+            (λ entries. (seen self.new).listed ≡ counted (seen self.old).listed (length entries))
+            (λ _. (seen self.new).listed ≡ (seen self.old).listed) }
+        ensures given { (seen self.new).given ≡ (seen self.old).given }
+        ensures failed { IsErrOf result DiskError.Failed →
+            FailedAt (seen self.old) (seen self.new) Call.List dir.now };
 
     /// Reads bytes of the file at `path`, from `offset` on, into the front of `buf`, and says how
     /// many. There are none only for an empty buffer or where the text has ended. Where a disk
@@ -89,6 +131,7 @@ pub trait PackageFiles {
         ensures given { MatchResult result
             (λ n. (seen self.new).given ≡ counted (seen self.old).given n)
             (λ _. (seen self.new).given ≡ (seen self.old).given) }
+        ensures listed { (seen self.new).listed ≡ (seen self.old).listed }
         ensures failed { IsErrOf result DiskError.Failed →
             FailedAt (seen self.old) (seen self.new) Call.Read path.now }
         ensures no_memory { IsErrOf result DiskError.Memory → ⊥ };

@@ -2,6 +2,7 @@
 //! on the real system.
 #![tactic(auto)]
 
+mod children;
 mod disk;
 mod memory_disk;
 mod memory_out;
@@ -12,7 +13,8 @@ mod real_disk;
 mod real_out;
 mod sure_disk;
 
-pub use disk::{Call, DiskError, PackageFiles, Place};
+pub use children::child_path;
+pub use disk::{Call, DiskError, Entry, PackageFiles, Place};
 pub use memory_disk::MemoryDisk;
 pub use memory_out::MemoryOut;
 pub use out::{Out, OutFault};

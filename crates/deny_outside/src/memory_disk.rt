@@ -1,13 +1,15 @@
-ghost use Rattle.std.specs.Prelude.{◌≡◌, ◌-◌, ◌<◌, ◌≤◌, ◌++◌, ◌∷◌, [], length, min, slice_index, Option, Ok, Err, Some, None, IfOk, IsSomeAnd, IsErrOf, IsTrue, OnOk, OnErr, MatchOption, MatchResult};
+ghost use Rattle.std.specs.Prelude.{◌≡◌, ◌-◌, ◌<◌, ◌≤◌, ◌++◌, ◌∷◌, [], ◌↔◌, false, length, min, slice_index, Option, Ok, Err, Some, None, IfOk, IsSomeAnd, IsErrOf, IsTrue, OnOk, OnErr, MatchOption, MatchResult};
 ghost use Rattle.std.specs.Option.{option_copied};
 ghost use Rattle.std.specs.List.{list_any};
 ghost use Rattle.std.specs.FinMap as finite;
 ghost use Rattle.deny_outside.specs.Count.{counted};
-ghost use Rattle.deny_outside.specs.Disk.{IsLater, FailedAt, IsPieceOf, bytes_at};
-ghost use Rattle.deny_outside.specs.MemoryDisk.{Memory, memory_seen, is_failing, text_to_read, folder_before, folders_of, with_folders, with_file, is_file, is_folder, takes_file};
+ghost use Rattle.deny_outside.specs.Children.{AreListed, children};
+ghost use Rattle.deny_outside.specs.Disk.{IsLater, FailedAt, IsPieceOf, bytes_at, is_folder};
+ghost use Rattle.deny_outside.specs.MemoryDisk.{Memory, memory_seen, called, failed_by, fails_next, is_failing, is_failing_call, is_listing, text_to_read, folder_before, folders_of, with_folders, with_file, is_file, takes_file};
 ghost use Rattle.deny_outside.specs.declared.disk.Place.TheVariants.{File};
 
-use crate::disk::{Call, DiskError, PackageFiles, Place};
+use crate::children::children_of;
+use crate::disk::{Call, DiskError, Entry, PackageFiles, Place};
 use crate::path::is_path;
 use deny_lists::{List, NoMemory, Text, TextMap};
 use std::alloc::Global;
@@ -19,9 +21,12 @@ pub struct MemoryDisk {
     alloc: Global,
     files: TextMap<Place>,
     failing: List<Text>,
+    failing_calls: List<u64>,
     piece: usize,
+    calls: u64,
     faults: u64,
     given: u64,
+    listed: u64,
 }
 
 impl Model for MemoryDisk {
@@ -40,9 +45,12 @@ impl Model for MemoryDisk {
     ghost view = { λ d. record {
       files = d.files;
       failing = d.failing;
+      failing_calls = d.failing_calls;
       piece = d.piece;
+      calls = d.calls;
       faults = d.faults;
       given = d.given;
+      listed = d.listed;
     } };
 
     ghost invariant = { λ d. (1 ≤ d.piece) × HoldsPaths d.files };
@@ -110,25 +118,37 @@ pub(crate) fn copy_piece(text: &[u8], offset: u64, piece: usize, buf: &mut [u8])
     count
 }
 
+fn is_failing_call(failing: &[u64], number: u64) -> bool
+    ensures { result ≡ is_failing_call failing.now number }
+{
+    failing.iter().any(|other| *other == number)
+}
+
 impl MemoryDisk {
-    /// No files, counts of 0, no paths that fail, and at most `piece` bytes for each call.
+    /// No files, counts of 0, no paths or calls that fail, and at most `piece` bytes for each call.
     pub fn new(alloc: Global, piece: usize) -> MemoryDisk
         requires { 1 ≤ piece }
         ensures { result ≡ record {
           files = finite.empty;
           failing = [];
+          failing_calls = [];
           piece = piece;
+          calls = 0;
           faults = 0;
           given = 0;
+          listed = 0;
         } }
     {
         MemoryDisk {
             alloc,
             files: TextMap::new(alloc),
             failing: List::new(alloc),
+            failing_calls: List::new(alloc),
             piece,
+            calls: 0,
             faults: 0,
             given: 0,
+            listed: 0,
         }
     }
 
@@ -182,6 +202,36 @@ impl MemoryDisk {
         self.failing.push(Text::from_str(self.alloc, path)?)
     }
 
+    /// The call of this number fails, whatever its path. Calls of both kinds are numbered together,
+    /// from 0 for the first that this disk is asked; each behind number 2^64 - 1 has that number.
+    pub fn fail_call(&mut self, number: u64) -> Result<(), NoMemory>
+        ensures ok { OnOk result (self.new ≡
+            record self.old { failing_calls = self.old.failing_calls ++ number ∷ [] }) }
+        ensures err { OnErr result (self.new ≡ self.old) }
+    {
+        self.failing_calls.push(number)
+    }
+
+    /// Whether the next call is to fail, if it is on `path`.
+    fn fails_next(&self, path: &str) -> bool
+        ensures { result ≡ fails_next self.now path.now }
+    {
+        self.is_failing(path) || is_failing_call(self.failing_calls.as_slice(), self.calls)
+    }
+
+    fn count_fault(&mut self)
+        ensures { self.new ≡ record self.old { faults = counted self.old.faults 1 } }
+    {
+        self.faults = self.faults.saturating_add(1);
+    }
+
+    /// Whether the next call lists, if it is on `path`.
+    fn is_listing(&self, path: &str) -> bool
+        ensures { result ≡ is_listing self.now path.now }
+    {
+        !self.fails_next(path) && self.is_folder(path)
+    }
+
     /// Whether each call on `path` is to fail.
     fn is_failing(&self, path: &str) -> bool
         ensures { result ≡ is_failing self.now.failing path.now }
@@ -196,12 +246,12 @@ impl MemoryDisk {
     fn text_to_read(&self, path: &str) -> Option<&[u8]>
         ensures { option_copied result ≡ text_to_read self.now path.now }
     {
-        if self.is_failing(path) {
+        if self.fails_next(path) {
             return None;
         }
         match self.files.get(path) {
             Some(Place::File(bytes)) => Some(bytes.as_slice()),
-            _ => None,
+            Some(Place::Folder) | None => None,
         }
     }
 
@@ -219,7 +269,36 @@ impl MemoryDisk {
 impl PackageFiles for MemoryDisk {
     ghost seen = { memory_seen };
 
-    /// Fails exactly where the path is to fail, or no file stands there. It gives as many bytes as
+    /// Fails exactly where the call is to fail, or no folder stands there.
+    fn list(&mut self, alloc: Global, dir: &str) -> Result<List<Entry>, DiskError>
+        ensures names { IfOk result AreListed }
+        ensures entries { IfOk result (λ entries. entries ≡ children self.old.files dir.now) }
+        ensures later { IsLater (memory_seen self.old) (memory_seen self.new) }
+        ensures listed { MatchResult result
+            (λ entries. self.new.listed ≡ counted self.old.listed (length entries))
+            (λ _. self.new.listed ≡ self.old.listed) }
+        ensures given { self.new.given ≡ self.old.given }
+        ensures failed { IsErrOf result DiskError.Failed →
+            FailedAt (memory_seen self.old) (memory_seen self.new) Call.List dir.now }
+
+        ensures exact { IsErrOf result DiskError.Failed ↔ (is_listing self.old dir.now ≡ false) }
+        ensures after { MatchResult result
+            (λ entries. self.new ≡
+            record (called self.old) { listed = counted self.old.listed (length entries) })
+            (λ error. self.new ≡ failed_by error self.old) }
+    {
+        let is_listing = self.is_listing(dir);
+        self.calls = self.calls.saturating_add(1);
+        if !is_listing {
+            self.count_fault();
+            return Err(DiskError::Failed);
+        }
+        let entries = children_of(alloc, &self.files, dir)?;
+        self.listed = self.listed.saturating_add(entries.len() as u64);
+        Ok(entries)
+    }
+
+    /// Fails exactly where the call is to fail, or no file stands there. It gives as many bytes as
     /// the piece, the buffer and the rest of the text allow.
     fn read_at(&mut self, path: &str, offset: u64, buf: &mut [u8]) -> Result<usize, DiskError>
         ensures bound { IfOk result (λ n. n ≤ length buf.new) }
@@ -229,6 +308,7 @@ impl PackageFiles for MemoryDisk {
         ensures given { MatchResult result
             (λ n. self.new.given ≡ counted self.old.given n)
             (λ _. self.new.given ≡ self.old.given) }
+        ensures listed { self.new.listed ≡ self.old.listed }
         ensures failed { IsErrOf result DiskError.Failed →
             FailedAt (memory_seen self.old) (memory_seen self.new) Call.Read path.now }
         ensures no_memory { IsErrOf result DiskError.Memory → ⊥ }
@@ -237,16 +317,18 @@ impl PackageFiles for MemoryDisk {
             (result ≡ Err DiskError.Failed)
             (λ text. result ≡ Ok (min (min self.old.piece (length buf.new)) (length text - offset))) }
         ensures after { MatchResult result
-            (λ n. self.new ≡ record self.old { given = counted self.old.given n })
-            (λ _. self.new ≡ record self.old { faults = counted self.old.faults 1 }) }
+            (λ n. self.new ≡ record (called self.old) { given = counted self.old.given n })
+            (λ error. self.new ≡ failed_by error self.old) }
     {
-        match self.piece_of(path, offset, buf) {
+        let piece = self.piece_of(path, offset, buf);
+        self.calls = self.calls.saturating_add(1);
+        match piece {
             Some(count) => {
                 self.given = self.given.saturating_add(count as u64);
                 Ok(count)
             }
             None => {
-                self.faults = self.faults.saturating_add(1);
+                self.count_fault();
                 Err(DiskError::Failed)
             }
         }

@@ -43,7 +43,7 @@ fn length_of_part(bytes: &[u8]) -> usize
     bytes.len()
 }
 
-fn is_name(name: &[u8]) -> bool
+pub(crate) fn is_name(name: &[u8]) -> bool
     ensures { result ≡ is_name name.now }
 {
     !name.is_empty() && name != b".".as_slice() && name != b"..".as_slice()

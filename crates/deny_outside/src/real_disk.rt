@@ -1,7 +1,12 @@
-ghost use Rattle.std.specs.Prelude.{◌≡◌, ◌≤◌, length, IfOk};
+ghost use Rattle.std.specs.Prelude.{◌≡◌, ◌≤◌, length, All, IfOk, IsTrue};
+ghost use Rattle.std.specs.List.{list_all};
+ghost use Rattle.deny_outside.specs.Children.{AreListed, is_child_name};
 ghost use Rattle.deny_outside.specs.Disk.{untold};
 
-use crate::disk::{DiskError, PackageFiles};
+use crate::children::is_child_name;
+use crate::disk::{DiskError, Entry, PackageFiles};
+use deny_lists::{List, Text, put_records_in_order};
+use std::alloc::Global;
 use std::os::unix::fs::FileExt;
 use std::{fs, io};
 
@@ -12,17 +17,19 @@ pub struct RealDisk<'r> {
     rt: &'r HostRuntime,
     faults: u64,
     given: u64,
+    listed: u64,
 }
 
 impl<'r> RealDisk<'r> {
     /// The files of the system, with counts of 0.
     pub fn new(rt: &'r HostRuntime) -> RealDisk<'r>
-        ensures { ⟦<RealDisk<'r> as PackageFiles>⟧.seen result ≡ untold 0 0 }
+        ensures { ⟦<RealDisk<'r> as PackageFiles>⟧.seen result ≡ untold 0 0 0 }
     {
         RealDisk {
             rt,
             faults: 0,
             given: 0,
+            listed: 0,
         }
     }
 }
@@ -34,8 +41,65 @@ fn read_file(rt: &HostRuntime, path: &str, offset: u64, buf: &mut [u8]) -> io::R
     fs::open(rt, path)?.read_at(buf, offset)
 }
 
+/// What the error of the system comes to. Want of memory is no failure of the disk.
+fn disk_error(error: io::Error) -> DiskError {
+    if error.kind() == io::ErrorKind::OutOfMemory {
+        DiskError::Memory
+    } else {
+        DiskError::Failed
+    }
+}
+
+/// What the folder holds, in the order in which the system gives it. A link is not followed.
+fn read_folder(rt: &HostRuntime, alloc: Global, dir: &str) -> io::Result<List<Entry>> {
+    let mut entries = List::new(alloc);
+    for entry in fs::read_dir(rt, dir)? {
+        let entry = entry?;
+        entries.vec.push(Entry {
+            name: Text::from_string(String::from_str(alloc, entry.file_name())?),
+            folder: entry.file_type()?.is_dir(),
+        })?;
+    }
+    Ok(entries)
+}
+
+fn have_child_names(entries: &[Entry]) -> bool
+    ensures { result ≡ list_all (λ entry. is_child_name entry.name) entries.now }
+{
+    entries
+        .iter()
+        .all(|entry| is_child_name(entry.name.as_str().as_bytes()))
+}
+
+/// What the folder holds, by the names. The call fails where one of them cannot be a child's.
+fn list_folder(rt: &HostRuntime, alloc: Global, dir: &str) -> Result<List<Entry>, DiskError>
+    ensures { IfOk result AreListed }
+{
+    let mut entries = read_folder(rt, alloc, dir).map_err(disk_error)?;
+    put_records_in_order(&mut entries)?;
+    if have_child_names(entries.as_slice()) {
+        Ok(entries)
+    } else {
+        Err(DiskError::Failed)
+    }
+}
+
 impl<'r> PackageFiles for RealDisk<'r> {
-    ghost seen = { λ disk. untold disk.faults disk.given };
+    ghost seen = { λ disk. untold disk.faults disk.given disk.listed };
+
+    fn list(&mut self, alloc: Global, dir: &str) -> Result<List<Entry>, DiskError> {
+        match list_folder(self.rt, alloc, dir) {
+            Ok(entries) => {
+                self.listed = self.listed.saturating_add(entries.len() as u64);
+                Ok(entries)
+            }
+            Err(DiskError::Failed) => {
+                self.faults = self.faults.saturating_add(1);
+                Err(DiskError::Failed)
+            }
+            Err(DiskError::Memory) => Err(DiskError::Memory),
+        }
+    }
 
     fn read_at(&mut self, path: &str, offset: u64, buf: &mut [u8]) -> Result<usize, DiskError> {
         match read_file(self.rt, path, offset, buf) {

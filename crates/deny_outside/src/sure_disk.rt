@@ -1,22 +1,26 @@
 ghost use Rattle.std.specs.Prelude.{◌≡◌, ◌-◌, ◌≤◌, length, min, Ok, IfOk, IsErrOf, IsTrue, OnOk, OnErr, MatchResult};
 ghost use Rattle.std.specs.FinMap as finite;
+ghost use Rattle.deny_outside.specs.Children.{AreListed, children};
 ghost use Rattle.deny_outside.specs.Count.{counted};
 ghost use Rattle.deny_outside.specs.Disk.{IsLater, FailedAt, IsPieceOf, bytes_at};
 ghost use Rattle.deny_outside.specs.MemoryDisk.{takes_file, with_file};
 ghost use Rattle.deny_outside.specs.SureDisk.{Sure, sure_seen};
 
-use crate::disk::{Call, DiskError, PackageFiles, Place};
+use crate::children::children_of;
+use crate::disk::{Call, DiskError, Entry, PackageFiles, Place};
 use crate::memory_disk::{copy_piece, folders_of, put_below};
 use deny_lists::{List, NoMemory, Text, TextMap};
 use std::alloc::Global;
 use std::marker::Model;
 
-/// Files in memory that never fail: a path without a file reads as the empty text.
+/// Files in memory that never fail: a path without a file reads as the empty text, and one without
+/// a folder lists as an empty folder.
 #[derive(Debug, Drop)]
 pub struct SureDisk {
     alloc: Global,
     files: TextMap<Place>,
     given: u64,
+    listed: u64,
 }
 
 impl Model for SureDisk {
@@ -32,7 +36,7 @@ impl Model for SureDisk {
 
     ghost coded = { Prim.hlevel (codes, finite.code {R = slice_cmp nat_cmp} (coded_list coded_ℕ) place.the_row.coded) };
 
-    ghost view = { λ d. record { files = d.files; given = d.given } };
+    ghost view = { λ d. record { files = d.files; given = d.given; listed = d.listed } };
 
     ghost invariant = { λ d. HoldsPaths d.files };
 }
@@ -48,14 +52,15 @@ fn text_at<'d>(files: &'d TextMap<Place>, path: &str) -> &'d [u8]
 }
 
 impl SureDisk {
-    /// No files, and a count of 0.
+    /// No files, and counts of 0.
     pub fn new(alloc: Global) -> SureDisk
-        ensures { result ≡ record { files = finite.empty; given = 0 } }
+        ensures { result ≡ record { files = finite.empty; given = 0; listed = 0 } }
     {
         SureDisk {
             alloc,
             files: TextMap::new(alloc),
             given: 0,
+            listed: 0,
         }
     }
 
@@ -77,6 +82,29 @@ impl SureDisk {
 impl PackageFiles for SureDisk {
     ghost seen = { sure_seen };
 
+    /// Never fails, but for want of memory.
+    fn list(&mut self, alloc: Global, dir: &str) -> Result<List<Entry>, DiskError>
+        ensures names { IfOk result AreListed }
+        ensures entries { IfOk result (λ entries. entries ≡ children self.old.files dir.now) }
+        ensures later { IsLater (sure_seen self.old) (sure_seen self.new) }
+        ensures listed { MatchResult result
+            (λ entries. self.new.listed ≡ counted self.old.listed (length entries))
+            (λ _. self.new.listed ≡ self.old.listed) }
+        ensures given { self.new.given ≡ self.old.given }
+        ensures failed { IsErrOf result DiskError.Failed →
+            FailedAt (sure_seen self.old) (sure_seen self.new) Call.List dir.now }
+
+        ensures exact { IsErrOf result DiskError.Failed → ⊥ }
+        ensures after { MatchResult result
+            (λ entries. self.new ≡
+            record self.old { listed = counted self.old.listed (length entries) })
+            (λ _. self.new ≡ self.old) }
+    {
+        let entries = children_of(alloc, &self.files, dir)?;
+        self.listed = self.listed.saturating_add(entries.len() as u64);
+        Ok(entries)
+    }
+
     /// Never fails, and gives as many bytes as the buffer and the rest of the text allow.
     fn read_at(&mut self, path: &str, offset: u64, buf: &mut [u8]) -> Result<usize, DiskError>
         ensures bound { IfOk result (λ n. n ≤ length buf.new) }
@@ -86,6 +114,7 @@ impl PackageFiles for SureDisk {
         ensures given { MatchResult result
             (λ n. self.new.given ≡ counted self.old.given n)
             (λ _. self.new.given ≡ self.old.given) }
+        ensures listed { self.new.listed ≡ self.old.listed }
         ensures failed { IsErrOf result DiskError.Failed →
             FailedAt (sure_seen self.old) (sure_seen self.new) Call.Read path.now }
         ensures no_memory { IsErrOf result DiskError.Memory → ⊥ }

@@ -1,14 +1,15 @@
 -- When a bound explains an entry: where a text has the size, or reading gave as much; and then in a longer time, too.
-use Rattle.std.proofs.Common.{◌≡◌, ◌≤◌, ◌^◌, ℕ, List, true, Option, None, Some, length, sym, ap, ◌∙◌}
+use Rattle.std.proofs.Common.{◌≡◌, ◌+◌, ◌≤◌, ◌^◌, ℕ, List, true, Option, None, Some, length, sym, ap, ◌∙◌}
 use Rattle.std.specs.Prelude.{IfSome, option_map}
 use Rattle.std.proofs.lemmas.Bool.{le-leb, leb-true}
 use Rattle.deny_outside.specs.Count.{RoseBy, counted}
 use Rattle.deny_outside.specs.Disk.{Disk, Files, IsLater, bytes_at}
 use Rattle.deny_base.specs.declared.span.Kid.{Kid}
 use Rattle.deny_unread.proofs.Later.{rose_wider}
-use Rattle.deny_unread.specs.Bound.{Folders, is_bound, is_past, size_told}
-use Rattle.deny_unread.specs.Purpose.{limit_for}
+use Rattle.deny_unread.specs.Bound.{Folders, entries_in, is_bound, is_past, size_told}
+use Rattle.deny_unread.specs.Purpose.{limit_for, spent_for}
 use Rattle.deny_unread.specs.Unread.{asked}
+use Rattle.deny_unread.specs.declared.purpose.Purpose.{Purpose}
 use Rattle.deny_unread.specs.declared.purpose.Purpose.TheVariants as purpose
 use Rattle.deny_unread.specs.declared.unread.Unread.{Unread}
 
@@ -19,14 +20,24 @@ past_wider (Some limit) (Some size) a b c d before after past = past
 past_wider (Some limit) None a b c d before after past =
     le-leb (counted a limit) d (rose_wider limit a b c d before after (leb-true (counted b limit) c past))
 
+-- no count of what was given falls
+pub spent_later : (p : Purpose) (old new : Disk) → IsLater old new → spent_for p old ≤ spent_for p new
+spent_later purpose.Manifest old new later = later.given
+spent_later purpose.Script old new later = later.given
+spent_later purpose.List old new later = later.listed
+spent_later purpose.Header old new later = later.given
+spent_later purpose.Sum old new later = later.given
+
 -- a bound that explains an entry does so in a longer time
 pub bound_wider : (folder : Folders) (a b c d : Disk) (u : Unread) → IsLater a b → IsLater c d
     → is_bound folder b c u ≡ true → is_bound folder a d u ≡ true
 unfolding is_bound
 bound_wider folder a b c d u before after bound =
     let size : Option Files → Option ℕ = option_map (λ files. size_told files (folder u.krate) u.purpose u.path) in
-    past_wider (limit_for u.purpose) (size a.files) a.given b.given c.given d.given before.given after.given
-    (ap (λ files. is_past (limit_for u.purpose) (size files) b.given c.given) (sym before.files) ∙ bound)
+    let spent : Disk → ℕ = spent_for u.purpose in
+    past_wider (limit_for u.purpose) (size a.files) (spent a) (spent b) (spent c) (spent d)
+    (spent_later u.purpose a b before) (spent_later u.purpose c d after)
+    (ap (λ files. is_past (limit_for u.purpose) (size files) (spent b) (spent c)) (sym before.files) ∙ bound)
 
 past_by_size : (limit : ℕ) (size : Option ℕ) (before after : ℕ) → RoseBy limit before after
     → IfSome size (λ n. limit ≤ n) → is_past (Some limit) size before after ≡ true
@@ -63,3 +74,13 @@ unfolding is_bound
 sum_past folder old new krate path rose large =
     past_by_size (2 ^ 40) (option_map (λ files. length (bytes_at files path)) old.files) old.given new.given rose
     (size_large old.files (2 ^ 40) (λ files. length (bytes_at files path)) large)
+
+-- a folder with which a package lists more than 2 ^ 24 entries
+pub list_past : (folder : Folders) (old new : Disk) (krate : Option Kid) (path : List ℕ)
+    → RoseBy (2 ^ 24 + 1) old.listed new.listed
+    → IfSome old.files (λ files. 2 ^ 24 + 1 ≤ entries_in files (folder krate))
+    → is_bound folder old new (asked krate purpose.List path) ≡ true
+unfolding is_bound
+list_past folder old new krate path rose large =
+    past_by_size (2 ^ 24 + 1) (option_map (λ files. entries_in files (folder krate)) old.files) old.listed new.listed
+    rose (size_large old.files (2 ^ 24 + 1) (λ files. entries_in files (folder krate)) large)

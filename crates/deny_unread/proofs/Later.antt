@@ -10,6 +10,7 @@ later_same disk = record {
   faults = omega arith;
   faults_at = λ call path. omega arith;
   given = omega arith;
+  listed = omega arith;
 }
 
 pub later_later : (a b c : Disk) → IsLater a b → IsLater b c → IsLater a c
@@ -18,6 +19,7 @@ later_later a b c first second = record {
   faults = omega (arith, first.faults, second.faults);
   faults_at = λ call path. omega (arith, first.faults_at call path, second.faults_at call path);
   given = omega (arith, first.given, second.given);
+  listed = omega (arith, first.listed, second.listed);
 }
 
 pub rose_wider : (n a b c d : ℕ) → a ≤ b → c ≤ d → RoseBy n b c → RoseBy n a d

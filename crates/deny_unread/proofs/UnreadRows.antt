@@ -64,6 +64,12 @@ script_one_short = refl
 sum_at_the_limit : is_past (limit_for Sum) (Some 1099511627776) 0 0 ≡ true
 sum_at_the_limit = refl
 
+list_one_short : is_past (limit_for purpose.List) (Some 16777216) 0 0 ≡ false
+list_one_short = refl
+
+list_at_the_limit : is_past (limit_for purpose.List) (Some 16777217) 0 0 ≡ true
+list_at_the_limit = refl
+
 -- where files are not told, by the count
 count_one_short : is_past (limit_for Manifest) None 7 (7 + 268435455) ≡ false
 count_one_short = refl
@@ -80,12 +86,23 @@ count_before_its_end = refl
 header_without_limit : is_past (limit_for Header) (Some (2 ^ 60)) 0 (2 ^ 60) ≡ false
 header_without_limit = refl
 
-on_an_untold_disk : is_bound (λ krate. []) (untold 0 0) (untold 1 100) (asked app Manifest manifest_path) ≡ false
+on_an_untold_disk : is_bound (λ krate. []) (untold 0 0 0) (untold 1 100 100) (asked app Manifest manifest_path) ≡ false
 unfolding is_bound
 on_an_untold_disk = refl
 
+-- of a list by the count of entries, whatever was read
+list_by_entries : is_bound (λ krate. []) (untold 0 0 0) (untold 1 0 16777217) (asked app purpose.List manifest_path)
+    ≡ true
+unfolding is_bound
+list_by_entries = refl
+
+not_by_bytes : is_bound (λ krate. []) (untold 0 0 0) (untold 1 16777217 0) (asked app purpose.List manifest_path)
+    ≡ false
+unfolding is_bound
+not_by_bytes = refl
+
 -- one failed call is no cause of two entries
-two_for_one : AreCaused (λ krate. []) (untold 0 0) (untold 1 0)
+two_for_one : AreCaused (λ krate. []) (untold 0 0 0) (untold 1 0 0)
     (asked app Manifest manifest_path ∷ asked util Manifest manifest_path ∷ []) → ⊥
 unfolding is_bound
 two_for_one caused = let few : RoseBy 2 0 1 = caused.few in omega (arith, few)

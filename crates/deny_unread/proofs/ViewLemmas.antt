@@ -10,12 +10,14 @@ use Rattle.std.proofs.lemmas.Bool.{false_from_ne_true}
 use Rattle.std.proofs.lemmas.List.Folds.{list_any-append}
 use Rattle.std.proofs.lemmas.List.Sorted.{list_any-IsPermutation}
 use Rattle.deny_lists.proofs.Members.{any_from, any_passes}
+use Rattle.deny_outside.specs.Children.{children}
 use Rattle.deny_outside.specs.Disk.{Files, bytes_at}
 use Rattle.deny_base.specs.declared.span.Kid.{Kid}
 use Rattle.deny_unread.proofs.UnreadEqual.{unread_cmp-exact, unread_cmp-total}
 use Rattle.deny_unread.specs.Unread.{asked, is_unread, unread_cmp}
 use Rattle.deny_unread.specs.View.{unless, view_by, view_of}
 use Rattle.deny_unread.specs.declared.purpose.Purpose.{Purpose}
+use Rattle.deny_unread.specs.declared.purpose.Purpose.TheVariants as purposes
 use Rattle.deny_unread.specs.declared.unread.Unread.{Unread}
 
 -- ---- the test is membership
@@ -140,3 +142,19 @@ pub text_read : (files : Files) (us : List Unread) (krate : Option Kid) (purpose
 unfolding view_of view_by
 text_read files us krate purpose path absent =
     ap (λ b. unless b (bytes_at files path)) (not_left_out us krate purpose path absent)
+
+-- ---- the lists of a view
+
+-- a folder has no list exactly where its entry stands
+pub list_unread : (files : Files) (us : List Unread) (krate : Option Kid) (path : List ℕ)
+    → Contains us (asked krate purposes.List path) → (view_of files us krate).list path ≡ None
+unfolding view_of view_by
+list_unread files us krate path there =
+    ap (λ b. unless b (children files path)) (is_left_out us krate purposes.List path there)
+
+pub list_read : (files : Files) (us : List Unread) (krate : Option Kid) (path : List ℕ)
+    → (Contains us (asked krate purposes.List path) → ⊥)
+    → (view_of files us krate).list path ≡ Some (children files path)
+unfolding view_of view_by
+list_read files us krate path absent =
+    ap (λ b. unless b (children files path)) (not_left_out us krate purposes.List path absent)

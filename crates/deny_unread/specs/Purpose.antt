@@ -1,8 +1,9 @@
--- What a file or a folder of a crate is read for: the order of these purposes, the call that reads for each, and the
--- size from which on nothing is read for it.
-use Rattle.std.specs.Prelude.{ℕ, ◌^◌, Option, None, Some}
+-- What a file or a folder of a crate is read for: the order of these purposes, the call that reads for each, the size
+-- from which on nothing is read for it, and the count that reading for it raises.
+use Rattle.std.specs.Prelude.{ℕ, ◌+◌, ◌^◌, Option, None, Some}
 use Rattle.std.specs.Ordering.{nat_cmp, on}
 use Rattle.std.specs.declared.cmp.Ordering.{Ordering}
+use Rattle.deny_outside.specs.Disk.{Disk}
 use Rattle.deny_outside.specs.declared.disk.Call.{Call}
 use Rattle.deny_outside.specs.declared.disk.Call.TheVariants as call
 use Rattle.deny_unread.specs.declared.purpose.Purpose.{Purpose}
@@ -27,10 +28,18 @@ call_for purpose.List = call.List
 call_for purpose.Header = call.Read
 call_for purpose.Sum = call.Read
 
--- how many bytes are too many; a header is a file's front, and no disk lists a folder yet
+-- how many bytes are too many, or how many entries of all folders of a package; a header is a file's front
 abbrev pub limit_for : Purpose → Option ℕ
 limit_for purpose.Manifest = Some (2 ^ 28)
 limit_for purpose.Script = Some (2 ^ 40)
-limit_for purpose.List = None
+limit_for purpose.List = Some (2 ^ 24 + 1)
 limit_for purpose.Header = None
 limit_for purpose.Sum = Some (2 ^ 40)
+
+-- how much a disk has given for it: entries of folders, or bytes of files
+abbrev pub spent_for : Purpose → Disk → ℕ
+spent_for purpose.Manifest disk = disk.given
+spent_for purpose.Script disk = disk.given
+spent_for purpose.List disk = disk.listed
+spent_for purpose.Header disk = disk.given
+spent_for purpose.Sum disk = disk.given

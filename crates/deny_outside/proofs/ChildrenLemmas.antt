@@ -1,0 +1,198 @@
+-- What listing a folder gives: entries behind its front, with names that ascend.
+use Rattle.std.proofs.Common.{◌≡◌, ℕ, ◌&&◌, Bool, true, false, List, [], ◌∷◌, ◌++◌, map, cond, drop, length, Option, None, Some, Result, Ok, Err, T, refl, sym, ap, ◌∙◌, subst, String}
+use Rattle.std.specs.Prelude.{IfOk, IsTrue, MatchOption, option_map, option_copied, nat_eq, unwrap_or}
+use Rattle.std.specs.Borrow.{Bor}
+use Rattle.std.specs.BTreeMap.{BTreeMap, IsOrdered}
+use Rattle.std.specs.Cmp.{tied_itself, nat_cmp_total}
+use Rattle.std.specs.Cmp.Lexicographic.{nat_list_cmp_total, slice_cmp}
+use Rattle.std.specs.FinMap as finite
+use Rattle.std.specs.FinMap.Entries.{below_all, is_sorted}
+use Rattle.std.specs.List.{AllByRecursion, cons_option, filter_map, starts_with}
+use Rattle.std.specs.List.Sorted.{IsStrictlySortedBy}
+use Rattle.std.specs.Option.{option_and_then}
+use Rattle.std.specs.Ordering.{is_lt, nat_cmp, ordering_then}
+use Rattle.std.specs.Str.Pattern.{FindsTextPrefix, StripsPrefix}
+use Rattle.std.specs.String.{string_cmp}
+use Rattle.std.specs.declared.cmp.Ordering.{Ordering}
+use Rattle.std.specs.declared.cmp.Ordering.TheVariants.{Less, Equal, Greater}
+use Rattle.std.proofs.lemmas.Bool.Decides.{Decides-eqb}
+use Rattle.std.proofs.lemmas.List.Elements.{All-from_recursion, All-nil}
+use Rattle.std.proofs.lemmas.Option.{none-some}
+use Rattle.std.proofs.lemmas.Slice.Eq.{starts_is}
+use Rattle.std.proofs.lemmas.Str.Pattern.{starts_text}
+use Rattle.deny_lists.proofs.TextMapLemmas.{texts_tie}
+use Rattle.deny_lists.specs.TextMap.{map_of, with_bytes}
+use Rattle.deny_lists.specs.declared.memory.NoMemory.{NoMemory}
+use Rattle.deny_outside.specs.Children.{AreListed, children, entry_behind, front_of, if_child_name, is_child_name, text_behind}
+use Rattle.deny_outside.specs.Disk.{Files, is_folder}
+use Rattle.deny_outside.specs.declared.disk.Entry.{Entry}
+use Rattle.deny_outside.specs.declared.disk.Place.{Place}
+
+-- ---- what stands behind a front
+
+pub behind_is : (result : Option (Bor (List ℕ))) (front path : List ℕ)
+    → MatchOption result (FindsTextPrefix front path None) (λ x. StripsPrefix (FindsTextPrefix front) path x.now)
+    → option_copied result ≡ text_behind front path
+unfolding text_behind
+behind_is None front path lacks = rw (sym (starts_text false front path lacks)) refl
+behind_is (Some x) front path strips =
+    let begins : starts_with (λ a b. nat_eq a b) path front ≡ true = (starts_is Decides-eqb path front _ refl).1
+    (drop strips.0 path) strips.1.1 in
+    rw begins (ap (λ t. Some t) (strips.2 ∙ ap (λ n. drop n path) strips.1.0))
+
+-- an entry tells of what stands behind the front
+record IsBehind (front : List ℕ) (at : List ℕ × Place) (entry : Entry) : Type 0 where
+  named : is_child_name entry.name ≡ true
+  path : at.0 ≡ front ++ entry.name
+
+behind_named : (front : List ℕ) (at : List ℕ × Place) (name : List ℕ) (entry : Entry) → at.0 ≡ front ++ name
+    → option_map (λ n. record { name = n; folder = is_folder (Some at.1) }) (if_child_name name) ≡ Some entry
+    → IsBehind front at entry
+behind_named front at name entry begins = elim (is_child_name name)
+    as (λ b. is_child_name name ≡ b
+    → option_map (λ n. record { name = n; folder = is_folder (Some at.1) }) (cond b (Some name) None) ≡ Some entry
+    → IsBehind front at entry) [
+      | true ↦ λ good is.
+          let same : record { name = name; folder = is_folder (Some at.1) } ≡ entry =
+          ap (λ o. unwrap_or o entry) is in
+          record {
+            named = subst (λ (e : Entry). is_child_name e.name ≡ true) same good;
+            path = begins ∙ ap (λ (e : Entry). front ++ e.name) same;
+          }
+      | false ↦ λ _ is. absurd (none-some entry is)
+    ] refl
+
+behind_of : (front : List ℕ) (at : List ℕ × Place) (entry : Entry) → entry_behind front at ≡ Some entry
+    → IsBehind front at entry
+unfolding text_behind
+behind_of front at entry = elim (starts_with nat_eq at.0 front)
+    as (λ b. starts_with nat_eq at.0 front ≡ b
+    → option_map (λ n. record { name = n; folder = is_folder (Some at.1) })
+    (option_and_then if_child_name (cond b (Some (drop (length front) at.0)) None)) ≡ Some entry
+    → IsBehind front at entry) [
+      | true ↦ λ begins is. behind_named front at (drop (length front) at.0) entry
+          ((starts_is Decides-eqb at.0 front _ refl).0 begins) is
+      | false ↦ λ _ is. absurd (none-some entry is)
+    ] refl
+
+-- ---- names ascend as their paths do
+
+less : (o : Ordering) → T (is_lt o) → o ≡ Less
+less Less p = refl
+less Equal p = absurd p
+less Greater p = absurd p
+
+first : (a b : Bool) → T (a && b) → T a
+first true b p = tt
+first false b p = p
+
+second : (a b : Bool) → T (a && b) → T b
+second true b p = p
+second false b p = absurd p
+
+both : (a b : Bool) → T a → T b → T (a && b)
+both true b p q = q
+both false b p q = p
+
+same_front : (front a b : List ℕ) → slice_cmp nat_cmp (front ++ a) (front ++ b) ≡ slice_cmp nat_cmp a b
+same_front [] a b = refl
+same_front (x ∷ xs) a b =
+    ap (λ o. ordering_then o (slice_cmp nat_cmp (xs ++ a) (xs ++ b))) (tied_itself nat_cmp_total x)
+    ∙ same_front xs a b
+
+names_good : (front : List ℕ) (es : List (List ℕ × Place))
+    → AllByRecursion (λ entry. IsTrue (is_child_name entry.name)) (filter_map (entry_behind front) es)
+names_good front [] = tt
+names_good front (e ∷ es) =
+    let others = filter_map (entry_behind front) es in
+    elim (entry_behind front e)
+    as (λ o. entry_behind front e ≡ o
+    → AllByRecursion (λ entry. IsTrue (is_child_name entry.name)) (cons_option o others)) [
+      | None ↦ λ _. names_good front es
+      | Some entry ↦ λ is. ((behind_of front e entry is).named, names_good front es)
+    ] refl
+
+names_above : (front : List ℕ) (at : List ℕ × Place) (first_entry : Entry) (es : List (List ℕ × Place))
+    → at.0 ≡ front ++ first_entry.name → T (below_all (slice_cmp nat_cmp) at.0 es)
+    → AllByRecursion (λ name. slice_cmp nat_cmp first_entry.name name ≡ Less)
+    (map (λ entry. entry.name) (filter_map (entry_behind front) es))
+names_above front at first_entry [] here below = tt
+names_above front at first_entry (e ∷ es) here below =
+    let others = filter_map (entry_behind front) es in
+    let further = names_above front at first_entry es here (second _ _ below) in
+    elim (entry_behind front e)
+    as (λ o. entry_behind front e ≡ o
+    → AllByRecursion (λ name. slice_cmp nat_cmp first_entry.name name ≡ Less)
+    (map (λ entry. entry.name) (cons_option o others))) [
+      | None ↦ λ _. further
+      | Some entry ↦ λ is. (
+        sym (same_front front first_entry.name entry.name)
+            ∙ (λ i. slice_cmp nat_cmp (sym here i) (sym ((behind_of front e entry is).path) i))
+            ∙ less _ (first _ _ below),
+        further,
+      )
+    ] refl
+
+names_ascend : (front : List ℕ) (es : List (List ℕ × Place)) → T (is_sorted (slice_cmp nat_cmp) es)
+    → IsStrictlySortedBy (slice_cmp nat_cmp) (map (λ entry. entry.name) (filter_map (entry_behind front) es))
+unfolding IsStrictlySortedBy
+names_ascend front [] sorted = tt
+names_ascend front (e ∷ es) sorted =
+    let others = filter_map (entry_behind front) es in
+    let further = names_ascend front es (second _ _ sorted) in
+    elim (entry_behind front e)
+    as (λ o. entry_behind front e ≡ o
+    → IsStrictlySortedBy (slice_cmp nat_cmp) (map (λ entry. entry.name) (cons_option o others))) [
+      | None ↦ λ _. further
+      | Some entry ↦ λ is.
+          (names_above front e entry es ((behind_of front e entry is).path) (first _ _ sorted), further)
+    ] refl
+
+-- what a folder holds has names that children can have, ascending
+pub children_listed : (files : Files) (dir : List ℕ) → AreListed (children files dir)
+unfolding children IsStrictlySortedBy
+children_listed files dir = elim (is_folder (finite.get files dir))
+    as (λ b. AreListed (cond b (filter_map (entry_behind (front_of dir)) (finite.entries files)) [])) [
+      | true ↦ record {
+        names = All-from_recursion _ _ (names_good (front_of dir) (finite.entries files));
+        ascending = names_ascend (front_of dir) (finite.entries files) (finite.entries_sorted files);
+      }
+      | false ↦ record { names = All-nil _; ascending = tt }
+    ]
+
+-- ---- a map that is walked
+
+below_bytes : {V A : Type 0} (key : List ℕ) (es : List (String A × V))
+    → AllByRecursion (λ k. slice_cmp nat_cmp key k.bytes.items ≡ Less) (map (λ e. e.0) es)
+    → T (below_all (slice_cmp nat_cmp) key (map with_bytes es))
+below_bytes key [] below = tt
+below_bytes key (e ∷ es) below =
+    both _ _ (subst (λ o. T (is_lt o)) (sym below.0) tt) (below_bytes key es below.1)
+
+sorted_bytes : {V A : Type 0} (es : List (String A × V)) → IsStrictlySortedBy string_cmp (map (λ e. e.0) es)
+    → T (is_sorted (slice_cmp nat_cmp) (map with_bytes es))
+unfolding IsStrictlySortedBy
+sorted_bytes [] sorted = tt
+sorted_bytes (e ∷ es) sorted =
+    both _ _ (below_bytes e.0.bytes.items es sorted.0) (sorted_bytes es sorted.1)
+
+entries_of : {V : Type 0} (es : List (List ℕ × V)) → T (is_sorted (slice_cmp nat_cmp) es)
+    → finite.entries (finite.from_entries {R = slice_cmp nat_cmp} es) ≡ es
+entries_of es sorted =
+    ap finite.entries (finite.same_map nat_list_cmp_total texts_tie (finite.from_entries es) (finite.from_sorted es)
+    (λ q. finite.get-from_entries nat_list_cmp_total es q ∙ sym (finite.get-from_sorted (slice_cmp nat_cmp) es q sorted)))
+    ∙ finite.entries-from_sorted (slice_cmp nat_cmp) es sorted
+
+-- walking the tree of a map gives what its folder holds
+pub children_are : {A : Type 0} (result : Result (List Entry) NoMemory) (tree : BTreeMap (String A) Place)
+    (files : Files) (dir front : List ℕ) → map_of tree.entries ≡ files → IsOrdered string_cmp tree
+    → is_folder (finite.get files dir) ≡ true → front ≡ front_of dir
+    → IfOk result (λ entries. entries ≡ filter_map (entry_behind front) (map with_bytes tree.entries))
+    → IfOk result (λ entries. entries ≡ children files dir)
+unfolding children
+children_are (Err e) tree files dir front view sorted folder at is = tt
+children_are (Ok entries) tree files dir front view sorted folder at is =
+    let walked : map with_bytes tree.entries ≡ finite.entries files =
+    sym (entries_of (map with_bytes tree.entries) (sorted_bytes tree.entries sorted)) ∙ ap finite.entries view in
+    is ∙ (λ i. filter_map (entry_behind (at i)) (walked i))
+    ∙ ap (λ b. cond b (filter_map (entry_behind (front_of dir)) (finite.entries files)) []) (sym folder)

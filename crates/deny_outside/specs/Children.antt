@@ -1,0 +1,50 @@
+-- What a folder holds, and the paths of its children.
+use Rattle.std.specs.Prelude.{ℕ, ◌&&◌, ◌++◌, not, nat_eq, if◌then◌else◌, Bool, IsTrue, All, List, [], codes, drop, length, map, Option, Some, None, option_map}
+use Rattle.std.specs.Option.{option_and_then}
+use Rattle.std.specs.List.{ends_with, filter_map, list_any, starts_with}
+use Rattle.std.specs.List.Sorted.{IsStrictlySortedBy}
+use Rattle.std.specs.Ordering.{nat_cmp}
+use Rattle.std.specs.Cmp.Lexicographic.{slice_cmp}
+use Rattle.std.specs.FinMap as finite
+use Rattle.deny_outside.specs.Disk.{Files, is_folder}
+use Rattle.deny_outside.specs.Paths.{is_name, is_slash}
+use Rattle.deny_outside.specs.declared.disk.Entry.{Entry}
+use Rattle.deny_outside.specs.declared.disk.Place.{Place}
+
+-- what a child can be called
+abbrev pub is_child_name : List ℕ → Bool
+is_child_name name = is_name name && not (list_any is_slash name)
+
+-- what stands before the names of a folder's children: its path, and a slash where that ends with none
+unfoldable pub front_of : List ℕ → List ℕ
+front_of dir = if ends_with nat_eq dir (codes "/") then dir else dir ++ codes "/"
+
+-- the path of a folder's child
+abbrev pub child : List ℕ → List ℕ → List ℕ
+child dir name = front_of dir ++ name
+
+abbrev pub if_child_name : List ℕ → Option (List ℕ)
+if_child_name name = if is_child_name name then Some name else None
+
+-- what stands behind the front, at a path that begins with it
+unfoldable pub text_behind : List ℕ → List ℕ → Option (List ℕ)
+text_behind front path = if starts_with nat_eq path front then Some (drop (length front) path) else None
+
+-- the name behind this front, at the path of a child
+abbrev pub name_behind : List ℕ → List ℕ → Option (List ℕ)
+name_behind front path = option_and_then if_child_name (text_behind front path)
+
+-- what stands there as a child of the folder with this front, if it is one
+abbrev pub entry_behind : List ℕ → List ℕ × Place → Option Entry
+entry_behind front at =
+    option_map (λ name. record { name = name; folder = is_folder (Some at.1) }) (name_behind front at.0)
+
+-- the children of a folder; there are none where no folder stands
+unfoldable pub children : Files → List ℕ → List Entry
+children files dir =
+    if is_folder (finite.get files dir) then filter_map (entry_behind (front_of dir)) (finite.entries files) else []
+
+-- what listing gives on any disk: names that children can have, ascending, each once
+pub record AreListed (entries : List Entry) : Type 0 where
+  pub names : All (λ entry. IsTrue (is_child_name entry.name)) entries
+  pub ascending : IsStrictlySortedBy (slice_cmp nat_cmp) (map (λ entry. entry.name) entries)

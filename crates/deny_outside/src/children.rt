@@ -1,0 +1,113 @@
+ghost use Rattle.std.specs.Prelude.{◌≡◌, IfOk, IsTrue, map};
+ghost use Rattle.std.specs.BTreeMap.{IsOrdered};
+ghost use Rattle.std.specs.FinMap as finite;
+ghost use Rattle.std.specs.List.{filter_map, list_any};
+ghost use Rattle.std.specs.Option.{option_copied};
+ghost use Rattle.std.specs.String.{string_cmp};
+ghost use Rattle.deny_lists.specs.TextMap.{with_bytes};
+ghost use Rattle.deny_outside.specs.Children.{child, children, entry_behind, front_of, is_child_name, name_behind, text_behind};
+ghost use Rattle.deny_outside.specs.Disk.{is_folder};
+ghost use Rattle.deny_outside.specs.Paths.{is_slash};
+
+use crate::disk::{Entry, Place};
+use crate::path::is_name;
+use deny_lists::{List, NoMemory, Text, TextMap};
+use std::alloc::Global;
+use std::collections::BTreeMap;
+
+/// The path of a folder's child: a slash stands before the name, and only one where the path of
+/// the folder ends with one.
+pub fn child_path(alloc: Global, dir: &str, name: &str) -> Result<Text, NoMemory>
+    ensures { IfOk result (λ path. path ≡ child dir.now name.now) }
+{
+    let mut path = front_of(alloc, dir)?;
+    path.push_str(name)?;
+    Ok(path)
+}
+
+#[tactic(auto, unfolding(crate::specs::Children::front_of))]
+fn front_of(alloc: Global, dir: &str) -> Result<Text, NoMemory>
+    ensures { IfOk result (λ front. front ≡ front_of dir.now) }
+{
+    let mut front = Text::from_str(alloc, dir)?;
+    if !dir.as_bytes().ends_with(b"/") {
+        front.push_str("/")?;
+    }
+    Ok(front)
+}
+
+/// Whether a child can have this name: it is a name, and has no slash.
+pub(crate) fn is_child_name(name: &[u8]) -> bool
+    ensures { result ≡ is_child_name name.now }
+{
+    is_name(name) && !has_slash(name)
+}
+
+fn has_slash(name: &[u8]) -> bool
+    ensures { result ≡ list_any is_slash name.now }
+{
+    name.iter().any(|byte| *byte == b'/')
+}
+
+/// What stands behind the prefix, in a path that begins with it.
+fn path_behind<'p>(front: &str, path: &'p str) -> Option<&'p str>
+    ensures { option_copied result ≡ text_behind front.now path.now }
+{
+    path.strip_prefix(front)
+}
+
+/// The name behind the front of a folder, at the path of one of its children.
+fn name_behind<'p>(front: &str, path: &'p str) -> Option<&'p str>
+    ensures { option_copied result ≡ name_behind front.now path.now }
+{
+    let name = path_behind(front, path)?;
+    if is_child_name(name.as_bytes()) {
+        Some(name)
+    } else {
+        None
+    }
+}
+
+/// The entries of what stands behind a front, in the order of the map.
+fn entries_behind(
+    alloc: Global,
+    tree: &BTreeMap<String, Place>,
+    front: &str,
+) -> Result<List<Entry>, NoMemory>
+    ensures entries { IfOk result (λ entries. entries ≡
+        filter_map (entry_behind front.now) (map with_bytes tree.now.entries)) }
+    ensures ordered { IsOrdered string_cmp tree.now }
+{
+    let mut entries = List::new(alloc);
+    for (path, place) in tree.iter() {
+        if let Some(name) = name_behind(front, path.as_str()) {
+            entries.push(Entry {
+                name: Text::from_str(alloc, name)?,
+                folder: matches!(place, Place::Folder),
+            })?;
+        }
+    }
+    Ok(entries)
+}
+
+fn is_folder_at(files: &TextMap<Place>, path: &str) -> bool
+    ensures { result ≡ is_folder (finite.get files.now path.now) }
+{
+    matches!(files.get(path), Some(Place::Folder))
+}
+
+/// What a folder holds. There is nothing where no folder stands.
+#[tactic(auto, unfolding(crate::specs::Children::children))]
+pub(crate) fn children_of(
+    alloc: Global,
+    files: &TextMap<Place>,
+    dir: &str,
+) -> Result<List<Entry>, NoMemory>
+    ensures { IfOk result (λ entries. entries ≡ children files.now dir.now) }
+{
+    if !is_folder_at(files, dir) {
+        return Ok(List::new(alloc));
+    }
+    let front = front_of(alloc, dir)?;
+    entries_behind(alloc, &files.tree, front.as_str())
+}
