@@ -17,4 +17,5 @@ pub mod TargetEdge
 pub mod Text
 pub mod Told
 pub mod VersionOrder
+pub mod View
 pub mod Wrappers

@@ -1,6 +1,7 @@
 -- A policy: what it denies, allows and passes over, at which level it minds crates that stand in several
--- versions, and how it minds features and crates that the standard library replaces. Each entry's range is the
--- range of its name in the policy's text, and tells it from the others.
+-- versions, and how it minds features, requirements that any version meets, dependencies that a workspace shares, and
+-- crates that the standard library replaces. Each entry's range is the range of its name in the policy's text, and
+-- tells it from the others.
 use Rattle.std.specs.Prelude.{ℕ, Bool, List, Option}
 use Rattle.semver.specs.Parse.{Held, Parts}
 use Rattle.deny_base.specs.declared.level.LintLevel.{LintLevel}
@@ -67,6 +68,15 @@ pub record Replacing : Type 0 where
   -- whose version of Rust does not count
   pub ignore_rust_version : Scope
 
+-- how the dependencies are minded that a workspace shares
+pub record Sharing : Type 0 where
+  -- the level of a crate that members declare several times, and not always by the entry that they share
+  pub duplicates : LintLevel
+  -- whether declarations by a path count
+  pub with_paths : Bool
+  -- the level of an entry that no crate comes from
+  pub unused : LintLevel
+
 pub record Policy : Type 0 where
   pub multiple_versions : LintLevel
   -- whether crates count that only dev edges lead to
@@ -85,5 +95,11 @@ pub record Policy : Type 0 where
   -- how the feature `default` of a member of the workspace is minded, and that of another crate
   pub workspace_default : Option (Spanned LintLevel)
   pub external_default : Option (Spanned LintLevel)
+  -- the level of a dependency whose requirement any version meets
+  pub wildcards : LintLevel
+  -- whether it may stand where it comes from no registry, in a private crate or as a dev dependency
+  pub allow_wildcard_paths : Bool
+  -- none where the policy does not mind what a workspace shares
+  pub sharing : Option Sharing
   -- none where the policy does not mind what the standard library replaces
   pub replacing : Option Replacing
