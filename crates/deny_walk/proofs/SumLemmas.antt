@@ -1,0 +1,115 @@
+-- The folders of a package, each once, list no more entries together than the package holds.
+use Rattle.std.proofs.Common.{◌≡◌, ◌∙◌, ◌+◌, ◌≤◌, ℕ, true, false, cond, is_some, List, [], ◌∷◌, ◌++◌, length, Option}
+use Rattle.std.proofs.Common.{None, Some, refl, sym, ap, subst, arith, inl, inr}
+use Rattle.std.specs.Prelude.{◌⊎◌, Contains, filter, sum_by}
+use Rattle.std.specs.Cmp.{Equal-is}
+use Rattle.std.specs.Cmp.Lexicographic.{slice_cmp}
+use Rattle.std.specs.FinMap as finite
+use Rattle.std.specs.List.{filter_map}
+use Rattle.std.specs.Ordering.{eq_by_cmp, nat_cmp}
+use Rattle.std.proofs.lemmas.List.Elements.{Contains-append_cases, Contains-append_left, Contains-append_right}
+use Rattle.std.proofs.lemmas.List.Sums.{sum_by-append}
+use Rattle.deny_lists.proofs.Members.{Contains-by_cases, Contains-filter, Contains-first, Contains-rest, any_passes}
+use Rattle.deny_lists.proofs.Members.{no_member}
+use Rattle.deny_lists.proofs.Orders.{text_cmp-exact}
+use Rattle.deny_outside.specs.Children.{children, entry_behind, front_of}
+use Rattle.deny_outside.specs.Disk.{Files, is_folder}
+use Rattle.deny_outside.specs.declared.disk.Place.{Place}
+use Rattle.deny_unread.specs.Bound.{entries_in, is_in}
+use Rattle.deny_walk.specs.private.Walking.{AreApart}
+
+-- ---- a sum over a part
+
+pub sum_first : (weight : List ℕ → ℕ) (x : List ℕ) (xs : List (List ℕ))
+    → sum_by weight (x ∷ xs) ≡ weight x + sum_by weight xs
+sum_first weight x xs =
+    let both : sum_by weight (x ∷ xs) ≡ (0 + weight x) + sum_by weight xs = sum_by-append weight (x ∷ []) xs in
+    omega (arith, both)
+
+record IsSplit (xs : List (List ℕ)) (x : List ℕ) : Type 0 where
+  front : List (List ℕ)
+  rest : List (List ℕ)
+  is : xs ≡ front ++ x ∷ rest
+
+split_at : (xs : List (List ℕ)) (x : List ℕ) → Contains xs x → IsSplit xs x
+split_at [] x is = absurd (no_member x is)
+split_at (y ∷ ys) x is = Contains-by_cases y ys x is
+    (λ here. record { front = []; rest = ys; is = ap (λ (z : List ℕ). z ∷ ys) here })
+    (λ later. let at = split_at ys x later in
+    record { front = y ∷ at.front; rest = at.rest; is = ap (λ zs. y ∷ zs) at.is })
+
+-- another member stands before or behind it
+beside : (front rest : List (List ℕ)) (x z : List ℕ) → (x ≡ z → ⊥) → Contains (front ++ x ∷ rest) z
+    → Contains (front ++ rest) z
+beside front rest x z other is = elim (Contains-append_cases front (x ∷ rest) z is) [
+  | inl before ↦ Contains-append_left front rest z before
+  | inr from ↦ Contains-by_cases x rest z from (λ same. absurd (other same))
+      (λ behind. Contains-append_right front rest z behind)
+]
+
+-- members of both, or that count nothing
+abbrev IsPart : (List ℕ → ℕ) → List (List ℕ) → List (List ℕ) → Type 0
+IsPart weight xs ys = (x : List ℕ) → Contains xs x → (weight x ≡ 0) ⊎ Contains ys x
+
+sum_of_part : (weight : List ℕ → ℕ) (xs ys : List (List ℕ)) → AreApart xs → IsPart weight xs ys
+    → sum_by weight xs ≤ sum_by weight ys
+sum_of_part weight [] ys apart part = omega arith
+sum_of_part weight (x ∷ xs) ys apart part = elim (part x (Contains-first x xs))
+    as (λ _. sum_by weight (x ∷ xs) ≤ sum_by weight ys) [
+      | inl nothing ↦
+          let others : sum_by weight xs ≤ sum_by weight ys =
+          sum_of_part weight xs ys apart.1 (λ z there. part z (Contains-rest x xs z there)) in
+          omega (arith, nothing, others, sum_first weight x xs)
+      | inr there ↦
+          let at = split_at ys x there in
+          let left : IsPart weight xs (at.front ++ at.rest) =
+          λ z within. elim (part z (Contains-rest x xs z within))
+          as (λ _. (weight z ≡ 0) ⊎ Contains (at.front ++ at.rest) z) [
+            | inl nothing ↦ inl nothing
+            | inr member ↦ inr (beside at.front at.rest x z
+                (λ same. apart.0 (subst (λ (y : List ℕ). Contains xs y) (sym same) within))
+                (subst (λ (zs : List (List ℕ)). Contains zs z) at.is member))
+          ] in
+          let others : sum_by weight xs ≤ sum_by weight (at.front ++ at.rest) =
+          sum_of_part weight xs (at.front ++ at.rest) apart.1 left in
+          let split : sum_by weight (at.front ++ at.rest) ≡ sum_by weight at.front + sum_by weight at.rest =
+          sum_by-append weight at.front at.rest in
+          let whole : sum_by weight ys ≡ sum_by weight at.front + (weight x + sum_by weight at.rest) =
+          ap (sum_by weight) at.is ∙ (sum_by-append weight at.front (x ∷ at.rest)
+          ∙ ap (λ (n : ℕ). sum_by weight at.front + n) (sum_first weight x at.rest)) in
+          omega (arith, others, split, whole, sum_first weight x xs)
+    ]
+
+-- ---- the folders of a package
+
+some_there : (place : Option Place) → is_folder place ≡ true → is_some place ≡ true
+some_there None is = cc is
+some_there (Some place) is = refl
+
+key_there : (files : Files) (path : List ℕ) → is_folder (finite.get files path) ≡ true
+    → Contains (finite.keys files) path
+key_there files path is =
+    let found = any_passes (eq_by_cmp (slice_cmp nat_cmp) path) (finite.keys files)
+    (sym (finite.contains_key-keys files path) ∙ some_there (finite.get files path) is) in
+    subst (λ (key : List ℕ). Contains (finite.keys files) key)
+    (sym (text_cmp-exact path found.one ((Equal-is (slice_cmp nat_cmp path found.one)).0 found.passes))) found.member
+
+-- a folder that lists something is one of the files
+lists_or_none : (files : Files) (root path : List ℕ) → is_in root path ≡ true
+    → (length (children files path) ≡ 0) ⊎ Contains (filter (is_in root) (finite.keys files)) path
+unfolding children
+lists_or_none files root path within = elim (is_folder (finite.get files path))
+    as (λ b. is_folder (finite.get files path) ≡ b
+    → (length (cond b (filter_map (entry_behind (front_of path)) (finite.entries files)) []) ≡ 0)
+    ⊎ Contains (filter (is_in root) (finite.keys files)) path) [
+      | true ↦ λ is. inr (Contains-filter (is_in root) (finite.keys files) path (key_there files path is) within)
+      | false ↦ λ is. inl refl
+    ] refl
+
+pub counted_within : (files : Files) (root : List ℕ) (paths : List (List ℕ)) → AreApart paths
+    → ((path : List ℕ) → Contains paths path → is_in root path ≡ true)
+    → sum_by (λ path. length (children files path)) paths ≤ entries_in files root
+unfolding entries_in
+counted_within files root paths apart within =
+    sum_of_part (λ path. length (children files path)) paths (filter (is_in root) (finite.keys files)) apart
+    (λ path there. lists_or_none files root path (within path there))

@@ -1,0 +1,4 @@
+pub mod Cause
+pub mod Folder
+pub mod Walk
+pub mod private
