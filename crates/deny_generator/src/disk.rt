@@ -12,6 +12,7 @@ pub fn disk_of(alloc: Global) -> Result<SureDisk, NoMemory>
     ensures { IfOk result (λ disk. disk ≡ record {
       files = with_file finite.empty (codes "/w/Cargo.toml") (codes "[package]\nname = \"app\"\n");
       given = 0;
+      listed = 0;
     }) }
 {
     let mut disk = SureDisk::new(alloc);

@@ -1,5 +1,5 @@
 -- What is read twice from one value says the same: entries, and the table `bans`.
-use Rattle.std.proofs.Common.{◌≡◌, ℕ, false, List, [], Option, None, Some, refl, sym, ap, ◌∙◌}
+use Rattle.std.proofs.Common.{◌≡◌, ℕ, false, true, List, [], Option, None, Some, refl, sym, ap, ◌∙◌}
 use Rattle.std.specs.Prelude.{⊤}
 use Rattle.std.specs.List.{AllZip}
 use Rattle.semver.specs.Identifiers.{parts_of}
@@ -19,10 +19,12 @@ use Rattle.deny_entries.specs.Table.{Entries, Field, ReadsIfThere, ReadsTable, a
 use Rattle.deny_entries.specs.Words.{ReadsAs, ReadsBool, ReadsCount, ReadsSpanned, ReadsText, ReadsTexts, level_of, scope_of}
 use Rattle.deny_tables.specs.Highlight.{highlight_of}
 use Rattle.deny_tables.specs.StdReplacements.{ReadsRustVersion, ReadsStd}
+use Rattle.deny_tables.specs.Workspace.{ReadsWorkspace}
 use Rattle.deny_tables.specs.declared.bans.cfg.config.Config.{Config}
 use Rattle.deny_tables.specs.declared.bans.cfg.features.CrateFeatures.{CrateFeatures}
 use Rattle.deny_tables.specs.declared.bans.cfg.highlight.GraphHighlight.TheVariants as highlight
 use Rattle.deny_tables.specs.declared.bans.cfg.std_replacements.StdReplacementConfig.{StdReplacementConfig}
+use Rattle.deny_tables.specs.declared.bans.cfg.workspace.WorkspaceDepsConfig.{WorkspaceDepsConfig}
 use Rattle.deny_entries.specs.declared.package_spec.PackageSpec.{PackageSpec}
 use Rattle.deny_entries.specs.declared.policy_key.PolicyKey.TheVariants as key
 use Rattle.deny_entries.specs.declared.scope.Scope.TheVariants as scope
@@ -199,6 +201,23 @@ std_keys_alike entries a b one two = record {
 std_alike : ReadsAlike (ReadsTable ReadsStd) StdAlike
 std_alike v a b one two = alike_table ReadsStd StdAlike std_keys_alike v a b one two
 
+one_workspace : ReadsOne ReadsWorkspace
+unfolding name_of
+one_workspace entries x y one two =
+    let duplicates =
+    one_or level.Deny (ReadsAs level_of) (one_as level_of) (at_key key.Duplicates entries) x.duplicates y.duplicates
+    (says_of key.Duplicates one) (says_of key.Duplicates two) in
+    let with_paths =
+    one_or true ReadsBool one_bool (at_key key.IncludePathDependencies entries) x.include_path_dependencies
+    y.include_path_dependencies (says_of key.IncludePathDependencies one) (says_of key.IncludePathDependencies two) in
+    let unused =
+    one_or level.Deny (ReadsAs level_of) (one_as level_of) (at_key key.Unused entries) x.unused y.unused
+    (says_of key.Unused one) (says_of key.Unused two) in
+    λ i. record { duplicates = duplicates i; include_path_dependencies = with_paths i; unused = unused i }
+
+one_workspace_table : ReadsOne (ReadsTable ReadsWorkspace)
+one_workspace_table = alike_table ReadsWorkspace (λ x y. x ≡ y) one_workspace
+
 one_placed_level : ReadsOne (ReadsIfThere (ReadsSpanned (ReadsAs level_of)))
 one_placed_level v x y one two =
     one_optional (ReadsSpanned (ReadsAs level_of)) (one_spanned (ReadsAs level_of) (one_as level_of)) v x y one two
@@ -216,6 +235,9 @@ pub record ConfigsAlike (a b : Config) : Type 0 where
   pub features : AllZip FeaturesAlike a.features b.features
   pub skip : AllZip EntriesAlike a.skip b.skip
   pub skip_tree : AllZip EntriesAlike a.skip_tree b.skip_tree
+  pub wildcards : a.wildcards ≡ b.wildcards
+  pub allow_wildcard_paths : a.allow_wildcard_paths ≡ b.allow_wildcard_paths
+  pub workspace_dependencies : a.workspace_dependencies ≡ b.workspace_dependencies
   pub std_replacements : BothAlike StdAlike a.std_replacements b.std_replacements
 
 pub configs_alike : ReadsAlike ReadsConfig ConfigsAlike
@@ -256,6 +278,16 @@ configs_alike entries a b one two = record {
   skip_tree =
       alike_list_or ReadsTreeSkipEntry EntriesAlike tree_skip_alike (at_key key.SkipTree entries) a.skip_tree
       b.skip_tree (says_of key.SkipTree one) (says_of key.SkipTree two);
+  wildcards =
+      one_or level.Allow (ReadsAs level_of) (one_as level_of) (at_key key.Wildcards entries) a.wildcards b.wildcards
+      (says_of key.Wildcards one) (says_of key.Wildcards two);
+  allow_wildcard_paths =
+      one_or false ReadsBool one_bool (at_key key.AllowWildcardPaths entries) a.allow_wildcard_paths
+      b.allow_wildcard_paths (says_of key.AllowWildcardPaths one) (says_of key.AllowWildcardPaths two);
+  workspace_dependencies =
+      one_optional (ReadsTable ReadsWorkspace) one_workspace_table (at_key key.WorkspaceDependencies entries)
+      a.workspace_dependencies b.workspace_dependencies (says_of key.WorkspaceDependencies one)
+      (says_of key.WorkspaceDependencies two);
   std_replacements =
       alike_optional (ReadsTable ReadsStd) StdAlike std_alike (at_key key.StdReplacements entries) a.std_replacements
       b.std_replacements (says_of key.StdReplacements one) (says_of key.StdReplacements two);
