@@ -13,6 +13,7 @@ use Rattle.deny_model.specs.Skips.{skipped_by_root_keys_of, skipped_keys_of}
 use Rattle.deny_codes.specs.Circumstances.{Circumstances}
 use Rattle.deny_codes.specs.Facts.{Facts, AreFacts}
 use Rattle.deny_codes.specs.Standing.{Stands, StandsAs, StandsBy}
+use Rattle.deny_codes.proofs.WildcardLemmas.{unresolved_keys_alike, wildcard_keys_alike}
 
 key_alike : (xs ys : List Key) (key : Key) → xs ≡ ys → Contains xs key → Contains ys key
 key_alike xs ys key same is = subst (λ (keys : List Key). Contains keys key) same is
@@ -35,6 +36,10 @@ module _ (c : Circumstances) (these those : Facts) where
       (unmatched_alike c.policy c.graph these.chains those.chains both) is
   as_alike code.UnnecessarySkip key both is = key_alike _ _ key
       (unnecessary_alike c.policy c.graph these.chains those.chains both) is
+  as_alike code.Wildcard key both is = key_alike _ _ key
+      (wildcard_keys_alike c.policy c.graph these.chains those.chains c.view both) is
+  as_alike code.UnresolvedWorkspaceDependency key both is = key_alike _ _ key
+      (unresolved_keys_alike c.policy c.graph these.chains those.chains c.view both) is
   as_alike _ key both is = is
 
   by_alike : (d : DiagnosticCode) (key : Key) → Both → StandsBy d c these key → StandsBy d c those key

@@ -7,7 +7,7 @@ use Rattle.semver.specs.declared.Op.TheVariants.{Exact}
 use Rattle.deny_base.specs.declared.edge.DepKind.TheVariants.{Normal, Dev}
 use Rattle.deny_base.specs.declared.edge.Edge.{Edge}
 use Rattle.deny_base.specs.declared.key.Key.{Key}
-use Rattle.deny_base.specs.declared.level.LintLevel.TheVariants.{Deny}
+use Rattle.deny_base.specs.declared.level.LintLevel.TheVariants.{Allow, Deny}
 use Rattle.deny_base.specs.declared.span.Span.{Span}
 use Rattle.deny_model.specs.Facts as chains
 use Rattle.deny_model.specs.Graph.{Crate, Graph, dependents, leads}
@@ -101,6 +101,9 @@ plain = record {
   features = [];
   workspace_default = None;
   external_default = None;
+  wildcards = Allow;
+  allow_wildcard_paths = false;
+  sharing = None;
   replacing = None;
 }
 

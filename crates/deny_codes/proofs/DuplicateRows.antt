@@ -1,18 +1,28 @@
 -- Small cases of crates that stand side by side.
-use Rattle.std.proofs.Common.{◌≡◌, ◌∙◌, ◌<◌, List, [], ◌∷◌, codes, refl, arith, subst, sym, ap, length}
-use Rattle.std.specs.Prelude.{Contains}
+use Rattle.std.proofs.Common.{◌≡◌, ◌∙◌, ◌<◌, ℕ, List, [], ◌∷◌, Some, codes, refl, arith, subst, sym, ap, length}
+use Rattle.std.specs.Prelude.{⊤, Contains}
+use Rattle.std.specs.Fmt.{digits}
 use Rattle.std.specs.List.Sorted.{IsStrictlySortedBy}
 use Rattle.std.specs.declared.cmp.Ordering.TheVariants.{Equal, Greater, Less}
 use Rattle.deny_lists.specs.Ascending.{Lists}
 use Rattle.deny_lists.proofs.Members.{Contains-by_cases, Contains-first, Contains-rest, no_member}
+use Rattle.deny_base.specs.declared.code.Code.TheVariants as code
 use Rattle.deny_base.specs.declared.level.LintLevel.TheVariants.{Allow, Warn, Deny}
 use Rattle.deny_base.specs.declared.key.Key.{Key}
+use Rattle.deny_lock.specs.Line.{line_span}
+use Rattle.deny_lock.specs.Text.{line_start}
+use Rattle.deny_model.specs.Crates.{folder_of}
 use Rattle.deny_model.specs.Duplicates.{IsDuplicate, IsDuplicateOf, duplicate_level, is_denied_multiple}
 use Rattle.deny_model.specs.Graph.{Crate, Graph}
 use Rattle.deny_model.specs.Groups.{unmarked}
 use Rattle.deny_model.specs.Keys.{duplicate_key}
 use Rattle.deny_model.specs.Match.{matches}
+use Rattle.deny_model.specs.Told.{primary}
 use Rattle.deny_model.specs.VersionOrder.{version_cmp}
+use Rattle.deny_model.specs.View.{nothing_seen}
+use Rattle.deny_codes.specs.Circumstances.{seen_by, unseen_by}
+use Rattle.deny_codes.specs.Duplicates.{duplicate_told, lock_label, lock_labels, lock_lines}
+use Rattle.deny_codes.specs.Told.{words_as}
 use Rattle.deny_codes.proofs.Cases.{skips_on_cases, all_count, app, crate, crate_of, edge, graph, one_x, plain, range}
 use Rattle.deny_codes.proofs.Cases.{spec_at, two_x}
 
@@ -181,3 +191,55 @@ by_version = (
     is = refl;
   },
 )
+
+-- ---- where the lines of a duplicate's crates stand in the lock text
+
+-- a crate of a folder, and one of crates.io
+unfoldable in_folder : List ℕ → Crate → Crate
+in_folder manifest c = record c { manifest_path = manifest }
+
+unfoldable of_crates_io : Crate → Crate
+of_crates_io c = record c { source_text = Some (codes "registry+https://github.com/rust-lang/crates.io-index") }
+
+-- `app` needs two versions of `x`
+unfoldable locked : Graph
+locked = record two_x {
+  crates = in_folder (codes "/w/Cargo.toml") app
+      ∷ of_crates_io (crate 1 (codes "x") 1) ∷ of_crates_io (crate 2 (codes "x") 2) ∷ [];
+}
+
+-- what a row unfolds
+unfoldable locked_on_cases : ⊤
+unfolding in_folder of_crates_io locked digits folder_of line_start line_span lock_lines lock_label lock_labels
+locked_on_cases = tt
+
+-- from the start of the first line to the end of the last, which leaves the newline out; the line of `app` has 13 bytes
+-- with its newline, and each of the others 62
+label_of_two : lock_labels locked 8 (1 ∷ 2 ∷ [])
+    ≡ primary 8 (record { start = 13; end = 136 }) (codes "lock entries") ∷ []
+unfolding skips_on_cases locked_on_cases
+label_of_two = refl
+
+told_with_its_lines : (words_as code.Duplicate (seen_by plain locked 3 8 nothing_seen)
+    (duplicate_key (1 ∷ 2 ∷ []))).labels
+    ≡ primary 8 (record { start = 13; end = 136 }) (codes "lock entries") ∷ []
+unfolding skips_on_cases locked_on_cases duplicate_told words_as
+told_with_its_lines = refl
+
+-- no label where the lock text is no file
+told_without_lines : (words_as code.Duplicate (unseen_by plain locked 3) (duplicate_key (1 ∷ 2 ∷ []))).labels ≡ []
+unfolding skips_on_cases locked_on_cases duplicate_told words_as
+told_without_lines = refl
+
+-- the lines stand in the order of versions: that of version 9, whose place is the later one, comes first
+turned_around : lock_labels (record x_10_x_9 { crates = in_folder (codes "/w/Cargo.toml") app ∷ x_10 ∷ x_9 ∷ [] }) 8
+    (2 ∷ 1 ∷ []) ≡ primary 8 (record { start = 13; end = 33 }) (codes "lock entries") ∷ []
+unfolding skips_on_cases locked_on_cases x_10_x_9 x_10 x_9
+turned_around = refl
+
+-- and so does the line of a third between them; those of other names stand before and behind
+label_of_three : lock_labels (graph (crate 1 (codes "x") 1 ∷ crate 2 (codes "x") 2 ∷ crate 3 (codes "x") 3
+    ∷ crate 4 (codes "y") 1 ∷ []) []) 8 (1 ∷ 3 ∷ [])
+    ≡ primary 8 (record { start = 12; end = 41 }) (codes "lock entries") ∷ []
+unfolding skips_on_cases locked_on_cases
+label_of_three = refl

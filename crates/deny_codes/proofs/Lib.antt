@@ -10,10 +10,14 @@ pub mod KeyRows
 pub mod LicenceRows
 pub mod Licensed
 pub mod Made
+pub mod ManifestCases
 pub mod Parts
-pub mod Sections
 pub mod SayingRows
+pub mod Sections
+pub mod SharingRows
 pub mod SkipRows
 pub mod StdReplacementRows
 pub mod ToldRows
 pub mod Unseen
+pub mod WildcardLemmas
+pub mod WildcardRows

@@ -1,6 +1,6 @@
 -- Keys bear the code of their rule, and stand in its section.
 use Rattle.std.proofs.Common.{◌≡◌, ℕ, Bool, true, false, List, [], ◌∷◌, None, Option, Some, map, not, refl, subst, sym}
-use Rattle.std.specs.Prelude.{Contains, filter, if◌then◌else◌}
+use Rattle.std.specs.Prelude.{◌&&◌, ◌==◌, Contains, filter, length, nat_le, if◌then◌else◌}
 use Rattle.std.specs.List.{flat_map}
 use Rattle.std.specs.Option.{option_map_or}
 use Rattle.deny_lists.proofs.Members.{Contains-by_cases, Contains-from_flat_map, from_contains_map, no_member}
@@ -26,10 +26,11 @@ use Rattle.deny_model.specs.Keys.{crate_key, dependent_key, duplicate_key, key_o
 use Rattle.deny_model.specs.Licensing.{Exception, Licensing}
 use Rattle.deny_model.specs.Match.{matches}
 use Rattle.deny_model.specs.Policy as policy
-use Rattle.deny_model.specs.Policy.{Ban, Entry, FeatureEntry, Policy, Replacing, Root}
+use Rattle.deny_model.specs.Policy.{Ban, Entry, FeatureEntry, Policy, Replacing, Root, Sharing}
 use Rattle.deny_model.specs.Skips.{has_root, is_skipped_by_root, skipped_by_root_keys_of, unmatched_skip_root_keys}
 use Rattle.deny_model.specs.Skips.{is_hit_skip, is_needless, is_skipped, skipped_keys_of, unmatched_skip_keys}
 use Rattle.deny_model.specs.Skips.{unnecessary_skip_keys}
+use Rattle.deny_model.specs.View.{Declared, View, WorkspaceEntry}
 use Rattle.deny_model.specs.Wrappers.{is_hit_wrapper, unused_wrapper_keys_of}
 use Rattle.deny_codes.specs.AllowList.{allowed_keys}
 use Rattle.deny_codes.specs.Bans.{allowed_by_wrapper_keys, banned_keys, unmatched_wrapper_keys}
@@ -49,6 +50,10 @@ use Rattle.deny_codes.specs.Saying.{Saying, said_by}
 use Rattle.deny_codes.specs.StdReplacements.{ignore_range, is_told_replaced, is_unmatched_ignore}
 use Rattle.deny_codes.specs.StdReplacements.{replaced_key, replaced_keys, replaced_keys_in, unmatched_ignore_keys}
 use Rattle.deny_codes.specs.StdReplacements.{unmatched_ignore_keys_in}
+use Rattle.deny_codes.specs.Sharing.{is_duplicated, unused_entry_key, unused_entry_keys, unused_entry_keys_by, uses_of}
+use Rattle.deny_codes.specs.Sharing.{workspace_duplicate_keys, workspace_duplicate_keys_by, workspace_duplicate_keys_of}
+use Rattle.deny_codes.specs.Wildcards.{is_minded, is_unresolved, unresolved_key, unresolved_keys, unresolved_keys_of}
+use Rattle.deny_codes.specs.Wildcards.{wildcard_keys, wildcard_keys_of, wildcards_of}
 use Rattle.deny_codes.specs.Wrappers.{unused_wrapper_keys}
 
 pub record Made (s : Section) (d : Code) (key : Key) : Type 0 where
@@ -343,6 +348,103 @@ pub default_enabled_made : (p : Policy) (g : Graph) (key : Key) → Contains (de
     → Made section.Crates code.DefaultFeatureEnabled key
 default_enabled_made p g key is = made_flat section.Crates code.DefaultFeatureEnabled (default_enabled_keys_at p g)
     g.crates key (default_enabled_at p g key) is
+
+-- ---- dependencies that manifests write
+
+module _ (s : Section) (d : Code) (key : Key) where
+  made_none : Contains [] key → Made s d key
+  made_none is = absurd (no_member key is)
+
+  made_one : (k : Key) → Made s d k → Contains (k ∷ []) key → Made s d key
+  made_one k made is = Contains-by_cases k [] key is (λ same. subst (Made s d) same made) made_none
+
+  made_if : (b : Bool) (these those : List Key) → (Contains these key → Made s d key)
+      → (Contains those key → Made s d key) → Contains (if b then these else those) key → Made s d key
+  made_if true these those one other is = one is
+  made_if false these those one other is = other is
+
+  made_where : {X : Type 0} (f : X → List Key) (o : Option X) → ((x : X) → Contains (f x) key → Made s d key)
+      → Contains (option_map_or f o []) key → Made s d key
+  made_where f None each is = made_none is
+  made_where f (Some x) each is = each x is
+
+module _ (p : Policy) (g : Graph) (facts : chains.Facts) (view : View) (key : Key) where
+  wildcard_of : (c : Crate) → Contains (wildcard_keys_of p g facts view c) key → Made section.Crates code.Wildcard key
+  unfolding wildcard_keys_of
+  wildcard_of c is = made_if section.Crates code.Wildcard key (length (wildcards_of p g facts view c) == 0) []
+      (crate_key code.Wildcard c.place no_span ∷ []) (made_none section.Crates code.Wildcard key)
+      (made_one section.Crates code.Wildcard key (crate_key code.Wildcard c.place no_span)
+      (made_key section.Crates code.Wildcard c.place no_span 0)) is
+
+  pub wildcard_made : Contains (wildcard_keys p g facts view) key → Made section.Crates code.Wildcard key
+  wildcard_made is = made_if section.Crates code.Wildcard key (is_minded p.wildcards)
+      (flat_map (wildcard_keys_of p g facts view) g.crates) []
+      (made_flat section.Crates code.Wildcard (wildcard_keys_of p g facts view) g.crates key wildcard_of)
+      (made_none section.Crates code.Wildcard key) is
+
+  unresolved_key_made : (c : Crate) (d : Declared)
+      → Made section.Crates code.UnresolvedWorkspaceDependency (unresolved_key c d)
+  unfolding unresolved_key
+  unresolved_key_made c d = made_key section.Crates code.UnresolvedWorkspaceDependency c.place d.key 0
+
+  unresolved_of : (c : Crate) → Contains (unresolved_keys_of p g facts view c) key
+      → Made section.Crates code.UnresolvedWorkspaceDependency key
+  unfolding unresolved_keys_of
+  unresolved_of c is = made_map section.Crates code.UnresolvedWorkspaceDependency (unresolved_key c)
+      (filter (is_unresolved view) (wildcards_of p g facts view c)) key (unresolved_key_made c) is
+
+  pub unresolved_made : Contains (unresolved_keys p g facts view) key
+      → Made section.Crates code.UnresolvedWorkspaceDependency key
+  unresolved_made is = made_if section.Crates code.UnresolvedWorkspaceDependency key (is_minded p.wildcards)
+      (flat_map (unresolved_keys_of p g facts view) g.crates) []
+      (made_flat section.Crates code.UnresolvedWorkspaceDependency (unresolved_keys_of p g facts view) g.crates key
+      unresolved_of)
+      (made_none section.Crates code.UnresolvedWorkspaceDependency key) is
+
+module _ (g : Graph) (view : View) (key : Key) where
+  shared_twice : (s : Sharing) (c : Crate) → Contains (workspace_duplicate_keys_of s g view c) key
+      → Made section.Workspace code.WorkspaceDuplicate key
+  unfolding workspace_duplicate_keys_of
+  shared_twice s c is = made_if section.Workspace code.WorkspaceDuplicate key
+      (is_duplicated (uses_of s g view c.place))
+      (key_of section.Workspace code.WorkspaceDuplicate c.place no_span 0 ∷ []) []
+      (made_one section.Workspace code.WorkspaceDuplicate key
+      (key_of section.Workspace code.WorkspaceDuplicate c.place no_span 0)
+      (made_key section.Workspace code.WorkspaceDuplicate c.place no_span 0))
+      (made_none section.Workspace code.WorkspaceDuplicate key) is
+
+  shared_by : (s : Sharing) → Contains (workspace_duplicate_keys_by g view s) key
+      → Made section.Workspace code.WorkspaceDuplicate key
+  unfolding workspace_duplicate_keys_by
+  shared_by s is = made_if section.Workspace code.WorkspaceDuplicate key
+      (is_minded s.duplicates && nat_le 2 (length g.members))
+      (flat_map (workspace_duplicate_keys_of s g view) g.crates) []
+      (made_flat section.Workspace code.WorkspaceDuplicate (workspace_duplicate_keys_of s g view) g.crates key
+      (shared_twice s))
+      (made_none section.Workspace code.WorkspaceDuplicate key) is
+
+  pub workspace_duplicate_made : (p : Policy) → Contains (workspace_duplicate_keys p g view) key
+      → Made section.Workspace code.WorkspaceDuplicate key
+  workspace_duplicate_made p is = made_where section.Workspace code.WorkspaceDuplicate key
+      (workspace_duplicate_keys_by g view) p.sharing shared_by is
+
+unused_entry_key_made : (e : WorkspaceEntry)
+    → Made section.Workspace code.UnusedWorkspaceDependency (unused_entry_key e)
+unfolding unused_entry_key
+unused_entry_key_made e = made_key section.Workspace code.UnusedWorkspaceDependency 0 e.key 0
+
+unused_by : (view : View) (key : Key) (s : Sharing) → Contains (unused_entry_keys_by view s) key
+    → Made section.Workspace code.UnusedWorkspaceDependency key
+unfolding unused_entry_keys_by
+unused_by view key s is = made_if section.Workspace code.UnusedWorkspaceDependency key (is_minded s.unused)
+    (map unused_entry_key view.unused) []
+    (made_map section.Workspace code.UnusedWorkspaceDependency unused_entry_key view.unused key unused_entry_key_made)
+    (made_none section.Workspace code.UnusedWorkspaceDependency key) is
+
+pub unused_entry_made : (p : Policy) (view : View) (key : Key) → Contains (unused_entry_keys p view) key
+    → Made section.Workspace code.UnusedWorkspaceDependency key
+unused_entry_made p view key is = made_where section.Workspace code.UnusedWorkspaceDependency key
+    (unused_entry_keys_by view) p.sharing (unused_by view key) is
 
 -- ---- licences
 

@@ -24,7 +24,8 @@ use Rattle.deny_codes.proofs.Made.{feature_banned_made, feature_not_allowed_made
 use Rattle.deny_codes.proofs.Made.{not_encountered_made, replaced_made, skipped_by_root_made, skipped_made}
 use Rattle.deny_codes.proofs.Made.{unknown_feature_made, unmatched_ignore_made, unmatched_skip_made}
 use Rattle.deny_codes.proofs.Made.{unmatched_skip_root_made, unmatched_wrapper_made, unnecessary_skip_made}
-use Rattle.deny_codes.proofs.Made.{unused_wrapper_made, where_made}
+use Rattle.deny_codes.proofs.Made.{unresolved_made, unused_entry_made, unused_wrapper_made, where_made, wildcard_made}
+use Rattle.deny_codes.proofs.Made.{workspace_duplicate_made}
 
 within : {s : Section} {d : Code} (key : Key) → Made s d key → IsTrue (is_of_bans s) → IsTrue (is_of_bans key.section)
 within {s} {d} key made mine = subst (λ (t : Section). IsTrue (is_of_bans t)) (sym made.section_is) mine
@@ -52,6 +53,12 @@ as_code code.DefaultFeatureEnabled c facts key is = within key (default_enabled_
 as_code code.UnusedWrapper c facts key is = within key (unused_wrapper_made c.policy c.graph key is) refl
 as_code code.ReplacedInStd c facts key is = within key (replaced_made c key is) refl
 as_code code.UnmatchedReplacementIgnore c facts key is = within key (unmatched_ignore_made c key is) refl
+as_code code.Wildcard c facts key is = within key (wildcard_made c.policy c.graph facts.chains c.view key is) refl
+as_code code.WorkspaceDuplicate c facts key is =
+    within key (workspace_duplicate_made c.graph c.view key c.policy is) refl
+as_code code.UnresolvedWorkspaceDependency c facts key is =
+    within key (unresolved_made c.policy c.graph facts.chains c.view key is) refl
+as_code code.UnusedWorkspaceDependency c facts key is = within key (unused_entry_made c.policy c.view key is) refl
 as_code _ c facts key is = absurd is
 
 -- ---- licences

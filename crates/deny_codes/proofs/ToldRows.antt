@@ -20,10 +20,11 @@ use Rattle.deny_model.specs.Match.{matches}
 use Rattle.deny_model.specs.Policy.{Policy}
 use Rattle.deny_model.specs.Skips.{is_skipped}
 use Rattle.deny_model.specs.Told.{crates_at, node_of, primary, secondary, spec_labels, spec_text}
+use Rattle.deny_model.specs.View.{nothing_seen}
 use Rattle.deny_model.specs.Wrappers.{hits_wrapper, wraps}
 use Rattle.deny_codes.specs.AllowList.{allowed_told, not_allowed_told}
 use Rattle.deny_codes.specs.Bans.{allowed_by_wrapper_told, banned_told, unmatched_wrapper_told}
-use Rattle.deny_codes.specs.Circumstances.{Circumstances, unseen_by}
+use Rattle.deny_codes.specs.Circumstances.{Circumstances, seen_by, unseen_by}
 use Rattle.deny_codes.specs.Duplicates.{duplicate_told}
 use Rattle.deny_codes.specs.SkippedTrees.{skipped_by_root_told, unmatched_skip_root_told}
 use Rattle.deny_codes.specs.Skips.{skipped_told, unmatched_skip_told, unnecessary_skip_told}
@@ -69,6 +70,13 @@ told_banned : words_as code.Banned here (crate_key code.Banned 1 (range 16))
     ban_labels_told (Some x_kid)
 unfolding told_on_cases
 told_banned = refl
+
+-- the same where the lock text is a file too: entries have their labels in the policy
+told_beside_a_lock_text : words_as code.Banned (seen_by busy by_two 3 8 nothing_seen) (crate_key code.Banned 1 (range 16))
+    ≡ plainly severity.Error (codes "crate 'x = 1.0.0' is explicitly banned")
+    ban_labels_told (Some x_kid)
+unfolding told_on_cases
+told_beside_a_lock_text = refl
 
 told_allowed : words_as code.Allowed here (crate_key code.Allowed 1 (range 18))
     ≡ plainly severity.Note (codes "crate 'x = 1.0.0' is explicitly allowed")

@@ -6,27 +6,41 @@ use Rattle.deny_base.specs.declared.code.Code.TheVariants as code
 use Rattle.deny_base.specs.declared.code.DiagnosticCode.{DiagnosticCode}
 use Rattle.deny_base.specs.declared.code.DiagnosticCode.TheVariants.{Deprecated, Bans, License}
 use Rattle.deny_base.specs.declared.key.Key.{Key}
-use Rattle.deny_codes.specs.Circumstances.{Circumstances, View, viewed}
+use Rattle.deny_model.specs.View.{View}
+use Rattle.deny_codes.specs.Circumstances.{Circumstances, viewed}
 use Rattle.deny_codes.specs.Codes.{asks_no_file, is_free}
 use Rattle.deny_codes.specs.Facts.{Facts}
 use Rattle.deny_codes.specs.Standing.{Stands, StandsAs, StandsBy}
 use Rattle.deny_codes.specs.Told.{words_as, words_by, words_told}
 
--- these hold at each code by itself: a code that reads the view and is called free is refused here
+-- the last lines hold at each code by itself: a code that reads the view and is called free is refused there; those
+-- before them read it, and are not
 code_there : (d : Code) (c : Circumstances) (view : View) (facts : Facts) (key : Key) → IsTrue (is_free d)
     → StandsAs d c facts key → StandsAs d (viewed c view) facts key
 code_there code.Banned c view facts key free is = is
+code_there code.Wildcard c view facts key free is = absurd (cc free)
+code_there code.WorkspaceDuplicate c view facts key free is = absurd (cc free)
+code_there code.UnresolvedWorkspaceDependency c view facts key free is = absurd (cc free)
+code_there code.UnusedWorkspaceDependency c view facts key free is = absurd (cc free)
 code_there _ c view facts key free is = is
 
 code_back : (d : Code) (c : Circumstances) (view : View) (facts : Facts) (key : Key) → IsTrue (is_free d)
     → StandsAs d (viewed c view) facts key → StandsAs d c facts key
 code_back code.Banned c view facts key free is = is
+code_back code.Wildcard c view facts key free is = absurd (cc free)
+code_back code.WorkspaceDuplicate c view facts key free is = absurd (cc free)
+code_back code.UnresolvedWorkspaceDependency c view facts key free is = absurd (cc free)
+code_back code.UnusedWorkspaceDependency c view facts key free is = absurd (cc free)
 code_back _ c view facts key free is = is
 
 words_alike : (d : Code) (c : Circumstances) (view : View) (key : Key) → IsTrue (is_free d)
     → words_as d (viewed c view) key ≡ words_as d c key
 unfolding words_as
 words_alike code.Banned c view key free = refl
+words_alike code.Wildcard c view key free = absurd (cc free)
+words_alike code.WorkspaceDuplicate c view key free = absurd (cc free)
+words_alike code.UnresolvedWorkspaceDependency c view key free = absurd (cc free)
+words_alike code.UnusedWorkspaceDependency c view key free = absurd (cc free)
 words_alike _ c view key free = refl
 
 by_there : (d : DiagnosticCode) (c : Circumstances) (view : View) (facts : Facts) (key : Key) → IsTrue (asks_no_file d)

@@ -1,19 +1,14 @@
 -- What a report is about: a policy and a graph, and whatever else the rules look at.
-use Rattle.std.specs.Prelude.{ℕ, List, [], Option, None}
-use Rattle.deny_model.specs.Graph.{Crate, Graph}
+use Rattle.std.specs.Prelude.{ℕ, List, [], Option, None, Some}
+use Rattle.deny_model.specs.Graph.{Graph}
 use Rattle.deny_model.specs.Licensing.{Licensing}
 use Rattle.deny_model.specs.Policy.{Policy}
+use Rattle.deny_model.specs.View.{View, nothing_seen}
 
--- what is seen of files, by crate and purpose; none for what was not read
-pub record View : Type 0 where
-  pub manifest : Crate → Option (List ℕ)
-
--- the numbers of the files that labels point into; none for what is not among them
+-- the numbers of the files that labels point into, beside those of manifests; none for what is not among them
 pub record FileNumbers : Type 0 where
   pub policy : ℕ
   pub lock : Option ℕ
-  pub workspace : Option ℕ
-  pub manifest : Crate → Option ℕ
   pub globs : Option ℕ
 
 pub record Circumstances : Type 0 where
@@ -23,6 +18,7 @@ pub record Circumstances : Type 0 where
   pub graph : Graph
   -- the bytes of the table of replacements; none where there is no table
   pub table : List ℕ
+  -- what is seen of manifests
   pub view : View
   -- the folder that paths are shown from
   pub home : Option (List ℕ)
@@ -30,17 +26,16 @@ pub record Circumstances : Type 0 where
   pub registries : List (List ℕ)
   pub files : FileNumbers
 
--- where no file was read
-abbrev pub nothing_seen : View
-nothing_seen = record { manifest = λ c. None }
-
--- where the policy's text is the one file
+-- where the policy's text is the one file, and where the graph's lock text is one too
 abbrev pub policy_alone : ℕ → FileNumbers
-policy_alone file = record { policy = file; lock = None; workspace = None; manifest = λ c. None; globs = None }
+policy_alone file = record { policy = file; lock = None; globs = None }
 
--- a policy, whose text has this number, a graph and a view, without licences and without a table
-abbrev pub seen_by : Policy → Graph → ℕ → View → Circumstances
-seen_by p g file view = record {
+abbrev pub policy_and_lock : ℕ → ℕ → FileNumbers
+policy_and_lock file lock = record { policy = file; lock = Some lock; globs = None }
+
+-- a policy, a graph and a view, by the numbers of their files, without licences and without a table
+abbrev pub seen_in : FileNumbers → Policy → Graph → View → Circumstances
+seen_in files p g view = record {
   policy = p;
   licensing = None;
   graph = g;
@@ -48,11 +43,16 @@ seen_by p g file view = record {
   view = view;
   home = None;
   registries = [];
-  files = policy_alone file;
+  files = files;
 }
 
+-- the policy's text and the lock text have these numbers
+abbrev pub seen_by : Policy → Graph → ℕ → ℕ → View → Circumstances
+seen_by p g file lock view = seen_in (policy_and_lock file lock) p g view
+
+-- nothing but the policy's text is there
 abbrev pub unseen_by : Policy → Graph → ℕ → Circumstances
-unseen_by p g file = seen_by p g file nothing_seen
+unseen_by p g file = seen_in (policy_alone file) p g nothing_seen
 
 -- the same with the bytes of a table of replacements
 abbrev pub tabled : Circumstances → List ℕ → Circumstances

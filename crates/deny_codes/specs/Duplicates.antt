@@ -1,21 +1,45 @@
 -- What is told of crates of one name that stand side by side.
-use Rattle.std.specs.Prelude.{◌++◌, false, [], None, map, length, codes}
+use Rattle.std.specs.Prelude.{ℕ, ◌++◌, ◌∷◌, false, List, [], Option, None, Some, map, length, option_and_then, codes}
+use Rattle.std.specs.Prelude.{slice_get}
 use Rattle.std.specs.Fmt.{decimal}
+use Rattle.std.specs.List.{last_or}
+use Rattle.std.specs.Option.{option_map_or}
 use Rattle.deny_base.specs.Level.{severity_of}
 use Rattle.deny_base.specs.declared.key.Key.{Key}
-use Rattle.deny_model.specs.Graph.{Graph}
+use Rattle.deny_base.specs.declared.label.Label.{Label}
+use Rattle.deny_base.specs.declared.span.Span.{Span}
+use Rattle.deny_lock.specs.Text.{lock_span_at}
+use Rattle.deny_model.specs.Graph.{Crate, Graph}
 use Rattle.deny_model.specs.Policy.{Policy}
-use Rattle.deny_model.specs.Told.{crate_name_at, crates_at, node_of}
+use Rattle.deny_model.specs.Told.{crate_at, crate_name_at, crates_at, node_of, primary}
 use Rattle.deny_model.specs.Duplicates.{duplicate_level}
 use Rattle.deny_codes.specs.declared.words.Words.{Words}
 
--- the crates that are shown are those that stand side by side
-unfoldable pub duplicate_told : Policy → Graph → Key → Words
-duplicate_told p g key = record {
+-- the lines of the lock text from that of one crate to that of another, without the last newline
+unfoldable pub lock_lines : Graph → Crate → Crate → Span
+lock_lines g first other = record {
+  start = (lock_span_at g.crates first).total.start;
+  end = (lock_span_at g.crates other).total.end;
+}
+
+-- a label at them, where both crates are there
+unfoldable pub lock_label : Graph → ℕ → Option Crate → Option Crate → List Label
+lock_label g lock (Some first) (Some other) = primary lock (lock_lines g first other) (codes "lock entries") ∷ []
+lock_label g lock (Some first) None = []
+lock_label g lock None other = []
+
+-- the crates stand in the order of the lock text
+unfoldable pub lock_labels : Graph → ℕ → List ℕ → List Label
+lock_labels g lock places = lock_label g lock (option_and_then (crate_at g) (slice_get places 0)) (option_and_then
+    (crate_at g) (last_or None places))
+
+-- the crates that are shown are those that stand side by side; none where the lock text is no file
+unfoldable pub duplicate_told : Policy → Graph → Option ℕ → Key → Words
+duplicate_told p g lock key = record {
   severity = severity_of (duplicate_level p (crates_at g key.places));
   message = codes "found " ++ (decimal (length key.places)
       ++ (codes " duplicate entries for crate '" ++ (crate_name_at g key.place ++ codes "'")));
-  labels = [];
+  labels = option_map_or (λ file. lock_labels g file key.places) lock [];
   notes = [];
   nodes = map node_of (crates_at g key.places);
   with_features = false;

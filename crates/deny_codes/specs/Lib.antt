@@ -10,10 +10,12 @@ pub mod Hits
 pub mod Licences
 pub mod Members
 pub mod Saying
+pub mod Sharing
 pub mod SkippedTrees
 pub mod Skips
 pub mod Standing
 pub mod StdReplacements
 pub mod Telling
 pub mod Told
+pub mod Wildcards
 pub mod Wrappers

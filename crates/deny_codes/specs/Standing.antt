@@ -23,9 +23,11 @@ use Rattle.deny_codes.specs.Features.{IsFeatureNotAllowed, default_enabled_keys,
 use Rattle.deny_codes.specs.Features.{unknown_feature_keys}
 use Rattle.deny_codes.specs.Licences.{IsOfLicences, accepted_keys, exception_not_encountered_keys, not_encountered_keys}
 use Rattle.deny_codes.specs.Licences.{parse_error_keys, rejected_keys, skipped_private_keys, unlicensed_keys}
+use Rattle.deny_codes.specs.Sharing.{unused_entry_keys, workspace_duplicate_keys}
 use Rattle.deny_codes.specs.SkippedTrees.{skipped_by_root_keys}
 use Rattle.deny_codes.specs.Skips.{skipped_keys}
 use Rattle.deny_codes.specs.StdReplacements.{replaced_keys_in, unmatched_ignore_keys_in}
+use Rattle.deny_codes.specs.Wildcards.{unresolved_keys, wildcard_keys}
 use Rattle.deny_codes.specs.Wrappers.{unused_wrapper_keys}
 
 -- a code whose rule is not there yet has no key that stands
@@ -35,7 +37,7 @@ StandsAs code.Allowed c facts key = Contains (allowed_keys c.policy c.graph) key
 StandsAs code.NotAllowed c facts key = Contains (not_allowed_keys c.policy c.graph) key
 StandsAs code.Duplicate c facts key = IsDuplicate c.policy c.graph facts.chains key
 StandsAs code.Skipped c facts key = Contains (skipped_keys c.policy c.graph facts.chains) key
-StandsAs code.Wildcard c facts key = ⊥
+StandsAs code.Wildcard c facts key = Contains (wildcard_keys c.policy c.graph facts.chains c.view) key
 StandsAs code.UnmatchedSkip c facts key = Contains (unmatched_skip_keys c.policy c.graph facts.chains) key
 StandsAs code.UnnecessarySkip c facts key = Contains (unnecessary_skip_keys c.policy c.graph facts.chains) key
 StandsAs code.AllowedByWrapper c facts key = Contains (allowed_by_wrapper_keys c.policy c.graph) key
@@ -61,9 +63,10 @@ StandsAs code.UnmatchedBypass c facts key = ⊥
 StandsAs code.UnmatchedPathBypass c facts key = ⊥
 StandsAs code.UnmatchedGlob c facts key = ⊥
 StandsAs code.UnusedWrapper c facts key = Contains (unused_wrapper_keys c.policy c.graph) key
-StandsAs code.WorkspaceDuplicate c facts key = ⊥
-StandsAs code.UnresolvedWorkspaceDependency c facts key = ⊥
-StandsAs code.UnusedWorkspaceDependency c facts key = ⊥
+StandsAs code.WorkspaceDuplicate c facts key = Contains (workspace_duplicate_keys c.policy c.graph c.view) key
+StandsAs code.UnresolvedWorkspaceDependency c facts key =
+    Contains (unresolved_keys c.policy c.graph facts.chains c.view) key
+StandsAs code.UnusedWorkspaceDependency c facts key = Contains (unused_entry_keys c.policy c.view) key
 StandsAs code.ReplacedInStd c facts key = Contains (replaced_keys_in c) key
 StandsAs code.UnmatchedReplacementIgnore c facts key = Contains (unmatched_ignore_keys_in c) key
 

@@ -21,10 +21,12 @@ use Rattle.deny_codes.specs.Features.{default_enabled_told, feature_banned_told,
 use Rattle.deny_codes.specs.Features.{mismatched_told, unknown_feature_told}
 use Rattle.deny_codes.specs.Licences.{accepted_told, exception_not_encountered_told, not_encountered_told_in}
 use Rattle.deny_codes.specs.Licences.{parse_error_told, rejected_told_in, skipped_private_told, unlicensed_told}
+use Rattle.deny_codes.specs.Sharing.{unused_entry_told, workspace_duplicate_told}
 use Rattle.deny_codes.specs.SkippedTrees.{skipped_by_root_told, unmatched_skip_root_told}
 use Rattle.deny_codes.specs.Skips.{skipped_told, unmatched_skip_told, unnecessary_skip_told}
 use Rattle.deny_codes.specs.StdReplacements.{replaced_told_in, unmatched_ignore_told_in}
 use Rattle.deny_codes.specs.Telling.{not_built}
+use Rattle.deny_codes.specs.Wildcards.{unresolved_told, wildcard_told}
 use Rattle.deny_codes.specs.Wrappers.{unused_wrapper_told}
 use Rattle.deny_codes.specs.declared.words.Words.{Words}
 
@@ -32,9 +34,9 @@ unfoldable pub words_as : Code → Circumstances → Key → Words
 words_as code.Banned c key = banned_told c.policy c.graph c.files.policy key
 words_as code.Allowed c key = allowed_told c.policy c.graph c.files.policy key
 words_as code.NotAllowed c key = not_allowed_told c.graph key
-words_as code.Duplicate c key = duplicate_told c.policy c.graph key
+words_as code.Duplicate c key = duplicate_told c.policy c.graph c.files.lock key
 words_as code.Skipped c key = skipped_told c.policy c.graph c.files.policy key
-words_as code.Wildcard c key = not_built
+words_as code.Wildcard c key = wildcard_told c.policy c.graph c.view key
 words_as code.UnmatchedSkip c key = unmatched_skip_told c.policy c.files.policy key
 words_as code.UnnecessarySkip c key = unnecessary_skip_told c.policy c.files.policy key
 words_as code.AllowedByWrapper c key = allowed_by_wrapper_told c.policy c.graph c.files.policy key
@@ -60,9 +62,9 @@ words_as code.UnmatchedBypass c key = not_built
 words_as code.UnmatchedPathBypass c key = not_built
 words_as code.UnmatchedGlob c key = not_built
 words_as code.UnusedWrapper c key = unused_wrapper_told c.files.policy key
-words_as code.WorkspaceDuplicate c key = not_built
-words_as code.UnresolvedWorkspaceDependency c key = not_built
-words_as code.UnusedWorkspaceDependency c key = not_built
+words_as code.WorkspaceDuplicate c key = workspace_duplicate_told c.policy c.graph c.view key
+words_as code.UnresolvedWorkspaceDependency c key = unresolved_told c.graph c.view key
+words_as code.UnusedWorkspaceDependency c key = unused_entry_told c.policy c.view key
 words_as code.ReplacedInStd c key = replaced_told_in c key
 words_as code.UnmatchedReplacementIgnore c key = unmatched_ignore_told_in c key
 

@@ -4,7 +4,8 @@ use Rattle.deny_lists.specs.Ascending.{Lists}
 use Rattle.deny_lists.proofs.Sorted.{one_list}
 use Rattle.deny_base.specs.KeyOrder.{key_cmp}
 use Rattle.deny_base.specs.declared.key.Key.{Key}
-use Rattle.deny_codes.specs.Circumstances.{Circumstances, View, viewed}
+use Rattle.deny_model.specs.View.{View}
+use Rattle.deny_codes.specs.Circumstances.{Circumstances, viewed}
 use Rattle.deny_codes.specs.Codes.{asks_no_file, unseeing}
 use Rattle.deny_codes.specs.Facts.{Facts, AreFacts}
 use Rattle.deny_codes.specs.Standing.{AreKeys, Stands}
