@@ -10,6 +10,7 @@ pub mod IgnoreRenaming
 pub mod KeyParts
 pub mod LicenceRemoval
 pub mod LicenceRenaming
+pub mod ManifestRemoval
 pub mod PremiseRows
 pub mod Removal
 pub mod RemovalRows

@@ -4,16 +4,21 @@ use Rattle.std.specs.Prelude.{filter_map}
 use Rattle.deny_base.specs.Entry.{entry_kind_number}
 use Rattle.deny_base.specs.declared.code.Code.TheVariants as code
 use Rattle.deny_base.specs.declared.entry.EntryId.{EntryId}
-use Rattle.deny_base.specs.declared.entry.EntryKind.TheVariants.{LicenseAllow, LicenseException, Skip, Wrapper}
+use Rattle.deny_base.specs.declared.entry.EntryKind.TheVariants.{LicenseAllow, LicenseException, Skip, SkipRoot}
+use Rattle.deny_base.specs.declared.entry.EntryKind.TheVariants.{Wrapper}
 use Rattle.deny_model.specs.Hits.{all_hits, wrapper_hit}
 use Rattle.deny_model.specs.Keys.{crate_key, unused_key}
 use Rattle.deny_model.specs.Licensing.{Licensing}
 use Rattle.deny_model.specs.Policy.{Policy}
+use Rattle.deny_model.specs.View.{View}
 use Rattle.deny_codes.specs.Licences.{exception_not_encountered_keys, licence_hits, not_encountered_keys}
-use Rattle.deny_codes.proofs.Cases.{all_count, ban_at, ban_keys, bans_on_cases, entry_at, on_cases, one_x, plain}
-use Rattle.deny_codes.proofs.Cases.{range, skip_keys, skips_on_cases, words_at}
+use Rattle.deny_codes.specs.Wildcards.{wildcard_keys}
+use Rattle.deny_codes.proofs.Cases.{all_count, app, ban_at, ban_keys, bans_on_cases, entry_at, on_cases, one_x, plain}
+use Rattle.deny_codes.proofs.Cases.{range, root_of, skip_keys, skips_on_cases, words_at}
 use Rattle.deny_codes.proofs.LicenceRows.{allowed_at, alone, every, exception_at, granting, hit_by, licences_on_cases}
 use Rattle.deny_codes.proofs.LicenceRows.{mit, unmet, unmet_exception}
+use Rattle.deny_codes.proofs.ManifestCases.{any_version, behind, seeing, written}
+use Rattle.deny_codes.proofs.WildcardRows.{minding, one_stands, wildcards_on_cases}
 use Rattle.deny_laws.specs.Dead.{unused_entry}
 use Rattle.deny_laws.specs.Removal.{cut_licensing, is_taken, unnaming, without}
 use Rattle.deny_laws.proofs.IgnoreCases.{hit_by_x, hits_by, ignore, ignores_on_cases, replaced_by, two_ignores}
@@ -74,6 +79,33 @@ others_told : unnaming (skip ∷ []) (skip_keys two_skips one_x all_count) ≡ c
     ∷ unused_key code.UnnecessarySkip (range 20) ∷ []
 unfolding skips_on_cases two_skips is_taken entry_kind_number
 others_told = refl
+
+-- ---- a wildcard beside a dead skip and a dead tree stands without them
+
+abbrev tree : EntryId
+tree = record { kind = SkipRoot; range = range 40 }
+
+unfoldable two_dead : Policy
+two_dead = record minding {
+  skip = entry_at (codes "q") 35 ∷ [];
+  skip_tree = root_of (codes "q") 40 ∷ [];
+}
+
+abbrev wildcard : View
+wildcard = seeing (written any_version 1 10 ∷ [])
+
+wildcard_beside : wildcard_keys two_dead (behind app) all_count wildcard ≡ one_stands
+unfolding wildcards_on_cases two_dead
+wildcard_beside = refl
+
+wildcard_without : wildcard_keys (without two_dead (skip ∷ tree ∷ [])) (behind app) all_count wildcard ≡ one_stands
+unfolding wildcards_on_cases two_dead is_taken entry_kind_number
+wildcard_without = refl
+
+-- no finding of a manifest names an entry
+not_named : unnaming (skip ∷ tree ∷ []) one_stands ≡ one_stands
+unfolding wildcards_on_cases is_taken entry_kind_number
+not_named = refl
 
 -- ---- of two ignores of one replaced crate the second is dead
 

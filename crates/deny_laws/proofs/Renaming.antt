@@ -23,6 +23,7 @@ use Rattle.deny_codes.specs.SkippedTrees.{skipped_by_root_keys}
 use Rattle.deny_codes.specs.Skips.{skipped_keys}
 use Rattle.deny_codes.specs.Standing.{StandsAs, StandsBy, Stands}
 use Rattle.deny_codes.specs.StdReplacements.{ignore_hits_in, replaced_keys_in, unmatched_ignore_keys_in}
+use Rattle.deny_codes.specs.Wildcards.{unresolved_keys, wildcard_keys}
 use Rattle.deny_codes.specs.Wrappers.{unused_wrapper_keys, wrapper_hits_of}
 use Rattle.deny_laws.specs.Renaming.{AreRenamed, KeepsApart, KeepsLicencesApart, Renaming, renamed, renamed_as}
 use Rattle.deny_laws.specs.Renaming.{renamed_ban}
@@ -81,6 +82,14 @@ module _ (r : Renaming) (c : Circumstances) (these those : Facts) (are : AreFact
   there_as code.DefaultFeatureEnabled is = keys_there r (default_enabled_keys c.policy c.graph)
       (default_enabled_keys (renamed r c.policy) c.graph) key (features.default_anew r c.policy c.graph) is
   there_as code.FeatureNotExplicitlyAllowed is = features.not_allowed_there r c.policy c.graph key is
+  there_as code.Wildcard is = moved (wildcard_keys c.policy c.graph these.chains c.view)
+      (wildcard_keys (renamed r c.policy) c.graph those.chains c.view) key
+      (sym (skips.wildcards_stay r c.policy c.graph these.chains those.chains are.chains are_new.chains c.view)) is
+  there_as code.UnresolvedWorkspaceDependency is = moved (unresolved_keys c.policy c.graph these.chains c.view)
+      (unresolved_keys (renamed r c.policy) c.graph those.chains c.view) key
+      (sym (skips.unresolved_stay r c.policy c.graph these.chains those.chains are.chains are_new.chains c.view)) is
+  there_as code.WorkspaceDuplicate is = is
+  there_as code.UnusedWorkspaceDependency is = is
   there_as _ is = absurd is
 
   back_as : (d : Code) → StandsAs d (renamed_in r c) those key
@@ -137,6 +146,22 @@ module _ (r : Renaming) (c : Circumstances) (these those : Facts) (are : AreFact
   back_as code.DefaultFeatureEnabled is = keys_back r (default_enabled_keys c.policy c.graph)
       (default_enabled_keys (renamed r c.policy) c.graph) key (features.default_anew r c.policy c.graph) is
   back_as code.FeatureNotExplicitlyAllowed is = features.not_allowed_back r c.policy c.graph key is
+  back_as code.Wildcard is = (
+    key,
+    moved (wildcard_keys (renamed r c.policy) c.graph those.chains c.view)
+        (wildcard_keys c.policy c.graph these.chains c.view) key
+        (skips.wildcards_stay r c.policy c.graph these.chains those.chains are.chains are_new.chains c.view) is,
+    refl,
+  )
+  back_as code.UnresolvedWorkspaceDependency is = (
+    key,
+    moved (unresolved_keys (renamed r c.policy) c.graph those.chains c.view)
+        (unresolved_keys c.policy c.graph these.chains c.view) key
+        (skips.unresolved_stay r c.policy c.graph these.chains those.chains are.chains are_new.chains c.view) is,
+    refl,
+  )
+  back_as code.WorkspaceDuplicate is = (key, is, refl)
+  back_as code.UnusedWorkspaceDependency is = (key, is, refl)
   back_as _ is = absurd is
 
   there_by : (d : DiagnosticCode) → StandsBy d c these key → StandsBy d (renamed_in r c) those (renamed_as r d key)

@@ -10,10 +10,14 @@ use Rattle.deny_model.specs.Policy.{FeatureEntry, Policy}
 use Rattle.deny_codes.specs.Features.{is_enabled, is_mismatch_told, is_mismatched, mismatched_keys, mismatched_keys_of}
 use Rattle.deny_codes.specs.Features.{missing, unlisted}
 use Rattle.deny_codes.specs.Licences.{exception_not_encountered_keys, licence_hits, not_encountered_keys}
-use Rattle.deny_codes.proofs.Cases.{ban_at, ban_keys, bans_on_cases, by_two, entry_at, on_cases, one_x, plain, range}
-use Rattle.deny_codes.proofs.Cases.{spec_at, words_at}
+use Rattle.deny_codes.specs.Wildcards.{unresolved_keys}
+use Rattle.deny_codes.proofs.Cases.{all_count, app, ban_at, ban_keys, bans_on_cases, by_two, entry_at, on_cases}
+use Rattle.deny_codes.proofs.Cases.{one_x, plain, range, spec_at, words_at}
 use Rattle.deny_codes.proofs.LicenceRows.{allowed_at, alone, every, exception_at, excepted_by, gpl, granting, hit_by}
 use Rattle.deny_codes.proofs.LicenceRows.{licences_on_cases, mit, unmet, unmet_exception}
+use Rattle.deny_codes.proofs.ManifestCases.{any_version, behind, seeing, sharing_it, written}
+use Rattle.deny_codes.proofs.SharingRows.{sharing_on_cases, unused_at}
+use Rattle.deny_codes.proofs.WildcardRows.{minding, wildcards_on_cases}
 use Rattle.deny_laws.specs.Renaming.{Renaming, renamed, renamed_key, renamed_licensing}
 use Rattle.deny_laws.proofs.IgnoreCases.{hit_by_x, hits_by, ignores_on_cases, two_ignores, unmatched_by}
 
@@ -33,10 +37,10 @@ before : ban_keys x_by_app_app one_x
 unfolding bans_on_cases x_by_app_app
 before = refl
 
-behind : ban_keys (renamed farther x_by_app_app) one_x
+afterwards : ban_keys (renamed farther x_by_app_app) one_x
     ≡ dependent_key code.AllowedByWrapper 1 (range 116) 0 ∷ unused_key code.UnusedWrapper (range 150) ∷ []
 unfolding bans_on_cases x_by_app_app farther
-behind = refl
+afterwards = refl
 
 -- where two wrappers get one range, the second is hit with the first
 not_apart : ban_keys (renamed all_at_once x_by_app_app) one_x ≡ dependent_key code.AllowedByWrapper 1 (range 7) 0 ∷ []
@@ -49,6 +53,22 @@ no_entry : map (renamed_key farther) (ban_keys (record plain { allow = entry_at 
     ∷ []
 unfolding bans_on_cases farther
 no_entry = refl
+
+-- and one that shows a range of a manifest keeps it
+unresolved_stays : unresolved_keys (renamed farther minding) (behind app) all_count
+    (seeing (sharing_it (written any_version 1 10) ∷ []))
+    ≡ crate_key code.UnresolvedWorkspaceDependency 0 (range 10) ∷ []
+unfolding wildcards_on_cases farther
+unresolved_stays = refl
+
+range_of_a_manifest : map (renamed_key farther) (crate_key code.UnresolvedWorkspaceDependency 0 (range 10) ∷ [])
+    ≡ crate_key code.UnresolvedWorkspaceDependency 0 (range 10) ∷ []
+unfolding wildcards_on_cases farther
+range_of_a_manifest = refl
+
+range_of_an_entry : map (renamed_key farther) (unused_at 60 ∷ []) ≡ unused_at 60 ∷ []
+unfolding sharing_on_cases unused_at farther
+range_of_an_entry = refl
 
 -- ---- ignores
 

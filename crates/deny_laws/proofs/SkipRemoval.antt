@@ -21,6 +21,7 @@ use Rattle.deny_base.specs.declared.key.Key.{Key}
 use Rattle.deny_model.specs.Hits.{all_hits, hit_of, root_hit, skip_hit, wrapper_hit}
 use Rattle.deny_model.specs.Bans.{is_not_allowed, not_allowed_keys, allowed_by_wrapper_keys_of, banned_keys_of}
 use Rattle.deny_model.specs.Bans.{concerns, is_banned, is_exempt, is_wrapped, unmatched_wrapper_keys_of}
+use Rattle.deny_model.specs.Crates.{is_git_source}
 use Rattle.deny_model.specs.Facts as chains
 use Rattle.deny_model.specs.Duplicates.{IsDuplicate, duplicate_level, is_denied_multiple}
 use Rattle.deny_model.specs.Graph.{Crate, Graph, kid_of}
@@ -42,12 +43,14 @@ use Rattle.deny_codes.specs.Skips.{skipped_keys}
 use Rattle.deny_codes.specs.Standing.{StandsAs, StandsBy, Stands}
 use Rattle.deny_codes.specs.StdReplacements.{ignore_hits_in}
 use Rattle.deny_codes.specs.Wrappers.{unused_wrapper_keys, wrapper_hits_of}
+use Rattle.deny_codes.specs.Wildcards.{is_asked}
 use Rattle.deny_codes.proofs.Kept.{fails_if_gone, filter_fails_on, filter_kept, filter_map_kept, filter_none_on}
 use Rattle.deny_codes.proofs.Kept.{find_none_on, flat_map_kept, guarded, list_any_kept, told_kept}
 use Rattle.deny_laws.specs.Removal.{AreGone, is_taken, names, names_as, stays_root, stays_skip, unnaming}
 use Rattle.deny_laws.specs.SkipRemoval.{AreUnhit, without_skips, without_skips_in}
 use Rattle.deny_laws.proofs.FeatureRemoval.{features_back, features_there, is_of_features}
 use Rattle.deny_laws.proofs.KeyParts.{from_part, kept_part, moved, no_licence_named}
+use Rattle.deny_laws.proofs.ManifestRemoval.{is_of_manifests, manifests_back, manifests_there}
 
 -- ---- bans and the allow list read neither
 
@@ -125,6 +128,16 @@ module _ (p : Policy) (g : Graph) (f : chains.Facts) (taken : List EntryId) (are
   unfolding is_rooted
   rooted_stays k known = list_any_kept (stays_root taken) (λ t. f.in_tree t k) p.skip_tree
       (λ t written is. unhit.roots t written (rooted_by t k written known is))
+
+  asked_stays : (k : Crate) → Contains g.crates k → is_asked (without_skips p taken) f k ≡ is_asked p f k
+  unfolding is_asked
+  asked_stays k known = guarded (f.counts k)
+      (not (is_marked (without_skips p taken) k) && (not (is_rooted (without_skips p taken) f k)
+      && not (is_git_source k)))
+      (not (is_marked p k) && (not (is_rooted p f k) && not (is_git_source k)))
+      (λ counts. ap (λ b. not b && (not (is_rooted (without_skips p taken) f k) && not (is_git_source k)))
+      (marked_stays k known counts)
+      ∙ ap (λ b. not (is_marked p k) && (not b && not (is_git_source k))) (rooted_stays k known))
 
   stand_stays : (k : Crate) → Contains g.crates k → may_stand (without_skips p taken) f k ≡ may_stand p f k
   unfolding may_stand
@@ -310,6 +323,18 @@ module _ (c : Circumstances) (facts : Facts) (taken : List EntryId)
   features_from d of is = features_back c facts c.policy.deny (filter (stays_skip taken) c.policy.skip)
       (filter (stays_root taken) c.policy.skip_tree) c.policy.replacing key d of is
 
+  manifests_stay : (d : Code) → is_of_manifests d ≡ true → StandsAs d c facts key
+      → StandsAs d (without_skips_in c taken) facts key
+  manifests_stay d of is = manifests_there c facts c.policy.deny (filter (stays_skip taken) c.policy.skip)
+      (filter (stays_root taken) c.policy.skip_tree) c.policy.replacing
+      (asked_stays c.policy c.graph facts.chains taken are unhit) key d of is
+
+  manifests_from : (d : Code) → is_of_manifests d ≡ true → StandsAs d (without_skips_in c taken) facts key
+      → StandsAs d c facts key
+  manifests_from d of is = manifests_back c facts c.policy.deny (filter (stays_skip taken) c.policy.skip)
+      (filter (stays_root taken) c.policy.skip_tree) c.policy.replacing
+      (asked_stays c.policy c.graph facts.chains taken are unhit) key d of is
+
   there_as : (d : Code) → names_as taken (Bans d) key ≡ false → StandsAs d c facts key
       → StandsAs d (without_skips_in c taken) facts key
   there_as code.Banned unnamed is = moved (banned_keys c.policy c.graph)
@@ -349,6 +374,10 @@ module _ (c : Circumstances) (facts : Facts) (taken : List EntryId)
   there_as code.FeatureBanned unnamed is = features_stay code.FeatureBanned refl is
   there_as code.UnknownFeature unnamed is = features_stay code.UnknownFeature refl is
   there_as code.DefaultFeatureEnabled unnamed is = features_stay code.DefaultFeatureEnabled refl is
+  there_as code.Wildcard unnamed is = manifests_stay code.Wildcard refl is
+  there_as code.WorkspaceDuplicate unnamed is = manifests_stay code.WorkspaceDuplicate refl is
+  there_as code.UnresolvedWorkspaceDependency unnamed is = manifests_stay code.UnresolvedWorkspaceDependency refl is
+  there_as code.UnusedWorkspaceDependency unnamed is = manifests_stay code.UnusedWorkspaceDependency refl is
   there_as _ unnamed is = absurd is
 
   back_as : (d : Code) → StandsAs d (without_skips_in c taken) facts key → StandsAs d c facts key
@@ -413,6 +442,10 @@ module _ (c : Circumstances) (facts : Facts) (taken : List EntryId)
   back_as code.FeatureBanned is = (features_from code.FeatureBanned refl is, refl)
   back_as code.UnknownFeature is = (features_from code.UnknownFeature refl is, refl)
   back_as code.DefaultFeatureEnabled is = (features_from code.DefaultFeatureEnabled refl is, refl)
+  back_as code.Wildcard is = (manifests_from code.Wildcard refl is, refl)
+  back_as code.WorkspaceDuplicate is = (manifests_from code.WorkspaceDuplicate refl is, refl)
+  back_as code.UnresolvedWorkspaceDependency is = (manifests_from code.UnresolvedWorkspaceDependency refl is, refl)
+  back_as code.UnusedWorkspaceDependency is = (manifests_from code.UnusedWorkspaceDependency refl is, refl)
   back_as _ is = absurd is
 
   there_by : (d : DiagnosticCode) → names_as taken d key ≡ false → StandsBy d c facts key

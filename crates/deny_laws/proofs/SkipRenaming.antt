@@ -12,6 +12,7 @@ use Rattle.deny_base.specs.declared.key.Key.{Key}
 use Rattle.deny_base.specs.declared.level.LintLevel.{LintLevel}
 use Rattle.deny_base.specs.declared.level.LintLevel.TheVariants.{Allow, Deny}
 use Rattle.deny_model.specs.Hits.{hit_of, root_hit, skip_hit}
+use Rattle.deny_model.specs.Crates.{is_git_source}
 use Rattle.deny_model.specs.Facts as chains
 use Rattle.deny_model.specs.Duplicates.{IsDuplicate, duplicate_level, is_denied_multiple}
 use Rattle.deny_model.specs.Graph.{Crate, Graph, kid_of}
@@ -25,8 +26,12 @@ use Rattle.deny_model.specs.Skips.{has_root, is_skipped_by_root, skipped_by_root
 use Rattle.deny_model.specs.Skips.{is_hit_skip, is_needless, is_skipped, skipped_keys_of, unmatched_skip_keys}
 use Rattle.deny_model.specs.Skips.{unnecessary_skip_keys}
 use Rattle.deny_model.specs.VersionOrder.{version_cmp}
+use Rattle.deny_model.specs.View.{View}
 use Rattle.deny_codes.specs.SkippedTrees.{skipped_by_root_keys}
 use Rattle.deny_codes.specs.Skips.{skipped_keys}
+use Rattle.deny_codes.specs.Wildcards.{is_allowed_path, is_asked, is_minded_in, unresolved_keys, wildcard_keys}
+use Rattle.deny_codes.specs.Wildcards.{wildcards_in}
+use Rattle.deny_codes.proofs.WildcardLemmas.{AskAlike, same_unresolved_keys, same_wildcard_keys}
 use Rattle.deny_laws.specs.Renaming.{Renaming, renamed, renamed_entry, renamed_hit, renamed_root, renamed_spec}
 use Rattle.deny_laws.proofs.Anew.{any_anew, crate_hit_anew, filter_map_anew, flat_map_anew, ranged, told_alike}
 use Rattle.deny_laws.proofs.Anew.{told_anew}
@@ -84,6 +89,15 @@ module _ (r : Renaming) (p : Policy) (g : Graph) (these those : chains.Facts) (a
       ap (λ b. b && (is_marked (renamed r p) k || not (is_rooted (renamed r p) those k))) (counts_same k known)
       ∙ (ap (λ b. these.counts k && (b || not (is_rooted (renamed r p) those k))) (marked_same k)
       ∙ ap (λ b. these.counts k && (is_marked p k || not b)) (rooted_same k known))
+
+  asked_same : (k : Crate) → Contains g.crates k → is_asked (renamed r p) those k ≡ is_asked p these k
+  unfolding is_asked
+  asked_same k known =
+      ap (λ b. b && (not (is_marked (renamed r p) k) && (not (is_rooted (renamed r p) those k)
+      && not (is_git_source k)))) (counts_same k known)
+      ∙ (ap (λ b. these.counts k && (not b && (not (is_rooted (renamed r p) those k) && not (is_git_source k))))
+      (marked_same k)
+      ∙ ap (λ b. these.counts k && (not (is_marked p k) && (not b && not (is_git_source k)))) (rooted_same k known))
 
   in_group_same : (name : List ℕ) (k : Crate) → Contains g.crates k
       → is_in_group (renamed r p) those name k ≡ is_in_group p these name k
@@ -145,6 +159,18 @@ module _ (r : Renaming) (p : Policy) (g : Graph) (these those : chains.Facts) (a
           is = d.is;
         },
       )
+
+  -- ---- wildcards
+
+  asked_alike : AskAlike (renamed r p) p g those these
+  unfolding wildcards_in is_minded_in is_allowed_path
+  asked_alike = record { level = refl; asked = asked_same; minded = λ k m. refl }
+
+  pub wildcards_stay : (view : View) → wildcard_keys (renamed r p) g those view ≡ wildcard_keys p g these view
+  wildcards_stay view = same_wildcard_keys (renamed r p) p g those these view asked_alike
+
+  pub unresolved_stay : (view : View) → unresolved_keys (renamed r p) g those view ≡ unresolved_keys p g these view
+  unresolved_stay view = same_unresolved_keys (renamed r p) p g those these view asked_alike
 
   -- ---- skips
 

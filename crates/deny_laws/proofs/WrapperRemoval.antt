@@ -42,6 +42,7 @@ use Rattle.deny_codes.specs.SkippedTrees.{skipped_by_root_keys}
 use Rattle.deny_codes.specs.Standing.{StandsAs, StandsBy, Stands}
 use Rattle.deny_codes.specs.StdReplacements.{ignore_hits_in}
 use Rattle.deny_codes.specs.Wrappers.{unused_wrapper_keys, wrapper_hits_of}
+use Rattle.deny_codes.specs.Wildcards.{is_asked}
 use Rattle.deny_codes.proofs.Kept.{filter-flat_map, found_member, list_all_on, fails_if_gone}
 use Rattle.deny_codes.proofs.Kept.{filter_map_kept, find_none_on, guarded, told_kept}
 use Rattle.deny_laws.specs.Removal.{AreGone, cut, is_taken, names, names_as, stays_wrapper}
@@ -49,6 +50,7 @@ use Rattle.deny_laws.specs.WrapperRemoval.{AreUnhitWrappers, without_wrappers, w
 use Rattle.deny_laws.proofs.FirstMatch.{first_stays, is_first_stays, same_itself}
 use Rattle.deny_laws.proofs.FeatureRemoval.{features_back, features_there, is_of_features}
 use Rattle.deny_laws.proofs.KeyParts.{from_part, kept_part, moved, no_licence_named}
+use Rattle.deny_laws.proofs.ManifestRemoval.{is_of_manifests, manifests_back, manifests_there}
 
 module _ (p : Policy) (g : Graph) (taken : List EntryId) (unhit : AreUnhitWrappers p g taken) where
   -- ---- at a crate that an entry concerns
@@ -324,6 +326,12 @@ module _ (p : Policy) (g : Graph) (f : chains.Facts) (taken : List EntryId) wher
     record { crates = d.crates; listed = d.listed; several = d.several; minded = d.minded; is = d.is },
   )
 
+-- the crates that are asked for wildcards
+asked_stays : (p : Policy) (f : chains.Facts) (taken : List EntryId) (k : Crate)
+    → is_asked (without_wrappers p taken) f k ≡ is_asked p f k
+unfolding is_asked is_marked is_rooted
+asked_stays p f taken k = refl
+
 -- ---- code by code
 
 module _ (c : Circumstances) (facts : Facts) (taken : List EntryId) (unhit : AreUnhitWrappers c.policy c.graph taken)
@@ -337,6 +345,18 @@ module _ (c : Circumstances) (facts : Facts) (taken : List EntryId) (unhit : Are
       → StandsAs d c facts key
   features_from d of is = features_back c facts (map (cut taken) c.policy.deny) c.policy.skip
       c.policy.skip_tree c.policy.replacing key d of is
+
+  manifests_stay : (d : Code) → is_of_manifests d ≡ true → StandsAs d c facts key
+      → StandsAs d (without_wrappers_in c taken) facts key
+  manifests_stay d of is = manifests_there c facts (map (cut taken) c.policy.deny) c.policy.skip c.policy.skip_tree
+      c.policy.replacing
+      (λ k known. asked_stays c.policy facts.chains taken k) key d of is
+
+  manifests_from : (d : Code) → is_of_manifests d ≡ true → StandsAs d (without_wrappers_in c taken) facts key
+      → StandsAs d c facts key
+  manifests_from d of is = manifests_back c facts (map (cut taken) c.policy.deny) c.policy.skip c.policy.skip_tree
+      c.policy.replacing
+      (λ k known. asked_stays c.policy facts.chains taken k) key d of is
 
   there_as : (d : Code) → names_as taken (Bans d) key ≡ false → StandsAs d c facts key
       → StandsAs d (without_wrappers_in c taken) facts key
@@ -376,6 +396,10 @@ module _ (c : Circumstances) (facts : Facts) (taken : List EntryId) (unhit : Are
   there_as code.FeatureBanned unnamed is = features_stay code.FeatureBanned refl is
   there_as code.UnknownFeature unnamed is = features_stay code.UnknownFeature refl is
   there_as code.DefaultFeatureEnabled unnamed is = features_stay code.DefaultFeatureEnabled refl is
+  there_as code.Wildcard unnamed is = manifests_stay code.Wildcard refl is
+  there_as code.WorkspaceDuplicate unnamed is = manifests_stay code.WorkspaceDuplicate refl is
+  there_as code.UnresolvedWorkspaceDependency unnamed is = manifests_stay code.UnresolvedWorkspaceDependency refl is
+  there_as code.UnusedWorkspaceDependency unnamed is = manifests_stay code.UnusedWorkspaceDependency refl is
   there_as _ unnamed is = absurd is
 
   back_as : (d : Code) → StandsAs d (without_wrappers_in c taken) facts key → StandsAs d c facts key
@@ -435,6 +459,10 @@ module _ (c : Circumstances) (facts : Facts) (taken : List EntryId) (unhit : Are
   back_as code.FeatureBanned is = (features_from code.FeatureBanned refl is, refl)
   back_as code.UnknownFeature is = (features_from code.UnknownFeature refl is, refl)
   back_as code.DefaultFeatureEnabled is = (features_from code.DefaultFeatureEnabled refl is, refl)
+  back_as code.Wildcard is = (manifests_from code.Wildcard refl is, refl)
+  back_as code.WorkspaceDuplicate is = (manifests_from code.WorkspaceDuplicate refl is, refl)
+  back_as code.UnresolvedWorkspaceDependency is = (manifests_from code.UnresolvedWorkspaceDependency refl is, refl)
+  back_as code.UnusedWorkspaceDependency is = (manifests_from code.UnusedWorkspaceDependency refl is, refl)
   back_as _ is = absurd is
 
   there_by : (d : DiagnosticCode) → names_as taken d key ≡ false → StandsBy d c facts key
