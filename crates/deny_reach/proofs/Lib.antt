@@ -1,0 +1,6 @@
+pub mod NeighbourLemmas
+pub mod PlaceLemmas
+pub mod ReachedLemmas
+mod ReachedRows
+pub mod StartLemmas
+pub mod StepLemmas
