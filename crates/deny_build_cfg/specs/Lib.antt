@@ -1,0 +1,6 @@
+-- What the contracts of this crate cite.
+pub mod Build
+pub mod BuildingView
+pub mod Builtin
+pub mod Globs
+pub mod Wrong

@@ -1,0 +1,86 @@
+-- What is wrong in a table `build`: extensions, paths and globs.
+use Rattle.std.specs.Prelude.{◌≡◌, ◌+◌, ◌-◌, ◌++◌, ◌&&◌, ◌==◌, ◌⊎◌, ℕ, Bool, false, not, List, [], ◌∷◌, Option, None, Some, Contains, drop, filter_map, length, nat_le, option_map, take, if◌then◌else◌}
+use Rattle.std.specs.Char.{is_ascii, is_ascii_alphanumeric}
+use Rattle.std.specs.List.{flat_map, list_all, position}
+use Rattle.deny_base.specs.declared.span.Span.{Span}
+use Rattle.deny_globs.specs.Faults.{IsBadAt}
+use Rattle.deny_model.specs.Policy.{Words}
+use Rattle.deny_model.specs.Text.{same_text}
+use Rattle.deny_tables.specs.declared.bans.cfg.build.BuildConfig.{BuildConfig}
+use Rattle.deny_tables.specs.declared.bans.cfg.bypass.Bypass.{Bypass}
+use Rattle.deny_tables.specs.declared.bans.cfg.bypass.BypassPath.{BypassPath}
+use Rattle.deny_build_cfg.specs.Build.{listed}
+use Rattle.deny_build_cfg.specs.declared.wrong.BuildFault.{BuildFault}
+use Rattle.deny_build_cfg.specs.declared.wrong.BuildFault.TheVariants as fault
+
+-- the bytes of a range; none where it does not lie in the text
+abbrev pub bytes_at : List ℕ → Span → List ℕ
+bytes_at source range = if nat_le range.start range.end && nat_le range.end (length source)
+    then take (range.end - range.start) (drop range.start source)
+    else []
+
+-- how long the line end is with which bytes begin
+abbrev pub line_end : List ℕ → ℕ
+line_end [] = 0
+line_end (b ∷ []) = if b == 10 then 1 else 0
+line_end (b ∷ c ∷ bytes) = if b == 10 then 1 else if (b == 13) && (c == 10) then 2 else 0
+
+-- what a string writes that has no escapes: a line end right at the front of one on several lines is no part of it
+abbrev pub written_at : List ℕ → Span → List ℕ
+written_at source range = drop (line_end (bytes_at source range)) (bytes_at source range)
+
+-- the range of the byte at an offset into a range
+abbrev pub byte_range : Span → ℕ → Span
+byte_range range offset = record { start = range.start + offset; end = range.start + offset + 1 }
+
+-- the range of the byte at this place of an extension; that of the whole where it is written with escapes
+abbrev pub bad_place : List ℕ → Words → ℕ → Span
+bad_place source extension at =
+    if same_text extension.value (written_at source extension.span)
+    then byte_range extension.span (line_end (bytes_at source extension.span) + at)
+    else extension.span
+
+abbrev pub is_ascii_text : List ℕ → Bool
+is_ascii_text text = list_all is_ascii text
+
+-- the place of the first byte that is no ASCII letter and no digit
+abbrev pub bad_at : List ℕ → Option ℕ
+bad_at text = position (λ b. not (is_ascii_alphanumeric b)) text
+
+unfoldable pub extension_fault : List ℕ → Words → Option BuildFault
+extension_fault source extension = if not (is_ascii_text extension.value)
+    then Some (fault.NonAscii extension.span)
+    else option_map (λ at. fault.NoLetter extension.span (bad_place source extension at)) (bad_at extension.value)
+
+abbrev pub is_absolute : List ℕ → Bool
+is_absolute [] = false
+is_absolute (b ∷ bytes) = b == 47
+
+unfoldable pub path_fault : BypassPath → Option BuildFault
+path_fault file = if is_absolute file.path.value then Some (fault.Absolute file.path.span) else None
+
+unfoldable pub path_faults : Bypass → List BuildFault
+path_faults bypass = filter_map path_fault bypass.allow
+
+-- those that the texts of extensions and paths have
+unfoldable pub faults_by_text : List ℕ → BuildConfig → List BuildFault
+faults_by_text source build = filter_map (extension_fault source) (listed build.script_extensions)
+    ++ flat_map path_faults (listed build.bypass)
+
+-- the glob cannot be read
+pub record IsGlobFaultOf (glob : Words) (found : BuildFault) : Type 0 where
+  pub byte : ℕ
+  pub bad : IsBadAt glob.value byte
+  pub is : found ≡ fault.Glob glob.span byte
+
+-- it is one of some of these
+abbrev pub IsOfAny : {X T : Type 0} → (X → T → Type 0) → List X → T → Type 0
+IsOfAny {X} Is xs found = (x : X) × (Contains xs x × Is x found)
+
+-- a glob of the entry cannot be read
+abbrev pub IsGlobFault : Bypass → BuildFault → Type 0
+IsGlobFault bypass found = IsOfAny IsGlobFaultOf (listed bypass.allow_globs) found
+
+-- this is wrong in a table that stands in the text
+abbrev pub IsWrong : List ℕ → BuildConfig → BuildFault → Type 0
+IsWrong source build found = Contains (faults_by_text source build) found ⊎ IsOfAny IsGlobFault (listed build.bypass) found

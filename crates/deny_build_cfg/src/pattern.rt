@@ -1,0 +1,13 @@
+//! Patterns of paths, with the places that they were read at.
+use deny_base::{FileId, Spanned};
+use deny_lists::Text;
+
+/// A pattern of paths.
+#[derive(Debug, Drop)]
+pub enum GlobPattern {
+    /// A built-in glob, with its range in the file of this number.
+    Builtin((Spanned<Text>, FileId)),
+    /// What a policy writes, with its range there: an extension of `script-extensions`, without the dot,
+    /// or a glob of `allow-globs`.
+    User(Spanned<Text>),
+}

@@ -1,0 +1,37 @@
+//! What is seen of a table by its patterns.
+ghost use Rattle.std.specs.Prelude.{◌≡◌};
+ghost use Rattle.deny_build_cfg.specs.BuildingView.{builtin_file_in, file_of, globs_file};
+
+use crate::pattern::GlobPattern;
+use crate::valid::ValidBuildConfig;
+use deny_base::FileId;
+
+/// The file of a pattern that is built in.
+fn file_of(pattern: &GlobPattern) -> Option<FileId>
+    ensures { result ≡ file_of pattern.now }
+{
+    match pattern {
+        GlobPattern::Builtin((_, file)) => Some(*file),
+        GlobPattern::User(_) => None,
+    }
+}
+
+/// The file of the first pattern that is built in.
+fn builtin_file_in(patterns: &[GlobPattern]) -> Option<FileId>
+    ensures { result ≡ builtin_file_in patterns.now }
+{
+    for pattern in patterns {
+        let file = file_of(pattern);
+        if file.is_some() {
+            return file;
+        }
+    }
+    None
+}
+
+/// The file of the built-in globs, where the table has some.
+pub fn globs_file(build: &ValidBuildConfig) -> Option<FileId>
+    ensures { result ≡ globs_file build.now }
+{
+    builtin_file_in(build.script_extensions.patterns.as_slice())
+}
