@@ -19,12 +19,11 @@ use Rattle.deny_entries.proofs.RowLaws.{says_of}
 use Rattle.deny_tables.specs.Build.{a_build}
 use Rattle.deny_tables.specs.Config.{ReadsConfig}
 use Rattle.deny_tables.specs.Licenses.{ReadsException, ReadsExceptionKeys, ReadsLicenses, ReadsPrivate, none_private, private_in}
-use Rattle.deny_tables.specs.Workspace.{a_workspace}
 use Rattle.deny_tables.specs.declared.bans.cfg.config.Config as bans
 use Rattle.deny_tables.specs.declared.licenses.config.Config.{Config}
 use Rattle.deny_tables.specs.declared.licenses.exception.Exception.{Exception}
 use Rattle.deny_cfg.specs.LicensingView.{exception_view, licensing_of, licensing_view}
-use Rattle.deny_cfg.specs.PolicyText.{ReadsBans, ReadsLicensing, is_minded, writes_unbuilt}
+use Rattle.deny_cfg.specs.PolicyText.{ReadsBans, ReadsLicensing, writes_unbuilt}
 
 one_list : {T : Type 0} (Reads : Value → T → Type 0) → ReadsOne Reads → ReadsOne (ReadsList Reads)
 one_list Reads same v xs ys one two =
@@ -127,19 +126,13 @@ unbuilt_in : (entries : Entries) (a b : bans.Config) → ReadsConfig entries a �
     → writes_unbuilt a ≡ writes_unbuilt b
 unfolding name_of writes_unbuilt
 unbuilt_in entries a b one two =
-    let wildcards =
-    one_or level.Allow (ReadsAs level_of) (one_as level_of) (at_key key.Wildcards entries) a.wildcards b.wildcards
-    (says_of key.Wildcards one) (says_of key.Wildcards two) in
     let scripts =
     both_there (ReadsSpanned (ReadsList ReadsSpec)) (at_key key.AllowBuildScripts entries) a.allow_build_scripts
     b.allow_build_scripts (says_of key.AllowBuildScripts one) (says_of key.AllowBuildScripts two) in
     let build =
     both_there a_build.Reads (at_key key.Build entries) a.build b.build (says_of key.Build one)
     (says_of key.Build two) in
-    let workspace =
-    both_there a_workspace.Reads (at_key key.WorkspaceDependencies entries) a.workspace_dependencies
-    b.workspace_dependencies (says_of key.WorkspaceDependencies one) (says_of key.WorkspaceDependencies two) in
-    λ i. is_minded (wildcards i) || (scripts i || (build i || workspace i))
+    λ i. scripts i || build i
 
 pub unbuilt_alike : (o : Option Value) (a b : bans.Config) → ReadsBans o a → ReadsBans o b
     → writes_unbuilt a ≡ writes_unbuilt b

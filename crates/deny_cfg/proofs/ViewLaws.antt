@@ -8,7 +8,7 @@ use Rattle.deny_base.specs.declared.span.Span.{Span}
 use Rattle.deny_model.specs.Policy.{Ban, Entry, Root, Spec, Words}
 use Rattle.deny_model.specs.Text.{same_text}
 use Rattle.deny_cfg.specs.Clashes.{banned_specs, clash_with, clashes_in, feature_at, feature_clash, feature_clashes, is_ban, specs_of, two_places, wrappers_clash, wrappers_clash_by}
-use Rattle.deny_cfg.specs.PolicyView.{ban_view, entry_view, feature_view, policy_view, reason_words, replacing_view, root_view, roots_from, scope_view, words_or_none}
+use Rattle.deny_cfg.specs.PolicyView.{ban_view, entry_view, feature_view, policy_view, reason_words, replacing_view, root_view, roots_from, scope_view, sharing_view, words_or_none}
 use Rattle.deny_tables.specs.Highlight.{shows_lowest, shows_simplest}
 use Rattle.deny_entries.specs.SpecView.{same_spec, spec_view}
 use Rattle.deny_cfg.specs.Valid.{IsValidOf, ban_of, features_of, is_multiple, krate_ban}
@@ -243,6 +243,9 @@ same_view a b file number these those alike one two =
     let workspace_default =
     one.workspace_default_features ∙ alike.workspace_default ∙ sym two.workspace_default_features in
     let external_default = one.external_default_features ∙ alike.external_default ∙ sym two.external_default_features in
+    let wildcards = one.wildcards ∙ alike.wildcards ∙ sym two.wildcards in
+    let allow_wildcard_paths = one.allow_wildcard_paths ∙ alike.allow_wildcard_paths ∙ sym two.allow_wildcard_paths in
+    let workspace = one.workspace_dependencies ∙ alike.workspace_dependencies ∙ sym two.workspace_dependencies in
     let replacing =
     ap (option_map replacing_view) one.std_replacements
     ∙ same_option StdAlike replacing_view same_replacing a.std_replacements b.std_replacements alike.std_replacements
@@ -261,5 +264,8 @@ same_view a b file number these those alike one two =
       features = features i;
       workspace_default = workspace_default i;
       external_default = external_default i;
+      wildcards = wildcards i;
+      allow_wildcard_paths = allow_wildcard_paths i;
+      sharing = option_map sharing_view (workspace i);
       replacing = replacing i;
     }

@@ -3,8 +3,6 @@ use Rattle.std.specs.Prelude.{◌≡◌, ◌≢◌, ◌++◌, ◌⊎◌, ◌||�
 use Rattle.std.specs.List.Sorted.{IsStrictlySortedBy}
 use Rattle.deny_base.specs.declared.files.File.{File}
 use Rattle.deny_base.specs.declared.finding.Diagnostic.{Diagnostic}
-use Rattle.deny_base.specs.declared.level.LintLevel.{LintLevel}
-use Rattle.deny_base.specs.declared.level.LintLevel.TheVariants as level
 use Rattle.deny_base.specs.declared.span.Span.{Span}
 use Rattle.deny_model.specs.Keys.{no_span}
 use Rattle.deny_toml.specs.Calls.{below_name}
@@ -79,18 +77,9 @@ pub record Says (text : List ℕ) (config : Config) (licensing : Option licenses
   pub reads : ReadsBans (below_name bans_name tree) config
   pub reads_licenses : ReadsLicensing (below_name licenses_name tree) licensing
 
--- whether a rule at this level finds anything that counts: at `allow` nothing stands by it
-abbrev pub is_minded : LintLevel → Bool
-is_minded level.Allow = false
-is_minded level.Warn = true
-is_minded level.Deny = true
-
--- Whether `bans` writes a key whose rule is not there yet. The rule on wildcards stands by nothing where they are
--- allowed, and `allow-wildcard-paths` says nothing without it.
+-- whether `bans` writes a key whose rule is not there yet: one of build scripts
 unfoldable pub writes_unbuilt : Config → Bool
-writes_unbuilt config =
-    is_minded config.wildcards
-    || (is_some config.allow_build_scripts || (is_some config.build || is_some config.workspace_dependencies))
+writes_unbuilt config = is_some config.allow_build_scripts || is_some config.build
 
 -- the same, and whether the text writes a key whose rule is not there yet
 pub record SaysOf (text : List ℕ) (config : Config) (licensing : Option licenses.Config) (unbuilt : Bool)

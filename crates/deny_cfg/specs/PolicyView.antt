@@ -2,11 +2,12 @@
 use Rattle.std.specs.Prelude.{ℕ, ◌+◌, List, [], ◌∷◌, map, Option, None, Some, option_map, option_and_then}
 use Rattle.semver.specs.Identifiers.{parts_of}
 use Rattle.deny_model.specs.Policy as model
-use Rattle.deny_model.specs.Policy.{Ban, Entry, FeatureEntry, Policy, Replacing, Root, Words}
+use Rattle.deny_model.specs.Policy.{Ban, Entry, FeatureEntry, Policy, Replacing, Root, Sharing, Words}
 use Rattle.deny_entries.specs.SpecView.{spec_view}
 use Rattle.deny_tables.specs.Highlight.{shows_lowest, shows_simplest}
 use Rattle.deny_tables.specs.declared.bans.cfg.std_replacements.StdReplacementConfig.{StdReplacementConfig}
 use Rattle.deny_tables.specs.declared.bans.cfg.tree_skip.TreeSkipExtended.{TreeSkipExtended}
+use Rattle.deny_tables.specs.declared.bans.cfg.workspace.WorkspaceDepsConfig.{WorkspaceDepsConfig}
 use Rattle.deny_cfg.specs.declared.bans.cfg.valid.KrateBan.{KrateBan}
 use Rattle.deny_cfg.specs.declared.bans.cfg.valid.ValidConfig.{ValidConfig}
 use Rattle.deny_cfg.specs.declared.bans.cfg.valid.ValidKrateFeatures.{ValidKrateFeatures}
@@ -68,6 +69,13 @@ replacing_view std = record {
   ignore_rust_version = scope_view std.ignore_rust_version;
 }
 
+abbrev pub sharing_view : WorkspaceDepsConfig → Sharing
+sharing_view shared = record {
+  duplicates = shared.duplicates;
+  with_paths = shared.include_path_dependencies;
+  unused = shared.unused;
+}
+
 abbrev pub policy_view : ValidConfig → Policy
 policy_view cfg = record {
   multiple_versions = cfg.multiple_versions;
@@ -83,5 +91,8 @@ policy_view cfg = record {
   features = map feature_view cfg.features;
   workspace_default = cfg.workspace_default_features;
   external_default = cfg.external_default_features;
+  wildcards = cfg.wildcards;
+  allow_wildcard_paths = cfg.allow_wildcard_paths;
+  sharing = option_map sharing_view cfg.workspace_dependencies;
   replacing = option_map replacing_view cfg.std_replacements;
 }

@@ -7,12 +7,12 @@ ghost use Rattle.deny_toml.specs.Parser.{IsTreeOf};
 ghost use Rattle.deny_toml.specs.Ranges.{IsRange, StandsIn};
 ghost use Rattle.deny_cfg.specs.LabelRanges.{AreLabels, config_labels, licence_ranges, list_ranges, word_labels};
 ghost use Rattle.deny_cfg.specs.Lawful.{IsLawful, IsLawfulLicensing};
-ghost use Rattle.deny_cfg.specs.PolicyText.{IsConfig, IsNoPolicy, IsPolicyOf, Keeps, KeepsOnError, ListsFaults, ReadsBans, ReadsLicensing, Says, bans_name, faults_of_tree, is_minded, kind_of, licenses_name, writes_unbuilt};
+ghost use Rattle.deny_cfg.specs.PolicyText.{IsConfig, IsNoPolicy, IsPolicyOf, Keeps, KeepsOnError, ListsFaults, ReadsBans, ReadsLicensing, Says, bans_name, faults_of_tree, kind_of, licenses_name, writes_unbuilt};
 
 use crate::bans::cfg::ValidConfig;
 use crate::licenses;
 use crate::validate::{UnvalidatedConfig, ValidationContext};
-use deny_base::{Diagnostic, FileId, Files, LintLevel, Span};
+use deny_base::{Diagnostic, FileId, Files, Span};
 use deny_lists::{List, NoMemory, Text};
 use deny_tables::bans::cfg::Config;
 use deny_toml::{
@@ -31,8 +31,7 @@ pub struct Policy {
     pub licenses: Option<licenses::ValidConfig>,
     /// Warnings about the policy itself; there are none yet.
     pub warnings: List<Diagnostic>,
-    /// Whether the policy writes a key whose rule is not there yet: `build`, `allow-build-scripts`,
-    /// `workspace-dependencies`, or `wildcards` above `allow`.
+    /// Whether the policy writes a key whose rule is not there yet: `build` or `allow-build-scripts`.
     pub not_built: bool,
 }
 
@@ -168,25 +167,12 @@ fn tables_of(alloc: Global, text: &str) -> Result<Tables, PolicyError>
     }
 }
 
-/// Whether a rule at this level finds anything that counts.
-fn is_minded(level: LintLevel) -> bool
-    ensures { result ≡ is_minded level }
-{
-    match level {
-        LintLevel::Allow => false,
-        LintLevel::Warn | LintLevel::Deny => true,
-    }
-}
-
 /// Whether `bans` writes a key whose rule is not there yet.
 #[tactic(auto, unfolding(crate::specs::PolicyText::writes_unbuilt))]
 fn writes_unbuilt(bans: &Config) -> bool
     ensures { result ≡ writes_unbuilt bans.now }
 {
-    is_minded(bans.wildcards)
-        || bans.allow_build_scripts.is_some()
-        || bans.build.is_some()
-        || bans.workspace_dependencies.is_some()
+    bans.allow_build_scripts.is_some() || bans.build.is_some()
 }
 
 /// The policy of a text that stands as the file of that number.
