@@ -18,7 +18,8 @@ use Rattle.deny_krates.specs.declared.krate.Dependency.{Dependency as Own}
 use Rattle.deny_krates.specs.declared.krate.Krate.{Krate}
 use Rattle.deny_lists.proofs.Each.{all_found, all_mapped}
 use Rattle.deny_lists.proofs.Members.{Contains-first, Contains-rest, map_at, passes_filter}
-use Rattle.deny_manifests.specs.Declarations.{Declared, declared_at, declared_by}
+use Rattle.deny_manifests.specs.Declarations.{declared_at, declared_by}
+use Rattle.deny_model.specs.View.{Declared}
 use Rattle.deny_manifests.specs.Found.{rename_of, version_of, workspace_of}
 use Rattle.deny_manifests.specs.Written.{found_in}
 use Rattle.deny_model.specs.Graph.{Crate, Dependency, Graph}

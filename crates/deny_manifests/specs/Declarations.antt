@@ -8,23 +8,10 @@ use Rattle.deny_manifests.specs.Found.{rename_of, version_of, workspace_of}
 use Rattle.deny_manifests.specs.Written.{found_in}
 use Rattle.deny_model.specs.Graph.{Crate, Dependency, Graph}
 use Rattle.deny_model.specs.Resolution.{resolution}
+use Rattle.deny_model.specs.View.{Declared}
 use Rattle.deny_toml.specs.Key.{Key}
 use Rattle.deny_toml.specs.Value.{span_in}
 use Rattle.deny_toml.specs.declared.value.Value.{Value}
-
--- a declaration of a crate that resolves and that its manifest writes
-pub record Declared : Type 0 where
-  -- its number among the declarations of the crate
-  pub index : ℕ
-  pub declaration : Dependency
-  -- the place of the crate that it resolves to
-  pub child : ℕ
-  -- the ranges of the key and the value that it is written by
-  pub key : Span
-  pub value : Span
-  pub version_req : Option (Spanned (List Held))
-  pub workspace : Option (Spanned Bool)
-  pub rename : Option (Spanned (List ℕ))
 
 abbrev pub declared_by : ℕ → Dependency → ℕ → Key × Value → Declared
 declared_by index d child entry = record {

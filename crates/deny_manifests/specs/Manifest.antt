@@ -5,13 +5,14 @@ use Rattle.deny_krates.specs.Crates.{crate_view, dependency_view}
 use Rattle.deny_krates.specs.Ids.{crate_of}
 use Rattle.deny_krates.specs.declared.krate.Krate.{Krate}
 use Rattle.deny_manifests.specs.Agreement.{TellsAgreement}
-use Rattle.deny_manifests.specs.Declarations.{Declared, declared_in}
+use Rattle.deny_manifests.specs.Declarations.{declared_in}
 use Rattle.deny_manifests.specs.Found.{held_spanned}
 use Rattle.deny_manifests.specs.Ignored.{ignored_at, is_among}
 use Rattle.deny_manifests.specs.declared.declarations.ManifestDep.{ManifestDep}
 use Rattle.deny_manifests.specs.declared.manifest.Manifest.{Manifest}
 use Rattle.deny_manifests.specs.declared.manifest.ManifestDeps.{ManifestDeps}
 use Rattle.deny_model.specs.Graph.{Crate, Graph}
+use Rattle.deny_model.specs.View.{Declared}
 use Rattle.deny_toml.specs.Parser.{IsTreeOf}
 use Rattle.deny_toml.specs.declared.value.Value.{Value}
 

@@ -1,7 +1,7 @@
 -- Small cases of registries by their names, worked out.
 use Rattle.std.proofs.Common.{◌≡◌, List, ℕ, [], ◌∷◌, Bool, true, false, Option, Some, None, codes, refl}
 use Rattle.url.proofs.OnLiterals.{url_on_literals}
-use Rattle.deny_metadata.specs.Source.{addressed, after, crates_io_of, known_or, prefixed, source_of}
+use Rattle.deny_krates.specs.Source.{addressed, after, crates_io_of, known_or, prefixed, source_of}
 use Rattle.deny_model.specs.Graph as model
 use Rattle.deny_workspace.specs.Agreement.{is_registered}
 use Rattle.deny_workspace.specs.Registries.{has_prefix, is_same_source, source_of_registry, source_text_of}

@@ -2,8 +2,8 @@
 use Rattle.std.proofs.Common.{◌≡◌, List, ℕ, [], Bool, true, false, Some, None, codes, refl}
 use Rattle.std.specs.Option.{option_map_or}
 use Rattle.url.proofs.OnLiterals.{url_on_literals}
-use Rattle.deny_metadata.specs.declared.source.GitSpec.{GitSpec}
-use Rattle.deny_metadata.specs.declared.source.GitSpec.TheVariants as spec
+use Rattle.deny_krates.specs.source.GitSpec.{GitSpec}
+use Rattle.deny_krates.specs.source.GitSpec.TheVariants as spec
 use Rattle.deny_model.specs.Graph as model
 use Rattle.deny_workspace.specs.Origin.{address_of}
 use Rattle.deny_workspace.specs.Repositories.{is_at_address, is_same_place, refers_alike, without_git, without_suffixes}

@@ -11,10 +11,11 @@ use Rattle.std.proofs.lemmas.Option.{slice_get-get_or}
 use Rattle.deny_krates.proofs.ResolutionLemmas.{crates_from-at}
 use Rattle.deny_krates.specs.Crates.{crate_view, crates_from}
 use Rattle.deny_krates.specs.declared.krate.Krate.{Krate}
+use Rattle.deny_model.specs.View.{WorkspaceEntry}
 use Rattle.deny_model.specs.Graph.{Graph}
 use Rattle.deny_toml.specs.declared.value.Value.{Value}
 use Rattle.deny_workspace.specs.Entries.{dependencies_in, entries_of, entry_view, patches_in}
-use Rattle.deny_workspace.specs.Workspace.{AreSpans, IsPut, WorkspaceEntry, dep_view, entries_in, resolved_entry, resolves_to, span_at, span_of, span_view, unused_in}
+use Rattle.deny_workspace.specs.Workspace.{AreSpans, IsPut, dep_view, entries_in, resolved_entry, resolves_to, span_at, span_of, span_view, unused_in}
 use Rattle.deny_workspace.specs.declared.entries.Entry.{Entry as Read}
 use Rattle.deny_workspace.specs.declared.registries.Registry.{Registry}
 use Rattle.deny_workspace.specs.declared.workspace.UnusedWorkspaceDep.{UnusedWorkspaceDep}

@@ -7,8 +7,9 @@ use Rattle.semver.proofs.OnLiterals.{semver_on_literals}
 use Rattle.url.proofs.OnLiterals.{url_on_literals}
 use Rattle.deny_base.specs.declared.span.Spanned.{Spanned}
 use Rattle.deny_manifests.specs.Found.{rename_of, requirement_in, version_of, versioned}
-use Rattle.deny_metadata.specs.declared.source.GitSpec.TheVariants as spec
+use Rattle.deny_krates.specs.source.GitSpec.TheVariants as spec
 use Rattle.deny_model.specs.Crates.{folder_of}
+use Rattle.deny_model.specs.View.{WorkspaceEntry}
 use Rattle.deny_model.specs.Graph.{Graph}
 use Rattle.deny_model.specs.Groups.{has_name}
 use Rattle.deny_toml.specs.declared.value.Content.{the_lemmas}
@@ -21,7 +22,7 @@ use Rattle.deny_workspace.specs.Paths.{above, further, joined, resolved}
 use Rattle.deny_workspace.specs.Registries.{source_of_registry}
 use Rattle.deny_workspace.specs.Repositories.{is_repository, is_same_place, refers_alike, without_suffixes}
 use Rattle.deny_workspace.specs.Wanted.{wanted_in}
-use Rattle.deny_workspace.specs.Workspace.{WorkspaceEntry, entries_in, span_of, unused_in}
+use Rattle.deny_workspace.specs.Workspace.{entries_in, span_of, unused_in}
 use Rattle.deny_workspace.specs.declared.origin.Origin.{Origin}
 use Rattle.deny_workspace.specs.declared.origin.Origin.TheVariants.{Git, Path, Registry}
 

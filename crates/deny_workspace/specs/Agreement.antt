@@ -6,7 +6,7 @@ use Rattle.std.specs.Path.{path_components}
 use Rattle.semver.specs.Parse.{Held}
 use Rattle.deny_base.specs.declared.span.Spanned.{Spanned}
 use Rattle.deny_krates.specs.Crates.{source_view}
-use Rattle.deny_metadata.specs.declared.source.Source.{Source}
+use Rattle.deny_krates.specs.source.Source.{Source}
 use Rattle.deny_model.specs.Crates.{folder, is_crates_io}
 use Rattle.deny_model.specs.Graph.{Crate, Graph}
 use Rattle.deny_model.specs.Graph as model

@@ -3,8 +3,8 @@ use Rattle.std.specs.Prelude.{ℕ, Bool, List, Option, Some, None, is_some, opti
 use Rattle.std.specs.Result.{result_ok}
 use Rattle.url.specs.Parser.{parse_url}
 use Rattle.url.specs.Parts.{Parts}
-use Rattle.deny_metadata.specs.declared.source.GitSpec.{GitSpec}
-use Rattle.deny_metadata.specs.declared.source.GitSpec.TheVariants as spec
+use Rattle.deny_krates.specs.source.GitSpec.{GitSpec}
+use Rattle.deny_krates.specs.source.GitSpec.TheVariants as spec
 use Rattle.deny_toml.specs.declared.value.Value.{Value}
 use Rattle.deny_toml.specs.Calls.{below_name, text_in}
 use Rattle.deny_workspace.specs.EntryKey.{name_of}

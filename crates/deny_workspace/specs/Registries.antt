@@ -1,8 +1,8 @@
 -- The registries that are handed in, and the sources of crates that they are.
 use Rattle.std.specs.Prelude.{ℕ, ◌++◌, ◌||◌, Bool, true, false, List, Option, codes, find, nat_eq, option_and_then, if◌then◌else◌}
 use Rattle.std.specs.List.{starts_with}
-use Rattle.deny_metadata.specs.Source.{source_of}
-use Rattle.deny_metadata.specs.declared.source.Source.{Source}
+use Rattle.deny_krates.specs.Source.{source_of}
+use Rattle.deny_krates.specs.source.Source.{Source}
 use Rattle.deny_model.specs.Graph as model
 use Rattle.deny_model.specs.Text.{same_text}
 use Rattle.deny_workspace.specs.declared.registries.Registry.{Registry}

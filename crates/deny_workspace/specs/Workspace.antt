@@ -7,6 +7,7 @@ use Rattle.deny_base.specs.declared.span.Span.{Span}
 use Rattle.deny_base.specs.declared.span.Spanned.{Spanned}
 use Rattle.deny_krates.specs.Crates.{crate_view}
 use Rattle.deny_model.specs.Graph.{Graph}
+use Rattle.deny_model.specs.View.{WorkspaceEntry}
 use Rattle.deny_toml.specs.declared.value.Value.{Value}
 use Rattle.deny_workspace.specs.Agreement.{place_of}
 use Rattle.deny_workspace.specs.Entries.{Entry, dependencies_in, entries_of, patches_in}
@@ -14,17 +15,6 @@ use Rattle.deny_manifests.specs.Found.{held_spanned}
 use Rattle.deny_workspace.specs.declared.registries.Registry.{Registry}
 use Rattle.deny_workspace.specs.declared.workspace.UnusedWorkspaceDep.{UnusedWorkspaceDep}
 use Rattle.deny_workspace.specs.declared.workspace.WorkspaceSpan.{WorkspaceSpan}
-
--- an entry as it is told of: the ranges of its key and its value, what was read with them, and the crate that it
--- resolves to
-pub record WorkspaceEntry : Type 0 where
-  pub key : Span
-  pub value : Span
-  pub version : Option (Spanned (List Held))
-  pub rename : Option (Spanned (List ℕ))
-  -- the range of its own key, where a patch stands in its place
-  pub patched : Option Span
-  pub place : Option ℕ
 
 abbrev pub resolved_entry : Graph → List Registry → Entry → WorkspaceEntry
 resolved_entry g registries e = record {

@@ -3,9 +3,9 @@ ghost use Rattle.std.specs.Prelude.{◌≡◌, IfOk, None, Some, is_some, option
 ghost use Rattle.deny_workspace.specs.Origin.{address_of, has, origin_in, reference_in, refers_to, repository_in, text_at, unnamed_registry, value_at_key};
 
 use crate::entry_key::EntryKey;
+use deny_krates::GitSpec;
 use deny_lists::{NoMemory, Text};
 use deny_manifests::below;
-use deny_metadata::GitSpec;
 use deny_toml::Value;
 use std::alloc::Global;
 use url::{ParseError, Url};

@@ -3,8 +3,8 @@ ghost use Rattle.std.specs.Prelude.{◌≡◌, IfOk, find, option_and_then, opti
 ghost use Rattle.deny_krates.specs.Crates.{source_view};
 ghost use Rattle.deny_workspace.specs.Registries.{begins_with, has_prefix, has_registry_name, is_same_source, source_at, source_of_registry, source_text_of};
 
+use deny_krates::{Source, source_in};
 use deny_lists::{NoMemory, Text};
-use deny_metadata::{Source, source_in};
 use std::alloc::Global;
 
 /// A registry that manifests can name.
