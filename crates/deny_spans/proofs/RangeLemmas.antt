@@ -1,0 +1,196 @@
+-- The ranges of what was seen lie in the files that they point into.
+use Rattle.std.proofs.Common.{◌≡◌, ◌∙◌, ◌+◌, ◌-◌, ◌<◌, ◌++◌, ℕ, Bool, List, Option, None, Some, IsUtf8, ap, append_assoc, arith, cond, length, length-append, refl, reverse, subst, sym}
+use Rattle.std.specs.Prelude.{Contains, IfSome, is_none, option_map, slice_get}
+use Rattle.std.specs.List.{flat_map}
+use Rattle.std.specs.Option.{option_map_or}
+use Rattle.std.proofs.lemmas.List.{get_or-reverse, length-reverse}
+use Rattle.std.proofs.lemmas.Option.{same_Some}
+use Rattle.std.proofs.lemmas.Str.{is_utf8-from_IsUtf8}
+use Rattle.deny_base.specs.declared.files.File.{File}
+use Rattle.deny_krates.proofs.NumberLemmas.{slice_get-right}
+use Rattle.deny_lists.proofs.Members.{Contains-from_filter, at_member, from_contains_map, no_member}
+use Rattle.deny_manifests.proofs.AgreementLaw.{agree_so, tells_agreement}
+use Rattle.deny_manifests.specs.Declarations.{declared_in}
+use Rattle.deny_model.specs.Graph.{Crate, Graph}
+use Rattle.deny_model.specs.View.{Manifest, View, WorkspaceEntry}
+use Rattle.deny_outside.specs.Disk.{Files}
+use Rattle.deny_spans.proofs.IdLemmas.{found_one}
+use Rattle.deny_spans.proofs.LookLemmas.{file_of, kept_at, kept_text}
+use Rattle.deny_spans.proofs.TreeLies.{declarations_lie, shared_lie}
+use Rattle.deny_spans.specs.Look.{IsReadAt, Look, ReadsAs, Reading, is_workspaces, kept_as, kept_of, number_of, tree_of, workspace_look, workspace_reading}
+use Rattle.deny_spans.specs.Paths.{workspace_path}
+use Rattle.deny_spans.specs.Ranges.{DeclaredLies, EntryLies, ManifestLies, SharedLies, ViewLies}
+use Rattle.deny_spans.specs.Seen.{IsSeen, entries_by, manifest_by, manifest_in, manifest_read}
+use Rattle.deny_toml.proofs.ParserLaws.{tree_stands}
+use Rattle.deny_toml.specs.Parser.{IsTreeOf, whole}
+use Rattle.deny_toml.specs.Ranges.{StandsIn}
+use Rattle.deny_toml.specs.declared.value.Value.{Value}
+use Rattle.deny_unread.specs.declared.unread.Unread.{Unread}
+use Rattle.deny_workspace.specs.Workspace.{resolves_to, span_of}
+use Rattle.deny_workspace.specs.declared.registries.Registry.{Registry}
+
+-- a tree stands in its text
+stands_in : (text : List ℕ) (tree : Value) → IsUtf8 text → IsTreeOf text tree → StandsIn text tree
+stands_in text tree utf8 is = tree_stands text is.0 (whole text) tree utf8 is.1 refl is.3
+
+of_reverse : {X : Type 0} (xs : List X) (x : X) → Contains (reverse xs) x → Contains xs x
+of_reverse xs x is =
+    let inside : is.0 < length xs = omega (arith, is.1, length-reverse xs) in
+    (length xs - 1 - is.0, omega (arith, inside), sym (get_or-reverse xs is.0 x inside) ∙ is.2)
+
+-- a text that has a tree, and what stands there
+pub record IsTreeRead (read : Option Reading) : Type 0 where
+  pub reading : Reading
+  pub tree : Value
+  pub is : read ≡ Some reading
+  pub has : reading.tree ≡ Some tree
+
+tree_read : (read : Option Reading) (tree : Value) → tree_of read ≡ Some tree → IsTreeRead read
+tree_read None tree is = absurd (cc is)
+tree_read (Some r) tree is = record { reading = r; tree = tree; is = refl; has = is }
+
+module _ (told : Option Files) (g : Graph) (registries : List Registry) (old new : List File) (unread : List Unread)
+    (malformed : List (List ℕ)) (view : View) (seen : IsSeen told g registries old new unread malformed view) where
+  stands_read : (path : List ℕ) (r : Reading) (tree : Value) → IsReadAt told path r → r.tree ≡ Some tree
+      → IsUtf8 r.text × StandsIn r.text tree
+  stands_read path r tree at has =
+      let reads : ReadsAs r.text (Some tree) = subst (λ (o : Option Value). ReadsAs r.text o) has at.reads in
+      (reads.0, stands_in r.text tree reads.0 reads.1)
+
+  read_at : (path : List ℕ) (o : Option Reading) (r : Reading) → IfSome o (IsReadAt told path) → o ≡ Some r
+      → IsReadAt told path r
+  read_at path o r at is = subst (λ (q : Option Reading). IfSome q (IsReadAt told path)) is at
+
+  file_at : (l : Look) (r : Reading) → Contains seen.looks l → l.read ≡ Some r → IsUtf8 r.text
+      → slice_get new r.number ≡ Some (file_of l.crate.manifest_path r.text)
+  file_at l r stands read utf8 = ap (λ (fs : List File). slice_get fs r.number) seen.files
+      ∙ kept_at (length old) old seen.looks (kept_as (workspace_path g.root) seen.alone)
+      l r refl seen.are.numbers stands
+      read (is_utf8-from_IsUtf8 r.text utf8)
+
+  file_alone : (r : Reading) → seen.alone ≡ Some r → IsUtf8 r.text
+      → slice_get new r.number ≡ Some (file_of (workspace_path g.root) r.text)
+  file_alone r read utf8 =
+      let yes = is_utf8-from_IsUtf8 r.text utf8 in
+      let number : r.number ≡ length old + length (flat_map kept_of seen.looks) =
+      subst (λ (o : Option Reading). IfSome o (λ q. q.number ≡ length old + length (flat_map kept_of seen.looks))) read
+      seen.are.number in
+      let at : r.number ≡ length (old ++ flat_map kept_of seen.looks) + 0 =
+      omega (arith, number, length-append old (flat_map kept_of seen.looks)) in
+      ap (λ (fs : List File). slice_get fs r.number) (seen.files
+      ∙ sym (append_assoc old (flat_map kept_of seen.looks) (kept_as (workspace_path g.root) seen.alone)))
+      ∙ slice_get-right (old ++ flat_map kept_of seen.looks) (kept_as (workspace_path g.root) seen.alone) r.number 0 at
+      ∙ ap (λ (o : Option Reading). slice_get (kept_as (workspace_path g.root) o) 0) read
+      ∙ ap (λ (fs : List File). slice_get fs 0) (kept_text (workspace_path g.root) r yes)
+
+  -- ---- manifests
+
+  manifest_of_look : (l : Look) (m : Manifest) → Contains seen.looks l → manifest_in agree_so g l ≡ Some m
+      → ManifestLies new m
+  unfolding manifest_in
+  manifest_of_look l m stands is = by_read l.read refl is
+    where
+      by_tree : (r : Reading) → l.read ≡ Some r → (o : Option Value) → r.tree ≡ o
+          → option_map (manifest_by agree_so g l.crate r.number) o ≡ Some m → ManifestLies new m
+      by_tree r read None has e = absurd (cc e)
+      by_tree r read (Some tree) has e =
+          let at = read_at l.crate.manifest_path l.read r (seen.are.each l stands).read read in
+          let standing = stands_read l.crate.manifest_path r tree at has in
+          subst (λ (n : Manifest). ManifestLies new n) (same_Some (manifest_by agree_so g l.crate r.number tree) m e)
+          (record {
+            file = file_of l.crate.manifest_path r.text;
+            is = file_at l r stands read standing.0;
+            deps = λ d there_is. at_member (DeclaredLies r.text) (declared_in agree_so g l.crate tree) d
+                (declarations_lie r.text agree_so g l.crate tree standing.1) there_is;
+          })
+
+      by_read : (o : Option Reading) → l.read ≡ o → option_map_or (manifest_read agree_so g l.crate) o None ≡ Some m
+          → ManifestLies new m
+      by_read None read e = absurd (cc e)
+      by_read (Some r) read e = by_tree r read r.tree refl e
+
+  manifest_lies : (m : Manifest) → Contains view.manifests (Some m) → ManifestLies new m
+  manifest_lies m is =
+      let of = from_contains_map (manifest_in agree_so g) seen.looks (Some m)
+      (subst (λ (ms : List (Option Manifest)). Contains ms (Some m))
+      (seen.seen.manifests agree_so tells_agreement) is) in
+      manifest_of_look of.0 m of.1 of.2
+
+  -- ---- what the workspace shares
+
+  -- the workspace's manifest has this tree, and is this file
+  record IsShared (r : Reading) (tree : Value) : Type 0 where
+    utf8 : IsUtf8 r.text
+    stands : StandsIn r.text tree
+    file : File
+    is : slice_get new r.number ≡ Some file
+    source : file.source ≡ r.text
+
+  shared_at : (r : Reading) (tree : Value) → workspace_reading g seen.looks seen.alone ≡ Some r → r.tree ≡ Some tree
+      → IsShared r tree
+  unfolding workspace_reading
+  shared_at r tree read has = by_look (workspace_look g seen.looks) refl read
+    where
+      by_look : (o : Option Look) → workspace_look g seen.looks ≡ o → option_map_or (λ l. l.read) o seen.alone ≡ Some r
+          → IsShared r tree
+      by_look None looked e =
+          let at = read_at (workspace_path g.root) seen.alone r seen.are.own e in
+          let standing = stands_read (workspace_path g.root) r tree at has in
+          record {
+            utf8 = standing.0;
+            stands = standing.1;
+            file = file_of (workspace_path g.root) r.text;
+            is = file_alone r e standing.0;
+            source = refl;
+          }
+      by_look (Some l) looked e =
+          let member = found_one (λ (k : Look). is_workspaces g k.crate) seen.looks l looked in
+          let at = read_at l.crate.manifest_path l.read r (seen.are.each l member).read e in
+          let standing = stands_read l.crate.manifest_path r tree at has in
+          record {
+            utf8 = standing.0;
+            stands = standing.1;
+            file = file_of l.crate.manifest_path r.text;
+            is = file_at l r member e standing.0;
+            source = refl;
+          }
+
+  entry_lies : (e : WorkspaceEntry) (o : Option Value) → tree_of (workspace_reading g seen.looks seen.alone) ≡ o
+      → Contains (entries_by g registries o) e → SharedLies new view.workspace e
+  entry_lies e None has is = absurd (no_member e is)
+  entry_lies e (Some tree) has is =
+      let of = tree_read (workspace_reading g seen.looks seen.alone) tree has in
+      let same : of.tree ≡ tree = same_Some of.tree tree (sym of.has
+      ∙ ap (λ (o : Option Reading). tree_of o) (sym of.is) ∙ has) in
+      let shared = shared_at of.reading tree of.is (of.has ∙ ap (λ (t : Value). Some t) same) in
+      record {
+        number = of.reading.number;
+        file = shared.file;
+        stands = seen.seen.number ∙ ap (λ (o : Option Reading). number_of o) of.is
+            ∙ ap (λ (b : Bool). cond b (Some of.reading.number) None) (is_utf8-from_IsUtf8 of.reading.text shared.utf8);
+        is = shared.is;
+        entry = subst (λ (text : List ℕ). EntryLies text e) (sym shared.source)
+            (at_member (EntryLies of.reading.text) _ e (shared_lie of.reading.text g registries tree shared.stands) is);
+      }
+
+  entries : List WorkspaceEntry
+  entries = entries_by g registries (tree_of (workspace_reading g seen.looks seen.alone))
+
+  one_lies : (e : WorkspaceEntry) → Contains entries e → SharedLies new view.workspace e
+  unfolding entries
+  one_lies e is = entry_lies e (tree_of (workspace_reading g seen.looks seen.alone)) refl is
+
+  span_lies : (e : WorkspaceEntry) → Contains view.shared (Some e) → SharedLies new view.workspace e
+  unfolding entries span_of
+  span_lies e is =
+      let of = from_contains_map (λ (c : Crate). span_of entries c.place) g.crates (Some e)
+      (subst (λ (es : List (Option WorkspaceEntry)). Contains es (Some e)) seen.seen.shared is) in
+      one_lies e (of_reverse entries e (found_one (resolves_to of.0.place) (reverse entries) e of.2))
+
+  unused_lies : (e : WorkspaceEntry) → Contains view.unused e → SharedLies new view.workspace e
+  unfolding entries
+  unused_lies e is = one_lies e (Contains-from_filter (λ (u : WorkspaceEntry). is_none u.place) entries e
+      (subst (λ (es : List WorkspaceEntry). Contains es e) seen.seen.unused is)).0
+
+  pub view_lies : ViewLies new view
+  view_lies = record { manifests = manifest_lies; shared = span_lies; unused = unused_lies }

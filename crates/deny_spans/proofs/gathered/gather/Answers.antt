@@ -1,0 +1,46 @@
+use Rattle.std.proofs.Common.{ap, arith, length, length-append, refl}
+use Rattle.deny_krates.specs.Crates.{crate_view}
+use Rattle.deny_spans.proofs.CountLemmas.{caused_more}
+use Rattle.deny_spans.proofs.GatherLemmas.{gathered_all, gathered_next, kept_few}
+use Rattle.deny_spans.proofs.gathered.gather.Goals as goal
+use Rattle.deny_spans.specs.Look.{kept_as}
+use Rattle.deny_unread.proofs.Later.{later_later}
+use Rattle.deny_workspace.proofs.WorkspaceLemmas.{krate_at}
+
+pub look_at-requires-clause-stands : goal.look_at-requires-clause-stands
+look_at-requires-clause-stands g c =
+    krate_at c.args.krates.now c.krates-krate-items.result.now c.loop-place.place c.krate-item.result
+    c.krates-krate-items.ensures.crates c.loop-place-test.true c.krate-item.is
+
+pub loop-place-preserved : goal.loop-place-preserved
+loop-place-preserved g c =
+    let seen = g.D.PackageFiles.seen in
+    let before = c.loop-place.invariant in
+    let step = c.in_ok-look_at.ensures in
+    let place = c.loop-place.place in
+    let krate = crate_view place c.krate-item.result in
+    let at = krate_at c.args.krates.now c.krates-krate-items.result.now place c.krate-item.result
+    c.krates-krate-items.ensures.crates c.loop-place-test.true c.krate-item.is in
+    record {
+      gathered = gathered_next (seen c.args.disk.now).files (seen c.loop-place.disk).files c.args.krates.now place krate
+          c.args.files.now c.loop-place.files c.look_at.new.files c.loop-place.gathered c.look_at.new.gathered
+          before.later.files at refl before.gathered step.looked;
+      caused = λ folder. caused_more folder (seen c.args.disk.now) (seen c.loop-place.disk) (seen c.look_at.new.disk)
+          c.loop-place.gathered.missed.unread c.look_at.new.gathered.missed.unread _ step.looked.unread before.later
+          c.look_at.ensures.later (before.caused folder) (step.caused folder);
+      later = later_later (seen c.args.disk.now) (seen c.loop-place.disk) (seen c.look_at.new.disk) before.later
+          c.look_at.ensures.later;
+      few = omega (
+        arith,
+        before.few,
+        ap length step.looked.files,
+        length-append c.loop-place.files (kept_as krate.manifest_path step.looked.read),
+        kept_few krate.manifest_path step.looked.read,
+      );
+    }
+
+pub returns-clause-gathered : goal.returns-clause-gathered
+returns-clause-gathered g c =
+    gathered_all (g.D.PackageFiles.seen c.args.disk.now).files c.args.krates.now c.loop-place.place
+    c.krates-krate-items.result.now c.args.files.now c.loop-place.files c.loop-place.gathered
+    c.krates-krate-items.ensures.crates c.loop-place-test.false c.loop-place.invariant.gathered

@@ -1,0 +1,17 @@
+use Rattle.std.proofs.Common.{◌+◌, ◌≤◌, length, take}
+use Rattle.deny_outside.specs.Disk.{IsLater}
+use Rattle.deny_spans.specs.private.Gathered.{IsGathered}
+use Rattle.deny_unread.specs.Bound.{Folders}
+use Rattle.deny_unread.specs.Causes.{AreCaused}
+use Rattle.deny_spans.proofs.gathered.gather.Given as goal
+
+abbrev pub invariant-loop-place : goal.invariant-loop-place
+invariant-loop-place g l = record {
+  gathered : IsGathered (g.D.PackageFiles.seen l.fn.disk).files l.krates
+      (take l.place l.krates.crates) l.fn.files l.files
+      l.gathered;
+  caused : (folder : Folders) → AreCaused folder (g.D.PackageFiles.seen l.fn.disk) (g.D.PackageFiles.seen l.disk)
+      l.gathered.missed.unread;
+  later : IsLater (g.D.PackageFiles.seen l.fn.disk) (g.D.PackageFiles.seen l.disk);
+  few : length l.files ≤ length l.fn.files + l.place;
+}

@@ -1,0 +1,20 @@
+use Rattle.std.proofs.Common.{◌∙◌, ◌++◌, ◌∷◌, [], ap}
+use Rattle.deny_krates.specs.Crates.{crate_view}
+use Rattle.deny_spans.proofs.LookLemmas.{file_of}
+use Rattle.deny_spans.proofs.KeepLemmas.{kept_is, kept_none}
+use Rattle.deny_spans.proofs.gathered.keep.Goals as goal
+
+pub returns-in_ok-manifest-in-Ok : goal.returns-in_ok-manifest-in-Ok
+returns-in_ok-manifest-in-Ok c =
+    let text = c.in-Ok.ensures.cases in
+    kept_is c.args.krates.now (crate_view c.args.place c.args.krate.now) c.args.bytes.now c.args.files.now
+    c.in-Ok.text.now c.add.new.self c.in_ok-number-in-Ok.number c.in_ok-manifest-in-Ok.manifest text.1 text.0
+    c.in_ok-number-in-Ok.ensures.id
+    (c.in_ok-number-in-Ok.ensures.ok
+    ∙ ap (λ path. c.args.files.now ++ file_of path c.in-Ok.text.now ∷ []) c.as_str.ensures)
+    c.in_ok-manifest-in-Ok.ensures
+
+pub returns-in-Err : goal.returns-in-Err
+returns-in-Err c =
+    kept_none c.args.krates.now (crate_view c.args.place c.args.krate.now) c.args.bytes.now c.args.files.now
+    c.in-Err.ensures.cases.0

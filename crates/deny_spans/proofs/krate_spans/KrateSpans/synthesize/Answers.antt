@@ -1,0 +1,57 @@
+use Rattle.std.proofs.Common.{◌∙◌, List, subst}
+use Rattle.deny_base.specs.declared.files.File.{File}
+use Rattle.deny_spans.proofs.CountLemmas.{caused_listed}
+use Rattle.deny_spans.proofs.RangeLemmas.{view_lies}
+use Rattle.deny_spans.proofs.SeenLemmas.{lock_at, seen_is, spans_are, wanted_are}
+use Rattle.deny_spans.proofs.krate_spans.KrateSpans.synthesize.Goals as goal
+use Rattle.deny_spans.specs.Seen.{IsSeen}
+use Rattle.deny_spans.specs.SpansView.{spans_view}
+
+pub returns-clause-seen : goal.returns-clause-seen
+returns-clause-seen g c =
+    let told = (g.D.PackageFiles.seen c.args.disk.now).files in
+    let s = c.in_ok-spans.spans in
+    subst (λ (old : List File). IsSeen told c.args.krates.now c.args.registries.now old c.look_around.new.files s.unread
+    s.malformed (spans_view s)) c.in_ok-lock.ensures.files
+    (seen_is told c.args.krates.now c.args.registries.now c.krates-krates.result.now c.add_lock.new.files
+    c.look_around.new.files c.in_ok-lock.lock c.in_ok-found.found s c.krates-krates.ensures.crates
+    c.in_ok-found.ensures.found c.in_ok-spans.ensures)
+
+pub returns-clause-spans : goal.returns-clause-spans
+returns-clause-spans g c =
+    spans_are (g.D.PackageFiles.seen c.args.disk.now).files c.args.krates.now c.args.registries.now
+    c.krates-krates.result.now c.add_lock.new.files c.look_around.new.files c.in_ok-lock.lock c.in_ok-found.found
+    c.in_ok-spans.spans c.krates-krates.ensures.crates c.in_ok-found.ensures.found c.in_ok-spans.ensures
+    c.in_ok-lock.ensures.spans c.in_ok-lock.ensures.lines
+
+pub returns-clause-locked : goal.returns-clause-locked
+returns-clause-locked g c =
+    lock_at c.args.files.now c.add_lock.new.files c.look_around.new.files _ _ c.in_ok-spans.spans.lock_id
+    c.in_ok-lock.ensures.files c.in_ok-found.ensures.found.files (c.in_ok-spans.ensures.lock_id
+    ∙ c.in_ok-lock.ensures.id)
+
+pub returns-clause-ranges : goal.returns-clause-ranges
+returns-clause-ranges g c =
+    let told = (g.D.PackageFiles.seen c.args.disk.now).files in
+    let s = c.in_ok-spans.spans in
+    view_lies told c.args.krates.now c.args.registries.now c.add_lock.new.files c.look_around.new.files s.unread
+    s.malformed (spans_view s)
+    (seen_is told c.args.krates.now c.args.registries.now c.krates-krates.result.now c.add_lock.new.files
+    c.look_around.new.files c.in_ok-lock.lock c.in_ok-found.found s c.krates-krates.ensures.crates
+    c.in_ok-found.ensures.found c.in_ok-spans.ensures)
+
+pub returns-clause-caused : goal.returns-clause-caused
+returns-clause-caused g c = λ folder.
+    caused_listed folder (g.D.PackageFiles.seen c.args.disk.now) (g.D.PackageFiles.seen c.look_around.new.disk)
+    c.in_ok-found.found.missed.unread c.in_ok-spans.spans.unread c.in_ok-spans.ensures.unread
+    (c.in_ok-found.ensures.caused folder)
+
+pub returns-clause-wanted : goal.returns-clause-wanted
+returns-clause-wanted g c =
+    let told = (g.D.PackageFiles.seen c.args.disk.now).files in
+    let s = c.in_ok-spans.spans in
+    wanted_are told c.args.krates.now c.args.registries.now c.add_lock.new.files c.look_around.new.files s.unread
+    s.malformed (spans_view s)
+    (seen_is told c.args.krates.now c.args.registries.now c.krates-krates.result.now c.add_lock.new.files
+    c.look_around.new.files c.in_ok-lock.lock c.in_ok-found.found s c.krates-krates.ensures.crates
+    c.in_ok-found.ensures.found c.in_ok-spans.ensures)

@@ -1,0 +1,85 @@
+-- What was read of manifests: their texts and trees, and the files that they are kept as.
+use Rattle.std.specs.Prelude.{◌≡◌, ◌<◌, ⊤, ℕ, ◌+◌, ◌^◌, IfSome, List, [], ◌∷◌, None, Option, Some, length}
+use Rattle.std.specs.Prelude.{is_none, option_and_then, ◌&&◌, Bool, find, if◌then◌else◌}
+use Rattle.std.specs.Option.{IsSomeAnd, option_map_or}
+use Rattle.std.specs.Str.{IsUtf8, is_utf8}
+use Rattle.deny_outside.specs.Disk.{Files, bytes_at}
+use Rattle.deny_base.specs.declared.files.File.{File}
+use Rattle.deny_manifests.specs.Fault.{HasNoTree}
+use Rattle.deny_model.specs.Graph.{Crate, Graph}
+use Rattle.deny_model.specs.Text.{same_text}
+use Rattle.deny_spans.specs.Paths.{workspace_path}
+use Rattle.deny_toml.specs.Parser.{IsTreeOf}
+use Rattle.deny_toml.specs.declared.value.Value.{Value}
+
+-- a text that was read of a manifest
+pub record Reading : Type 0 where
+  pub text : List ℕ
+  -- none where it is no UTF-8 or no TOML, or goes past the limits
+  pub tree : Option Value
+  -- of the file that it is kept as; a text that is no UTF-8 is kept as none
+  pub number : ℕ
+
+-- a crate, and what was read of its manifest, if anything
+pub record Look : Type 0 where
+  pub crate : Crate
+  pub read : Option Reading
+
+-- ---- texts
+
+-- what a text reads as
+abbrev pub ReadsAs : List ℕ → Option Value → Type 0
+ReadsAs text (Some tree) = IsUtf8 text × IsTreeOf text tree
+ReadsAs text None = IsUtf8 text → HasNoTree text
+
+-- the text is what the disk tells of the path, where it tells its files
+pub record IsReadAt (told : Option Files) (path : List ℕ) (r : Reading) : Type 0 where
+  pub bytes : IfSome told (λ files. r.text ≡ bytes_at files path)
+  pub short : length r.text < 2 ^ 28
+  pub reads : ReadsAs r.text r.tree
+
+-- the manifest of a crate without a source was looked at, and no other
+pub record IsLook (told : Option Files) (l : Look) : Type 0 where
+  pub local : IfSome l.crate.source (λ _. l.read ≡ None)
+  pub read : IfSome l.read (IsReadAt told l.crate.manifest_path)
+
+-- the tree of what was read
+abbrev pub tree_of : Option Reading → Option Value
+tree_of read = option_and_then (λ r. r.tree) read
+
+-- it was read, and has no tree
+abbrev pub IsBroken : Option Reading → Type 0
+IsBroken read = IsSomeAnd read (λ r. r.tree ≡ None)
+
+-- ---- files
+
+-- what was read of a path as a file, where it is UTF-8
+abbrev pub kept_as : List ℕ → Option Reading → List File
+kept_as path None = []
+kept_as path (Some r) = if is_utf8 r.text then record { path = path; source = r.text } ∷ [] else []
+
+unfoldable pub kept_of : Look → List File
+kept_of l = kept_as l.crate.manifest_path l.read
+
+-- the number of the file that it is kept as
+abbrev pub number_of : Option Reading → Option ℕ
+number_of read = option_and_then (λ r. if is_utf8 r.text then Some r.number else None) read
+
+-- files are numbered one after another from this number on
+abbrev pub AreNumbered : ℕ → List Look → Type 0
+AreNumbered number [] = ⊤
+AreNumbered number (l ∷ ls) = IfSome l.read (λ r. r.number ≡ number) × AreNumbered (number + length (kept_of l)) ls
+
+-- ---- the workspace's manifest
+
+-- whether a crate's manifest is that of the workspace
+unfoldable pub is_workspaces : Graph → Crate → Bool
+is_workspaces g c = is_none c.source && same_text c.manifest_path (workspace_path g.root)
+
+-- the first crate whose manifest it is
+abbrev pub workspace_look : Graph → List Look → Option Look
+workspace_look g looks = find (λ l. is_workspaces g l.crate) looks
+
+-- what was read of the workspace's manifest: of that of the first crate which it is, or else alone
+unfoldable pub workspace_reading : Graph → List Look → Option Reading → Option Reading
+workspace_reading g looks alone = option_map_or (λ l. l.read) (workspace_look g looks) alone

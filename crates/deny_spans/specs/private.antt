@@ -1,0 +1,3 @@
+pub mod Found
+pub mod Gathered
+pub mod Workspace

@@ -1,0 +1,16 @@
+//! Where a graph's crates stand in texts: in the lock text, in their manifests, and in what the
+//! workspace's manifest shares. Each manifest is read once; what was not read or is malformed is told.
+#![tactic(auto)]
+
+mod gathered;
+mod krate_spans;
+mod laws;
+mod missed;
+mod paths;
+mod workspace;
+
+pub use deny_lock::LockSpan;
+pub use deny_manifests::{Manifest, ManifestDep, ManifestDeps};
+pub use deny_workspace::{Registry, UnusedWorkspaceDep, WorkspaceSpan};
+pub use krate_spans::KrateSpans;
+pub use laws::one_view;
