@@ -9,7 +9,7 @@ use Rattle.std.specs.List.{list_any, position_or_len}
 use Rattle.deny_outside.specs.Disk.{Files, bytes_at}
 use Rattle.deny_build_files.specs.Header.{executable_in, executable_by, native_kind}
 use Rattle.deny_build_files.specs.Script.{begins, is_newline, line_in, first_line, interpreter_by, interpreter_in}
-use Rattle.deny_build_files.specs.declared.executable.ExecutableKind.{ExecutableKind}
+use Rattle.deny_build_model.specs.declared.package.ExecutableKind.{ExecutableKind}
 use Rattle.deny_build_files.specs.private.Front.{IsFront, is_enough, is_open_script}
 
 -- where one passes, the first that does is the same whatever follows

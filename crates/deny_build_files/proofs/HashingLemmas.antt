@@ -69,7 +69,13 @@ hashing_none start path hasher holds = record {
   holds = holds;
   long = refl;
   reading = record {
-    later = record { files = refl; faults = omega arith; faults_at = λ call at. omega arith; given = omega arith };
+    later = record {
+      files = refl;
+      faults = omega arith;
+      faults_at = λ call at. omega arith;
+      given = omega arith;
+      listed = omega arith;
+    };
     given = omega arith;
     text = no_front start.files path;
   };

@@ -2,9 +2,9 @@
 use Rattle.std.proofs.Common.{◌≡◌, ℕ, true, false, List, [], ◌∷◌, ◌++◌, replicate, codes, Option, None, Some, refl}
 use Rattle.deny_build_files.specs.Header.{executable_in, native_kind, is_mach, elf, archive}
 use Rattle.deny_build_files.specs.Script.{interpreter_in, interpreter_of_text, first_line, named_by, named_in, last_part, is_rust_path}
-use Rattle.deny_build_files.specs.declared.executable.ExecutableKind.{ExecutableKind}
-use Rattle.deny_build_files.specs.declared.executable.ExecutableKind.TheVariants.{Native}
-use Rattle.deny_build_files.specs.declared.executable.NativeKind.TheVariants.{Elf, Pe, Mach, Archive}
+use Rattle.deny_build_model.specs.declared.package.ExecutableKind.{ExecutableKind}
+use Rattle.deny_build_model.specs.declared.package.ExecutableKind.TheVariants.{Native}
+use Rattle.deny_build_model.specs.declared.package.NativeKind.TheVariants.{Elf, Pe, Mach, Archive}
 
 -- a file `/p/run`
 abbrev run : List ℕ → Option ExecutableKind

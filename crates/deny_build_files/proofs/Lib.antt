@@ -1,4 +1,7 @@
+mod ChecksumRows
 pub mod FrontLemmas
 pub mod HashingLemmas
 mod HeaderRows
+pub mod HomeLemmas
+mod HomeRows
 pub mod ScriptLemmas

@@ -5,7 +5,8 @@ use Rattle.std.proofs.lemmas.List.{length-map}
 use Rattle.std.proofs.lemmas.Str.{IsUtf8-from_is_utf8}
 use Rattle.std.specs.List.{position, slice_split}
 use Rattle.std.specs.Str.{is_utf8, IsUtf8}
-use Rattle.deny_build_files.specs.Script.{is_newline, is_slash, line_in, first_line, interpreter_by, interpreter_of_text}
+use Rattle.deny_build_model.specs.Paths.{is_slash}
+use Rattle.deny_build_files.specs.Script.{is_newline, line_in, first_line, interpreter_by, interpreter_of_text}
 
 pub line_at : (file bytes : List ℕ) (end : Option ℕ) → bytes ≡ take 256 file → end ≡ position is_newline bytes
     → option_map (λ n. take n bytes) end ≡ first_line file

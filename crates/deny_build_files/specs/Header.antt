@@ -1,10 +1,10 @@
 -- What a file is by its first bytes: native code, a script, or no executable.
 use Rattle.std.specs.Prelude.{ℕ, ◌||◌, ◌++◌, Bool, nat_lt, List, [], ◌∷◌, codes, length, take, Option, None, Some, option_map, if◌then◌else◌}
 use Rattle.deny_build_files.specs.Script.{begins, interpreter_in}
-use Rattle.deny_build_files.specs.declared.executable.ExecutableKind.{ExecutableKind}
-use Rattle.deny_build_files.specs.declared.executable.ExecutableKind.TheVariants.{Native, Interpreted}
-use Rattle.deny_build_files.specs.declared.executable.NativeKind.{NativeKind}
-use Rattle.deny_build_files.specs.declared.executable.NativeKind.TheVariants.{Elf, Pe, Mach, Archive}
+use Rattle.deny_build_model.specs.declared.package.ExecutableKind.{ExecutableKind}
+use Rattle.deny_build_model.specs.declared.package.ExecutableKind.TheVariants.{Native, Interpreted}
+use Rattle.deny_build_model.specs.declared.package.NativeKind.{NativeKind}
+use Rattle.deny_build_model.specs.declared.package.NativeKind.TheVariants.{Elf, Pe, Mach, Archive}
 
 -- `7f 45 4c 46`
 abbrev pub elf : List ℕ

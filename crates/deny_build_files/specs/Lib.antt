@@ -1,4 +1,5 @@
 pub mod CheckEnd
 pub mod Header
+pub mod Home
 pub mod Script
 pub mod private

@@ -3,6 +3,7 @@ use Rattle.std.specs.Prelude.{ℕ, ◌-◌, ◌==◌, ◌&&◌, Bool, nat_eq, na
 use Rattle.std.specs.List.{position, slice_index_or, slice_split, starts_with, ends_with}
 use Rattle.std.specs.Option.{option_and_then}
 use Rattle.std.specs.Str.{is_utf8}
+use Rattle.deny_build_model.specs.Paths.{parts}
 
 abbrev pub begins : List ℕ → List ℕ → Bool
 begins bytes front = starts_with nat_eq bytes front
@@ -16,15 +17,12 @@ is_newline byte = byte == 10
 abbrev pub is_space : ℕ → Bool
 is_space byte = byte == 32
 
-abbrev pub is_slash : ℕ → Bool
-is_slash byte = byte == 47
-
 abbrev pub last_of : List (List ℕ) → List ℕ
 last_of parts = slice_index_or parts (length parts - 1) []
 
 -- what stands after the last slash; all where there is none
 unfoldable pub last_part : List ℕ → List ℕ
-last_part text = last_of (slice_split is_slash text)
+last_part text = last_of (parts text)
 
 -- the path is that of a source of Rust: the name ends with `.rs` after at least one byte
 unfoldable pub is_rust_path : List ℕ → Bool

@@ -1,4 +1,4 @@
-ghost use Rattle.std.specs.Prelude.{◌≡◌, ◌+◌, ◌≤◌, ◌<◌, ◌^◌, true, false, length, IfOk, IfSome, IsErrOf, IsOk, Ok};
+ghost use Rattle.std.specs.Prelude.{◌≡◌, ◌↔◌, ◌+◌, ◌≤◌, ◌<◌, ◌^◌, true, false, length, IfOk, IfSome, IsErrOf, IsOk, IsTrue, Ok};
 ghost use Rattle.sha2.specs.Sha256.{sha256};
 ghost use Rattle.deny_outside.specs.Count.{RoseBy};
 ghost use Rattle.deny_outside.specs.Disk.{Disk, IsLater, FailedAt, bytes_at};
@@ -7,6 +7,7 @@ ghost use Rattle.deny_build_files.specs.private.Hashing.{IsHashing, HasHashed};
 
 use crate::check_end::CheckEnd;
 use deny_outside::PackageFiles;
+use deny_tables::bans::cfg::Checksum;
 use sha2::{Digest, Sha256};
 use std::alloc::{AllocError, Global};
 
@@ -46,6 +47,58 @@ pub fn sha256_of_file<D: PackageFiles>(
         }
     }
     Ok(hasher.finalize())
+}
+
+/// The checksum of the file at `path`: the SHA-256 of its bytes. It ends as `sha256_of_file` does.
+pub fn checksum_file<D: PackageFiles>(
+    alloc: Global,
+    disk: &mut D,
+    path: &str,
+) -> Result<Checksum, CheckEnd>
+    ensures sum { IfOk result (λ checksum. IfSome (D.seen disk.old).files
+        (λ files. checksum.0 ≡ sha256 (bytes_at files path.now))) }
+    ensures short { IfOk result (λ _. IfSome (D.seen disk.old).files
+        (λ files. length (bytes_at files path.now) < 2 ^ 40)) }
+    ensures later { IsLater (D.seen disk.old) (D.seen disk.new) }
+    ensures fault { IsErrOf result CheckEnd.Fault → FailedAt (D.seen disk.old) (D.seen disk.new) Read path.now }
+    ensures long_by_count { IsErrOf result CheckEnd.Long →
+        RoseBy (2 ^ 40) (D.seen disk.old).given (D.seen disk.new).given }
+    ensures long_by_text { IsErrOf result CheckEnd.Long → IfSome (D.seen disk.old).files
+        (λ files. 2 ^ 40 ≤ length (bytes_at files path.now)) }
+{
+    let sum = sha256_of_file(alloc, disk, path)?;
+    Ok(Checksum(sum))
+}
+
+/// Whether the file at `path` has the checksum that is expected, and the one that it has. It ends
+/// as `checksum_file` does.
+pub fn validate_checksum<D: PackageFiles>(
+    alloc: Global,
+    expected: &Checksum,
+    disk: &mut D,
+    path: &str,
+) -> Result<(bool, Checksum), CheckEnd>
+    ensures equal { IfOk result (λ answer. IsTrue answer.0 ↔ (answer.1.0 ≡ expected.now.0)) }
+    ensures sum { IfOk result (λ answer. IfSome (D.seen disk.old).files
+        (λ files. answer.1.0 ≡ sha256 (bytes_at files path.now))) }
+    ensures short { IfOk result (λ _. IfSome (D.seen disk.old).files
+        (λ files. length (bytes_at files path.now) < 2 ^ 40)) }
+    ensures later { IsLater (D.seen disk.old) (D.seen disk.new) }
+    ensures fault { IsErrOf result CheckEnd.Fault → FailedAt (D.seen disk.old) (D.seen disk.new) Read path.now }
+    ensures long_by_count { IsErrOf result CheckEnd.Long →
+        RoseBy (2 ^ 40) (D.seen disk.old).given (D.seen disk.new).given }
+    ensures long_by_text { IsErrOf result CheckEnd.Long → IfSome (D.seen disk.old).files
+        (λ files. 2 ^ 40 ≤ length (bytes_at files path.now)) }
+{
+    let checksum = checksum_file(alloc, disk, path)?;
+    let equal = is_equal(&checksum, expected);
+    Ok((equal, checksum))
+}
+
+fn is_equal(checksum: &Checksum, expected: &Checksum) -> bool
+    ensures { IsTrue result ↔ (checksum.now.0 ≡ expected.now.0) }
+{
+    checksum.0 == expected.0
 }
 
 /// A buffer that pieces are read into.

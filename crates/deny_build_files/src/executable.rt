@@ -6,27 +6,10 @@ ghost use Rattle.deny_build_files.specs.Header.{executable_in, native_kind, is_m
 use crate::check_end::CheckEnd;
 use crate::front::front_of;
 use crate::script::interpreter_in;
-use deny_lists::{NoMemory, Text};
+use deny_build_model::{ExecutableKind, NativeKind};
+use deny_lists::NoMemory;
 use deny_outside::PackageFiles;
 use std::alloc::Global;
-
-/// The formats of native code that the first bytes of a file tell.
-#[derive(Debug, Clone, Copy, PartialEq, Eq)]
-pub enum NativeKind {
-    Elf,
-    Pe,
-    Mach,
-    Archive,
-}
-
-/// How a file is executed.
-#[derive(Debug, PartialEq, Eq, Drop)]
-pub enum ExecutableKind {
-    /// It is native code.
-    Native(NativeKind),
-    /// It is a script, of the interpreter with this name.
-    Interpreted(Text),
-}
 
 /// Whether the file at `path` is executable, by its first bytes; archives are none where
 /// `exclude_archives` says so. At most 256 bytes are read, and by one call where that gives enough.

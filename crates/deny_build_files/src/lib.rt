@@ -1,12 +1,17 @@
-//! What the build check asks of one file of a package: whether it is executable, by its first bytes.
+//! What the build check asks of one file of a package: whether it is executable, by its first bytes,
+//! its checksum, and how its path is shown.
 #![tactic(auto)]
 
 mod check_end;
 mod checksum;
 mod executable;
 mod front;
+mod home;
+mod parts;
 mod script;
 
 pub use check_end::CheckEnd;
-pub use checksum::sha256_of_file;
-pub use executable::{ExecutableKind, NativeKind, check_is_executable};
+pub use checksum::{checksum_file, sha256_of_file, validate_checksum};
+pub use deny_build_model::{ExecutableKind, NativeKind};
+pub use executable::check_is_executable;
+pub use home::home_path;

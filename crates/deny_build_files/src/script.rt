@@ -3,8 +3,9 @@ ghost use Rattle.std.specs.Prelude.{◌≡◌, ◌==◌, ◌<◌, ◌≤◌, len
 ghost use Rattle.std.specs.List.{position, slice_split};
 ghost use Rattle.deny_build_files.specs.Script.{interpreter_in, interpreter_by, first_line, is_newline, is_rust_path, last_part, named_by, named_in, interpreter_of_text};
 
+use crate::parts::parts_of;
 use deny_lists::{NoMemory, Text};
-use std::alloc::{AllocError, Global};
+use std::alloc::Global;
 
 /// The name of the interpreter, where a file with this front is a script that names one.
 #[tactic(auto, unfolding(crate::specs::Script::interpreter_in))]
@@ -119,11 +120,4 @@ fn last_part<'t>(alloc: Global, text: &'t str) -> Result<&'t str, NoMemory>
         [.., last] => Ok(last),
         [] => Ok(""),
     }
-}
-
-fn parts_of<'t>(alloc: Global, text: &'t str, cut: char) -> Result<Vec<&'t str>, AllocError>
-    requires { cut < 128 }
-    ensures { IfOk result (λ parts. map (λ part. part.now) parts.items ≡ slice_split (λ b. b == cut) text.now) }
-{
-    text.split(cut).collect(alloc)
 }
