@@ -6,7 +6,7 @@ use Rattle.deny_krates.specs.declared.krate.DirectDependent.{DirectDependent}
 use Rattle.deny_krates.specs.declared.krate.Krate.{Krate}
 use Rattle.deny_model.specs.Facts.{Facts}
 use Rattle.deny_model.specs.Graph.{Crate, Graph, dependents}
-use Rattle.deny_model.specs.Groups.{has_name, is_internal, is_marked, may_stand, reduced}
+use Rattle.deny_model.specs.Groups.{has_name, is_internal, is_marked, is_rooted, may_stand, reduced}
 use Rattle.deny_model.specs.Policy.{Policy}
 use Rattle.deny_model.specs.Text.{same_text}
 use Rattle.deny_facts.specs.Marks.{mark_at, marked}
@@ -40,9 +40,10 @@ pub record AddsLeft (g : Graph) (standing : List Bool) (place next : ℕ) (old n
   pub up : place < next
   pub within : next ≤ length g.crates
 
--- which crates a skip speaks of, and which are in the reduced groups of their names
+-- which crates a skip speaks of, which lie in skipped trees, and which are in the reduced groups of their names
 pub record AreGroups (p : Policy) (g : Graph) (facts : Facts) (groups : Groups) : Type 0 where
   pub marked : groups.marked ≡ map (is_marked p) g.crates
+  pub rooted : groups.rooted ≡ map (is_rooted p facts) g.crates
   pub reduced : groups.reduced ≡ map (is_left g (may_stand p facts)) g.crates
 
 -- the length of the reduced group of a name, of any policy and facts whose groups these are

@@ -25,11 +25,13 @@ use std::ops::Range;
 pub struct Groups {
     /// Which crates a skip speaks of.
     pub marked: List<bool>,
+    /// Which crates lie in a skipped tree.
+    pub rooted: List<bool>,
     /// Which crates are in the reduced group of their name.
     pub reduced: List<bool>,
 }
 
-/// The crates that skips speak of, and those of reduced groups.
+/// The crates that skips speak of, those of skipped trees, and those of reduced groups.
 pub fn groups_of(
     alloc: Global,
     cfg: &ValidConfig,
@@ -50,7 +52,11 @@ pub fn groups_of(
         rooted.as_slice(),
     )?;
     let reduced = reduced_of(alloc, krates, standing.as_slice())?;
-    Ok(Groups { marked, reduced })
+    Ok(Groups {
+        marked,
+        rooted,
+        reduced,
+    })
 }
 
 /// How many crates the reduced group of a name has.

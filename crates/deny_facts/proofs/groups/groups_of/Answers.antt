@@ -35,6 +35,7 @@ returns c =
     (c.as_slice-4.ensures ∙ skips) (c.as_slice-5.ensures ∙ roots) c.in_ok-standing.ensures in
     record {
       marked = skips;
+      rooted = roots;
       reduced = left_by_marks g
           (may_stand p facts) c.as_slice-6.result.now c.in_ok-reduced.reduced placed
           (c.as_slice-6.ensures ∙ standing) c.in_ok-reduced.ensures;

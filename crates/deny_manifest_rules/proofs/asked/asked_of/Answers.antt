@@ -1,0 +1,11 @@
+use Rattle.std.proofs.Common.{Bool, List}
+use Rattle.std.proofs.lemmas.Result.{IfOk-weaker}
+use Rattle.deny_cfg.specs.PolicyView.{policy_view}
+use Rattle.deny_manifest_rules.proofs.AskedLemmas.{asked_are}
+use Rattle.deny_manifest_rules.proofs.asked.asked_of.Goals as goal
+
+pub returns : goal.returns
+returns c = IfOk-weaker c.asked_by.result _ _
+    (λ (asked : List Bool) is. asked_are (policy_view c.args.cfg.now) c.args.krates.now c.args.marks.now
+    c.in_ok-groups.groups
+    c.are_placed.ensures c.in_ok-groups.ensures asked is) c.asked_by.ensures

@@ -1,0 +1,26 @@
+use Rattle.std.proofs.Common.{List, ◌++◌, sym, ap, ◌∙◌}
+use Rattle.std.proofs.lemmas.Result.{on_ok_weaker}
+use Rattle.deny_base.specs.declared.key.Key.{Key}
+use Rattle.deny_cfg.specs.PolicyView.{policy_view}
+use Rattle.deny_facts.specs.Marks.{facts_of}
+use Rattle.deny_spans.specs.SpansView.{spans_view}
+use Rattle.deny_manifest_rules.proofs.WildcardLemmas.{both_stand, found_are, none_stand}
+use Rattle.deny_manifest_rules.proofs.wildcard_keys.add_wildcard_keys.Goals as goal
+
+pub returns-then-not-is_minded : goal.returns-then-not-is_minded
+returns-then-not-is_minded c =
+    none_stand (policy_view c.args.cfg.now) c.args.krates.now (facts_of c.args.marks.now) (spans_view c.args.spans.now)
+    c.args.keys.now (sym c.is_minded.ensures ∙ c.if-not-is_minded.true)
+
+pub returns : goal.returns
+returns c =
+    let p = policy_view c.args.cfg.now in
+    let g = c.args.krates.now in
+    let facts = facts_of c.args.marks.now in
+    let view = spans_view c.args.spans.now in
+    let are = found_are p g facts view c.are_placed.ensures c.as_slice.result.now
+    (c.as_slice.ensures ∙ c.in_ok-asked.ensures) in
+    on_ok_weaker c.add_each.result
+    (λ added. both_stand p g facts view c.args.keys.now c.add_each.new.keys
+    (sym c.is_minded.ensures ∙ c.if-not-is_minded.false)
+    (added ∙ ap (λ (keys : List Key). c.args.keys.now ++ keys) are)) c.add_each.ensures

@@ -1,0 +1,3 @@
+pub mod ManifestKeys
+pub mod Uses
+pub mod private

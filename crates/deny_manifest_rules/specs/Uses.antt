@@ -1,0 +1,25 @@
+-- The declarations that count for what a workspace shares, as the code keeps them: a row for each crate.
+use Rattle.std.specs.Prelude.{◌≡◌, ℕ, List, [], Some, map, slice_index_or}
+use Rattle.deny_codes.specs.Sharing.{Use, uses_of}
+use Rattle.deny_manifests.specs.Manifest.{dep_view}
+use Rattle.deny_model.specs.Graph.{Graph}
+use Rattle.deny_model.specs.Policy.{Policy, Sharing}
+use Rattle.deny_model.specs.View.{View}
+use Rattle.deny_manifest_rules.specs.declared.uses.Use.{Use as Kept}
+use Rattle.deny_manifest_rules.specs.declared.uses.Uses.{Uses}
+
+-- a declaration as plain data
+abbrev pub use_view : Kept → Use
+use_view u = record { file = u.file; declared = dep_view u.dep.now }
+
+abbrev pub rows_in : Uses → List (List Kept)
+rows_in uses = uses.rows
+
+-- those that resolve to the crate at a place
+abbrev pub row_at : List (List Kept) → ℕ → List Kept
+row_at rows place = slice_index_or rows place []
+
+-- at each place exactly those of the crate there, in order, where the policy minds what a workspace shares
+pub record AreUses (p : Policy) (g : Graph) (view : View) (uses : Uses) : Type 0 where
+  pub at : (s : Sharing) → p.sharing ≡ Some s → (place : ℕ) → map use_view (row_at (rows_in uses) place)
+      ≡ uses_of s g view place

@@ -1,0 +1,20 @@
+-- The keys of what members declare, by the rows of declarations.
+use Rattle.std.specs.Prelude.{◌&&◌, ◌∷◌, ℕ, Bool, List, [], length, map, nat_le, if◌then◌else◌}
+use Rattle.deny_base.specs.declared.code.Code.TheVariants as code
+use Rattle.deny_base.specs.declared.key.Key.{Key}
+use Rattle.deny_base.specs.declared.key.Section.TheVariants as section
+use Rattle.deny_codes.specs.Sharing.{is_duplicated}
+use Rattle.deny_codes.specs.Wildcards.{is_minded}
+use Rattle.deny_model.specs.Graph.{Graph}
+use Rattle.deny_model.specs.Keys.{key_of, no_span}
+use Rattle.deny_model.specs.Policy.{Sharing}
+use Rattle.deny_manifest_rules.specs.Uses.{row_at, use_view}
+use Rattle.deny_manifest_rules.specs.declared.uses.Use.{Use as Kept}
+
+unfoldable pub duplicated_keys_at : List (List Kept) → ℕ → List Key
+duplicated_keys_at rows place = if is_duplicated (map use_view (row_at rows place))
+    then key_of section.Workspace code.WorkspaceDuplicate place no_span 0 ∷ [] else []
+
+-- a workspace of one member shares nothing
+abbrev pub minds_duplicates : Sharing → Graph → Bool
+minds_duplicates s g = is_minded s.duplicates && nat_le 2 (length g.members)

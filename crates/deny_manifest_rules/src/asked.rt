@@ -1,0 +1,67 @@
+//! The crates that are asked for requirements that any version meets.
+ghost use Rattle.std.specs.Prelude.{◌≡◌, IfOk, length, map};
+ghost use Rattle.std.specs.List.{range_with_len};
+ghost use Rattle.deny_cfg.specs.PolicyView.{policy_view};
+ghost use Rattle.deny_codes.specs.Wildcards.{is_asked};
+ghost use Rattle.deny_facts.specs.Marks.{facts_of};
+ghost use Rattle.deny_manifest_rules.specs.private.Asked.{is_asked_at, is_git_at};
+
+use deny_cfg::bans::cfg::ValidConfig;
+use deny_facts::{Groups, Marks, are_placed, groups_of, krate_at, mark_at};
+use deny_krates::Krates;
+use deny_lists::{List, NoMemory};
+use std::alloc::Global;
+
+/// Marks for the crates that are asked: those that count and come from no repository, of which no skip
+/// speaks, and which lie in no skipped tree.
+pub fn asked_of(
+    alloc: Global,
+    cfg: &ValidConfig,
+    krates: &Krates,
+    marks: &Marks,
+) -> Result<List<bool>, NoMemory>
+    ensures { IfOk result (λ asked. asked
+        ≡ map (is_asked (policy_view cfg.now) (facts_of marks.now)) krates.now.crates) }
+{
+    are_placed(krates);
+    let groups = groups_of(alloc, cfg, krates, marks)?;
+    asked_by(alloc, krates, marks, &groups)
+}
+
+/// The same, by marks.
+fn asked_by(
+    alloc: Global,
+    krates: &Krates,
+    marks: &Marks,
+    groups: &Groups,
+) -> Result<List<bool>, NoMemory>
+    ensures { IfOk result (λ asked. asked ≡ map (is_asked_at krates.now marks.now.counts.items groups.now)
+        (range_with_len 0 (length krates.now.crates))) }
+{
+    let end = krates.krates().len() as u32;
+    let mut asked = List::new(alloc);
+    for place in 0..end {
+        asked.push(is_asked_at(krates, marks, groups, place))?;
+    }
+    Ok(asked)
+}
+
+/// Whether the crate at a place is asked.
+#[tactic(auto, unfolding(crate::specs::private::Asked::is_asked_at))]
+fn is_asked_at(krates: &Krates, marks: &Marks, groups: &Groups, place: u32) -> bool
+    ensures { result ≡ is_asked_at krates.now marks.now.counts.items groups.now place }
+{
+    mark_at(marks.counts.as_slice(), place)
+        && !mark_at(groups.marked.as_slice(), place)
+        && !mark_at(groups.rooted.as_slice(), place)
+        && !is_git_at(krates, place)
+}
+
+fn is_git_at(krates: &Krates, place: u32) -> bool
+    ensures { result ≡ is_git_at krates.now place }
+{
+    match krate_at(krates, place) {
+        Some(krate) => krate.is_git_source(),
+        None => false,
+    }
+}

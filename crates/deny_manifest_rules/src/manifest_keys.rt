@@ -1,0 +1,42 @@
+//! What stands of the rules on manifests.
+ghost use Rattle.std.specs.Prelude.{OnOk};
+ghost use Rattle.deny_lists.specs.Ascending.{Adds};
+ghost use Rattle.deny_cfg.specs.PolicyView.{policy_view};
+ghost use Rattle.deny_facts.specs.Marks.{facts_of};
+ghost use Rattle.deny_spans.specs.SpansView.{AreSpansOf, spans_view};
+ghost use Rattle.deny_manifest_rules.specs.ManifestKeys.{IsOfManifests};
+ghost use Rattle.deny_manifest_rules.specs.Uses.{AreUses};
+
+use crate::sharing::{add_duplicate_keys, add_unused_keys};
+use crate::uses::Uses;
+use crate::wildcard_keys::add_wildcard_keys;
+use deny_base::Key;
+use deny_cfg::bans::cfg::ValidConfig;
+use deny_facts::Marks;
+use deny_krates::Krates;
+use deny_lists::{List, NoMemory};
+use deny_spans::KrateSpans;
+use std::alloc::Global;
+
+/// Adds the keys of what stands of manifests: of dependencies whose requirement any version meets, of
+/// those that the workspace is to declare and does not, of crates that members declare several times,
+/// and of shared entries that no crate comes from. The declarations that count for the workspace are
+/// handed in, as `uses_of` gives them for this policy and these spans.
+pub fn add_manifest_keys(
+    alloc: Global,
+    cfg: &ValidConfig,
+    krates: &Krates,
+    spans: &KrateSpans<'_>,
+    marks: &Marks,
+    uses: &Uses<'_, '_>,
+    keys: &mut List<Key>,
+) -> Result<(), NoMemory>
+    requires spans { AreSpansOf krates.now spans.now }
+    requires uses { AreUses (policy_view cfg.now) krates.now (spans_view spans.now) uses.now }
+    ensures { OnOk result (Adds (IsOfManifests (policy_view cfg.now) krates.now (facts_of marks.now)
+        (spans_view spans.now)) keys.old keys.new) }
+{
+    add_wildcard_keys(alloc, cfg, krates, spans, marks, keys)?;
+    add_duplicate_keys(alloc, cfg, krates, uses, keys)?;
+    add_unused_keys(alloc, cfg, spans, keys)
+}

@@ -1,0 +1,171 @@
+//! What stands of requirements that any version meets.
+ghost use Rattle.std.specs.Prelude.{◌≡◌, ◌++◌, ◌⊎◌, Contains, OnOk, filter, length, map};
+ghost use Rattle.std.specs.List.{flat_map, list_any, range_with_len};
+ghost use Rattle.deny_lists.specs.Ascending.{Adds};
+ghost use Rattle.deny_cfg.specs.PolicyView.{policy_view};
+ghost use Rattle.deny_codes.specs.Wildcards.{is_minded_in, is_unresolved, unresolved_keys, wildcard_keys, wildcards_in};
+ghost use Rattle.deny_facts.specs.Marks.{facts_of};
+ghost use Rattle.deny_krates.specs.Crates.{crate_view};
+ghost use Rattle.deny_manifests.specs.Manifest.{dep_view, deps_in};
+ghost use Rattle.deny_spans.specs.SpansView.{manifest_view, spans_view};
+ghost use Rattle.deny_manifest_rules.specs.private.Wildcards.{found_keys_at, found_keys_of, unresolved_key_at};
+
+use crate::asked::asked_of;
+use crate::keys::{NO_SPAN, key_of};
+use crate::minded::is_minded;
+use crate::wildcards::{is_minded_in, is_shared};
+use deny_base::{Code, Key, Section};
+use deny_cfg::bans::cfg::ValidConfig;
+use deny_facts::{Marks, are_placed, krate_at, mark_at};
+use deny_krates::{Krate, Krates};
+use deny_lists::{List, NoMemory};
+use deny_spans::{KrateSpans, Manifest, ManifestDep};
+use std::alloc::Global;
+
+/// Adds the keys of the crates whose manifests write a requirement that any version meets, and of those
+/// among these declarations that the workspace is to declare and does not.
+pub fn add_wildcard_keys(
+    alloc: Global,
+    cfg: &ValidConfig,
+    krates: &Krates,
+    spans: &KrateSpans<'_>,
+    marks: &Marks,
+    keys: &mut List<Key>,
+) -> Result<(), NoMemory>
+    ensures { OnOk result (Adds (λ key.
+        Contains (wildcard_keys (policy_view cfg.now) krates.now (facts_of marks.now) (spans_view spans.now)) key
+        ⊎ Contains (unresolved_keys (policy_view cfg.now) krates.now (facts_of marks.now) (spans_view spans.now)) key)
+        keys.old keys.new) }
+{
+    are_placed(krates);
+    if !is_minded(cfg.wildcards) {
+        return Ok(());
+    }
+    let asked = asked_of(alloc, cfg, krates, marks)?;
+    add_each(alloc, cfg, krates, spans, asked.as_slice(), keys)
+}
+
+/// Adds the keys of all crates that are asked, one by one.
+fn add_each(
+    alloc: Global,
+    cfg: &ValidConfig,
+    krates: &Krates,
+    spans: &KrateSpans<'_>,
+    asked: &[bool],
+    keys: &mut List<Key>,
+) -> Result<(), NoMemory>
+    ensures { OnOk result (keys.new ≡ keys.old ++ flat_map
+        (found_keys_at (policy_view cfg.now) krates.now (spans_view spans.now) asked.now)
+        (range_with_len 0 (length krates.now.crates))) }
+{
+    let end = krates.krates().len() as u32;
+    for place in 0..end {
+        add_at(alloc, cfg, krates, spans, asked, place, keys)?;
+    }
+    Ok(())
+}
+
+/// Adds the keys of the crate at a place, where it is asked and has a manifest.
+#[tactic(auto, unfolding(crate::specs::private::Wildcards::found_keys_at))]
+fn add_at(
+    alloc: Global,
+    cfg: &ValidConfig,
+    krates: &Krates,
+    spans: &KrateSpans<'_>,
+    asked: &[bool],
+    place: u32,
+    keys: &mut List<Key>,
+) -> Result<(), NoMemory>
+    ensures { OnOk result (keys.new ≡ keys.old
+        ++ found_keys_at (policy_view cfg.now) krates.now (spans_view spans.now) asked.now place) }
+{
+    if !mark_at(asked, place) {
+        return Ok(());
+    }
+    let Some(krate) = krate_at(krates, place) else {
+        return Ok(());
+    };
+    let Some(manifest) = spans.manifest_at(place) else {
+        return Ok(());
+    };
+    add_in(alloc, cfg, krates, spans, place, krate, manifest, keys)
+}
+
+/// Adds the keys of what the policy minds in the manifest of the crate at a place.
+fn add_in(
+    alloc: Global,
+    cfg: &ValidConfig,
+    krates: &Krates,
+    spans: &KrateSpans<'_>,
+    place: u32,
+    krate: &Krate,
+    manifest: &Manifest<'_>,
+    keys: &mut List<Key>,
+) -> Result<(), NoMemory>
+    ensures { OnOk result (keys.new ≡ keys.old ++ found_keys_of (spans_view spans.now) place
+        (wildcards_in (policy_view cfg.now) krates.now (crate_view place krate.now) (manifest_view manifest.now))) }
+{
+    if !has_wildcard(cfg, krates, place, krate, manifest) {
+        return Ok(());
+    }
+    keys.push(key_of(alloc, Section::Crates, Code::Wildcard, place, NO_SPAN))?;
+    add_unresolved(alloc, cfg, krates, spans, place, krate, manifest, keys)
+}
+
+/// Whether the policy minds a declaration of the manifest of the crate at a place.
+fn has_wildcard(
+    cfg: &ValidConfig,
+    krates: &Krates,
+    place: u32,
+    krate: &Krate,
+    manifest: &Manifest<'_>,
+) -> bool
+    ensures { result ≡ list_any (is_minded_in (policy_view cfg.now) krates.now (crate_view place krate.now))
+        (map dep_view (deps_in manifest.now)) }
+{
+    for dep in manifest.deps(false) {
+        if is_minded_in(cfg, krates, place, krate, dep) {
+            return true;
+        }
+    }
+    false
+}
+
+/// Adds the keys of the declarations that the policy minds, and that the workspace is to declare and
+/// does not.
+fn add_unresolved(
+    alloc: Global,
+    cfg: &ValidConfig,
+    krates: &Krates,
+    spans: &KrateSpans<'_>,
+    place: u32,
+    krate: &Krate,
+    manifest: &Manifest<'_>,
+    keys: &mut List<Key>,
+) -> Result<(), NoMemory>
+    ensures { OnOk result (keys.new ≡ keys.old ++ map (unresolved_key_at place)
+        (filter (is_unresolved (spans_view spans.now))
+        (filter (is_minded_in (policy_view cfg.now) krates.now (crate_view place krate.now))
+        (map dep_view (deps_in manifest.now))))) }
+{
+    for dep in manifest.deps(false) {
+        if is_minded_in(cfg, krates, place, krate, dep) && is_unresolved(spans, dep) {
+            keys.push(key_of(
+                alloc,
+                Section::Crates,
+                Code::UnresolvedWorkspaceDependency,
+                place,
+                dep.key_span,
+            ))?;
+        }
+    }
+    Ok(())
+}
+
+/// Whether a declaration says that the workspace declares it, and no entry stands for the crate.
+#[tactic(auto, unfolding(deny_codes::specs::Wildcards::is_unresolved))]
+fn is_unresolved(spans: &KrateSpans<'_>, dep: &ManifestDep<'_>) -> bool
+    ensures { result ≡ is_unresolved (spans_view spans.now) (dep_view dep.now) }
+{
+    is_shared(dep) && spans.shared_at(dep.place).is_none()
+}
