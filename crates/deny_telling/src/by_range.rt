@@ -1,4 +1,4 @@
-//! Entries of the policy, and words in them, by their ranges.
+//! Entries of the policy and of the workspace, and words in them, by their ranges.
 ghost use Rattle.std.specs.Prelude.{◌≡◌, ◌==◌, [], IfOk, OnOk, map, option_map, if◌then◌else◌};
 ghost use Rattle.std.specs.List.{flat_map};
 ghost use Rattle.deny_base.specs.declared.span.Span.{Span};
@@ -11,11 +11,12 @@ use deny_base::{Span, Spanned};
 use deny_cfg::PackageSpecOrExtended;
 use deny_cfg::bans::cfg::ValidKrateFeatures;
 use deny_lists::{NoMemory, Text};
+use deny_spans::UnusedWorkspaceDep;
 use std::alloc::Global;
 use std::collections::BTreeMap;
 
-/// What stands in the policy's text, and is found by its range: an entry by that of its name, a word
-/// by its own.
+/// What stands in the policy's text or the workspace's, and is found by its range: an entry by that of
+/// its name or key, a word by its own.
 pub trait Ranged {
     ghost use Rattle.std.specs.Prelude.{◌≡◌};
     ghost use Rattle.deny_base.specs.declared.span.Span.{Span};
@@ -47,6 +48,14 @@ impl Ranged for Spanned<Text> {
 
     fn range(&self) -> Span {
         self.span
+    }
+}
+
+impl Ranged for UnusedWorkspaceDep {
+    ghost range = { λ e. e.key };
+
+    fn range(&self) -> Span {
+        self.key
     }
 }
 

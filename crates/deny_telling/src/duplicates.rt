@@ -1,13 +1,15 @@
 //! What is told of crates of one name that stand side by side.
 ghost use Rattle.std.specs.Prelude.{◌≡◌, ◌++◌, IfOk, codes, length, map};
 ghost use Rattle.std.specs.Fmt.{decimal};
-ghost use Rattle.deny_codes.specs.Duplicates.{duplicate_told};
+ghost use Rattle.deny_codes.specs.Duplicates.{duplicate_told, lock_label, lock_labels};
 ghost use Rattle.deny_model.specs.Duplicates.{duplicate_level};
-ghost use Rattle.deny_model.specs.Told.{crate_name_at, crates_at, node_of};
+ghost use Rattle.deny_model.specs.Told.{crate_at, crate_name_at, crates_at, node_of};
+ghost use Rattle.deny_spans.specs.SpansView.{AreSpansOf};
 ghost use Rattle.deny_telling.specs.private.Teller.{told_from};
 
 use crate::teller::Teller;
-use deny_base::{GraphNode, Key, LintLevel};
+use crate::telling::{Labels, lone_label};
+use deny_base::{GraphNode, Key, LintLevel, Span};
 use deny_codes::Words;
 use deny_facts::{krate_at, krate_name};
 use deny_lists::{List, NoMemory, Text};
@@ -16,15 +18,17 @@ use std::alloc::Global;
 /// What is told of crates that stand side by side.
 #[tactic(auto, unfolding(deny_codes::specs::Duplicates::duplicate_told))]
 pub fn duplicate_told(alloc: Global, teller: &Teller<'_>, key: &Key) -> Result<Words, NoMemory>
+    requires spans { AreSpansOf teller.now.krates.now teller.now.spans.now }
     ensures { IfOk result (λ words. let c = told_from teller.now in
-        words ≡ duplicate_told c.policy c.graph key.now) }
+        words ≡ duplicate_told c.policy c.graph c.files.lock key.now) }
 {
     let message = duplicate_message(alloc, teller, key)?;
+    let labels = lock_labels(alloc, teller, key.places.as_slice())?;
     let nodes = nodes_at(alloc, teller, key.places.as_slice())?;
     Ok(Words {
         severity: duplicate_level(teller, key.places.as_slice()).severity(),
         message,
-        labels: List::new(alloc),
+        labels,
         notes: List::new(alloc),
         nodes,
         with_features: false,
@@ -52,6 +56,40 @@ fn duplicate_level(teller: &Teller<'_>, places: &[u32]) -> LintLevel
     } else {
         teller.cfg.multiple_versions
     }
+}
+
+// The lines of the lock text from that of the first of these places to that of the last.
+fn lock_labels(alloc: Global, teller: &Teller<'_>, places: &[u32]) -> Labels
+    requires spans { AreSpansOf teller.now.krates.now teller.now.spans.now }
+    ensures { IfOk result (λ labels. labels
+        ≡ lock_labels teller.now.krates.now teller.now.spans.now.lock_id places.now) }
+{
+    let Some(first) = places.first() else {
+        return Ok(List::new(alloc));
+    };
+    let Some(last) = places.last() else {
+        return Ok(List::new(alloc));
+    };
+    lock_label(alloc, teller, *first, *last)
+}
+
+#[tactic(auto, unfolding(deny_codes::specs::Duplicates::lock_label, deny_codes::specs::Duplicates::lock_lines))]
+fn lock_label(alloc: Global, teller: &Teller<'_>, first: u32, last: u32) -> Labels
+    requires spans { AreSpansOf teller.now.krates.now teller.now.spans.now }
+    ensures { IfOk result (λ labels. let g = teller.now.krates.now in
+        labels ≡ lock_label g teller.now.spans.now.lock_id (crate_at g first) (crate_at g last)) }
+{
+    let Some(first) = teller.spans.lock_span_at(first) else {
+        return Ok(List::new(alloc));
+    };
+    let Some(last) = teller.spans.lock_span_at(last) else {
+        return Ok(List::new(alloc));
+    };
+    let lines = Span {
+        start: first.total.start,
+        end: last.total.end,
+    };
+    lone_label(alloc, teller.spans.lock_id, lines, "lock entries")
 }
 
 // The crates at these places, as they are shown.

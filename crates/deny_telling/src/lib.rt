@@ -8,11 +8,13 @@ mod bans;
 mod by_range;
 mod duplicates;
 mod features;
+mod sharing;
 mod skipped_trees;
 mod skips;
 mod teller;
 mod telling;
 mod told;
+mod wildcards;
 mod wrapper_ranges;
 mod wrappers;
 

@@ -1,14 +1,18 @@
 //! What findings are told from.
-ghost use Rattle.std.specs.Prelude.{◌≡◌, IfOk, find, map, option_map, MatchOption, ℕ, None};
+ghost use Rattle.std.specs.Prelude.{◌≡◌, IfOk, IfSome, find, map, option_map, MatchOption, ℕ, None};
 ghost use Rattle.std.specs.List.{flat_map, list_any};
-ghost use Rattle.deny_cfg.specs.PolicyView.{ban_view, entry_view, feature_view, policy_view, root_view};
+ghost use Rattle.deny_cfg.specs.PolicyView.{ban_view, entry_view, feature_view, policy_view, root_view, sharing_view};
 ghost use Rattle.deny_codes.specs.Features.{feature_entry_at, features_of};
+ghost use Rattle.deny_codes.specs.Sharing.{unused_at, uses_of};
 ghost use Rattle.deny_model.specs.Duplicates.{is_denied_multiple};
 ghost use Rattle.deny_model.specs.Told.{allow_at, ban_at, crates_at, root_at, skip_at};
 ghost use Rattle.deny_model.specs.Wrappers.{same_span};
 ghost use Rattle.deny_telling.specs.private.ByRange.{IsByRange};
 ghost use Rattle.deny_facts.specs.Marks.{mark_at};
+ghost use Rattle.deny_manifest_rules.specs.Uses.{AreUses, use_view};
+ghost use Rattle.deny_spans.specs.SpansView.{spans_view};
 ghost use Rattle.deny_telling.specs.private.WrapperRanges.{FindsWrappers, wrapper_range};
+ghost use Rattle.deny_workspace.specs.Workspace.{dep_view};
 
 use crate::by_range::{ByRange, features_by_range};
 use crate::wrapper_ranges::WrapperRanges;
@@ -18,13 +22,18 @@ use deny_cfg::{PackageSpecOrExtended, Reason};
 use deny_facts::{mark_at, spoken_of};
 use deny_krates::Krates;
 use deny_lists::{List, NoMemory, Text};
+use deny_manifest_rules::{Use, Uses};
+use deny_spans::{KrateSpans, UnusedWorkspaceDep};
 use std::alloc::Global;
 
-/// A configuration and a graph, with what finds the policy's entries by their ranges.
+/// A configuration, a graph and the spans of its crates, with what finds the policy's entries and the
+/// workspace's by their ranges.
 #[derive(Drop)]
 pub struct Teller<'c> {
     pub cfg: &'c ValidConfig,
     pub krates: &'c Krates,
+    pub spans: &'c KrateSpans<'c>,
+    pub uses: &'c Uses<'c, 'c>,
     banned: ByRange<'c, PackageSpecOrExtended<KrateBan>>,
     allowed: ByRange<'c, PackageSpecOrExtended<Reason>>,
     skipped: ByRange<'c, PackageSpecOrExtended<Reason>>,
@@ -33,6 +42,8 @@ pub struct Teller<'c> {
     features: ByRange<'c, Spanned<Text>>,
     wrappers: WrapperRanges,
     several: List<bool>,
+    unused: ByRange<'c, UnusedWorkspaceDep>,
+    ghost uses_fit: { AreUses (policy_view cfg.now) krates.now (spans_view spans.now) uses.now },
     ghost banned_found: { IsByRange (λ e. e.spec.name.span) cfg.now.denied banned },
     ghost allowed_found: { IsByRange (λ e. e.spec.name.span) cfg.now.allowed allowed },
     ghost skipped_found: { IsByRange (λ e. e.spec.name.span) cfg.now.skipped skipped },
@@ -40,6 +51,7 @@ pub struct Teller<'c> {
     ghost entries_found: { IsByRange (λ e. e.spec.name.span) cfg.now.features feature_entries },
     ghost features_found: { IsByRange (λ w. w.span) (flat_map features_of (map feature_view cfg.now.features)) features },
     ghost wrappers_found: { FindsWrappers (map ban_view cfg.now.denied) wrappers },
+    ghost unused_found: { IsByRange (λ e. e.key) spans.now.unused_workspace_deps unused },
     ghost several_marked: { several ≡ map (is_denied_multiple (policy_view cfg.now)) krates.now.crates },
 }
 
@@ -49,13 +61,20 @@ impl<'c> Teller<'c> {
         alloc: Global,
         cfg: &'c ValidConfig,
         krates: &'c Krates,
+        spans: &'c KrateSpans<'c>,
+        uses: &'c Uses<'c, 'c>,
     ) -> Result<Teller<'c>, NoMemory>
+        requires uses { AreUses (policy_view cfg.now) krates.now (spans_view spans.now) uses.now }
         ensures cfg { IfOk result (λ teller. teller.cfg.now ≡ cfg.entry.now) }
         ensures krates { IfOk result (λ teller. teller.krates.now ≡ krates.entry.now) }
+        ensures spans { IfOk result (λ teller. teller.spans.now ≡ spans.entry.now) }
+        ensures uses { IfOk result (λ teller. teller.uses.now ≡ uses.entry.now) }
     {
         Ok(Teller {
             cfg,
             krates,
+            spans,
+            uses,
             banned: ByRange::new(alloc, cfg.denied.as_slice())?,
             allowed: ByRange::new(alloc, cfg.allowed.as_slice())?,
             skipped: ByRange::new(alloc, cfg.skipped.as_slice())?,
@@ -64,6 +83,7 @@ impl<'c> Teller<'c> {
             features: features_by_range(alloc, cfg.features.as_slice())?,
             wrappers: WrapperRanges::new(alloc, cfg.denied.as_slice())?,
             several: spoken_of(alloc, krates, cfg.denied_multiple_versions.as_slice())?,
+            unused: ByRange::new(alloc, spans.unused_workspace_deps.as_slice())?,
         })
     }
 
@@ -123,6 +143,21 @@ impl<'c> Teller<'c> {
         ensures { result ≡ wrapper_range (policy_view self.now.cfg.now).deny range name.now }
     {
         self.wrappers.at(range, name)
+    }
+
+    /// The unused entry of the workspace of a range.
+    pub fn unused(&self, range: Span) -> Option<&'c UnusedWorkspaceDep>
+        ensures { option_map (λ e. dep_view None e.now) result ≡ unused_at (spans_view self.now.spans.now) range }
+    {
+        self.unused.at(range)
+    }
+
+    /// The declarations that count of the crate at a place, of those that the workspace shares.
+    pub fn uses_of(&self, place: u32) -> &'c [Use<'c, 'c>]
+        ensures { IfSome self.now.cfg.now.workspace_dependencies (λ shared. map use_view result.now
+            ≡ uses_of (sharing_view shared) self.now.krates.now (spans_view self.now.spans.now) place) }
+    {
+        self.uses.at(place)
     }
 
     /// Whether several versions are denied of a crate at these places.

@@ -55,6 +55,18 @@ pub fn primary(alloc: Global, file: FileId, span: Span, message: &str) -> Result
     })
 }
 
+/// A secondary label.
+pub fn secondary(alloc: Global, file: FileId, span: Span, message: &str) -> Result<Label, NoMemory>
+    ensures { IfOk result (λ label. label ≡ secondary file span message.now) }
+{
+    Ok(Label {
+        style: LabelStyle::Secondary,
+        file_id: file,
+        span,
+        message: Text::from_str(alloc, message)?,
+    })
+}
+
 /// A primary label alone.
 pub fn lone_label(alloc: Global, file: FileId, span: Span, message: &str) -> Labels
     ensures { IfOk result (λ labels. labels ≡ primary file span message.now ∷ []) }
@@ -75,12 +87,7 @@ fn add_label(
     ensures { OnOk result (labels.new ≡ labels.old ++ label_at file message.now (option_map (λ w. w.now) words.entry)) }
 {
     if let Some(words) = words {
-        labels.push(Label {
-            style: LabelStyle::Secondary,
-            file_id: file,
-            span: words.span,
-            message: Text::from_str(alloc, message)?,
-        })?;
+        labels.push(secondary(alloc, file, words.span, message)?)?;
     }
     Ok(())
 }
