@@ -16,6 +16,7 @@ use Rattle.deny_base.specs.declared.key.Key.{Key}
 use Rattle.deny_model.specs.Facts as chains
 use Rattle.deny_model.specs.Graph.{Graph}
 use Rattle.deny_model.specs.Policy.{Policy, Replacing}
+use Rattle.deny_model.specs.View.{View}
 use Rattle.deny_codes.specs.Circumstances.{Circumstances, tabled}
 use Rattle.deny_codes.specs.Saying.{said_by}
 use Rattle.deny_codes.specs.StdReplacements.{ignore_hits, ignore_hits_in}
@@ -36,10 +37,10 @@ use Rattle.deny_rules.specs.private.Replaced.{IsFoundBy, IsFoundOf}
 
 -- ---- what the rules give is told beside them
 
-pub told_by_rules : (p : Policy) (g : Graph) (facts : chains.Facts) (keys : List Key)
-    → Lists key_cmp (IsByRule p g facts) keys → AreToldHere keys
-told_by_rules p g facts keys listed k d within =
-    rules_here p g facts _ (listed.sound _ (All-contains_itself keys k d within))
+pub told_by_rules : (p : Policy) (g : Graph) (facts : chains.Facts) (view : View) (keys : List Key)
+    → Lists key_cmp (IsByRule p g facts view) keys → AreToldHere keys
+told_by_rules p g facts view keys listed k d within =
+    rules_here p g facts view _ (listed.sound _ (All-contains_itself keys k d within))
 
 -- ---- one after the other
 

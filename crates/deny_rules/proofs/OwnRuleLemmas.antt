@@ -15,6 +15,7 @@ use Rattle.deny_model.specs.Duplicates.{IsDuplicate}
 use Rattle.deny_model.specs.Facts as chains
 use Rattle.deny_model.specs.Graph.{Graph}
 use Rattle.deny_model.specs.Policy.{Policy}
+use Rattle.deny_model.specs.View.{View}
 use Rattle.deny_codes.specs.Circumstances.{Circumstances}
 use Rattle.deny_codes.specs.Codes.{is_of_bans}
 use Rattle.deny_codes.specs.Facts.{Facts}
@@ -26,10 +27,12 @@ use Rattle.deny_codes.proofs.Made.{duplicate_made, feature_banned_made, feature_
 use Rattle.deny_codes.proofs.Made.{not_allowed_made, replaced_made, skipped_by_root_made, skipped_made}
 use Rattle.deny_codes.proofs.Made.{unknown_feature_made, unmatched_ignore_made, unmatched_skip_made}
 use Rattle.deny_codes.proofs.Made.{unmatched_skip_root_made, unmatched_wrapper_made, unnecessary_skip_made}
-use Rattle.deny_codes.proofs.Made.{unused_wrapper_made}
+use Rattle.deny_codes.proofs.Made.{unresolved_made, unused_entry_made, unused_wrapper_made, wildcard_made}
+use Rattle.deny_codes.proofs.Made.{workspace_duplicate_made}
 use Rattle.deny_codes.proofs.Parts.{lists_append, lists_same}
 use Rattle.deny_codes.proofs.Sections.{not_licensed}
 use Rattle.deny_features.specs.FeatureKeys.{IsOfFeatures}
+use Rattle.deny_manifest_rules.specs.ManifestKeys.{IsOfManifests}
 use Rattle.deny_std.specs.Found.{IsOfStd}
 use Rattle.deny_rules.proofs.StdLastLemmas.{rules_first}
 use Rattle.deny_rules.specs.private.OwnRules.{IsByRule, ban_rules, keys_of_rules, skip_rules}
@@ -40,7 +43,7 @@ module _ (c : Circumstances) (facts : Facts) where
 
   -- what stands by one of the rules
   abbrev ByRule : Key → Type 0
-  ByRule key = IsByRule c.policy c.graph facts.chains key
+  ByRule key = IsByRule c.policy c.graph facts.chains c.view key
 
   -- what stands as a code whose keys bear it, in a section of the bans check
   own : (s : Section) (d : Code) (key : Key) → IsTrue (is_of_bans s) → Made s d key → StandsAs d c facts key → IsOwn key
@@ -111,12 +114,23 @@ module _ (c : Circumstances) (facts : Facts) where
   features_sound key (inr (inr (inr (inr is)))) = own section.Crates code.DefaultFeatureEnabled key refl
       (default_enabled_made c.policy c.graph key is) is
 
+  manifests_sound : (key : Key) → IsOfManifests c.policy c.graph facts.chains c.view key → IsOwn key
+  manifests_sound key (inl is) = own section.Crates code.Wildcard key refl
+      (wildcard_made c.policy c.graph facts.chains c.view key is) is
+  manifests_sound key (inr (inl is)) = own section.Crates code.UnresolvedWorkspaceDependency key refl
+      (unresolved_made c.policy c.graph facts.chains c.view key is) is
+  manifests_sound key (inr (inr (inl is))) = own section.Workspace code.WorkspaceDuplicate key refl
+      (workspace_duplicate_made c.graph c.view key c.policy is) is
+  manifests_sound key (inr (inr (inr is))) = own section.Workspace code.UnusedWorkspaceDependency key refl
+      (unused_entry_made c.policy c.view key is) is
+
   sound : (key : Key) → ByRule key → IsOwn key
   sound key (inl is) = in_rules (ban_rules c.policy c.graph) bans_sound key is
   sound key (inr (inl is)) = in_rules (skip_rules c.policy c.graph facts.chains) skips_sound key is
   sound key (inr (inr (inl is))) = own section.Groups code.Duplicate key refl
       (duplicate_made c.policy c.graph facts.chains key is) is
-  sound key (inr (inr (inr is))) = features_sound key is
+  sound key (inr (inr (inr (inl is)))) = features_sound key is
+  sound key (inr (inr (inr (inr is)))) = manifests_sound key is
 
   std_sound : (key : Key) → IsOfStd c key → IsOwn key
   std_sound key (inl is) = own section.Unused code.UnmatchedReplacementIgnore key refl
@@ -145,7 +159,10 @@ module _ (c : Circumstances) (facts : Facts) (key : Key) where
       (inl (of_rule (skip_rules c.policy c.graph facts.chains) n keys key within at is)))
 
   feature : IsOfFeatures c.policy c.graph key → IsEither
-  feature is = inl (inr (inr (inr is)))
+  feature is = inl (inr (inr (inr (inl is))))
+
+  manifest : IsOfManifests c.policy c.graph facts.chains c.view key → IsEither
+  manifest is = inl (inr (inr (inr (inr is))))
 
 whole_as : (d : Code) (c : Circumstances) (facts : Facts) (key : Key) → StandsAs d c facts key → IsEither c facts key
 whole_as code.Banned c facts key is = ban c facts key 0 _ (omega arith) refl is
@@ -165,6 +182,10 @@ whole_as code.FeatureNotExplicitlyAllowed c facts key is = feature c facts key (
 whole_as code.FeatureBanned c facts key is = feature c facts key (inr (inr (inl is)))
 whole_as code.UnknownFeature c facts key is = feature c facts key (inr (inr (inr (inl is))))
 whole_as code.DefaultFeatureEnabled c facts key is = feature c facts key (inr (inr (inr (inr is))))
+whole_as code.Wildcard c facts key is = manifest c facts key (inl is)
+whole_as code.UnresolvedWorkspaceDependency c facts key is = manifest c facts key (inr (inl is))
+whole_as code.WorkspaceDuplicate c facts key is = manifest c facts key (inr (inr (inl is)))
+whole_as code.UnusedWorkspaceDependency c facts key is = manifest c facts key (inr (inr (inr is)))
 whole_as code.UnmatchedReplacementIgnore c facts key is = inr (inl is)
 whole_as code.ReplacedInStd c facts key is = inr (inr is)
 whole_as _ c facts key is = absurd is
@@ -176,29 +197,32 @@ whole_by (Bans d) c facts key mine is = whole_as d c facts key is
 whole_by (License d) c facts key mine is = absurd (not_licensed d c.licensing c.graph key mine is)
 
 -- what all rules add
-pub adds_by_rule : (p : Policy) (g : Graph) (facts : chains.Facts) (old one two three new : List Key)
+pub adds_by_rule : (p : Policy) (g : Graph) (facts : chains.Facts) (view : View) (old one two three four new : List Key)
     → Adds (Contains (keys_of_rules (ban_rules p g))) old one
     → Adds (Contains (keys_of_rules (skip_rules p g facts))) one two
     → Adds (IsDuplicate p g facts) two three
-    → Adds (IsOfFeatures p g) three new
-    → Adds (IsByRule p g facts) old new
-adds_by_rule p g facts old one two three new bans skips duplicates features =
+    → Adds (IsOfFeatures p g) three four
+    → Adds (IsOfManifests p g facts view) four new
+    → Adds (IsByRule p g facts view) old new
+adds_by_rule p g facts view old one two three four new bans skips duplicates features manifests =
     let banned = Contains (keys_of_rules (ban_rules p g)) in
     let skipped = Contains (keys_of_rules (skip_rules p g facts)) in
     let doubled = IsDuplicate p g facts in
     let featured = IsOfFeatures p g in
-    adds_then banned (λ key. skipped key ⊎ (doubled key ⊎ featured key)) old one new bans
-    (adds_then skipped (λ key. doubled key ⊎ featured key) one two new skips
-    (adds_then doubled featured two three new duplicates features))
+    let written = IsOfManifests p g facts view in
+    adds_then banned (λ key. skipped key ⊎ (doubled key ⊎ (featured key ⊎ written key))) old one new bans
+    (adds_then skipped (λ key. doubled key ⊎ (featured key ⊎ written key)) one two new skips
+    (adds_then doubled (λ key. featured key ⊎ written key) two three new duplicates
+    (adds_then featured written three four new features manifests)))
 
 -- the keys that rules give and then those of replaced crates are what stands in the sections of the bans check
 pub lists_own : (c : Circumstances) (facts : Facts) (rules std : List Key)
-    → Lists key_cmp (IsByRule c.policy c.graph facts.chains) rules → Lists key_cmp (IsOfStd c) std
+    → Lists key_cmp (IsByRule c.policy c.graph facts.chains c.view) rules → Lists key_cmp (IsOfStd c) std
     → ListsOwn is_of_bans c facts (rules ++ std)
 lists_own c facts rules std these those =
     lists_same key_cmp (IsEither c facts) (StandsIn is_of_bans c facts) (rules ++ std)
     (lists_append key_cmp (ByRule c facts) (IsOfStd c) rules std these those
-    (λ x y is there. rules_first c.policy c.graph facts.chains x is c y there))
+    (λ x y is there. rules_first c.policy c.graph facts.chains c.view x is c y there))
     (λ key is. elim is as (λ _. StandsIn is_of_bans c facts key)
     [ inl by_rule ↦ sound c facts key by_rule | inr of_std ↦ std_sound c facts key of_std ])
     (λ key is. whole_by key.code c facts key is.0 is.1)

@@ -22,6 +22,7 @@ use Rattle.deny_model.specs.Graph.{Graph}
 use Rattle.deny_model.specs.Keys.{key_of, unused_key}
 use Rattle.deny_model.specs.Policy as policy
 use Rattle.deny_model.specs.Policy.{Ban, Entry, Policy, Replacing, Root}
+use Rattle.deny_model.specs.View.{View}
 use Rattle.deny_model.specs.Skips.{has_root, is_hit_skip, is_needless, unmatched_skip_keys}
 use Rattle.deny_model.specs.Skips.{unmatched_skip_root_keys, unnecessary_skip_keys}
 use Rattle.deny_model.specs.Wrappers.{is_hit_wrapper, unused_wrapper_keys_of}
@@ -35,7 +36,9 @@ use Rattle.deny_codes.proofs.Made.{Made, allowed_by_wrapper_made, allowed_made, 
 use Rattle.deny_codes.proofs.Made.{duplicate_made, feature_banned_made, feature_not_allowed_made, mismatched_made}
 use Rattle.deny_codes.proofs.Made.{not_allowed_made, replaced_made, skipped_by_root_made, skipped_made}
 use Rattle.deny_codes.proofs.Made.{unknown_feature_made, unmatched_ignore_made, unmatched_wrapper_made}
+use Rattle.deny_codes.proofs.Made.{unresolved_made, unused_entry_made, wildcard_made, workspace_duplicate_made}
 use Rattle.deny_features.specs.FeatureKeys.{IsOfFeatures}
+use Rattle.deny_manifest_rules.specs.ManifestKeys.{IsOfManifests}
 use Rattle.deny_std.specs.Found.{IsOfStd}
 use Rattle.deny_telling.specs.Here.{is_told_here}
 use Rattle.deny_rules.specs.private.OwnRules.{IsByRule, ban_rules, keys_of_rules, skip_rules}
@@ -232,20 +235,34 @@ module _ (p : Policy) (g : Graph) (facts : chains.Facts) where
   features_first key (inr (inr (inr (inr is)))) = of_section section.Crates code.DefaultFeatureEnabled key refl refl refl
       (default_enabled_made p g key is)
 
+  module _ (view : View) where
+    manifests_first : (key : Key) → IsOfManifests p g facts view key → IsFirst key
+    unfolding section_number
+    manifests_first key (inl is) = of_section section.Crates code.Wildcard key refl refl refl
+        (wildcard_made p g facts view key is)
+    manifests_first key (inr (inl is)) = of_section section.Crates code.UnresolvedWorkspaceDependency key refl refl refl
+        (unresolved_made p g facts view key is)
+    manifests_first key (inr (inr (inl is))) = of_section section.Workspace code.WorkspaceDuplicate key refl refl refl
+        (workspace_duplicate_made g view key p is)
+    manifests_first key (inr (inr (inr is))) = of_section section.Workspace code.UnusedWorkspaceDependency key refl refl
+        refl (unused_entry_made p view key is)
+
   in_rules : (rules : List (List Key)) → AllByRecursion AreFirst rules → AreFirst (keys_of_rules rules)
   in_rules rules all key is =
       let from = Contains-from_flat_map (λ (keys : List Key). keys) rules key is in
       at_member AreFirst rules from.from all from.member key from.of
 
-  each_first : (key : Key) → IsByRule p g facts key → IsFirst key
-  each_first key (inl is) = in_rules (ban_rules p g) bans_first key is
-  each_first key (inr (inl is)) = in_rules (skip_rules p g facts) skips_first key is
-  each_first key (inr (inr (inl is))) = duplicates_first key is
-  each_first key (inr (inr (inr is))) = features_first key is
+  module _ (view : View) where
+    each_first : (key : Key) → IsByRule p g facts view key → IsFirst key
+    each_first key (inl is) = in_rules (ban_rules p g) bans_first key is
+    each_first key (inr (inl is)) = in_rules (skip_rules p g facts) skips_first key is
+    each_first key (inr (inr (inl is))) = duplicates_first key is
+    each_first key (inr (inr (inr (inl is)))) = features_first key is
+    each_first key (inr (inr (inr (inr is)))) = manifests_first view key is
 
-  pub rules_here : (key : Key) → IsByRule p g facts key → IsTrue (is_told_here key.code)
-  rules_here key is = (each_first key is).here
+    pub rules_here : (key : Key) → IsByRule p g facts view key → IsTrue (is_told_here key.code)
+    rules_here key is = (each_first key is).here
 
-  pub rules_first : (key : Key) → IsByRule p g facts key → (c : Circumstances) (other : Key) → IsOfStd c other
-      → key_cmp key other ≡ Less
-  rules_first key is = (each_first key is).first
+    pub rules_first : (key : Key) → IsByRule p g facts view key → (c : Circumstances) (other : Key) → IsOfStd c other
+        → key_cmp key other ≡ Less
+    rules_first key is = (each_first key is).first

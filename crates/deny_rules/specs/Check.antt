@@ -5,7 +5,7 @@ use Rattle.deny_base.specs.declared.key.Key.{Key}
 use Rattle.deny_cfg.specs.PolicyView.{policy_view}
 use Rattle.deny_cfg.specs.declared.bans.cfg.valid.ValidConfig.{ValidConfig}
 use Rattle.deny_model.specs.Graph.{Graph}
-use Rattle.deny_codes.specs.Circumstances.{Circumstances, View, seen_by, tabled}
+use Rattle.deny_codes.specs.Circumstances.{Circumstances, tabled}
 use Rattle.deny_codes.specs.Codes.{is_of_bans}
 use Rattle.deny_codes.specs.Hits.{hits_in}
 use Rattle.deny_codes.specs.Saying.{HasTable, bytes_of}
@@ -13,7 +13,8 @@ use Rattle.deny_codes.specs.Standing.{AreOwnKeys}
 use Rattle.deny_codes.specs.StdReplacements.{asks_for_table}
 use Rattle.deny_codes.specs.Told.{pack_told}
 use Rattle.deny_dup_edges.specs.DupEdges.{ShowsEach, is_of_duplicate}
-use Rattle.deny_telling.specs.Telling.{TellsPrefix}
+use Rattle.deny_spans.specs.declared.krate_spans.KrateSpans.{KrateSpans}
+use Rattle.deny_telling.specs.Telling.{TellsPrefix, told_by}
 use Rattle.deny_rules.specs.declared.check.BansEnd.{BansEnd}
 
 -- what stands in the sections of the bans check is told, each once under its key, in the order of the keys;
@@ -29,15 +30,13 @@ pub record IsChecked (c : Circumstances) (old new : List Pack) (end : BansEnd) :
 abbrev pub IsTableThere : ValidConfig → Option (List ℕ) → Type 0
 IsTableThere cfg table = IsTrue (asks_for_table (policy_view cfg)) → HasTable table
 
--- of a configuration, with the bytes of a table and what was seen of files
-abbrev pub circumstances_of : ValidConfig → Graph → Option (List ℕ) → View → Circumstances
-circumstances_of cfg g table view = tabled (seen_by (policy_view cfg) g cfg.file_id view) (bytes_of table)
+-- of a configuration and the spans of a graph, with the bytes of a table
+abbrev pub circumstances_of : ValidConfig → Graph → Option (List ℕ) → KrateSpans → Circumstances
+circumstances_of cfg g table spans = tabled (told_by cfg g spans) (bytes_of table)
 
--- the same of a configuration, by what was seen of files
-pub record IsCheckOf (cfg : ValidConfig) (g : Graph) (table : Option (List ℕ)) (old new : List Pack) (end : BansEnd)
-    : Type 0 where
-  pub view : View
-  pub checked : IsChecked (circumstances_of cfg g table view) old new end
+-- the same of a configuration, by what was seen of manifests
+abbrev pub IsCheckOf : ValidConfig → Graph → Option (List ℕ) → KrateSpans → List Pack → List Pack → BansEnd → Type 0
+IsCheckOf cfg g table spans old new end = IsChecked (circumstances_of cfg g table spans) old new end
 
 -- a prefix of what stands in the sections of the bans check was told
 pub record IsPrefixTold (c : Circumstances) (old new : List Pack) : Type 0 where
@@ -45,11 +44,10 @@ pub record IsPrefixTold (c : Circumstances) (old new : List Pack) : Type 0 where
   pub listed : AreOwnKeys is_of_bans c keys
   pub told : TellsPrefix c keys old new
 
--- the same of a configuration, by what was seen of files
-pub record IsPrefixOf (cfg : ValidConfig) (g : Graph) (table : Option (List ℕ)) (old new : List Pack) : Type 0 where
-  pub view : View
-  pub prefix : IsPrefixTold (circumstances_of cfg g table view) old new
+-- the same of a configuration, by what was seen of manifests
+abbrev pub IsPrefixOf : ValidConfig → Graph → Option (List ℕ) → KrateSpans → List Pack → List Pack → Type 0
+IsPrefixOf cfg g table spans old new = IsPrefixTold (circumstances_of cfg g table spans) old new
 
 -- nothing was told, or a prefix of what stands by a configuration
-abbrev pub TellsPrefixOf : ValidConfig → Graph → Option (List ℕ) → List Pack → List Pack → Type 0
-TellsPrefixOf cfg g table old new = (new ≡ old) ⊎ IsPrefixOf cfg g table old new
+abbrev pub TellsPrefixOf : ValidConfig → Graph → Option (List ℕ) → KrateSpans → List Pack → List Pack → Type 0
+TellsPrefixOf cfg g table spans old new = (new ≡ old) ⊎ IsPrefixOf cfg g table spans old new

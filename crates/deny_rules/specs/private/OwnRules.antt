@@ -13,7 +13,9 @@ use Rattle.deny_codes.specs.Bans.{banned_keys, allowed_by_wrapper_keys, unmatche
 use Rattle.deny_codes.specs.SkippedTrees.{skipped_by_root_keys}
 use Rattle.deny_codes.specs.Skips.{skipped_keys}
 use Rattle.deny_codes.specs.Wrappers.{unused_wrapper_keys}
+use Rattle.deny_model.specs.View.{View}
 use Rattle.deny_features.specs.FeatureKeys.{IsOfFeatures}
+use Rattle.deny_manifest_rules.specs.ManifestKeys.{IsOfManifests}
 
 -- those on bans, their wrappers, and the allow list
 abbrev pub ban_rules : Policy → Graph → List (List Key)
@@ -36,9 +38,10 @@ skip_rules p g facts = skipped_keys p g facts
 abbrev pub keys_of_rules : List (List Key) → List Key
 keys_of_rules rules = flat_map (λ keys. keys) rules
 
--- what stands by one of the rules on crates and their features
-abbrev pub IsByRule : Policy → Graph → chains.Facts → Key → Type 0
-IsByRule p g facts key = Contains (keys_of_rules (ban_rules p g)) key
+-- what stands by one of the rules on crates, their features and what manifests write
+abbrev pub IsByRule : Policy → Graph → chains.Facts → View → Key → Type 0
+IsByRule p g facts view key = Contains (keys_of_rules (ban_rules p g)) key
     ⊎ (Contains (keys_of_rules (skip_rules p g facts)) key
     ⊎ (IsDuplicate p g facts key
-    ⊎ IsOfFeatures p g key))
+    ⊎ (IsOfFeatures p g key
+    ⊎ IsOfManifests p g facts view key)))
