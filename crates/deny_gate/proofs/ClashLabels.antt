@@ -1,5 +1,5 @@
 -- The labels of clashes lie in the policy's text, which is the one file.
-use Rattle.std.proofs.Common.{◌≡◌, ℕ, List, [], ◌∷◌, Option, Result, Ok, Err, refl, sym, ap, subst}
+use Rattle.std.proofs.Common.{◌≡◌, ℕ, List, [], ◌∷◌, Result, Ok, Err, refl, sym, ap, subst}
 use Rattle.std.specs.Prelude.{IfErr, map, slice_get}
 use Rattle.std.specs.List.{AllByRecursion}
 use Rattle.std.specs.Result.{IsErrAnd}
@@ -16,7 +16,7 @@ use Rattle.deny_cfg.proofs.LabelLaws.{Lie}
 use Rattle.deny_cfg.proofs.LabelValid.{lie_rest, lie_prefix}
 use Rattle.deny_toml.specs.Ranges.{IsRange}
 use Rattle.deny_model.specs.Policy.{Policy}
-use Rattle.deny_gate.specs.Gating.{IsCauseBehind, IsPolicyCause}
+use Rattle.deny_gate.specs.Gating.{IsCauseBehind, IsPolicyCause, Texts}
 use Rattle.deny_gate.specs.Labels.{AreLabelledClashes, ArePlaced, IsLabelledCause, IsPlaced}
 use Rattle.deny_gate.specs.Report.{policy_id}
 use Rattle.deny_gate.specs.declared.report.GateError.{GateError}
@@ -87,18 +87,16 @@ policy_cause_labelled policy text (Err handed) error same is cause =
     (subst (λ (t : List ℕ). IsLabelledCause t error) same (cause_labelled text error cause))
 
 -- what comes behind the policy has no clashes
-no_clash : (policy metadata : List ℕ) (p : Policy) (replacements : Option (List ℕ)) (error : GateError)
-    → IsCauseBehind p metadata replacements error → IsLabelledCause policy error
-no_clash policy metadata p replacements (Invalid told) cause = absurd cause
-no_clash policy metadata p replacements (Config faults) cause = tt
-no_clash policy metadata p replacements (NotBuilt which) cause = tt
-no_clash policy metadata p replacements (Metadata f) cause = tt
-no_clash policy metadata p replacements (Replacement at) cause = tt
-no_clash policy metadata p replacements Memory cause = tt
+no_clash : (policy : List ℕ) (p : Policy) (texts : Texts) (error : GateError) → IsCauseBehind p texts error
+    → IsLabelledCause policy error
+no_clash policy p texts (Invalid told) cause = absurd cause
+no_clash policy p texts (Config faults) cause = tt
+no_clash policy p texts (NotBuilt which) cause = tt
+no_clash policy p texts (Metadata f) cause = tt
+no_clash policy p texts (Replacement at) cause = tt
+no_clash policy p texts Memory cause = tt
 
-pub cause_behind_labelled : (policy metadata : List ℕ) (p : Policy) (replacements : Option (List ℕ))
-    (result : Result Report GateError) → IfErr result (IsCauseBehind p metadata replacements)
-    → IfErr result (IsLabelledCause policy)
-cause_behind_labelled policy metadata p replacements (Ok report) cause = tt
-cause_behind_labelled policy metadata p replacements (Err error) cause =
-    no_clash policy metadata p replacements error cause
+pub cause_behind_labelled : (policy : List ℕ) (p : Policy) (texts : Texts) (result : Result Report GateError)
+    → IfErr result (IsCauseBehind p texts) → IfErr result (IsLabelledCause policy)
+cause_behind_labelled policy p texts (Ok report) cause = tt
+cause_behind_labelled policy p texts (Err error) cause = no_clash policy p texts error cause

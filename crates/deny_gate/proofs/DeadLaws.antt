@@ -12,6 +12,7 @@ use Rattle.deny_base.specs.declared.entry.Hit.{Hit}
 use Rattle.deny_base.specs.declared.key.Key.{Key}
 use Rattle.deny_model.specs.Graph.{Crate, Graph}
 use Rattle.deny_model.specs.Licensing.{Licensing}
+use Rattle.deny_outside.specs.Disk.{Files}
 use Rattle.deny_codes.specs.Circumstances.{Circumstances}
 use Rattle.deny_codes.specs.Hits.{TellsLicensed, both_hits, hits_in, licence_hits_in}
 use Rattle.deny_codes.specs.Standing.{AreKeys, Stands}
@@ -102,13 +103,10 @@ module _ (law : DeadCanGo) (c : Circumstances) (taken : List EntryId) (report : 
         is.hits);
   }
 
-pub without_dead : DeadCanGo → (texts : Texts) (report : Report) → IsReportOf texts report
-    → CanDoWithoutDead texts report
-without_dead law texts report is = record {
-  said = is.by.said;
-  is_said = is.by.is_said;
-  graph = is.by.graph;
-  is_graph = is.by.is_graph;
+pub without_dead : DeadCanGo → (told : Option Files) (texts : Texts) (report : Report) → IsReportOf told texts report
+    → CanDoWithoutDead told texts report
+without_dead law told texts report is = record {
   view = is.view;
+  by = is.by;
   can = λ taken among kept. tells_the_rest law _ taken report is.by.is_report among kept;
 }

@@ -16,6 +16,7 @@ use Rattle.deny_lists.proofs.Agreement.{list_any_on}
 use Rattle.deny_lists.proofs.Filters.{some-filter}
 use Rattle.deny_lists.proofs.Members.{Contains-first, Contains-rest}
 use Rattle.deny_model.specs.Licensing.{Licensing}
+use Rattle.deny_outside.specs.Disk.{Files}
 use Rattle.deny_codes.specs.Circumstances.{Circumstances}
 use Rattle.deny_codes.specs.Facts.{Facts}
 use Rattle.deny_codes.specs.Standing.{Stands, StandsBy}
@@ -127,8 +128,8 @@ code_in c report is =
     ap (λ (s : AllStats). exit_code s) is.stats
     ∙ (by_counts (is_some c.licensing) report.findings pass ∙ ap code_of (sym is.verdict))
 
-pub exit_of : (texts : Texts) (report : Report) → IsReportOf texts report
+pub exit_of : (told : Option Files) (texts : Texts) (report : Report) → IsReportOf told texts report
     → exit_code report.stats ≡ code_of report.verdict
-exit_of texts report of =
+exit_of told texts report of =
     let by = of.by in
     code_in (circumstances_of by.said by.graph texts.replacements of.view) report by.is_report

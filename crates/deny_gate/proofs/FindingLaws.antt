@@ -7,6 +7,7 @@ use Rattle.std.proofs.lemmas.List.{append-nil, map-append}
 use Rattle.std.proofs.lemmas.List.Elements.{filter-append}
 use Rattle.deny_base.specs.KeyOrder.{key_cmp}
 use Rattle.deny_base.specs.declared.entry.Hit.{Hit}
+use Rattle.deny_base.specs.declared.files.File.{File}
 use Rattle.deny_base.specs.declared.finding.Pack.{Pack}
 use Rattle.deny_base.specs.declared.key.Key.{Key}
 use Rattle.deny_lists.specs.Ascending.{Lists}
@@ -18,7 +19,13 @@ use Rattle.deny_cfg.specs.PolicyView.{policy_view}
 use Rattle.deny_cfg.specs.declared.policy.Policy as cfg
 use Rattle.deny_model.specs.Graph.{Crate, Graph}
 use Rattle.deny_model.specs.Licensing.{Licensing}
-use Rattle.deny_codes.specs.Circumstances.{Circumstances, View, licensed, seen_by, tabled}
+use Rattle.deny_model.specs.View.{View}
+use Rattle.deny_outside.specs.Disk.{Files}
+use Rattle.deny_spans.specs.Ranges.{ViewLies}
+use Rattle.deny_spans.specs.Seen.{IsSeen}
+use Rattle.deny_unread.specs.declared.unread.Unread.{Unread}
+use Rattle.deny_workspace.specs.declared.registries.Registry.{Registry}
+use Rattle.deny_codes.specs.Circumstances.{Circumstances, licensed, seen_by, tabled}
 use Rattle.deny_codes.specs.Codes.{is_of_bans, is_of_licenses}
 use Rattle.deny_codes.specs.Facts.{Facts}
 use Rattle.deny_codes.specs.Hits.{TellsLicensed, both_hits, hits_in, licence_hits_in}
@@ -30,10 +37,12 @@ use Rattle.deny_rules.specs.Check.{IsChecked}
 use Rattle.deny_rules.specs.declared.check.BansEnd.{BansEnd}
 use Rattle.deny_dup_edges.specs.declared.dup_edges.DupEdges.{DupEdges}
 use Rattle.deny_laws.specs.Dead.{AreDead}
-use Rattle.deny_gate.specs.Gating.{AreEntriesApart, IsLicensedIf, IsReportSeen, IsTold, IsToldOn}
+use Rattle.deny_gate.specs.Gating.{AreEntriesApart, IsLicensedIf, IsReportSeen, IsTold, IsToldOn, circumstances_of}
 use Rattle.deny_gate.specs.Hits.{AreHits, IsOneEach}
-use Rattle.deny_gate.specs.Report.{finding_told, findings_of, keys_in, policy_id, verdict_of}
+use Rattle.deny_gate.specs.Report.{finding_told, findings_of, keys_in, lock_file_id, policy_id}
+use Rattle.deny_gate.specs.Report.{verdict_of}
 use Rattle.deny_gate.specs.Stats.{all_stats}
+use Rattle.deny_gate.specs.declared.checks.Looked.{Looked}
 use Rattle.deny_gate.specs.declared.checks.Told.{Told}
 use Rattle.deny_gate.specs.declared.report.Finding.{Finding}
 use Rattle.deny_gate.specs.declared.report.Report.{Report}
@@ -172,29 +181,31 @@ module _ (laws : CheckLaws) where
         hits = subst (λ (hs : List Hit). AreHits hs told.hits) hits hit;
       }
 
-  -- the same, where the policy is the first file
-  pub told_on : (said : cfg.Policy) (g : Graph) (replacements : Option (List ℕ)) (file : ℕ) (view : View)
+  -- the same, where the policy is the first file and the lock text the second
+  pub told_on : (said : cfg.Policy) (g : Graph) (replacements : Option (List ℕ)) (file lock : ℕ) (view : View)
       (none between packs : List Pack) (end : BansEnd) (others : List Hit) (told : Told) → file ≡ policy_id
-      → IsChecked (tabled (seen_by (policy_view said.bans) g file view) (bytes_of replacements)) none between end
+      → lock ≡ lock_file_id
+      → IsChecked (tabled (seen_by (policy_view said.bans) g file lock view) (bytes_of replacements)) none between end
       → none ≡ [] → IsLicensedIf (licensing_of said.licenses) g file between packs others
       → AreHits (end.hits ++ others) told.hits → told.findings ≡ flat_map findings_of packs
-      → told.dup_edges ≡ end.dup_edges → IsToldOn said g replacements told
-  told_on said g replacements file view none between packs end others told first checked empty tells hit are shown =
-      let at : ℕ → Circumstances = λ n. tabled (seen_by (policy_view said.bans) g n view) (bytes_of replacements) in
-      record {
-        view = view;
-        is_told = subst (λ (n : ℕ). IsTold (licensed (at n) (licensing_of said.licenses)) told) first
-            (told_by (at file) (licensing_of said.licenses) none between packs end others told checked empty tells hit
-            are shown);
-      }
+      → told.dup_edges ≡ end.dup_edges → IsTold (circumstances_of said g replacements view) told
+  told_on said g replacements file lock view none between packs end others told first second checked empty tells hit are
+      shown =
+      let l = licensing_of said.licenses in
+      let at : ℕ → ℕ → Circumstances =
+      λ m n. licensed (tabled (seen_by (policy_view said.bans) g m n view) (bytes_of replacements)) l in
+      subst (λ (m : ℕ). IsTold (at m lock_file_id) told) first
+      (subst (λ (n : ℕ). IsTold (at file n) told) second
+      (told_by (tabled (seen_by (policy_view said.bans) g file lock view) (bytes_of replacements)) l none between packs
+      end others told checked empty tells hit are shown))
 
 -- no two hits of both checks are of one entry, where no two entries have one range
-pub hits_differ : (said : cfg.Policy) (g : Graph) (table : List ℕ) (file : ℕ) (view : View)
+pub hits_differ : (said : cfg.Policy) (g : Graph) (table : List ℕ) (file lock : ℕ) (view : View)
     (none between packs : List Pack) (end : BansEnd) (others : List Hit) → AreEntriesApart said
-    → IsChecked (tabled (seen_by (policy_view said.bans) g file view) table) none between end
+    → IsChecked (tabled (seen_by (policy_view said.bans) g file lock view) table) none between end
     → IsLicensedIf (licensing_of said.licenses) g file between packs others → IsOneEach (end.hits ++ others)
-hits_differ said g table file view none between packs end others apart checked tells =
-    let c = tabled (seen_by (policy_view said.bans) g file view) table in
+hits_differ said g table file lock view none between packs end others apart checked tells =
+    let c = tabled (seen_by (policy_view said.bans) g file lock view) table in
     let more = licence_keys c (licensing_of said.licenses) checked.listed.facts between packs others tells in
     subst (λ (hits : List Hit). IsOneEach hits)
     (sym (ap (λ (hits : List Hit). hits ++ others) checked.hits
@@ -207,19 +218,28 @@ speaks : {X Y : Type 0} (f : X → Y) (o : Option X) → is_some (option_map f o
 speaks f None = refl
 speaks f (Some x) = refl
 
--- and with what is dead, the counts of them, and the verdict on them
-pub seen_report : (said : cfg.Policy) (g : Graph) (replacements : Option (List ℕ)) (told : Told) (report : Report)
-    → IsToldOn said g replacements told → report.krates ≡ g → report.findings ≡ told.findings
-    → report.dup_edges ≡ told.dup_edges → report.hits ≡ told.hits
+-- with what was seen of files, what is dead, the counts of the findings, and the verdict on them
+pub seen_report : (files : Option Files) (said : cfg.Policy) (g : Graph) (replacements : Option (List ℕ))
+    (registries : List Registry) (first new : List File) (looked : Looked) (report : Report)
+    → IsToldOn files said g replacements registries first new looked → report.files ≡ new → report.krates ≡ g
+    → report.findings ≡ looked.told.findings → report.dup_edges ≡ looked.told.dup_edges
+    → report.unread ≡ looked.unread → report.malformed ≡ looked.malformed → report.hits ≡ looked.told.hits
     → AreDead (keys_in report.findings) report.hits report.dead
     → report.stats ≡ all_stats (is_some said.licenses) report.findings → report.verdict ≡ verdict_of report.findings
-    → IsReportSeen said g replacements report
-seen_report said g replacements told report of graph findings dup_edges hits dead stats verdict =
+    → IsReportSeen files said g replacements registries first report
+seen_report files said g replacements registries first new looked report of in_files graph findings dup_edges unread
+    malformed hits dead stats verdict =
     let is = of.is_told in
-    let all = licensed (tabled (seen_by (policy_view said.bans) g policy_id of.view) (bytes_of replacements))
-    (licensing_of said.licenses) in
+    let all = circumstances_of said g replacements of.view in
     record {
       view = of.view;
+      seen = subst (λ (fs : List File). IsSeen files g registries first fs report.unread report.malformed of.view)
+          (sym in_files)
+          (subst (λ (us : List Unread). IsSeen files g registries first new us report.malformed of.view) (sym unread)
+          (subst (λ (paths : List (List ℕ)). IsSeen files g registries first new looked.unread paths of.view)
+          (sym malformed) of.seen));
+      ranges = subst (λ (fs : List File). ViewLies fs of.view) (sym in_files) of.ranges;
+      lines = of.lines;
       is_report = record {
         graph = graph;
         keys = is.keys;

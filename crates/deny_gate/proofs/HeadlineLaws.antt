@@ -17,7 +17,9 @@ use Rattle.deny_cfg.specs.PolicyView.{policy_view}
 use Rattle.deny_cfg.specs.declared.policy.Policy as cfg
 use Rattle.deny_model.specs.Licensing.{Licensing}
 use Rattle.deny_model.specs.Policy.{Policy}
-use Rattle.deny_codes.specs.Circumstances.{Circumstances, View}
+use Rattle.deny_model.specs.View.{View}
+use Rattle.deny_outside.specs.Disk.{Files}
+use Rattle.deny_codes.specs.Circumstances.{Circumstances}
 use Rattle.deny_codes.specs.Facts.{Facts}
 use Rattle.deny_codes.specs.Standing.{Stands}
 use Rattle.deny_codes.specs.Told.{check_told, diag_of, words_told}
@@ -191,18 +193,20 @@ other_written text said f built (inl rule) = inl rule
 other_written text said f built (inr other) = inr
     (written_code text other.0 f.diag.diag.code other.1 (rule_written text said built other.0 other.2))
 
-others_of : (texts : Texts) (view : View) (report : Report) (by : IsReportBy texts view report) (f : Finding)
+others_of : (told : Option Files) (texts : Texts) (view : View) (report : Report)
+    (by : IsReportBy told texts view report) (f : Finding)
     → Contains report.findings f → has_error f ≡ true
     → IsTrue (is_crate_error f) ⊎ WritesRuleOf texts.policy f.diag.diag.code
-others_of texts view report by f at error =
+others_of told texts view report by f at error =
     let is = by.is_report in
     let c : Circumstances = circumstances_of by.said by.graph texts.replacements view in
     other_written texts.policy by.said f by.is_said
     (grave_findings c is.listed.facts is.keys is.listed.listed.sound f
     (subst (λ (fs : List Finding). Contains fs f) is.told at) error)
 
-pub headline_of : (texts : Texts) (report : Report) → IsReportOf texts report → IsHeadlineOf texts report
-headline_of texts report of =
+pub headline_of : (told : Option Files) (texts : Texts) (report : Report) → IsReportOf told texts report
+    → IsHeadlineOf texts report
+headline_of told texts report of =
     let by = of.by in
     let is = by.is_report in
     let c : Circumstances = circumstances_of by.said by.graph texts.replacements of.view in
@@ -214,5 +218,5 @@ headline_of texts report of =
       facts = is.listed.facts.chains;
       true_facts = is.listed.true_facts.chains;
       keeps = keeps c report (are_placed texts.metadata by.graph by.is_graph) is;
-      others = others_of texts of.view report by;
+      others = others_of told texts of.view report by;
     }

@@ -1,12 +1,10 @@
--- The labels of findings mark ranges of the policy.
-use Rattle.std.proofs.Common.{◌≡◌, ◌++◌, ℕ, Bool, true, false, List, [], ◌∷◌, All, Contains, Option, None, Some, refl, sym, ap, ◌∙◌}
+-- The labels of findings mark ranges of the policy, of the lock text and of manifests.
+use Rattle.std.proofs.Common.{◌≡◌, ◌++◌, ℕ, Bool, true, false, List, [], ◌∷◌, All, Contains, Option, None, Some, refl, sym, ap}
 use Rattle.std.proofs.Common.{subst, inl, inr}
-use Rattle.std.specs.Prelude.{codes, filter, find, if◌then◌else◌, map, not, slice_get}
+use Rattle.std.specs.Prelude.{codes, filter, if◌then◌else◌, map, not, slice_get}
 use Rattle.std.specs.Option.{option_and_then, option_map_or}
-use Rattle.std.proofs.lemmas.Bool.{cases_Bool, cond-true, cond-false}
 use Rattle.std.proofs.lemmas.List.Elements.{All-nil, All-cons, All-append, All-contains, All-weaker}
 use Rattle.std.proofs.lemmas.List.Elements.{Contains-append_cases, Contains-append_left, Contains-append_right}
-use Rattle.std.proofs.lemmas.Option.{same_Some}
 use Rattle.deny_base.specs.declared.files.File.{File}
 use Rattle.deny_base.specs.declared.code.Code.{Code}
 use Rattle.deny_base.specs.declared.code.Code.TheVariants as code
@@ -24,6 +22,8 @@ use Rattle.deny_lists.proofs.Members.{Contains-by_cases, Contains-first, Contain
 use Rattle.deny_lists.proofs.Members.{contains_map, filtered, from_contains_map, no_member}
 use Rattle.deny_spdx.specs.declared.requirement.Requirement.{Requirement}
 use Rattle.deny_cfg.specs.PolicyText.{policy_file}
+use Rattle.deny_spans.specs.Ranges.{ViewLies}
+use Rattle.deny_spans.specs.Seen.{lock_file}
 use Rattle.deny_model.specs.Bans.{wrapper_of}
 use Rattle.deny_model.specs.Graph.{Crate, Graph}
 use Rattle.deny_model.specs.Keys.{crate_key, key_of, unused_key}
@@ -61,11 +61,16 @@ use Rattle.deny_codes.specs.StdReplacements.{ignore_labels, ignore_range, replac
 use Rattle.deny_codes.specs.Telling.{not_built}
 use Rattle.deny_codes.specs.Told.{diag_of, words_as, words_by, words_licensed, words_told}
 use Rattle.deny_codes.specs.Wrappers.{unused_wrapper_keys, unused_wrapper_told}
-use Rattle.deny_gate.specs.Labels.{AreLabelled, ArePlaced, IsPlaced, feature_ranges, level_ranges, licence_ranges}
+use Rattle.deny_gate.specs.Labels.{AreLabelled, AreLockLines, ArePlaced, IsPlaced, feature_ranges, level_ranges, licence_ranges}
 use Rattle.deny_gate.specs.Labels.{own_range, range_of, ranges_of}
-use Rattle.deny_gate.specs.Report.{IsReport, finding_told, policy_id}
+use Rattle.deny_gate.specs.Report.{IsReport, finding_told, lock_file_id, policy_id}
 use Rattle.deny_gate.specs.declared.report.Finding.{Finding}
 use Rattle.deny_gate.specs.declared.report.Report.{Report}
+use Rattle.deny_gate.proofs.Found.{found_in, of_found}
+use Rattle.deny_gate.proofs.LockLabels.{lock_placed}
+use Rattle.deny_gate.proofs.ManifestLabels.{duplicate_placed, no_labels, unresolved_placed, unused_placed}
+use Rattle.deny_gate.proofs.ManifestLabels.{wildcard_placed}
+use Rattle.deny_gate.proofs.Placed.{ArePlaced as AtPlaces}
 use Rattle.deny_gate.proofs.PolicyRanges.{allow_known, ban_instead, ban_known, ban_name, ban_reason, ban_wrapper}
 use Rattle.deny_gate.proofs.PolicyRanges.{entry_name, entry_reason, feature_allowed, feature_denied, feature_flag}
 use Rattle.deny_gate.proofs.PolicyRanges.{feature_known, feature_list, ignore_known, level_known, root_name}
@@ -78,27 +83,6 @@ pub record IsOf (ranges : List Span) (file : ℕ) (label : Label) : Type 0 where
 
 abbrev pub AreOf : List Span → ℕ → List Label → Type 0
 AreOf ranges file labels = All (IsOf ranges file) labels
-
--- what holds of nothing, and of each element, holds of what is made of the one that is found
-of_found : {X : Type 0} (P : List Label → Type 0) (f : X → List Label) (test : X → Bool) (xs : List X) → P []
-    → ((x : X) → Contains xs x → P (f x)) → P (option_map_or f (find test xs) [])
-of_found P f test [] none each = none
-of_found {X} P f test (x ∷ xs) none each = elim (cases_Bool (test x))
-    as (λ _. P (option_map_or f (find test (x ∷ xs)) [])) [
-      | inl e ↦ subst (λ (o : Option X). P (option_map_or f o [])) (sym (cond-true (test x) (Some x) (find test xs) e))
-          (each x (Contains-first x xs))
-      | inr e ↦
-          subst (λ (o : Option X). P (option_map_or f o [])) (sym (cond-false (test x) (Some x) (find test xs) e))
-          (of_found P f test xs none (λ y is. each y (Contains-rest x xs y is)))
-    ]
-
-found_in : {X : Type 0} (test : X → Bool) (xs : List X) (x : X) → find test xs ≡ Some x → Contains xs x
-found_in test [] x is = absurd (cc is)
-found_in {X} test (y ∷ xs) x is = elim (cases_Bool (test y)) as (λ _. Contains (y ∷ xs) x) [
-  | inl e ↦ subst (λ (z : X). Contains (y ∷ xs) z)
-      (same_Some y x (sym (cond-true (test y) (Some y) (find test xs) e) ∙ is)) (Contains-first y xs)
-  | inr e ↦ Contains-rest y xs x (found_in test xs x (sym (cond-false (test y) (Some y) (find test xs) e) ∙ is))
-]
 
 module _ (p : Policy) (file : ℕ) where
   none : AreOf (ranges_of p) file []
@@ -415,129 +399,153 @@ of_licence license.LicenseNotEncountered licensing g file key is = of_not_encoun
 of_licence license.LicenseExceptionNotEncountered licensing g file key is =
     of_exception_not_encountered licensing g file key is
 
--- ---- code by code
-
-module _ (c : Circumstances) (facts : Facts) where
-  abbrev LabelsOf : List Label → Type 0
-  LabelsOf labels = AreOf (ranges_of c.policy) c.files.policy labels
-
-  -- the last line is that of the codes whose rules are not there
-  of_code : (d : Code) (key : Key) → StandsAs d c facts key → LabelsOf (words_as d c key).labels
-  unfolding words_as banned_told allowed_told not_allowed_told duplicate_told skipped_told unmatched_skip_told
-      unnecessary_skip_told allowed_by_wrapper_told unmatched_wrapper_told skipped_by_root_told unmatched_skip_root_told
-      unused_wrapper_told mismatched_told feature_not_allowed_told feature_banned_told unknown_feature_told
-      default_enabled_told
-  of_code code.Banned key is = of_found LabelsOf (ban_labels c.files.policy (codes "banned here"))
-      (λ ban. same_span ban.spec.range key.entry) c.policy.deny (none c.policy c.files.policy)
-      (λ ban written. of_ban_entry c.policy c.files.policy (codes "banned here") ban written)
-  of_code code.Allowed key is = of_found LabelsOf (entry_labels c.files.policy (codes "allowed here"))
-      (λ e. same_span e.spec.range key.entry) c.policy.allow (none c.policy c.files.policy)
-      (λ e written. of_allowed c.policy c.files.policy (codes "allowed here") e written)
-  of_code code.NotAllowed key is = none c.policy c.files.policy
-  of_code code.Duplicate key is = none c.policy c.files.policy
-  of_code code.Skipped key is = of_found LabelsOf (entry_labels c.files.policy (codes "skipped here"))
-      (λ e. same_span e.spec.range key.entry) c.policy.skip (none c.policy c.files.policy)
-      (λ e written. of_skip c.policy c.files.policy (codes "skipped here") e written)
-  of_code code.UnmatchedSkip key is = of_found LabelsOf
-      (entry_labels c.files.policy (codes "unmatched skip configuration"))
-      (λ e. same_span e.spec.range key.entry) c.policy.skip (none c.policy c.files.policy)
-      (λ e written. of_skip c.policy c.files.policy (codes "unmatched skip configuration") e written)
-  of_code code.UnnecessarySkip key is = of_found LabelsOf
-      (entry_labels c.files.policy (codes "unnecessary skip configuration"))
-      (λ e. same_span e.spec.range key.entry) c.policy.skip (none c.policy c.files.policy)
-      (λ e written. of_skip c.policy c.files.policy (codes "unnecessary skip configuration") e written)
-  of_code code.AllowedByWrapper key is =
-      let by : Ban → Option Words = λ ban. option_and_then (wrapper_of ban.wrappers) (crate_at c.graph key.other) in
-      of_found LabelsOf (λ ban. wrapper_labels c.files.policy ban (by ban))
-      (λ ban. same_span ban.spec.range key.entry) c.policy.deny (none c.policy c.files.policy)
-      (λ ban written. of_wrapper c.policy c.files.policy ban (by ban) written
-      (wrapper_in c.policy c.files.policy ban (crate_at c.graph key.other)))
-  of_code code.UnmatchedWrapper key is = of_found LabelsOf (ban_labels c.files.policy (codes "banned here"))
-      (λ ban. same_span ban.spec.range key.entry) c.policy.deny (none c.policy c.files.policy)
-      (λ ban written. of_ban_entry c.policy c.files.policy (codes "banned here") ban written)
-  of_code code.SkippedByRoot key is = of_found LabelsOf (root_labels c.files.policy (codes "matched skip root"))
-      (λ t. same_span t.spec.range key.entry) c.policy.skip_tree (none c.policy c.files.policy)
-      (λ t written. of_root c.policy c.files.policy (codes "matched skip root") t written)
-  of_code code.UnmatchedSkipRoot key is =
-      one_more c.policy c.files.policy (primary c.files.policy key.entry (codes "no crate matched these criteria")) []
-      refl (of_unmatched_root c.policy c.files.policy c.graph key is) (none c.policy c.files.policy)
-  of_code code.UnusedWrapper key is =
-      one_more c.policy c.files.policy (primary c.files.policy key.entry (codes "unmatched wrapper")) [] refl
-      (of_unused_wrapper c.policy c.files.policy c.graph key is) (none c.policy c.files.policy)
-  of_code code.ExactFeaturesMismatch key is =
-      let at = crate_at c.graph key.place in
-      of_found LabelsOf (λ e. option_map_or (mismatch_labels c.files.policy e) at [])
-      (λ e. same_span e.spec.range key.entry) c.policy.features (none c.policy c.files.policy)
-      (λ e written. of_mismatch c.policy c.files.policy e at written)
-  of_code code.FeatureNotExplicitlyAllowed key is =
-      of_found LabelsOf (λ e. primary c.files.policy e.allow.span (codes "allowed features") ∷ [])
-      (λ e. same_span e.spec.range key.entry) c.policy.features (none c.policy c.files.policy)
-      (λ e written. of_list c.policy c.files.policy e written)
-  of_code code.FeatureBanned key is =
-      one_more c.policy c.files.policy (primary c.files.policy key.entry (codes "feature denied here")) [] refl
-      (of_feature_banned c.policy c.files.policy c.graph key is) (none c.policy c.files.policy)
-  of_code code.UnknownFeature key is =
-      one_more c.policy c.files.policy (primary c.files.policy key.entry (codes "unknown feature")) [] refl
-      (of_unknown_feature c.policy c.files.policy c.graph key is) (none c.policy c.files.policy)
-  of_code code.DefaultFeatureEnabled key is =
-      one_more c.policy c.files.policy (primary c.files.policy key.entry (codes "lint level")) [] refl
-      (of_default c.policy c.files.policy c.graph key is) (none c.policy c.files.policy)
-  of_code code.ReplacedInStd key is =
-      of_replaced c.policy c.files.policy c.policy.replacing c.graph (said_by c.table) key
-  of_code code.UnmatchedReplacementIgnore key is =
-      of_unmatched_ignore c.policy c.files.policy c.policy.replacing key refl
-  of_code _ key is = absurd is
-
 told_labels : (c : Circumstances) (key : Key) → (finding_told c key).diag.diag.labels ≡ (words_told c key).labels
 unfolding finding_told diag_of
 told_labels c key = refl
 
+-- ---- code by code
+
+-- The files are the policy's text, the lock text and what more there is: the ranges of what the policy says lie in the
+-- first, the lines of the graph's crates in the second, and what was seen of manifests in theirs.
+pub record AreRanges (c : Circumstances) (text : List ℕ) (files : List File) : Type 0 where
+  pub first : c.files.policy ≡ policy_id
+  pub second : c.files.lock ≡ Some lock_file_id
+  pub of_policy : All (IsRange text) (ranges_of c.policy)
+  pub of_licences : All (IsRange text) (licence_ranges c.licensing)
+  pub of_manifests : ViewLies files c.view
+  pub policy_there : slice_get files policy_id ≡ Some (policy_file text)
+  pub lock_there : slice_get files lock_file_id ≡ Some (lock_file c.graph.root c.graph)
+  pub lines : AreLockLines c.graph
+  pub places : AtPlaces c.graph c.graph.crates
+
 -- where ranges lie in the policy's text, so do the labels that mark them in its file
-placed_in : (ranges : List Span) (text : List ℕ) → All (IsRange text) ranges → (label : Label)
-    → IsOf ranges policy_id label → IsPlaced (policy_file text ∷ []) label
-placed_in ranges text lie label of = record {
+placed_in : (files : List File) (ranges : List Span) (text : List ℕ)
+    → slice_get files policy_id ≡ Some (policy_file text) → All (IsRange text) ranges → (label : Label) → IsOf ranges policy_id label → IsPlaced files label
+placed_in files ranges text there lie label of = record {
   file = policy_file text;
-  there = ap (slice_get (policy_file text ∷ [])) of.in_file;
+  there = subst (λ (n : ℕ). slice_get files n ≡ Some (policy_file text)) (sym of.in_file) there;
   range = All-contains (IsRange text) ranges label.span lie of.known;
 }
 
-all_placed : (ranges : List Span) (text : List ℕ) (file : ℕ) (labels : List Label) → file ≡ policy_id
-    → All (IsRange text) ranges → AreOf ranges file labels → ArePlaced (policy_file text ∷ []) labels
-all_placed ranges text file labels first lie are =
-    All-weaker (IsOf ranges policy_id) (IsPlaced (policy_file text ∷ [])) (placed_in ranges text lie) labels
+all_placed : (files : List File) (ranges : List Span) (text : List ℕ) (file : ℕ) (labels : List Label)
+    → slice_get files policy_id ≡ Some (policy_file text) → file ≡ policy_id → All (IsRange text) ranges
+    → AreOf ranges file labels → ArePlaced files labels
+all_placed files ranges text file labels there first lie are =
+    All-weaker (IsOf ranges policy_id) (IsPlaced files) (placed_in files ranges text there lie) labels
     (subst (λ (n : ℕ). AreOf ranges n labels) first are)
 
--- the policy's text is the first file, and the ranges of what it says lie in it
-pub record AreRanges (c : Circumstances) (text : List ℕ) : Type 0 where
-  pub first : c.files.policy ≡ policy_id
-  pub of_policy : All (IsRange text) (ranges_of c.policy)
-  pub of_licences : All (IsRange text) (licence_ranges c.licensing)
+module _ (c : Circumstances) (facts : Facts) (text : List ℕ) (files : List File) (are : AreRanges c text files) where
+  abbrev LabelsOf : List Label → Type 0
+  LabelsOf labels = AreOf (ranges_of c.policy) c.files.policy labels
 
-labels_of_key : (c : Circumstances) (facts : Facts) (text : List ℕ) → AreRanges c text → (d : DiagnosticCode) (key : Key)
-    → StandsBy d c facts key → ArePlaced (policy_file text ∷ []) (words_by d c key).labels
-labels_of_key c facts text are Deprecated key is = absurd is
-labels_of_key c facts text are (Bans d) key is =
-    all_placed (ranges_of c.policy) text c.files.policy (words_as d c key).labels are.first are.of_policy
-    (of_code c facts d key is)
-labels_of_key c facts text are (License d) key is =
-    all_placed (licence_ranges c.licensing) text c.files.policy (words_by (License d) c key).labels are.first
-    are.of_licences (of_licence d c.licensing c.graph c.files.policy key is)
+  in_policy : (labels : List Label) → LabelsOf labels → ArePlaced files labels
+  in_policy labels of =
+      all_placed files (ranges_of c.policy) text c.files.policy labels are.policy_there are.first are.of_policy of
 
-are_labelled : (c : Circumstances) (facts : Facts) (text : List ℕ) (keys : List Key) → AreRanges c text
-    → ((key : Key) → Contains keys key → Stands c facts key)
-    → AreLabelled (policy_file text ∷ []) (map (finding_told c) keys)
-are_labelled c facts text [] are stand = All-nil (λ (f : Finding). ArePlaced (policy_file text ∷ []) f.diag.diag.labels)
-are_labelled c facts text (key ∷ keys) are stand =
-    All-cons (λ (f : Finding). ArePlaced (policy_file text ∷ []) f.diag.diag.labels) (finding_told c key)
-    (map (finding_told c) keys)
-    (subst (λ (ls : List Label). ArePlaced (policy_file text ∷ []) ls) (sym (told_labels c key))
-    (labels_of_key c facts text are key.code key (stand key (Contains-first key keys))))
-    (are_labelled c facts text keys are (λ k is. stand k (Contains-rest key keys k is)))
+  unlabelled : ArePlaced files []
+  unlabelled = no_labels files
+
+  of_duplicate : (key : Key) → StandsAs code.Duplicate c facts key
+      → ArePlaced files (duplicate_told c.policy c.graph c.files.lock key).labels
+  of_duplicate key is =
+      subst (λ (lock : Option ℕ). ArePlaced files (duplicate_told c.policy c.graph lock key).labels) (sym are.second)
+      (lock_placed c.graph are.lines are.places files lock_file_id (lock_file c.graph.root c.graph) are.lock_there refl
+      c.policy facts.chains key is)
+
+  -- a label at the entry of a key
+  at_entry : (key : Key) (message : List ℕ) → Contains (ranges_of c.policy) key.entry
+      → ArePlaced files (primary c.files.policy key.entry message ∷ [])
+  at_entry key message known =
+      let label = primary c.files.policy key.entry message in
+      in_policy (label ∷ []) (one_more c.policy c.files.policy label [] refl known (none c.policy c.files.policy))
+
+  -- the last line is that of the codes whose rules are not there
+  of_code : (d : Code) (key : Key) → StandsAs d c facts key → ArePlaced files (words_as d c key).labels
+  unfolding words_as banned_told allowed_told not_allowed_told skipped_told unmatched_skip_told
+      unnecessary_skip_told allowed_by_wrapper_told unmatched_wrapper_told skipped_by_root_told unmatched_skip_root_told
+      unused_wrapper_told mismatched_told feature_not_allowed_told feature_banned_told unknown_feature_told
+      default_enabled_told
+  of_code code.Banned key is = in_policy _ (of_found LabelsOf (ban_labels c.files.policy (codes "banned here"))
+      (λ ban. same_span ban.spec.range key.entry) c.policy.deny (none c.policy c.files.policy)
+      (λ ban written. of_ban_entry c.policy c.files.policy (codes "banned here") ban written))
+  of_code code.Allowed key is = in_policy _ (of_found LabelsOf (entry_labels c.files.policy (codes "allowed here"))
+      (λ e. same_span e.spec.range key.entry) c.policy.allow (none c.policy c.files.policy)
+      (λ e written. of_allowed c.policy c.files.policy (codes "allowed here") e written))
+  of_code code.NotAllowed key is = unlabelled
+  of_code code.Duplicate key is = of_duplicate key is
+  of_code code.Skipped key is = in_policy _ (of_found LabelsOf (entry_labels c.files.policy (codes "skipped here"))
+      (λ e. same_span e.spec.range key.entry) c.policy.skip (none c.policy c.files.policy)
+      (λ e written. of_skip c.policy c.files.policy (codes "skipped here") e written))
+  of_code code.UnmatchedSkip key is = in_policy _ (of_found LabelsOf
+      (entry_labels c.files.policy (codes "unmatched skip configuration"))
+      (λ e. same_span e.spec.range key.entry) c.policy.skip (none c.policy c.files.policy)
+      (λ e written. of_skip c.policy c.files.policy (codes "unmatched skip configuration") e written))
+  of_code code.UnnecessarySkip key is = in_policy _ (of_found LabelsOf
+      (entry_labels c.files.policy (codes "unnecessary skip configuration"))
+      (λ e. same_span e.spec.range key.entry) c.policy.skip (none c.policy c.files.policy)
+      (λ e written. of_skip c.policy c.files.policy (codes "unnecessary skip configuration") e written))
+  of_code code.AllowedByWrapper key is = in_policy _ (
+      let by : Ban → Option Words = λ ban. option_and_then (wrapper_of ban.wrappers) (crate_at c.graph key.other) in
+      of_found LabelsOf (λ ban. wrapper_labels c.files.policy ban (by ban))
+      (λ ban. same_span ban.spec.range key.entry) c.policy.deny (none c.policy c.files.policy)
+      (λ ban written. of_wrapper c.policy c.files.policy ban (by ban) written
+      (wrapper_in c.policy c.files.policy ban (crate_at c.graph key.other))))
+  of_code code.UnmatchedWrapper key is = in_policy _ (
+      of_found LabelsOf (ban_labels c.files.policy (codes "banned here"))
+      (λ ban. same_span ban.spec.range key.entry) c.policy.deny (none c.policy c.files.policy)
+      (λ ban written. of_ban_entry c.policy c.files.policy (codes "banned here") ban written))
+  of_code code.SkippedByRoot key is = in_policy _ (
+      of_found LabelsOf (root_labels c.files.policy (codes "matched skip root"))
+      (λ t. same_span t.spec.range key.entry) c.policy.skip_tree (none c.policy c.files.policy)
+      (λ t written. of_root c.policy c.files.policy (codes "matched skip root") t written))
+  of_code code.UnmatchedSkipRoot key is =
+      at_entry key (codes "no crate matched these criteria") (of_unmatched_root c.policy c.files.policy c.graph key is)
+  of_code code.UnusedWrapper key is =
+      at_entry key (codes "unmatched wrapper") (of_unused_wrapper c.policy c.files.policy c.graph key is)
+  of_code code.ExactFeaturesMismatch key is = in_policy _ (
+      let at = crate_at c.graph key.place in
+      of_found LabelsOf (λ e. option_map_or (mismatch_labels c.files.policy e) at [])
+      (λ e. same_span e.spec.range key.entry) c.policy.features (none c.policy c.files.policy)
+      (λ e written. of_mismatch c.policy c.files.policy e at written))
+  of_code code.FeatureNotExplicitlyAllowed key is = in_policy _ (
+      of_found LabelsOf (λ e. primary c.files.policy e.allow.span (codes "allowed features") ∷ [])
+      (λ e. same_span e.spec.range key.entry) c.policy.features (none c.policy c.files.policy)
+      (λ e written. of_list c.policy c.files.policy e written))
+  of_code code.FeatureBanned key is =
+      at_entry key (codes "feature denied here") (of_feature_banned c.policy c.files.policy c.graph key is)
+  of_code code.UnknownFeature key is =
+      at_entry key (codes "unknown feature") (of_unknown_feature c.policy c.files.policy c.graph key is)
+  of_code code.DefaultFeatureEnabled key is =
+      at_entry key (codes "lint level") (of_default c.policy c.files.policy c.graph key is)
+  of_code code.ReplacedInStd key is = in_policy _ (
+      of_replaced c.policy c.files.policy c.policy.replacing c.graph (said_by c.table) key)
+  of_code code.UnmatchedReplacementIgnore key is = in_policy _ (
+      of_unmatched_ignore c.policy c.files.policy c.policy.replacing key refl)
+  of_code code.Wildcard key is = wildcard_placed files c.view are.of_manifests c.policy c.graph key
+  of_code code.UnresolvedWorkspaceDependency key is = unresolved_placed files c.view are.of_manifests c.graph key
+  of_code code.WorkspaceDuplicate key is = duplicate_placed files c.view are.of_manifests c.policy c.graph key
+  of_code code.UnusedWorkspaceDependency key is = unused_placed files c.view are.of_manifests c.policy key
+  of_code _ key is = absurd is
+
+  labels_of_key : (d : DiagnosticCode) (key : Key) → StandsBy d c facts key → ArePlaced files (words_by d c key).labels
+  labels_of_key Deprecated key is = absurd is
+  labels_of_key (Bans d) key is = of_code d key is
+  labels_of_key (License d) key is =
+      all_placed files (licence_ranges c.licensing) text c.files.policy (words_by (License d) c key).labels
+      are.policy_there are.first are.of_licences (of_licence d c.licensing c.graph c.files.policy key is)
+
+  are_labelled : (keys : List Key) → ((key : Key) → Contains keys key → Stands c facts key)
+      → AreLabelled files (map (finding_told c) keys)
+  are_labelled [] stand = All-nil (λ (f : Finding). ArePlaced files f.diag.diag.labels)
+  are_labelled (key ∷ keys) stand =
+      All-cons (λ (f : Finding). ArePlaced files f.diag.diag.labels) (finding_told c key) (map (finding_told c) keys)
+      (subst (λ (ls : List Label). ArePlaced files ls) (sym (told_labels c key))
+      (labels_of_key key.code key (stand key (Contains-first key keys))))
+      (are_labelled keys (λ k is. stand k (Contains-rest key keys k is)))
 
 -- so those of a report do
-pub report_labelled : (c : Circumstances) (text : List ℕ) (report : Report) → AreRanges c text → IsReport c report
-    → report.files ≡ policy_file text ∷ [] → AreLabelled report.files report.findings
-report_labelled c text report are is files =
-    subst (λ (fs : List File). AreLabelled fs report.findings) (sym files)
-    (subst (λ (found : List Finding). AreLabelled (policy_file text ∷ []) found) (sym is.told)
-    (are_labelled c is.listed.facts text is.keys are is.listed.listed.sound))
+pub report_labelled : (c : Circumstances) (text : List ℕ) (report : Report) → AreRanges c text report.files
+    → IsReport c report → AreLabelled report.files report.findings
+report_labelled c text report are is =
+    subst (λ (found : List Finding). AreLabelled report.files found) (sym is.told)
+    (are_labelled c is.listed.facts text report.files are is.keys is.listed.listed.sound)

@@ -10,10 +10,14 @@ pub mod DeadRows
 pub mod ExitLaws
 pub mod FeatureSpans
 pub mod FindingLaws
+pub mod Found
 pub mod HeadlineLaws
 pub mod HitOrder
 pub mod HitsApart
+pub mod IdsApart
 pub mod LabelLaws
+pub mod LockLabels
+pub mod ManifestLabels
 pub mod OneGraph
 pub mod OneHits
 pub mod OneReport

@@ -1,7 +1,8 @@
--- Texts have one report, by one view of files, and by whatever view.
+-- Texts have one report on a disk that tells its files; by one view they are told alike on every disk, and what asks
+-- nothing of files by whatever view.
 use Rattle.std.proofs.Common.{◌≡◌, ◌∙◌, ◌<◌, ℕ, Bool, true, false, List, [], ◌∷◌, Option, None, Some, map, ap, refl}
 use Rattle.std.proofs.Common.{sym, subst, arith}
-use Rattle.std.specs.Prelude.{Contains, IsTrue, filter, is_some}
+use Rattle.std.specs.Prelude.{IsTrue, filter, filter_map, is_some}
 use Rattle.std.specs.Cmp.{nat_cmp_total, on_total}
 use Rattle.std.specs.List.{AllZip}
 use Rattle.deny_base.specs.declared.edge.Edge.{Edge}
@@ -21,22 +22,31 @@ use Rattle.deny_dup_edges.specs.DupEdges.{AreEdgesOf, IsSetOf, IsSimplest, Shows
 use Rattle.deny_dup_edges.specs.declared.dup_edges.DupEdges.{DupEdges}
 use Rattle.deny_dup_edges.specs.declared.dup_edges.DupSet.{DupSet}
 use Rattle.deny_gate.specs.declared.report.Report.{Report}
-use Rattle.deny_codes.specs.Circumstances.{Circumstances, View, viewed}
+use Rattle.deny_model.specs.View.{View}
+use Rattle.deny_outside.specs.Disk.{Files}
+use Rattle.deny_codes.specs.Circumstances.{Circumstances, viewed}
 use Rattle.deny_codes.specs.Codes.{asks_no_file, unseeing}
 use Rattle.deny_codes.specs.Standing.{AreKeys}
 use Rattle.deny_codes.specs.Told.{check_told, diag_of, words_told}
 use Rattle.deny_codes.specs.declared.words.Words.{Words}
 use Rattle.deny_lists.proofs.Agreement.{filter_on, map_on}
-use Rattle.deny_lists.proofs.Filters.{filter-all}
-use Rattle.deny_laws.specs.Dead.{AreDead}
+use Rattle.deny_lists.proofs.Filters.{filter-map}
+use Rattle.deny_lists.proofs.Members.{passes_filter}
+use Rattle.deny_laws.specs.Dead.{AreDead, unused_entry}
+use Rattle.deny_spans.specs.Seen.{IsSeen}
+use Rattle.deny_spans.proofs.OneViewLemmas.{same_seen}
+use Rattle.deny_unread.specs.declared.unread.Unread.{Unread}
 use Rattle.deny_gate.specs.Hits.{AreHits, entry_of}
-use Rattle.deny_gate.specs.Gating.{IsReportBy, IsReportOf, Texts, circumstances_of, circumstances_on}
-use Rattle.deny_gate.specs.Report.{IsReport, finding_told, policy_id, verdict_of}
+use Rattle.deny_gate.specs.Gating.{AreAlikeUnseen, AreToldAlike, IsBuilt, IsReportBy, IsReportOf, Texts}
+use Rattle.deny_gate.specs.Gating.{circumstances_of, circumstances_on, first_files}
+use Rattle.deny_gate.specs.Report.{IsReport, finding_told, policy_id, unseeing_findings, verdict_of}
 use Rattle.deny_gate.specs.Stats.{all_stats}
 use Rattle.deny_gate.specs.declared.report.Finding.{Finding}
+use Rattle.deny_gate.proofs.IdsApart.{ids_apart}
 use Rattle.deny_gate.proofs.OneGraph.{one_graph}
 use Rattle.deny_gate.proofs.OneHits.{hits_alike}
-use Rattle.deny_gate.proofs.Standing.{asks_none}
+use Rattle.deny_gate.proofs.FindingLaws.{key_told}
+use Rattle.deny_gate.proofs.Standing.{dead_by, duplicates_seen, unused_seen}
 
 -- what determines each of its items determines the list
 one_zip : {A B : Type 0} (R : A → B → Type 0) → ((x : A) (y z : B) → R x y → R x z → y ≡ z)
@@ -96,7 +106,7 @@ one_shown p g key s t this that =
 
 -- ---- the report
 
--- what is known of reports and policies
+-- what is known of reports, policies and what is seen of files
 pub record ReportLaws : Type 0 where
   pub keys : (c : Circumstances) → (xs ys : List Key) → AreKeys c xs → AreKeys c ys → xs ≡ ys
   pub unseen : (c : Circumstances) → (view : View) → (xs ys : List Key) → AreKeys c xs → AreKeys (viewed c view) ys
@@ -116,95 +126,159 @@ finding_is : (c : Circumstances) (key : Key) → finding_told c key ≡ finding_
 unfolding finding_told
 finding_is c key = refl
 
-all_free : (keys : List Key) → ((key : Key) → Contains keys key → IsTrue (asks_no_file key.code))
-    → unseeing keys ≡ keys
-all_free keys free = filter_on (λ (key : Key). asks_no_file key.code) (λ (key : Key). true) keys free
-    ∙ filter-all keys
+-- ---- by one view
 
-keys_free : (c : Circumstances) (keys : List Key) → AreKeys c keys → unseeing keys ≡ keys
-keys_free c keys are = all_free keys (λ key at. asks_none c are.facts key (are.listed.sound key at))
+-- what is shown of duplicates, by keys of which these are the same
+one_dup_edges : (c : Circumstances) (xs ys : List Key) (a b : List DupEdges)
+    → filter is_of_duplicate xs ≡ filter is_of_duplicate ys
+    → ShowsEach c.policy c.graph (filter is_of_duplicate xs) a
+    → ShowsEach c.policy c.graph (filter is_of_duplicate ys) b → a ≡ b
+one_dup_edges c xs ys a b same this that =
+    one_zip (AreEdgesOf c.policy c.graph) (one_shown c.policy c.graph) (filter is_of_duplicate ys) a b
+    (subst (λ (ks : List Key). ShowsEach c.policy c.graph ks a) same this) that
 
--- two reports of the same keys, which are told alike
-of_keys : (c : Circumstances) (view : View) (a b : Report) (this : IsReport c a) (that : IsReport (viewed c view) b)
-    → this.keys ≡ that.keys → map (finding_told c) that.keys ≡ map (finding_told (viewed c view)) that.keys
-    → a.files ≡ b.files → a ≡ b
-of_keys c view a b this that keys alike files =
-    let findings : a.findings ≡ b.findings = this.told ∙ (ap (map (finding_told c)) keys ∙ (alike ∙ sym that.told)) in
-    let dup_edges : a.dup_edges ≡ b.dup_edges =
-    one_zip (AreEdgesOf c.policy c.graph) (one_shown c.policy c.graph) (filter is_of_duplicate that.keys)
-    a.dup_edges b.dup_edges
-    (subst (λ (ks : List Key). ShowsEach c.policy c.graph (filter is_of_duplicate ks) a.dup_edges) keys this.shown)
-    that.shown in
-    let krates : a.krates ≡ b.krates = this.graph ∙ sym that.graph in
-    let hits : a.hits ≡ b.hits =
+-- the hits, which look at no file
+one_hits : (c : Circumstances) (view : View) (a b : Report) → IsReport c a → IsReport (viewed c view) b
+    → a.hits ≡ b.hits
+one_hits c view a b this that =
     one_list (on_total entry_of entry_cmp-total) a.hits b.hits
     (subst (λ (all : List Hit). AreHits all a.hits)
     (hits_alike c this.listed.facts that.listed.facts this.counts that.counts this.listed.true_facts
-    (record { chains = that.listed.true_facts.chains }) this.tells that.tells) this.hits) that.hits in
-    let dead : a.dead ≡ b.dead =
-    one_list entry_cmp-total a.dead b.dead
-    (subst (λ (hs : List Hit). AreDead that.keys hs a.dead) hits
-    (subst (λ (ks : List Key). AreDead ks a.hits a.dead) keys this.dead)) that.dead in
-    let stats : a.stats ≡ b.stats =
-    this.stats ∙ (ap (all_stats (is_some c.licensing)) findings ∙ sym that.stats) in
-    let verdict : a.verdict ≡ b.verdict = this.verdict ∙ (ap verdict_of findings ∙ sym that.verdict) in
-    λ i. record {
-      files = files i;
-      krates = krates i;
-      findings = findings i;
-      dup_edges = dup_edges i;
-      hits = hits i;
-      dead = dead i;
-      stats = stats i;
-      verdict = verdict i;
+    (record { chains = that.listed.true_facts.chains }) this.tells that.tells) this.hits) that.hits
+
+-- reports of the same keys
+told_alike : (c : Circumstances) (a b : Report) (this : IsReport c a) (that : IsReport c b) → this.keys ≡ that.keys
+    → AreToldAlike a b
+told_alike c a b this that keys =
+    let findings : a.findings ≡ b.findings = this.told ∙ (ap (map (finding_told c)) keys ∙ sym that.told) in
+    let hits : a.hits ≡ b.hits = one_hits c c.view a b this that in
+    record {
+      krates = this.graph ∙ sym that.graph;
+      findings = findings;
+      dup_edges = one_dup_edges c this.keys that.keys a.dup_edges b.dup_edges (ap (filter is_of_duplicate) keys)
+          this.shown that.shown;
+      hits = hits;
+      dead = one_list entry_cmp-total a.dead b.dead
+          (subst (λ (hs : List Hit). AreDead that.keys hs a.dead) hits
+          (subst (λ (ks : List Key). AreDead ks a.hits a.dead) keys this.dead)) that.dead;
+      stats = this.stats ∙ (ap (all_stats (is_some c.licensing)) findings ∙ sym that.stats);
+      verdict = this.verdict ∙ (ap verdict_of findings ∙ sym that.verdict);
     }
 
+-- reports that tell the same, with the same files, are one
+one_of : (a b : Report) → AreToldAlike a b → a.files ≡ b.files → a.unread ≡ b.unread → a.malformed ≡ b.malformed → a ≡ b
+one_of a b alike files unread malformed = λ i. record {
+  files = files i;
+  krates = alike.krates i;
+  findings = alike.findings i;
+  dup_edges = alike.dup_edges i;
+  unread = unread i;
+  malformed = malformed i;
+  hits = alike.hits i;
+  dead = alike.dead i;
+  stats = alike.stats i;
+  verdict = alike.verdict i;
+}
+
 module _ (laws : ReportLaws) where
-  told_alike : (c : Circumstances) (view : View) (keys : List Key) → AreKeys (viewed c view) keys
-      → map (finding_told c) keys ≡ map (finding_told (viewed c view)) keys
-  told_alike c view keys are =
-      let free = asks_none (viewed c view) are.facts in
-      map_on (finding_told c) (finding_told (viewed c view)) keys
-      (λ key at. finding_is c key
-      ∙ (ap (finding_by key) (sym (laws.words c view key (free key (are.listed.sound key at))))
-      ∙ sym (finding_is (viewed c view) key)))
+  -- ---- in the same circumstances
 
-  same_view : (c : Circumstances) (a b : Report) → IsReport c a → IsReport c b → a.files ≡ b.files → a ≡ b
-  same_view c a b this that files =
-      of_keys c c.view a b this that (laws.keys c this.keys that.keys this.listed that.listed) refl files
-
-  other_view : (c : Circumstances) (view : View) (a b : Report) → IsReport c a → IsReport (viewed c view) b
-      → a.files ≡ b.files → a ≡ b
-  other_view c view a b this that files =
-      let keys : this.keys ≡ that.keys = sym (keys_free c this.keys this.listed)
-      ∙ (laws.unseen c view this.keys that.keys this.listed that.listed
-      ∙ keys_free (viewed c view) that.keys that.listed) in
-      of_keys c view a b this that keys (told_alike c view that.keys that.listed) files
+  of_policies : (texts : Texts) (a b : cfg.Policy) → IsBuilt texts.policy a → IsBuilt texts.policy b
+      → (policy_view a.bans ≡ policy_view b.bans) × (licensing_of a.licenses ≡ licensing_of b.licenses)
+  of_policies texts a b this that = (
+    (laws.policies texts.policy policy_id a b this.is_policy that.is_policy).0,
+    laws.licences texts.policy policy_id a b this.is_policy that.is_policy,
+  )
 
   -- the first report in the circumstances of the second, but by its own view
-  moved : (texts : Texts) (view other : View) (a b : Report) (this : IsReportBy texts view a)
-      (that : IsReportBy texts other b)
+  moved : (told other : Option Files) (texts : Texts) (view otherwise : View) (a b : Report)
+      (this : IsReportBy told texts view a) (that : IsReportBy other texts otherwise b)
       → IsReport (circumstances_of that.said that.graph texts.replacements view) a
-  moved texts view other a b this that =
-      let views : policy_view this.said.bans ≡ policy_view that.said.bans =
-      (laws.policies texts.policy policy_id this.said that.said this.is_said.is_policy that.is_said.is_policy).0 in
-      let licences : licensing_of this.said.licenses ≡ licensing_of that.said.licenses =
-      laws.licences texts.policy policy_id this.said that.said this.is_said.is_policy that.is_said.is_policy in
+  moved told other texts view otherwise a b this that =
+      let said = of_policies texts this.said that.said this.is_said that.is_said in
       let graphs : this.graph ≡ that.graph =
       one_graph texts.metadata this.graph that.graph this.is_graph that.is_graph in
       let at : Policy → Option Licensing → Graph → Circumstances =
       λ p l g. circumstances_on p l g texts.replacements view in
-      subst (λ (p : Policy). IsReport (at p (licensing_of that.said.licenses) that.graph) a) views
-      (subst (λ (l : Option Licensing). IsReport (at (policy_view this.said.bans) l that.graph) a) licences
+      subst (λ (p : Policy). IsReport (at p (licensing_of that.said.licenses) that.graph) a) said.0
+      (subst (λ (l : Option Licensing). IsReport (at (policy_view this.said.bans) l that.graph) a) said.1
       (subst (λ (g : Graph). IsReport (at (policy_view this.said.bans) (licensing_of this.said.licenses) g) a) graphs
       this.is_report))
 
-  pub by_view : (texts : Texts) (view : View) (a b : Report) → IsReportBy texts view a → IsReportBy texts view b → a ≡ b
-  by_view texts view a b this that =
-      same_view (circumstances_of that.said that.graph texts.replacements view) a b
-      (moved texts view view a b this that) that.is_report (this.files ∙ sym that.files)
+  pub by_view : (told other : Option Files) (texts : Texts) (view : View) (a b : Report) → IsReportBy told texts view a
+      → IsReportBy other texts view b → AreToldAlike a b
+  by_view told other texts view a b this that =
+      let c = circumstances_of that.said that.graph texts.replacements view in
+      let first : IsReport c a = moved told other texts view view a b this that in
+      told_alike c a b first that.is_report
+      (laws.keys c first.keys that.is_report.keys first.listed that.is_report.listed)
 
-  pub by_any : (texts : Texts) (a b : Report) → IsReportOf texts a → IsReportOf texts b → a ≡ b
-  by_any texts a b this that =
-      other_view (circumstances_of that.by.said that.by.graph texts.replacements this.view) that.view a b
-      (moved texts this.view that.view a b this.by that.by) that.by.is_report (this.by.files ∙ sym that.by.files)
+  -- ---- by whatever view
+
+  kept_findings : (c : Circumstances) (keys : List Key)
+      → unseeing_findings (map (finding_told c) keys) ≡ map (finding_told c) (unseeing keys)
+  kept_findings c keys =
+      filter-map (λ (f : Finding). asks_no_file f.diag.key.code) (finding_told c) keys
+      ∙ ap (map (finding_told c)) (filter_on (λ (key : Key). asks_no_file (finding_told c key).diag.key.code)
+      (λ (key : Key). asks_no_file key.code) keys
+      (λ key at. ap (λ (k : Key). asks_no_file k.code) (key_told c key)))
+
+  words_alike : (c : Circumstances) (view : View) (keys : List Key)
+      → map (finding_told c) (unseeing keys) ≡ map (finding_told (viewed c view)) (unseeing keys)
+  words_alike c view keys =
+      map_on (finding_told c) (finding_told (viewed c view)) (unseeing keys)
+      (λ key at. finding_is c key
+      ∙ (ap (finding_by key)
+      (sym (laws.words c view key (passes_filter (λ (k : Key). asks_no_file k.code) keys key at)))
+      ∙ sym (finding_is (viewed c view) key)))
+
+  unseen_alike : (c : Circumstances) (view : View) (a b : Report) → IsReport c a → IsReport (viewed c view) b
+      → AreAlikeUnseen a b
+  unseen_alike c view a b this that =
+      let free : unseeing this.keys ≡ unseeing that.keys =
+      laws.unseen c view this.keys that.keys this.listed that.listed in
+      let hits : a.hits ≡ b.hits = one_hits c view a b this that in
+      let unused : filter_map unused_entry this.keys ≡ filter_map unused_entry that.keys =
+      unused_seen c this.listed.facts this.keys this.listed.listed.sound
+      ∙ (ap (filter_map unused_entry) free
+      ∙ sym (unused_seen (viewed c view) that.listed.facts that.keys that.listed.listed.sound)) in
+      record {
+        krates = this.graph ∙ sym that.graph;
+        findings = ap unseeing_findings this.told ∙ (kept_findings c this.keys
+            ∙ (ap (map (finding_told c)) free ∙ (words_alike c view that.keys
+            ∙ (sym (kept_findings (viewed c view) that.keys) ∙ ap unseeing_findings (sym that.told)))));
+        dup_edges = one_dup_edges c this.keys that.keys a.dup_edges b.dup_edges
+            (duplicates_seen this.keys ∙ (ap (filter is_of_duplicate) free ∙ sym (duplicates_seen that.keys)))
+            this.shown that.shown;
+        hits = hits;
+        dead = one_list entry_cmp-total a.dead b.dead
+            (subst (λ (hs : List Hit). AreDead that.keys hs a.dead) hits
+            (dead_by this.keys that.keys a.hits a.dead unused this.dead)) that.dead;
+      }
+
+  pub by_any : (told other : Option Files) (texts : Texts) (a b : Report) → IsReportOf told texts a
+      → IsReportOf other texts b → AreAlikeUnseen a b
+  by_any told other texts a b this that =
+      unseen_alike (circumstances_of that.by.said that.by.graph texts.replacements this.view) that.view a b
+      (moved told other texts this.view that.view a b this.by that.by) that.by.is_report
+
+  -- ---- on a disk that tells its files
+
+  pub by_told : (files : Files) (texts : Texts) (a b : Report) → IsReportOf (Some files) texts a
+      → IsReportOf (Some files) texts b → a.unread ≡ b.unread → a ≡ b
+  by_told files texts a b this that unread =
+      let graphs : this.by.graph ≡ that.by.graph =
+      one_graph texts.metadata this.by.graph that.by.graph this.by.is_graph that.by.is_graph in
+      let seen : IsSeen (Some files) that.by.graph texts.registries (first_files texts.policy that.by.graph) a.files
+      b.unread a.malformed this.view =
+      subst (λ (us : List Unread). IsSeen (Some files) that.by.graph texts.registries
+      (first_files texts.policy that.by.graph) a.files us a.malformed this.view) unread
+      (subst (λ (g : Graph). IsSeen (Some files) g texts.registries (first_files texts.policy g) a.files a.unread
+      a.malformed this.view) graphs this.by.seen) in
+      let same = same_seen files that.by.graph texts.registries
+      (ids_apart texts.metadata that.by.graph that.by.is_graph) (first_files texts.policy that.by.graph) b.unread
+      a.files b.files a.malformed b.malformed this.view that.view seen that.by.seen in
+      one_of a b
+      (by_view (Some files) (Some files) texts that.view a b
+      (subst (λ (view : View). IsReportBy (Some files) texts view a) same.seen this.by) that.by)
+      same.files unread same.paths

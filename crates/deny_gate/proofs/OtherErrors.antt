@@ -1,8 +1,10 @@
--- An error is one of a crate rule, or of another rule that the policy minds; and then the policy's text writes that rule.
+-- An error is one of a crate rule, or of another rule that the policy minds; and then the policy's text writes that
+-- rule.
 use Rattle.std.proofs.Common.{◌≡◌, ◌⊎◌, ◌∙◌, ◌==◌, ℕ, Bool, true, false, not, length, List, [], ◌∷◌, Contains, Option}
 use Rattle.std.proofs.Common.{None, Some, refl, sym, ap, subst, inl, inr}
 use Rattle.std.specs.Prelude.{◌||◌, codes, is_some, map, option_and_then, option_map, if◌then◌else◌}
 use Rattle.std.specs.Option.{option_map_or}
+use Rattle.std.specs.Str.{bytes_eq}
 use Rattle.std.proofs.lemmas.Bool.{false≢true}
 use Rattle.std.proofs.lemmas.List.{length-map}
 use Rattle.deny_base.specs.Level.{severity_of}
@@ -12,12 +14,13 @@ use Rattle.deny_base.specs.declared.code.DiagnosticCode.{DiagnosticCode}
 use Rattle.deny_base.specs.declared.code.DiagnosticCode.TheVariants.{Deprecated, Bans, License}
 use Rattle.deny_base.specs.declared.key.Key.{Key}
 use Rattle.deny_base.specs.declared.level.LintLevel.{LintLevel}
+use Rattle.deny_base.specs.declared.level.LintLevel.TheVariants as level
 use Rattle.deny_base.specs.declared.level.Severity.TheVariants as severity
 use Rattle.deny_base.specs.declared.license_code.LicenseCode.{LicenseCode}
 use Rattle.deny_base.specs.declared.license_code.LicenseCode.TheVariants as license
 use Rattle.deny_base.specs.declared.span.Spanned.{Spanned}
 use Rattle.deny_lists.proofs.Members.{Contains-from_flat_map, no_member}
-use Rattle.deny_toml.specs.Calls.{array_in, below_name, table_in, value_at}
+use Rattle.deny_toml.specs.Calls.{array_in, below_name, table_in, text_in, value_at}
 use Rattle.deny_toml.specs.Deserialize.{ReadsArray, ReadsEach}
 use Rattle.deny_toml.specs.Value.{entries_in}
 use Rattle.deny_toml.specs.declared.value.Table.{Table}
@@ -31,12 +34,14 @@ use Rattle.deny_tables.specs.Config.{ReadsConfig}
 use Rattle.deny_tables.specs.Features.{ReadsCrateFeatures}
 use Rattle.deny_tables.specs.Licenses.{ReadsLicenses}
 use Rattle.deny_tables.specs.StdReplacements.{a_std}
+use Rattle.deny_tables.specs.Workspace.{a_workspace}
 use Rattle.deny_tables.specs.declared.bans.cfg.config.Config.{Config}
 use Rattle.deny_tables.specs.declared.bans.cfg.features.CrateFeatures.{CrateFeatures}
 use Rattle.deny_tables.specs.declared.bans.cfg.std_replacements.StdReplacementConfig.{StdReplacementConfig}
+use Rattle.deny_tables.specs.declared.bans.cfg.workspace.WorkspaceDepsConfig.{WorkspaceDepsConfig}
 use Rattle.deny_cfg.specs.LicensingView.{licensing_of, licensing_view}
 use Rattle.deny_cfg.specs.PolicyText.{ReadsBans}
-use Rattle.deny_cfg.specs.PolicyView.{feature_view, policy_view, replacing_view}
+use Rattle.deny_cfg.specs.PolicyView.{feature_view, policy_view, replacing_view, sharing_view}
 use Rattle.deny_cfg.specs.Valid.{features_of}
 use Rattle.deny_cfg.specs.declared.bans.cfg.valid.ValidKrateFeatures.{ValidKrateFeatures}
 use Rattle.deny_cfg.specs.declared.policy.Policy as cfg
@@ -53,16 +58,18 @@ use Rattle.deny_codes.specs.Features.{mismatched_keys_of, unknown_feature_told}
 use Rattle.deny_codes.specs.Licences.{accepted_told, exception_not_encountered_told, skipped_private_told}
 use Rattle.deny_codes.specs.Members.{is_member}
 use Rattle.deny_codes.specs.Saying.{said_by}
+use Rattle.deny_codes.specs.Sharing.{unused_entry_keys_by, workspace_duplicate_keys_by}
 use Rattle.deny_codes.specs.SkippedTrees.{skipped_by_root_told, unmatched_skip_root_told}
 use Rattle.deny_codes.specs.Skips.{skipped_told, unmatched_skip_told, unnecessary_skip_told}
 use Rattle.deny_codes.specs.Standing.{StandsAs, StandsBy, StandsLicensed}
 use Rattle.deny_codes.specs.StdReplacements.{replaced_keys, unmatched_ignore_told}
 use Rattle.deny_codes.specs.Telling.{not_built}
 use Rattle.deny_codes.specs.Told.{words_as, words_by, words_licensed}
+use Rattle.deny_codes.specs.Wildcards.{unresolved_told, wildcard_told}
 use Rattle.deny_codes.specs.Wrappers.{unused_wrapper_told}
 use Rattle.deny_gate.specs.Gating.{IsBuilt}
-use Rattle.deny_gate.specs.Headline.{WritesRule, bans_write, has_element, has_entry, has_key, is_crate_rule}
-use Rattle.deny_gate.specs.Headline.{licenses_write, writes}
+use Rattle.deny_gate.specs.Headline.{WritesRule, bans_write, denies, has_element, has_entry, has_key, is_crate_rule}
+use Rattle.deny_gate.specs.Headline.{is_deny, licenses_write, writes}
 use Rattle.deny_gate.specs.Report.{is_error}
 use Rattle.deny_gate.proofs.Covered.{some_test}
 use Rattle.deny_gate.proofs.Standing.{none_licensed}
@@ -72,12 +79,21 @@ use Rattle.deny_gate.proofs.Standing.{none_licensed}
 abbrev pub has_features : Policy → Bool
 has_features p = not (length p.features == 0)
 
+-- the level at which findings are errors
+abbrev pub denies_wildcards : LintLevel → Bool
+denies_wildcards level.Allow = false
+denies_wildcards level.Warn = false
+denies_wildcards level.Deny = true
+
 -- the policy minds what this code can tell errors of, besides the crate rules
 abbrev pub minds_as : Code → Policy → Bool
 minds_as code.ExactFeaturesMismatch p = has_features p
 minds_as code.FeatureNotExplicitlyAllowed p = has_features p
 minds_as code.FeatureBanned p = has_features p
+minds_as code.Wildcard p = denies_wildcards p.wildcards
 minds_as code.DefaultFeatureEnabled p = is_some p.workspace_default || is_some p.external_default
+minds_as code.WorkspaceDuplicate p = is_some p.sharing
+minds_as code.UnusedWorkspaceDependency p = is_some p.sharing
 minds_as code.ReplacedInStd p = is_some p.replacing
 minds_as _ p = false
 
@@ -96,12 +112,13 @@ minds (License d) p licensing = minds_licensed d licensing
 abbrev pub IsGrave : Policy → Option Licensing → DiagnosticCode → Type 0
 IsGrave p licensing d = (is_crate_rule (Some d) ≡ true) ⊎ (minds d p licensing ≡ true)
 
--- ---- of replaced crates
-
-minded_by : (o : Option Replacing) (keys : Replacing → List Key) (k : Key) → Contains (option_map_or keys o []) k
+-- what stands where something is said, stands since it is said
+minded_by : {X : Type 0} (o : Option X) (keys : X → List Key) (k : Key) → Contains (option_map_or keys o []) k
     → is_some o ≡ true
 minded_by None keys k is = absurd (no_member k is)
-minded_by (Some r) keys k is = refl
+minded_by (Some x) keys k is = refl
+
+-- ---- of replaced crates
 
 ignore_is_mild : (o : Option Replacing) (file : ℕ) (k : Key)
     → is_error (option_map_or (λ r. unmatched_ignore_told r file k) o not_built).severity ≡ false
@@ -140,6 +157,13 @@ unfolding default_severity
 default_minded p g k error = level_minded p g (crate_at g k.place)
     (level_there (option_and_then (default_level p g) (crate_at g k.place)) error)
 
+-- ---- of manifests
+
+wildcard_error : (l : LintLevel) → is_error (severity_of l) ≡ true → denies_wildcards l ≡ true
+wildcard_error level.Allow error = absurd (false≢true error)
+wildcard_error level.Warn error = absurd (false≢true error)
+wildcard_error level.Deny error = refl
+
 -- ---- code by code
 
 -- the last line is that of the codes whose rules are not there
@@ -147,7 +171,7 @@ grave_code : (d : Code) (c : Circumstances) (facts : Facts) (k : Key) → Stands
     → is_error (words_as d c k).severity ≡ true → IsGrave c.policy c.licensing (Bans d)
 unfolding words_as allowed_told skipped_told unmatched_skip_told unnecessary_skip_told allowed_by_wrapper_told
     unmatched_wrapper_told skipped_by_root_told unmatched_skip_root_told unused_wrapper_told unknown_feature_told
-    default_enabled_told
+    default_enabled_told wildcard_told unresolved_told
 grave_code code.Banned c facts k is error = inl refl
 grave_code code.NotAllowed c facts k is error = inl refl
 grave_code code.Duplicate c facts k is error = inl refl
@@ -159,6 +183,12 @@ grave_code code.FeatureBanned c facts k is error =
     let of = Contains-from_flat_map (feature_banned_keys_of c.graph) c.policy.features k is in
     inr (some_are c.policy.features of.from of.member)
 grave_code code.DefaultFeatureEnabled c facts k is error = inr (default_minded c.policy c.graph k error)
+grave_code code.Wildcard c facts k is error = inr (wildcard_error c.policy.wildcards error)
+grave_code code.UnresolvedWorkspaceDependency c facts k is error = absurd (false≢true error)
+grave_code code.WorkspaceDuplicate c facts k is error =
+    inr (minded_by c.policy.sharing (workspace_duplicate_keys_by c.graph c.view) k is)
+grave_code code.UnusedWorkspaceDependency c facts k is error =
+    inr (minded_by c.policy.sharing (unused_entry_keys_by c.view) k is)
 grave_code code.ReplacedInStd c facts k is error =
     inr (minded_by c.policy.replacing (λ r. replaced_keys r c.graph (said_by c.table)) k is)
 grave_code code.Allowed c facts k is error = absurd (false≢true error)
@@ -274,6 +304,54 @@ levels_written config o reads some =
     config.external_default_features (says_of key.ExternalDefaultFeatures keys)) some)
     o reads
 
+-- the word of a level that is read
+deny_of : (allowed warns denied : Bool)
+    → (if allowed then Some level.Allow else if warns then Some level.Warn
+    else if denied then Some level.Deny else None) ≡ Some level.Deny → denied ≡ true
+deny_of true warns denied is = absurd (cc is)
+deny_of false true denied is = absurd (cc is)
+deny_of false false true is = refl
+deny_of false false false is = absurd (cc is)
+
+deny_word : (text : List ℕ) → level_of text ≡ Some level.Deny → bytes_eq text (codes "deny") ≡ true
+unfolding level_of
+deny_word text is = deny_of (bytes_eq text (codes "allow")) (bytes_eq text (codes "warn"))
+    (bytes_eq text (codes "deny")) is
+
+deny_read : (o : Option (List ℕ)) → option_and_then level_of o ≡ Some level.Deny
+    → option_map_or (λ text. bytes_eq text (codes "deny")) o false ≡ true
+deny_read None is = absurd (cc is)
+deny_read (Some text) is = deny_word text is
+
+-- a level that is read and is not the one that stands for nothing is written
+deny_there : (o : Option Value) (l : LintLevel) → ReadsOr level.Allow (ReadsAs level_of) o l → denies_wildcards l ≡ true
+    → option_map_or is_deny o false ≡ true
+deny_there None l says denied =
+    absurd (false≢true (sym (ap denies_wildcards says) ∙ denied))
+deny_there (Some v) level.Allow says denied = absurd (false≢true denied)
+deny_there (Some v) level.Warn says denied = absurd (false≢true denied)
+deny_there (Some v) level.Deny says denied = deny_read (text_in v) says
+
+wildcards_written : (config : Config) (o : Option Value) → ReadsBans o config → denies_wildcards config.wildcards ≡ true
+    → option_map_or (denies (codes "wildcards")) o false ≡ true
+unfolding name_of
+wildcards_written config o reads denied =
+    by_bans config (λ entries. option_map_or is_deny (value_at (codes "wildcards") entries) false)
+    (λ t. option_map_or is_deny (key_in (codes "wildcards") t) false) (λ t. refl) refl
+    (λ entries keys. deny_there (at_key key.Wildcards entries) config.wildcards (says_of key.Wildcards keys) denied)
+    o reads
+
+sharing_written : (config : Config) (o : Option Value) → ReadsBans o config
+    → is_some config.workspace_dependencies ≡ true
+    → option_map_or (has_key (codes "workspace-dependencies")) o false ≡ true
+unfolding name_of
+sharing_written config o reads some =
+    by_bans config (λ entries. is_some (value_at (codes "workspace-dependencies") entries))
+    (λ t. is_some (key_in (codes "workspace-dependencies") t)) (λ t. refl) refl
+    (λ entries keys. there_if_read a_workspace.Reads (at_key key.WorkspaceDependencies entries)
+    config.workspace_dependencies (says_of key.WorkspaceDependencies keys) some)
+    o reads
+
 std_written : (config : Config) (o : Option Value) → ReadsBans o config → is_some config.std_replacements ≡ true
     → option_map_or (has_key (codes "std-replacements")) o false ≡ true
 unfolding name_of
@@ -319,6 +397,16 @@ module _ (text : List ℕ) (said : cfg.Policy) (built : IsBuilt text said) where
   std_read some = ap (λ (o : Option StdReplacementConfig). is_some o) (sym built.is_policy.valid.std_replacements)
       ∙ (sym (seen replacing_view said.bans.std_replacements) ∙ some)
 
+  wildcards_read : denies_wildcards said.bans.wildcards ≡ true → denies_wildcards config.wildcards ≡ true
+  wildcards_read denied =
+      subst (λ (l : LintLevel). denies_wildcards l ≡ true) built.is_policy.valid.wildcards denied
+
+  sharing_read : is_some (option_map sharing_view said.bans.workspace_dependencies) ≡ true
+      → is_some config.workspace_dependencies ≡ true
+  sharing_read some = ap (λ (o : Option WorkspaceDepsConfig). is_some o)
+      (sym built.is_policy.valid.workspace_dependencies)
+      ∙ (sym (seen sharing_view said.bans.workspace_dependencies) ∙ some)
+
   bans_written : (d : Code) → minds_as d (policy_view said.bans) ≡ true
       → option_map_or (bans_write d) (below_name (codes "bans") tree) false ≡ true
   unfolding bans_write
@@ -330,6 +418,12 @@ module _ (text : List ℕ) (said : cfg.Policy) (built : IsBuilt text said) where
       features_written config (below_name (codes "bans") tree) built.is_policy.says.says.reads (features_read minded)
   bans_written code.DefaultFeatureEnabled minded =
       levels_written config (below_name (codes "bans") tree) built.is_policy.says.says.reads (levels_read minded)
+  bans_written code.Wildcard minded =
+      wildcards_written config (below_name (codes "bans") tree) built.is_policy.says.says.reads (wildcards_read minded)
+  bans_written code.WorkspaceDuplicate minded =
+      sharing_written config (below_name (codes "bans") tree) built.is_policy.says.says.reads (sharing_read minded)
+  bans_written code.UnusedWorkspaceDependency minded =
+      sharing_written config (below_name (codes "bans") tree) built.is_policy.says.says.reads (sharing_read minded)
   bans_written code.ReplacedInStd minded =
       std_written config (below_name (codes "bans") tree) built.is_policy.says.says.reads (std_read minded)
   bans_written _ minded = absurd (false≢true minded)

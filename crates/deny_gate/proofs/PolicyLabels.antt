@@ -1,7 +1,7 @@
 -- The ranges of a policy are those of the configuration that it is seen from, and so lie in the text where those do.
-use Rattle.std.proofs.Common.{◌≡◌, ◌++◌, ◌+◌, ℕ, List, [], ◌∷◌, All, Option, None, Some, Result, Ok, Err, ◌∙◌, map}
-use Rattle.std.proofs.Common.{refl}
-use Rattle.std.specs.Prelude.{IfOk, option_map, option_and_then}
+use Rattle.std.proofs.Common.{◌≡◌, ◌++◌, ◌+◌, ℕ, List, [], ◌∷◌, Option, None, Some, Result, Ok, Err, map}
+use Rattle.std.proofs.Common.{ap, refl, subst}
+use Rattle.std.specs.Prelude.{IfOk, slice_get, option_map, option_and_then}
 use Rattle.std.specs.List.{flat_map}
 use Rattle.std.proofs.lemmas.List.Elements.{All-from_recursion, recursion_from_All}
 use Rattle.deny_base.specs.declared.files.File.{File}
@@ -12,7 +12,6 @@ use Rattle.deny_cfg.specs.LabelRanges.{AreLabels, exception_range, licence_label
 use Rattle.deny_cfg.specs.LabelRanges.{std_ranges, with_spec, word_labels, word_ranges}
 use Rattle.deny_cfg.specs.LabelRanges as written
 use Rattle.deny_cfg.specs.LicensingView.{exception_view, licensing_of}
-use Rattle.deny_cfg.specs.PolicyText.{policy_file}
 use Rattle.deny_cfg.specs.PolicyView.{ban_view, entry_view, feature_view, policy_view, reason_words, replacing_view, root_view}
 use Rattle.deny_cfg.specs.PolicyView.{roots_from, words_or_none}
 use Rattle.deny_cfg.specs.StdReplacementConfig.{StdReplacementConfig}
@@ -31,15 +30,19 @@ use Rattle.deny_spdx.specs.declared.requirement.Requirement.{Requirement}
 use Rattle.deny_model.specs.Graph.{Graph}
 use Rattle.deny_model.specs.Licensing as model
 use Rattle.deny_model.specs.Policy.{Words}
-use Rattle.deny_codes.specs.Circumstances.{View}
+use Rattle.deny_krates.specs.Read.{IsGraphOf}
+use Rattle.deny_outside.specs.Disk.{Files}
 use Rattle.deny_toml.specs.Ranges.{IsRange}
-use Rattle.deny_gate.specs.Gating.{IsBuilt, IsReportOn, circumstances_of}
+use Rattle.deny_workspace.specs.declared.registries.Registry.{Registry}
+use Rattle.deny_gate.specs.Gating.{IsBuilt, IsReportOn, IsReportSeen, Texts, circumstances_of, first_files}
 use Rattle.deny_gate.specs.Labels.{AreLabelled, ban_ranges, entry_ranges, feature_ranges, ignore_ranges, licence_ranges}
 use Rattle.deny_gate.specs.Labels.{own_range, range_of, ranges_of, root_ranges}
+use Rattle.deny_gate.specs.Report.{lock_file_id, policy_id}
 use Rattle.deny_gate.specs.declared.report.GateError.{GateError}
 use Rattle.deny_gate.specs.declared.report.Report.{Report}
 use Rattle.deny_gate.proofs.FeatureSpans.{feature_spans, spans_lie}
 use Rattle.deny_gate.proofs.LabelLaws.{AreRanges, report_labelled}
+use Rattle.deny_gate.proofs.Placed.{are_placed}
 
 module _ (text : List ℕ) where
   words_lie : (words : List Words) → Lie text (word_ranges words) → Lie text (map (λ (w : Words). w.span) words)
@@ -234,28 +237,37 @@ module _ (text : List ℕ) where
 
   -- ---- together
 
-  all_ranges : (said : Policy) (g : Graph) (replacements : Option (List ℕ)) (view : View) → IsBuilt text said
-      → All (IsRange text) (word_labels said.bans) → All (IsRange text) (written.licence_ranges said.licenses)
-      → AreRanges (circumstances_of said g replacements view) text
-  all_ranges said g replacements view built bans licences = record {
+  all_ranges : (told : Option Files) (metadata : List ℕ) (replacements : Option (List ℕ)) (registries : List Registry)
+      (said : Policy) (report : Report) → (built : IsBuilt text said) → (g : Graph) → IsGraphOf metadata g
+      → AreLabels text (word_labels said.bans) → AreLabels text (written.licence_ranges said.licenses)
+      → (on : IsReportSeen told said g replacements registries (first_files text g) report)
+      → AreRanges (circumstances_of said g replacements on.view) text report.files
+  all_ranges told metadata replacements registries said report built g is_graph bans licences on = record {
     first = refl;
+    second = refl;
     of_policy = All-from_recursion (IsRange text) (ranges_of (policy_view said.bans))
-        (ranges_lie said.bans (recursion_from_All (IsRange text) (word_labels said.bans) bans)
+        (ranges_lie said.bans (recursion_from_All (IsRange text) (word_labels said.bans) bans.placed)
         (spans_lie text said built));
     of_licences = All-from_recursion (IsRange text) (licence_ranges (licensing_of said.licenses))
         (licences_lie said.licenses
-        (recursion_from_All (IsRange text) (written.licence_ranges said.licenses) licences));
+        (recursion_from_All (IsRange text) (written.licence_ranges said.licenses) licences.placed));
+    of_manifests = on.ranges;
+    policy_there = ap (λ (files : List File). slice_get files policy_id) on.seen.files;
+    lock_there = ap (λ (files : List File). slice_get files lock_file_id) on.seen.files;
+    lines = on.lines;
+    places = are_placed metadata g is_graph;
   }
 
-  -- the report of the policy that was read, with its text as the one file
-  pub labels_then : (metadata : List ℕ) (replacements : Option (List ℕ)) (said : Policy) (files : List File)
-      (result : Result Report GateError) → IsBuilt text said → AreLabels text (word_labels said.bans)
-      → AreLabels text (written.licence_ranges said.licenses) → files ≡ policy_file text ∷ []
-      → IfOk result (IsReportOn said metadata replacements)
-      → IfOk result (λ report. report.files ≡ files)
-      → IfOk result (λ report. AreLabelled report.files report.findings)
-  labels_then metadata replacements said files (Ok report) built bans licences first on in_files =
-      report_labelled (circumstances_of said on.graph replacements on.seen.view) text report
-      (all_ranges said on.graph replacements on.seen.view built bans.placed licences.placed) on.seen.is_report
-      (in_files ∙ first)
-  labels_then metadata replacements said files (Err error) built bans licences first on in_files = tt
+-- so the labels of the report of the policy that was read lie in its files
+pub labels_then : (told : Option Files) (texts : Texts) (said : Policy) (read : List ℕ)
+    (result : Result Report GateError) → read ≡ texts.policy → IsBuilt read said → AreLabels read (word_labels said.bans)
+    → AreLabels read (written.licence_ranges said.licenses) → IfOk result (IsReportOn told said texts)
+    → IfOk result (λ report. AreLabelled report.files report.findings)
+labels_then told texts said read (Ok report) same built bans licences on =
+    report_labelled (circumstances_of said on.graph texts.replacements on.seen.view) texts.policy report
+    (all_ranges texts.policy told texts.metadata texts.replacements texts.registries said report
+    (subst (λ (text : List ℕ). IsBuilt text said) same built) on.graph on.is_graph
+    (subst (λ (text : List ℕ). AreLabels text (word_labels said.bans)) same bans)
+    (subst (λ (text : List ℕ). AreLabels text (written.licence_ranges said.licenses)) same licences) on.seen)
+    on.seen.is_report
+labels_then told texts said read (Err error) same built bans licences on = tt

@@ -22,11 +22,13 @@ use Rattle.deny_codes.specs.Features.{default_enabled_told, default_level, defau
 use Rattle.deny_codes.specs.Features.{feature_not_allowed_told, mismatched_told, unknown_feature_told}
 use Rattle.deny_codes.specs.Licences.{not_encountered_told, not_encountered_told_in, rejected_told, rejected_told_in}
 use Rattle.deny_codes.specs.Saying.{Saying, said_by}
+use Rattle.deny_codes.specs.Sharing.{unused_entry_told, workspace_duplicate_told}
 use Rattle.deny_codes.specs.SkippedTrees.{skipped_by_root_told}
 use Rattle.deny_codes.specs.Skips.{skipped_told, unmatched_skip_told, unnecessary_skip_told}
 use Rattle.deny_codes.specs.StdReplacements.{replaced_told, unmatched_ignore_told}
 use Rattle.deny_codes.specs.Telling.{not_built}
 use Rattle.deny_codes.specs.Told.{words_as, words_by, words_licensed, words_told}
+use Rattle.deny_codes.specs.Wildcards.{wildcard_told}
 use Rattle.deny_laws.specs.Removal.{cut_licensing, cut_replacing, without_in}
 
 -- ---- of what a policy may say
@@ -65,7 +67,7 @@ as_alike : (d : Code) (c : Circumstances) (taken : List EntryId) (key : Key)
 unfolding words_as banned_told allowed_told duplicate_told duplicate_level is_denied_multiple skipped_told
     unmatched_skip_told unnecessary_skip_told allowed_by_wrapper_told unmatched_wrapper_told skipped_by_root_told
     mismatched_told feature_not_allowed_told feature_banned_told unknown_feature_told default_enabled_told
-    default_severity default_level
+    default_severity default_level wildcard_told workspace_duplicate_told unused_entry_told
 as_alike code.Banned c taken key = refl
 as_alike code.Allowed c taken key = refl
 as_alike code.NotAllowed c taken key = refl

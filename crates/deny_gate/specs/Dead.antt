@@ -5,16 +5,16 @@ use Rattle.std.specs.Ordering.{eq_by_cmp}
 use Rattle.deny_base.specs.Entry.{entry_cmp}
 use Rattle.deny_base.specs.declared.entry.EntryId.{EntryId}
 use Rattle.deny_base.specs.declared.key.Key.{Key}
-use Rattle.deny_cfg.specs.declared.policy.Policy.{Policy}
-use Rattle.deny_codes.specs.Circumstances.{Circumstances, View}
+use Rattle.deny_codes.specs.Circumstances.{Circumstances}
 use Rattle.deny_codes.specs.Hits.{TellsLicensed, both_hits}
 use Rattle.deny_codes.specs.Standing.{AreKeys}
 use Rattle.deny_codes.specs.Told.{words_told}
-use Rattle.deny_krates.specs.Read.{IsGraphOf}
 use Rattle.deny_laws.specs.Dead.{AreAmong, unused_entry}
 use Rattle.deny_laws.specs.Removal.{EmptyNone, unnaming, without_in}
-use Rattle.deny_model.specs.Graph.{Crate, Graph}
-use Rattle.deny_gate.specs.Gating.{IsBuilt, Texts, circumstances_of}
+use Rattle.deny_model.specs.Graph.{Crate}
+use Rattle.deny_model.specs.View.{View}
+use Rattle.deny_outside.specs.Disk.{Files}
+use Rattle.deny_gate.specs.Gating.{IsReportBy, Texts, circumstances_of}
 use Rattle.deny_gate.specs.Hits.{AreHits}
 use Rattle.deny_gate.specs.Report.{keys_in}
 use Rattle.deny_gate.specs.declared.report.Finding.{Finding}
@@ -37,14 +37,11 @@ abbrev pub DeadCanGoIn : Circumstances → Report → Type 0
 DeadCanGoIn c report = (taken : List EntryId) → AreAmong report.dead taken → EmptyNone c.policy taken
     → TellsTheRest c taken report
 
--- so it is of the policy and the graph of texts
-pub record CanDoWithoutDead (texts : Texts) (report : Report) : Type 0 where
-  pub said : Policy
-  pub is_said : IsBuilt texts.policy said
-  pub graph : Graph
-  pub is_graph : IsGraphOf texts.metadata graph
+-- so it is of the policy and the graph of texts, by the view that the report was made by
+pub record CanDoWithoutDead (told : Option Files) (texts : Texts) (report : Report) : Type 0 where
   pub view : View
-  pub can : DeadCanGoIn (circumstances_of said graph texts.replacements view) report
+  pub by : IsReportBy told texts view report
+  pub can : DeadCanGoIn (circumstances_of by.said by.graph texts.replacements view) report
 
 -- a report has the keys of another but for those that name one of these as unused, and the same hits
 pub record LosesOnly (taken : List EntryId) (report other : Report) : Type 0 where

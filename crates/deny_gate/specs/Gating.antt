@@ -4,6 +4,7 @@ use Rattle.std.specs.Prelude.{filter}
 use Rattle.std.specs.Prelude.{Option, None, Some, Ok, Err, IfSome, option_map}
 use Rattle.deny_base.specs.declared.check.Which.TheVariants as which
 use Rattle.deny_base.specs.declared.entry.Hit.{Hit}
+use Rattle.deny_base.specs.declared.files.File.{File}
 use Rattle.deny_base.specs.declared.finding.Pack.{Pack}
 use Rattle.deny_base.specs.declared.key.Key.{Key}
 use Rattle.deny_base.specs.declared.span.Span.{Span}
@@ -19,17 +20,24 @@ use Rattle.deny_krates.specs.fault.MetadataFault.TheVariants as fault
 use Rattle.deny_model.specs.Graph.{Crate, Graph}
 use Rattle.deny_model.specs.Licensing.{Licensing}
 use Rattle.deny_model.specs.Policy as model
-use Rattle.deny_codes.specs.Circumstances.{Circumstances, View, licensed, seen_by, tabled}
+use Rattle.deny_model.specs.View.{View}
+use Rattle.deny_outside.specs.Disk.{Files}
+use Rattle.deny_codes.specs.Circumstances.{Circumstances, licensed, seen_by, tabled}
 use Rattle.deny_codes.specs.Hits.{TellsLicensed, both_hits}
 use Rattle.deny_codes.specs.Saying.{HasTable, IsBreakIn, bytes_of}
 use Rattle.deny_codes.specs.Standing.{AreKeys}
 use Rattle.deny_codes.specs.StdReplacements.{asks_for_table}
 use Rattle.deny_dup_edges.specs.DupEdges.{ShowsEach, is_of_duplicate}
 use Rattle.deny_licenses.specs.Check.{IsLicensed}
+use Rattle.deny_spans.specs.Ranges.{ViewLies}
+use Rattle.deny_spans.specs.Seen.{IsSeen, lock_file}
 use Rattle.deny_toml.specs.Faults.{fault_at}
 use Rattle.deny_toml.specs.declared.error.FaultKind.TheVariants.{Grammar}
 use Rattle.deny_gate.specs.Hits.{AreHits}
-use Rattle.deny_gate.specs.Report.{IsReport, finding_told, policy_id}
+use Rattle.deny_workspace.specs.declared.registries.Registry.{Registry}
+use Rattle.deny_gate.specs.Labels.{AreLockLines}
+use Rattle.deny_gate.specs.Report.{IsReport, finding_told, lock_file_id, policy_id, unseeing_findings}
+use Rattle.deny_gate.specs.declared.checks.Looked.{Looked}
 use Rattle.deny_gate.specs.declared.checks.Told.{Told}
 use Rattle.deny_gate.specs.declared.report.GateError.{GateError}
 use Rattle.deny_gate.specs.declared.report.GateError.TheVariants.{Config, Invalid, NotBuilt, Metadata, Replacement}
@@ -37,20 +45,23 @@ use Rattle.deny_gate.specs.declared.report.GateError.TheVariants.{Memory}
 use Rattle.deny_gate.specs.declared.report.Inputs.{Inputs}
 use Rattle.deny_gate.specs.declared.report.Report.{Report}
 
--- the texts that the gate is handed: of a policy, of metadata, and bytes of a table of replacements, if there are any
+-- the texts that the gate is handed: of a policy, of metadata, and bytes of a table of replacements, if there are any;
+-- beside them the registries that manifests can name
 pub record Texts : Type 0 where
   pub policy : List ℕ
   pub metadata : List ℕ
   pub replacements : Option (List ℕ)
+  pub registries : List Registry
 
 abbrev pub texts_in : Inputs → Texts
 texts_in inputs = record {
   policy = inputs.policy.items;
   metadata = inputs.metadata.items;
   replacements = option_map (λ bytes. bytes.items) inputs.replacements;
+  registries = inputs.registries;
 }
 
--- each is under 2^28 bytes
+-- each text is under 2^28 bytes
 pub record AreShort (texts : Texts) : Type 0 where
   pub policy : length texts.policy < 2 ^ 28
   pub metadata : length texts.metadata < 2 ^ 28
@@ -64,7 +75,7 @@ pub record IsBuilt (text : List ℕ) (policy : Policy) : Type 0 where
 -- a policy, and what it says of licences, on a graph, with these bytes of a table and what was seen of files
 abbrev pub circumstances_on : model.Policy → Option Licensing → Graph → Option (List ℕ) → View → Circumstances
 circumstances_on p licensing g replacements view =
-    licensed (tabled (seen_by p g policy_id view) (bytes_of replacements)) licensing
+    licensed (tabled (seen_by p g policy_id lock_file_id view) (bytes_of replacements)) licensing
 
 -- the same of a policy that was read
 abbrev pub circumstances_of : Policy → Graph → Option (List ℕ) → View → Circumstances
@@ -75,21 +86,46 @@ circumstances_of said g replacements view =
 abbrev pub IsTableFor : model.Policy → Option (List ℕ) → Type 0
 IsTableFor p replacements = IsTrue (asks_for_table p) → HasTable replacements
 
--- the policy is one whose rules are there, the metadata has a graph, there is the table that the policy asks for, and
--- this is the report of the one on the other, by this view of files. Its one file is the policy's text.
-pub record IsReportBy (texts : Texts) (view : View) (report : Report) : Type 0 where
+-- the files that stand before those of manifests: the text of a policy, and the lock text of a graph
+abbrev pub first_files : List ℕ → Graph → List File
+first_files policy g = policy_file policy ∷ (lock_file g.root g ∷ [])
+
+-- The policy is one whose rules are there, the metadata has a graph, there is the table that the policy asks for, and
+-- this is the report of the one on the other, by this view of manifests. It is what was seen of the graph's manifests
+-- on a disk that may tell its files: the files of the report are the policy's text, the lock text and what was read of
+-- manifests, and it says what was not read and what is malformed.
+pub record IsReportBy (told : Option Files) (texts : Texts) (view : View) (report : Report) : Type 0 where
   pub said : Policy
   pub is_said : IsBuilt texts.policy said
   pub graph : Graph
   pub is_graph : IsGraphOf texts.metadata graph
   pub table : IsTableFor (policy_view said.bans) texts.replacements
+  pub seen : IsSeen told graph texts.registries (first_files texts.policy graph) report.files report.unread
+      report.malformed view
   pub is_report : IsReport (circumstances_of said graph texts.replacements view) report
-  pub files : report.files ≡ policy_file texts.policy ∷ []
 
--- by some view: no file but these texts is read yet
-pub record IsReportOf (texts : Texts) (report : Report) : Type 0 where
+-- by the view that was seen
+pub record IsReportOf (told : Option Files) (texts : Texts) (report : Report) : Type 0 where
   pub view : View
-  pub by : IsReportBy texts view report
+  pub by : IsReportBy told texts view report
+
+-- the reports of the same texts tell the same of them; what they say of files that could not be read may differ
+pub record AreToldAlike (a b : Report) : Type 0 where
+  pub krates : a.krates ≡ b.krates
+  pub findings : a.findings ≡ b.findings
+  pub dup_edges : a.dup_edges ≡ b.dup_edges
+  pub hits : a.hits ≡ b.hits
+  pub dead : a.dead ≡ b.dead
+  pub stats : a.stats ≡ b.stats
+  pub verdict : a.verdict ≡ b.verdict
+
+-- the same, of findings of those alone whose codes ask nothing of files
+pub record AreAlikeUnseen (a b : Report) : Type 0 where
+  pub krates : a.krates ≡ b.krates
+  pub findings : unseeing_findings a.findings ≡ unseeing_findings b.findings
+  pub dup_edges : a.dup_edges ≡ b.dup_edges
+  pub hits : a.hits ≡ b.hits
+  pub dead : a.dead ≡ b.dead
 
 -- the text is a policy whose rules are there
 pub record HasPolicy (policy : List ℕ) : Type 0 where
@@ -158,18 +194,21 @@ AreOneCause a b = (a ≡ b) ⊎ (IsOutsideGrammar a × IsOutsideGrammar b)
 
 -- ---- for private clauses
 
--- the report of a policy on a graph, by some view of files
-pub record IsReportSeen (said : Policy) (g : Graph) (replacements : Option (List ℕ)) (report : Report) : Type 0 where
+-- the report of a policy on a graph by a view of files, which is what was seen behind these
+pub record IsReportSeen (told : Option Files) (said : Policy) (g : Graph) (replacements : Option (List ℕ))
+    (registries : List Registry) (first : List File) (report : Report) : Type 0 where
   pub view : View
+  pub seen : IsSeen told g registries first report.files report.unread report.malformed view
+  pub ranges : ViewLies report.files view
+  pub lines : AreLockLines g
   pub is_report : IsReport (circumstances_of said g replacements view) report
 
 -- the metadata has a graph, there is the table that a policy asks for, and this is the report of the policy on it
-pub record IsReportOn (said : Policy) (metadata : List ℕ) (replacements : Option (List ℕ)) (report : Report)
-    : Type 0 where
+pub record IsReportOn (told : Option Files) (said : Policy) (texts : Texts) (report : Report) : Type 0 where
   pub graph : Graph
-  pub is_graph : IsGraphOf metadata graph
-  pub table : IsTableFor (policy_view said.bans) replacements
-  pub seen : IsReportSeen said graph replacements report
+  pub is_graph : IsGraphOf texts.metadata graph
+  pub table : IsTableFor (policy_view said.bans) texts.replacements
+  pub seen : IsReportSeen told said graph texts.replacements texts.registries (first_files texts.policy graph) report
 
 -- when an answer may come that speaks of the bytes of a table alone
 abbrev pub IsTableCause : Option (List ℕ) → GateError → Type 0
@@ -185,14 +224,14 @@ abbrev pub IsTableCauseFor : model.Policy → Option (List ℕ) → GateError �
 IsTableCauseFor p replacements error = IsTrue (asks_for_table p) × IsTableCause replacements error
 
 -- when an answer may come that is no report, where the policy is there
-abbrev pub IsCauseBehind : model.Policy → List ℕ → Option (List ℕ) → GateError → Type 0
-IsCauseBehind p metadata replacements (Config faults) = ⊥
-IsCauseBehind p metadata replacements (Invalid told) = ⊥
-IsCauseBehind p metadata replacements (NotBuilt text) = ⊥
-IsCauseBehind p metadata replacements (Metadata f) = IsFirstFault metadata f
-IsCauseBehind p metadata replacements (Replacement at) =
-    HasGraph metadata × IsTableCauseFor p replacements (Replacement at)
-IsCauseBehind p metadata replacements Memory = Unit {0}
+abbrev pub IsCauseBehind : model.Policy → Texts → GateError → Type 0
+IsCauseBehind p texts (Config faults) = ⊥
+IsCauseBehind p texts (Invalid told) = ⊥
+IsCauseBehind p texts (NotBuilt text) = ⊥
+IsCauseBehind p texts (Metadata f) = IsFirstFault texts.metadata f
+IsCauseBehind p texts (Replacement at) =
+    HasGraph texts.metadata × IsTableCauseFor p texts.replacements (Replacement at)
+IsCauseBehind p texts Memory = Unit {0}
 
 -- no two entries of the policy have one range
 pub record AreEntriesApart (said : Policy) : Type 0 where
@@ -209,10 +248,14 @@ pub record IsTold (c : Circumstances) (told : Told) : Type 0 where
   pub tells : TellsLicensed c.licensing c.graph counts
   pub hits : AreHits (both_hits c listed.facts counts) told.hits
 
--- by some view of files
-pub record IsToldOn (said : Policy) (g : Graph) (replacements : Option (List ℕ)) (told : Told) : Type 0 where
+-- the same by what was seen of files, behind these
+pub record IsToldOn (files : Option Files) (said : Policy) (g : Graph) (replacements : Option (List ℕ))
+    (registries : List Registry) (first new : List File) (looked : Looked) : Type 0 where
   pub view : View
-  pub is_told : IsTold (circumstances_of said g replacements view) told
+  pub seen : IsSeen files g registries first new looked.unread looked.malformed view
+  pub ranges : ViewLies new view
+  pub lines : AreLockLines g
+  pub is_told : IsTold (circumstances_of said g replacements view) looked.told
 
 -- what the licence check tells and hands out by what a policy says of licences: nothing where it does not speak of them
 abbrev pub IsLicensedIf : Option Licensing → Graph → ℕ → List Pack → List Pack → List Hit → Type 0

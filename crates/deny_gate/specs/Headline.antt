@@ -4,6 +4,7 @@ use Rattle.std.specs.Prelude.{◌≡◌, ◌≢◌, ◌⊎◌, ◌≤◌, ◌&&�
 use Rattle.std.specs.Prelude.{map, filter, Contains, Option, None, Some, codes, is_some}
 use Rattle.std.specs.List.{list_any}
 use Rattle.std.specs.Option.{option_map_or}
+use Rattle.std.specs.Str.{bytes_eq}
 use Rattle.deny_lists.specs.Ascending.{Lists}
 use Rattle.deny_base.specs.KeyOrder.{key_cmp}
 use Rattle.deny_base.specs.declared.code.Code.{Code}
@@ -25,7 +26,7 @@ use Rattle.deny_model.specs.Keys.{crate_key, duplicate_key, no_span}
 use Rattle.deny_model.specs.Match.{matches}
 use Rattle.deny_model.specs.Policy.{Ban, Entry, Policy, Root, Spec, Words}
 use Rattle.deny_model.specs.VersionOrder.{version_cmp}
-use Rattle.deny_toml.specs.Calls.{array_in, below_name}
+use Rattle.deny_toml.specs.Calls.{array_in, below_name, text_in}
 use Rattle.deny_toml.specs.Parser.{IsTreeOf}
 use Rattle.deny_toml.specs.declared.value.Value.{Value}
 use Rattle.deny_gate.specs.Gating.{IsBuilt, Texts}
@@ -184,6 +185,14 @@ is_crate_error f = has_error f && is_crate_rule f.diag.diag.code
 abbrev pub has_key : List ℕ → Value → Bool
 has_key name table = is_some (below_name name table)
 
+-- a value is the word of the level that makes errors
+abbrev pub is_deny : Value → Bool
+is_deny v = option_map_or (λ text. bytes_eq text (codes "deny")) (text_in v) false
+
+-- the value of this key is
+abbrev pub denies : List ℕ → Value → Bool
+denies name table = option_map_or is_deny (below_name name table) false
+
 -- a value is an array with an element
 abbrev pub has_element : Value → Bool
 has_element v = option_map_or (λ elements. not (length elements == 0)) (array_in v) false
@@ -199,7 +208,7 @@ bans_write code.Allowed bans = false
 bans_write code.NotAllowed bans = false
 bans_write code.Duplicate bans = false
 bans_write code.Skipped bans = false
-bans_write code.Wildcard bans = has_key (codes "wildcards") bans
+bans_write code.Wildcard bans = denies (codes "wildcards") bans
 bans_write code.UnmatchedSkip bans = false
 bans_write code.UnnecessarySkip bans = false
 bans_write code.AllowedByWrapper bans = false

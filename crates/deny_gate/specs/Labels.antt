@@ -1,5 +1,5 @@
 -- Where labels lie.
-use Rattle.std.specs.Prelude.{◌≡◌, ◌++◌, ◌∷◌, [], ℕ, List, Option, None, Some, All, map, slice_get}
+use Rattle.std.specs.Prelude.{◌≡◌, ◌++◌, ◌∷◌, [], ℕ, List, Option, None, Some, All, Contains, map, slice_get}
 use Rattle.std.specs.List.{flat_map}
 use Rattle.deny_base.specs.declared.files.File.{File}
 use Rattle.deny_base.specs.declared.finding.Diagnostic.{Diagnostic}
@@ -7,6 +7,8 @@ use Rattle.deny_base.specs.declared.label.Label.{Label}
 use Rattle.deny_base.specs.declared.span.Span.{Span}
 use Rattle.deny_cfg.specs.PolicyText.{policy_file}
 use Rattle.deny_base.specs.declared.span.Spanned.{Spanned}
+use Rattle.deny_lock.specs.Text.{IsLineOf, LinesAscend, lock_span_at, lock_text}
+use Rattle.deny_model.specs.Graph.{Crate, Graph}
 use Rattle.deny_model.specs.Licensing.{Licensing}
 use Rattle.deny_model.specs.Policy.{Ban, Entry, FeatureEntry, Policy, Replacing, Root, Words}
 use Rattle.deny_toml.specs.Ranges.{IsRange}
@@ -39,6 +41,13 @@ IsLabelledCause text (NotBuilt which) = Unit {0}
 IsLabelledCause text (Metadata f) = Unit {0}
 IsLabelledCause text (Replacement at) = Unit {0}
 IsLabelledCause text Memory = Unit {0}
+
+-- ---- for private clauses
+
+-- the line of each crate stands in the lock text, one behind the other
+pub record AreLockLines (g : Graph) : Type 0 where
+  pub each : (c : Crate) → Contains g.crates c → IsLineOf (lock_text g.crates) c (lock_span_at g.crates c)
+  pub ascend : LinesAscend g.crates
 
 -- ---- the ranges of a policy that labels mark: each entry's name, and what it names besides
 

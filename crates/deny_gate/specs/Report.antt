@@ -11,6 +11,7 @@ use Rattle.deny_base.specs.declared.level.Severity.{Severity}
 use Rattle.deny_base.specs.declared.level.Severity.TheVariants.{Bug, Error, Warning, Note, Help}
 use Rattle.deny_base.specs.declared.span.Kid.{Kid}
 use Rattle.deny_codes.specs.Circumstances.{Circumstances}
+use Rattle.deny_codes.specs.Codes.{asks_no_file}
 use Rattle.deny_codes.specs.Hits.{TellsLicensed, both_hits}
 use Rattle.deny_codes.specs.Standing.{AreKeys}
 use Rattle.deny_codes.specs.Told.{check_told, diag_told, words_told}
@@ -24,9 +25,12 @@ use Rattle.deny_gate.specs.declared.report.Report.{Report}
 use Rattle.deny_gate.specs.declared.report.Verdict.{Verdict}
 use Rattle.deny_gate.specs.declared.report.Verdict.TheVariants.{Pass, Fail}
 
--- the number of the policy among the files
+-- the numbers of the policy and of the lock text among the files
 abbrev pub policy_id : ℕ
 policy_id = 0
+
+abbrev pub lock_file_id : ℕ
+lock_file_id = 1
 
 -- the finding of a key
 unfoldable pub finding_told : Circumstances → Key → Finding
@@ -66,6 +70,10 @@ verdict_by true true = Fail 6
 
 abbrev pub verdict_of : List Finding → Verdict
 verdict_of findings = verdict_by (list_any (fails_as Bans) findings) (list_any (fails_as Licenses) findings)
+
+-- those whose codes ask nothing of files
+abbrev pub unseeing_findings : List Finding → List Finding
+unseeing_findings findings = filter (λ f. asks_no_file f.diag.key.code) findings
 
 -- the keys of what is told
 abbrev pub keys_in : List Finding → List Key

@@ -1,4 +1,4 @@
-ghost use Rattle.std.specs.Prelude.{◌≡◌, ◌<◌, ◌^◌, [], ◌∷◌, length, IfOk, IfErr, OnOk};
+ghost use Rattle.std.specs.Prelude.{◌≡◌, ◌≢◌, ◌<◌, ◌^◌, ◌++◌, [], ◌∷◌, length, IfOk, IfErr, OnOk};
 ghost use Rattle.std.specs.Prelude.{option_copied};
 ghost use Rattle.deny_cfg.specs.LabelRanges.{AreLabels, licence_ranges, word_labels};
 ghost use Rattle.deny_cfg.specs.PolicyText.{policy_file};
@@ -7,6 +7,10 @@ ghost use Rattle.deny_krates.specs.Read.{IsGraphOf};
 ghost use Rattle.deny_outside.specs.Disk.{IsLater};
 ghost use Rattle.deny_codes.specs.Saying.{HasTable};
 ghost use Rattle.deny_codes.specs.StdReplacements.{asks_for_table};
+ghost use Rattle.deny_spans.specs.Seen.{lock_file};
+ghost use Rattle.deny_spans.specs.Wanted.{AreWanted};
+ghost use Rattle.deny_unread.specs.Bound.{Folders};
+ghost use Rattle.deny_unread.specs.Causes.{AreCaused};
 ghost use Rattle.deny_gate.specs.Gating.{AreEntriesApart, AreShort, IsBuilt, IsCause, IsCauseBehind};
 ghost use Rattle.deny_gate.specs.Gating.{IsMetadataCause, IsPolicyCause, IsReportOf, IsReportOn};
 ghost use Rattle.deny_gate.specs.Gating.{IsReportSeen, IsTableCause, IsTableCauseFor, IsTableFor};
@@ -15,8 +19,9 @@ ghost use Rattle.deny_gate.specs.Dead.{CanDoWithoutDead};
 ghost use Rattle.deny_gate.specs.Headline.{IsHeadlineOf};
 ghost use Rattle.deny_gate.specs.Labels.{AreLabelled, IsLabelledCause};
 ghost use Rattle.deny_gate.specs.Stats.{code_of, exit_code};
+ghost use Rattle.deny_gate.specs.declared.report.GateError.TheVariants.{Memory};
 
-use crate::checks::told_by_checks;
+use crate::checks::{Looked, looked_at};
 use crate::dead::dead_of;
 use crate::findings::verdict_of;
 use crate::report::{GateError, Inputs, Report};
@@ -27,6 +32,7 @@ use deny_cfg::{Policy, PolicyError, Scope, read_policy};
 use deny_krates::{Krates, MetadataFault};
 use deny_lists::NoMemory;
 use deny_outside::PackageFiles;
+use deny_spans::Registry;
 use deny_std::{ReplacementData, ReplacementError};
 use std::alloc::Global;
 
@@ -103,7 +109,7 @@ fn check_table_for(alloc: Global, cfg: &ValidConfig, table: Option<&[u8]>) -> Re
     }
 }
 
-/// The report of a policy on a graph.
+/// The report of a policy on a graph, with the policy's text as the one file.
 #[tactic(auto, using(crate::proofs::FindingLaws::seen_report))]
 fn report_on<D: PackageFiles>(
     alloc: Global,
@@ -111,17 +117,27 @@ fn report_on<D: PackageFiles>(
     policy: &Policy,
     krates: Krates,
     table: Option<&[u8]>,
+    registries: &[Registry],
     disk: &mut D,
 ) -> Result<Report, NoMemory>
     requires file { policy.now.bans.file_id ≡ 0 }
     requires apart { AreEntriesApart policy.now }
     requires table { IsTableFor (policy_view policy.now.bans) (option_copied table) }
-    ensures report { IfOk result (IsReportSeen policy.now krates (option_copied table.entry)) }
-    ensures files { IfOk result (λ report. report.files ≡ files) }
-    ensures untouched { disk.new ≡ disk.old }
+    requires one { length files ≡ 1 }
+    ensures report { IfOk result (IsReportSeen (D.seen disk.old).files policy.now krates (option_copied table.entry)
+        registries.now (files ++ lock_file krates.root krates ∷ [])) }
+    ensures wanted { IfOk result (λ report. AreWanted report.krates report.unread) }
+    ensures caused { IfOk result (λ report. (folder : Folders) →
+        AreCaused folder (D.seen disk.old) (D.seen disk.new) report.unread) }
     ensures later { IsLater (D.seen disk.old) (D.seen disk.new) }
 {
-    let told = told_by_checks(alloc, policy, &krates, table, disk)?;
+    let mut files = files;
+    let looked = looked_at(alloc, policy, &krates, table, registries, disk, &mut files)?;
+    let Looked {
+        told,
+        unread,
+        malformed,
+    } = looked;
     let dead = dead_of(alloc, told.findings.as_slice(), told.hits.as_slice())?;
     let stats = all_stats(policy.licenses.is_some(), told.findings.as_slice());
     let verdict = verdict_of(told.findings.as_slice());
@@ -130,6 +146,8 @@ fn report_on<D: PackageFiles>(
         krates,
         findings: told.findings,
         dup_edges: told.dup_edges,
+        unread,
+        malformed,
         hits: told.hits,
         dead,
         stats,
@@ -142,30 +160,33 @@ fn report_of<D: PackageFiles>(
     alloc: Global,
     files: Files,
     policy: &Policy,
-    metadata: &[u8],
-    table: Option<&[u8]>,
+    inputs: &Inputs,
     disk: &mut D,
 ) -> Result<Report, GateError>
     requires file { policy.now.bans.file_id ≡ 0 }
     requires apart { AreEntriesApart policy.now }
-    requires small { length metadata.now < 2 ^ 28 }
-    ensures report { IfOk result (IsReportOn policy.now metadata.now (option_copied table.entry)) }
-    ensures files { IfOk result (λ report. report.files ≡ files) }
-    ensures cause { IfErr result
-        (IsCauseBehind (policy_view policy.now.bans) metadata.now (option_copied table.entry)) }
-    ensures untouched { disk.new ≡ disk.old }
+    requires small { length inputs.now.metadata.items < 2 ^ 28 }
+    requires first { files ≡ policy_file inputs.now.policy.items ∷ [] }
+    ensures report { IfOk result (IsReportOn (D.seen disk.old).files policy.now (texts_in inputs.now)) }
+    ensures cause { IfErr result (IsCauseBehind (policy_view policy.now.bans) (texts_in inputs.now)) }
+    ensures wanted { IfOk result (λ report. AreWanted report.krates report.unread) }
+    ensures caused { IfOk result (λ report. (folder : Folders) →
+        AreCaused folder (D.seen disk.old) (D.seen disk.new) report.unread) }
+    ensures untouched { IfErr result (λ error. error ≢ Memory → disk.new ≡ disk.old) }
     ensures later { IsLater (D.seen disk.old) (D.seen disk.new) }
 {
-    let krates = read_graph(alloc, metadata)?;
+    let krates = read_graph(alloc, inputs.metadata.as_slice())?;
+    let table = inputs.replacements.as_deref();
     check_table_for(alloc, &policy.bans, table)?;
-    Ok(report_on(alloc, files, policy, krates, table, disk)?)
+    let registries = inputs.registries.as_slice();
+    Ok(report_on(alloc, files, policy, krates, table, registries, disk)?)
 }
 
 /// Reads a policy, cargo's metadata and, where the policy asks for one, a table of replacements, and
-/// reports what stands: what the bans check finds, and behind it, where the policy writes `licenses`,
-/// what the licence check finds. The report fails by a bit for each check that has an error. It names
-/// the entries of the policy that are hit, and those that are dead: a finding calls them unused, and
-/// nothing hits them.
+/// then the manifests of the graph from the disk. It reports what stands: what the bans check finds,
+/// and behind it, where the policy writes `licenses`, what the licence check finds. The report fails by
+/// a bit for each check that has an error. It names the entries of the policy that are hit, and those
+/// that are dead: a finding calls them unused, and nothing hits them.
 ///
 /// Each text has to be under 2^28 bytes. `Config` comes exactly where the policy's text has faults,
 /// `Invalid` exactly where it has none and entries clash, `NotBuilt` exactly where there is a policy
@@ -173,35 +194,38 @@ fn report_of<D: PackageFiles>(
 /// this is the first fault of the metadata, and `Replacement` exactly where none of them stands, the
 /// policy asks for a table, and no bytes came (0) or they first break at this offset. `Memory` can
 /// come at any point. Each label, be it of a finding or of a clash, lies on character boundaries in
-/// its file. Nothing is read from the disk.
+/// its file.
+///
+/// A manifest that is not read, or is malformed, stops no report: the report says so, and tells what
+/// stands by the others. A manifest is not read only where a call failed or it has 2^28 bytes or more.
+/// Where the texts have a cause that there is no report, nothing is read from the disk.
 pub fn gate<D: PackageFiles>(
     alloc: Global,
     inputs: &Inputs,
     disk: &mut D,
 ) -> Result<Report, GateError>
     requires short { AreShort (texts_in inputs.now) }
-    ensures report { IfOk result (IsReportOf (texts_in inputs.now)) }
+    ensures report { IfOk result (IsReportOf (D.seen disk.old).files (texts_in inputs.now)) }
     ensures cause { IfErr result (IsCause (texts_in inputs.now)) }
     ensures headline { IfOk result (IsHeadlineOf (texts_in inputs.now)) }
     // Any dead entries can go from the policy, where no list of wrappers is emptied: what stands
     // without them is what the report tells, but for what names one of them as unused.
-    ensures dead_can_go { IfOk result (CanDoWithoutDead (texts_in inputs.now)) }
+    ensures dead_can_go { IfOk result (CanDoWithoutDead (D.seen disk.old).files (texts_in inputs.now)) }
     ensures exit_code { IfOk result (λ report. exit_code report.stats ≡ code_of report.verdict) }
     ensures labels { IfOk result (λ report. AreLabelled report.files report.findings) }
     ensures clash_labels { IfErr result (IsLabelledCause inputs.now.policy.items) }
-    ensures untouched { disk.new ≡ disk.old }
+    // Each entry is for a manifest that was to be read: of a crate without a source, or of the workspace.
+    ensures wanted { IfOk result (λ report. AreWanted report.krates report.unread) }
+    // What was not read has its causes, and those that no bound explains are at most as many as calls
+    // failed.
+    ensures caused { IfOk result (λ report. (folder : Folders) →
+        AreCaused folder (D.seen disk.old) (D.seen disk.new) report.unread) }
+    // Where the texts have a cause that there is no report, nothing was read.
+    ensures untouched { IfErr result (λ error. error ≢ Memory → disk.new ≡ disk.old) }
     ensures later { IsLater (D.seen disk.old) (D.seen disk.new) }
 {
     deny_laws::dead_can_go();
     let mut files = Files::new(alloc);
     let policy = built_policy(alloc, inputs.policy.as_slice(), &mut files)?;
-    let table = inputs.replacements.as_deref();
-    report_of(
-        alloc,
-        files,
-        &policy,
-        inputs.metadata.as_slice(),
-        table,
-        disk,
-    )
+    report_of(alloc, files, &policy, inputs, disk)
 }

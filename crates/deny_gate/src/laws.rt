@@ -1,13 +1,15 @@
 //! What follows from the words of the gate's contract.
-ghost use Rattle.std.specs.Prelude.{◌≡◌, ◌≢◌, List};
+ghost use Rattle.std.specs.Prelude.{◌≡◌, ◌≢◌, List, Option, Some};
 ghost use Rattle.deny_base.specs.declared.entry.EntryId.{EntryId};
-ghost use Rattle.deny_codes.specs.Circumstances.{Circumstances, View};
+ghost use Rattle.deny_codes.specs.Circumstances.{Circumstances};
 ghost use Rattle.deny_codes.specs.Saying.{HasTable};
 ghost use Rattle.deny_laws.specs.Dead.{AreAmong};
 ghost use Rattle.deny_laws.specs.Removal.{EmptyNone, without_in};
+ghost use Rattle.deny_model.specs.View.{View};
+ghost use Rattle.deny_outside.specs.Disk.{Files};
 ghost use Rattle.deny_gate.specs.Dead.{CanDoWithoutDead, LosesOnly};
-ghost use Rattle.deny_gate.specs.Gating.{AreOneCause, AsksForTable, HasGraph, HasPolicy, IsCause};
-ghost use Rattle.deny_gate.specs.Gating.{IsReportBy, IsReportOf, Texts};
+ghost use Rattle.deny_gate.specs.Gating.{AreAlikeUnseen, AreOneCause, AreToldAlike, AsksForTable, HasGraph};
+ghost use Rattle.deny_gate.specs.Gating.{HasPolicy, IsCause, IsReportBy, IsReportOf, Texts};
 ghost use Rattle.deny_gate.specs.Headline.{IsHeadlineOf};
 ghost use Rattle.deny_gate.specs.Report.{IsReport};
 ghost use Rattle.deny_gate.specs.Stats.{code_of, exit_code};
@@ -28,13 +30,16 @@ pub fn one_answer()
     deny_cfg::one_refusal();
 }
 
-/// Texts and one view of files have one report, to each edge that is shown; as long as no rule that
-/// asks for files is there, by whatever view.
+/// Texts have one report on a disk that tells its files, to each edge that is shown and each file that
+/// was read, as far as what could not be read is one. On every disk texts and one view of manifests are
+/// told alike, and what asks nothing of files is told the same by each view.
 pub fn one_report()
-    ensures by_view { (texts : Texts) → (view : View) → (a b : Report)
-        → IsReportBy texts view a → IsReportBy texts view b → a ≡ b }
-    ensures unseen { (texts : Texts) → (a b : Report)
-        → IsReportOf texts a → IsReportOf texts b → a ≡ b }
+    ensures told { (files : Files) → (texts : Texts) → (a b : Report)
+        → IsReportOf (Some files) texts a → IsReportOf (Some files) texts b → a.unread ≡ b.unread → a ≡ b }
+    ensures by_view { (told other : Option Files) → (texts : Texts) → (view : View) → (a b : Report)
+        → IsReportBy told texts view a → IsReportBy other texts view b → AreToldAlike a b }
+    ensures unseen { (told other : Option Files) → (texts : Texts) → (a b : Report)
+        → IsReportOf told texts a → IsReportOf other texts b → AreAlikeUnseen a b }
 {
     deny_codes::one_report();
     deny_codes::one_unseen();
@@ -44,16 +49,16 @@ pub fn one_report()
 
 /// The report of texts keeps the headline.
 pub fn headline()
-    ensures { (texts : Texts) → (report : Report)
-        → IsReportOf texts report → IsHeadlineOf texts report }
+    ensures { (told : Option Files) → (texts : Texts) → (report : Report)
+        → IsReportOf told texts report → IsHeadlineOf texts report }
 {}
 
 /// Any of a report's dead entries can go, as long as no list of wrappers is emptied. The report of the
 /// policy without them has the same keys, but for those that name one of them as unused, and the same
 /// hits.
 pub fn dead_can_go()
-    ensures texts { (texts : Texts) → (report : Report)
-        → IsReportOf texts report → CanDoWithoutDead texts report }
+    ensures texts { (told : Option Files) → (texts : Texts) → (report : Report)
+        → IsReportOf told texts report → CanDoWithoutDead told texts report }
     ensures reports { (c : Circumstances) → (taken : List EntryId) → (report other : Report)
         → IsReport c report → AreAmong report.dead taken → EmptyNone c.policy taken
         → IsReport (without_in c taken) other → LosesOnly taken report other }
@@ -66,6 +71,6 @@ pub fn dead_can_go()
 /// The code that a program exits with, by the counts of a report, has the bits of its verdict: there is
 /// one exactly where the report fails, and it is these bits.
 pub fn exit_codes()
-    ensures { (texts : Texts) → (report : Report) → IsReportOf texts report
+    ensures { (told : Option Files) → (texts : Texts) → (report : Report) → IsReportOf told texts report
         → exit_code report.stats ≡ code_of report.verdict }
 {}

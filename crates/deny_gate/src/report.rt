@@ -3,11 +3,13 @@ ghost use Rattle.std.proofs.Common.{rules};
 use crate::stats::AllStats;
 use deny_base::{Check, Diag, Diagnostic, EntryId, Files, Hit, Kid, Which};
 use deny_krates::{Krates, MetadataFault};
-use deny_lists::{List, NoMemory, Plain};
+use deny_lists::{List, NoMemory, Plain, Text};
 use deny_rules::DupEdges;
+use deny_spans::Registry;
 use deny_toml::ConfigFault;
+use deny_unread::Unread;
 
-/// The texts that the gate reads, as bytes.
+/// The texts that the gate reads, as bytes, and what it knows besides.
 #[derive(Debug, Drop)]
 pub struct Inputs {
     pub policy: Vec<u8>,
@@ -15,6 +17,8 @@ pub struct Inputs {
     pub metadata: Vec<u8>,
     /// A table of what the standard library replaces, for policies that ask for one.
     pub replacements: Option<Vec<u8>>,
+    /// The registries that manifests can name; of one name the first counts.
+    pub registries: List<Registry>,
 }
 
 /// One thing that a report tells: what stands, and of which crate, if it is of one.
@@ -44,7 +48,10 @@ impl Plain for Verdict {
 /// What the gate finds.
 #[derive(Drop)]
 pub struct Report {
-    /// The files that labels point into: the policy alone, as `deny.toml`.
+    /// The files that labels point into: the policy as `deny.toml`, the lock text of the graph as
+    /// `Cargo.lock` in the folder of the workspace, and each manifest that was read and is UTF-8, at
+    /// its path: those of crates in the order of the graph, and behind them that of the workspace
+    /// where it is no crate's.
     pub files: Files,
     /// The graph that was judged.
     pub krates: Krates,
@@ -52,6 +59,12 @@ pub struct Report {
     pub findings: List<Finding>,
     /// What is shown of each duplicate, in the order of their findings.
     pub dup_edges: List<DupEdges>,
+    /// What could not be read of manifests, by crate, path and purpose: its entry has the id of the
+    /// crate, and none for the workspace's manifest where it is no crate's.
+    pub unread: List<Unread>,
+    /// The paths of manifests that were read and are no TOML in UTF-8 within its limits, in byte
+    /// order, each once.
+    pub malformed: List<Text>,
     /// One for each entry of the policy that is hit, by range and kind: by its first crate in graph
     /// order, and then that crate's first dependent.
     pub hits: List<Hit>,

@@ -1,11 +1,11 @@
 use Rattle.std.proofs.Common.{refl}
+use Rattle.std.specs.Option.{option_copied}
 use Rattle.deny_gate.proofs.FindingLaws.{CheckLaws, hits_differ, told_on}
 use Rattle.deny_gate.proofs.checks.told_by_checks.Goals as goal
 
 pub joined_hits-requires : goal.joined_hits-requires
 joined_hits-requires g c =
-    let of = c.in_ok-end.ensures.checked in
-    hits_differ _ _ _ _ of.view _ _ _ _ _ c.requires.apart of.checked c.in_ok-licensed.ensures
+    hits_differ _ _ _ _ _ _ _ _ _ _ _ c.requires.apart c.in_ok-end.ensures.checked c.in_ok-licensed.ensures
 
 pub returns-clause-told : goal.returns-clause-told
 returns-clause-told g c =
@@ -14,6 +14,6 @@ returns-clause-told g c =
       told = c.bans_unlicensed.ensures.told;
       joined = c.joined_keys.ensures;
     } in
-    let of = c.in_ok-end.ensures.checked in
-    told_on laws _ _ _ _ of.view _ _ _ _ _ _ c.requires.file of.checked c.new-packs.ensures
-    c.in_ok-licensed.ensures c.in_ok-hits.ensures c.in_ok-findings.ensures refl
+    told_on laws c.args.policy.now c.args.krates.now (option_copied c.args.table) _ _ _ _ _ _ _ _ _ c.requires.file
+    c.requires.lock c.in_ok-end.ensures.checked c.new-packs.ensures c.in_ok-licensed.ensures
+    c.in_ok-hits.ensures c.in_ok-findings.ensures refl

@@ -1,42 +1,35 @@
 use Rattle.deny_cfg.specs.PolicyView.{policy_view}
-use Rattle.deny_gate.specs.Gating.{Texts}
-use Rattle.deny_gate.proofs.CauseLaws.{cause_then, code_then, dead_then, headline_then, report_then, same_texts}
+use Rattle.deny_gate.specs.Gating.{texts_in}
+use Rattle.deny_gate.proofs.CauseLaws.{cause_then, code_then, dead_then, headline_then, report_then}
 use Rattle.deny_gate.proofs.ClashLabels.{cause_behind_labelled, policy_cause_labelled}
 use Rattle.deny_gate.proofs.PolicyLabels.{labels_then}
 use Rattle.deny_gate.proofs.gating.gate.Goals as goal
 
 pub returns-clause-cause : goal.returns-clause-cause
 returns-clause-cause g c =
-    let read : Texts = record { policy = _; metadata = _; replacements = _ } in
-    let same = same_texts read _ c.as_slice.ensures.value c.as_slice-2.ensures.value c.as_deref-table.ensures.value in
-    cause_then read _ same c.in_ok-policy.policy c.in_ok-policy.ensures.ok c.report_of.result c.report_of.ensures.cause
+    cause_then (texts_in c.args.inputs.now) c.in_ok-policy.policy _ c.as_slice.ensures.value
+    c.in_ok-policy.ensures.ok c.report_of.result c.report_of.ensures.cause
 
 pub returns-clause-report : goal.returns-clause-report
 returns-clause-report g c =
-    let read : Texts = record { policy = _; metadata = _; replacements = _ } in
-    let same = same_texts read _ c.as_slice.ensures.value c.as_slice-2.ensures.value c.as_deref-table.ensures.value in
-    report_then read _ same c.in_ok-policy.policy c.in_ok-policy.ensures.ok _ c.in_ok-policy.ensures.files
-    c.report_of.result c.report_of.ensures.report c.report_of.ensures.files
+    report_then (texts_in c.args.inputs.now) c.in_ok-policy.policy _ c.as_slice.ensures.value
+    c.in_ok-policy.ensures.ok _ c.report_of.result c.report_of.ensures.report
 
 pub returns-clause-headline : goal.returns-clause-headline
 returns-clause-headline g c =
-    let read : Texts = record { policy = _; metadata = _; replacements = _ } in
-    let same = same_texts read _ c.as_slice.ensures.value c.as_slice-2.ensures.value c.as_deref-table.ensures.value in
-    headline_then read _ same c.in_ok-policy.policy c.in_ok-policy.ensures.ok _ c.in_ok-policy.ensures.files
-    c.report_of.result c.report_of.ensures.report c.report_of.ensures.files
+    headline_then (texts_in c.args.inputs.now) c.in_ok-policy.policy _ c.as_slice.ensures.value
+    c.in_ok-policy.ensures.ok _ c.report_of.result c.report_of.ensures.report
 
 pub returns-clause-exit_code : goal.returns-clause-exit_code
 returns-clause-exit_code g c =
-    let read : Texts = record { policy = _; metadata = _; replacements = _ } in
-    let same = same_texts read _ c.as_slice.ensures.value c.as_slice-2.ensures.value c.as_deref-table.ensures.value in
-    code_then read _ same c.in_ok-policy.policy c.in_ok-policy.ensures.ok _ c.in_ok-policy.ensures.files
-    c.report_of.result c.report_of.ensures.report c.report_of.ensures.files
+    code_then (texts_in c.args.inputs.now) c.in_ok-policy.policy _ c.as_slice.ensures.value
+    c.in_ok-policy.ensures.ok _ c.report_of.result c.report_of.ensures.report
 
 pub returns-clause-labels : goal.returns-clause-labels
 returns-clause-labels g c =
-    labels_then _ _ _ c.in_ok-policy.policy _ c.report_of.result c.in_ok-policy.ensures.ok
-    c.in_ok-policy.ensures.labels c.in_ok-policy.ensures.licence_labels c.in_ok-policy.ensures.files
-    c.report_of.ensures.report c.report_of.ensures.files
+    labels_then _ (texts_in c.args.inputs.now) c.in_ok-policy.policy _ c.report_of.result c.as_slice.ensures.value
+    c.in_ok-policy.ensures.ok c.in_ok-policy.ensures.labels c.in_ok-policy.ensures.licence_labels
+    c.report_of.ensures.report
 
 pub returns-in_err-policy-clause-clash_labels : goal.returns-in_err-policy-clause-clash_labels
 returns-in_err-policy-clause-clash_labels g c =
@@ -44,12 +37,10 @@ returns-in_err-policy-clause-clash_labels g c =
     c.from_residual.ensures.1 c.in_err-policy.ensures.err
 
 pub returns-clause-clash_labels : goal.returns-clause-clash_labels
-returns-clause-clash_labels g c = cause_behind_labelled _ _ (policy_view c.in_ok-policy.policy.bans) _
-    c.report_of.result c.report_of.ensures.cause
+returns-clause-clash_labels g c = cause_behind_labelled _ (policy_view c.in_ok-policy.policy.bans)
+    (texts_in c.args.inputs.now) c.report_of.result c.report_of.ensures.cause
 
 pub returns-clause-dead_can_go : goal.returns-clause-dead_can_go
 returns-clause-dead_can_go g c =
-    let read : Texts = record { policy = _; metadata = _; replacements = _ } in
-    let same = same_texts read _ c.as_slice.ensures.value c.as_slice-2.ensures.value c.as_deref-table.ensures.value in
-    dead_then read _ same c.in_ok-policy.policy c.in_ok-policy.ensures.ok _ c.in_ok-policy.ensures.files
-    c.dead_can_go.ensures c.report_of.result c.report_of.ensures.report c.report_of.ensures.files
+    dead_then (texts_in c.args.inputs.now) c.in_ok-policy.policy _ c.as_slice.ensures.value
+    c.in_ok-policy.ensures.ok _ c.dead_can_go.ensures c.report_of.result c.report_of.ensures.report

@@ -1,5 +1,16 @@
-use Rattle.deny_gate.proofs.OneReport.{ReportLaws, by_any, by_view}
+use Rattle.deny_gate.proofs.OneReport.{ReportLaws, by_any, by_told, by_view}
 use Rattle.deny_gate.proofs.laws.one_report.Goals as goal
+
+pub returns-clause-told : goal.returns-clause-told
+returns-clause-told c =
+    let laws : ReportLaws = record {
+      keys = c.one_report.ensures;
+      unseen = c.one_unseen.ensures;
+      words = c.words_unseen.ensures;
+      policies = c.one_policy.ensures.bans;
+      licences = c.one_policy.ensures.licences;
+    } in
+    λ files texts a b this that unread. by_told laws files texts a b this that unread
 
 pub returns-clause-by_view : goal.returns-clause-by_view
 returns-clause-by_view c =
@@ -10,7 +21,7 @@ returns-clause-by_view c =
       policies = c.one_policy.ensures.bans;
       licences = c.one_policy.ensures.licences;
     } in
-    λ texts view a b this that. by_view laws texts view a b this that
+    λ told other texts view a b this that. by_view laws told other texts view a b this that
 
 pub returns-clause-unseen : goal.returns-clause-unseen
 returns-clause-unseen c =
@@ -21,4 +32,4 @@ returns-clause-unseen c =
       policies = c.one_policy.ensures.bans;
       licences = c.one_policy.ensures.licences;
     } in
-    λ texts a b this that. by_any laws texts a b this that
+    λ told other texts a b this that. by_any laws told other texts a b this that
