@@ -24,7 +24,7 @@ use Rattle.deny_gate.specs.Dead.{CanDoWithoutDead}
 use Rattle.deny_gate.specs.Headline.{IsHeadlineOf, is_failure}
 use Rattle.deny_gate.specs.Report.{fails_as, has_error, policy_id, verdict_by}
 use Rattle.deny_gate.specs.declared.report.Report.{Report}
-use Rattle.deny_cli.specs.Causes.{known_texts, made_texts, texts_at, IsShort, IsFirstLong, IsLongThere, IsReadIfNamed, IsPolicyAt, AreTextsOf, AreTold, IsReportOn, IsStopOn, IsLongOn, IsReadFault, IsRefusedRun, IsValidRun, IsHeadlineOn, CanDoWithoutDeadOn, IsReadable, IsTextOfClashes, ComesBy, StopsAt}
+use Rattle.deny_cli.specs.Causes.{known_files, known_texts, made_texts, texts_at, IsShort, IsFirstLong, IsLongThere, IsReadIfNamed, IsPolicyAt, AreTextsOf, AreTold, IsReportOn, IsStopOn, IsLongOn, IsReadFault, IsRefusedRun, IsValidRun, IsHeadlineOn, CanDoWithoutDeadOn, IsReadable, IsTextOfClashes, ComesBy, StopsAt}
 use Rattle.deny_cli.specs.Outcome.{AreOneStop, IfDone, IfReported, IsUsage, IsDoneOrMemory, IsStopOrMemory, bits_of, failing_bits, status_of}
 use Rattle.deny_cli.specs.Outputs.{FailsWriting, LeavesOut, WritesReport}
 use Rattle.deny_cli.specs.Stops.{IsTextOf}
@@ -74,23 +74,25 @@ pub record AnswerLaws : Type 0 where
       → (policy_view a.bans ≡ policy_view b.bans) × (a.not_built ≡ b.not_built)
 
 -- texts that have a report are a policy, metadata without fault, and the table that the policy asks for
-has_policy : (texts : Texts) (report : Report) → IsReportOf texts report → HasPolicy texts.policy
-has_policy texts report of = record { said = of.by.said; is_said = of.by.is_said }
+has_policy : (told : Option Files) (texts : Texts) (report : Report) → IsReportOf told texts report
+    → HasPolicy texts.policy
+has_policy told texts report of = record { said = of.by.said; is_said = of.by.is_said }
 
-has_graph : (texts : Texts) (report : Report) → IsReportOf texts report → HasGraph texts.metadata
-has_graph texts report of = record { read = of.by.is_graph.read; is_read = of.by.is_graph.is_read }
+has_graph : (told : Option Files) (texts : Texts) (report : Report) → IsReportOf told texts report
+    → HasGraph texts.metadata
+has_graph told texts report of = record { read = of.by.is_graph.read; is_read = of.by.is_graph.is_read }
 
-has_table : AnswerLaws → (texts : Texts) (report : Report) → IsReportOf texts report → AsksForTable texts.policy
-    → HasTable texts.replacements
-has_table laws texts report of asked =
+has_table : AnswerLaws → (told : Option Files) (texts : Texts) (report : Report) → IsReportOf told texts report
+    → AsksForTable texts.policy → HasTable texts.replacements
+has_table laws told texts report of asked =
     let one = laws.policies texts.policy policy_id asked.said of.by.said asked.is_said.is_policy of.by.is_said.is_policy
     in of.by.table (subst (λ (p : model.Policy). IsTrue (asks_for_table p)) one.0 asked.asks)
 
 -- so no cause stands why they have none
-no_cause : AnswerLaws → (texts : Texts) (report : Report) (error : GateError) → IsReportOf texts report
-    → error ≢ gate.Memory → IsCause texts error → ⊥
-no_cause laws texts report error of other = laws.valid texts error other (has_policy texts report of)
-    (has_graph texts report of) (has_table laws texts report of)
+no_cause : AnswerLaws → (told : Option Files) (texts : Texts) (report : Report) (error : GateError)
+    → IsReportOf told texts report → error ≢ gate.Memory → IsCause texts error → ⊥
+no_cause laws told texts report error of other = laws.valid texts error other (has_policy told texts report of)
+    (has_graph told texts report of) (has_table laws told texts report of)
 
 -- texts that are made are short
 pub made_short : (crates : ℕ) → crates ≤ most_crates → AreShort (made_texts crates)
@@ -128,7 +130,12 @@ one_text old (check asked) texts known read is =
     let policy = read_there old there.0 asked.policy texts.policy there.1 read.policy.whole in
     let metadata = read_there old there.0 asked.metadata texts.metadata there.1 read.metadata.whole in
     let replacements = named_there old there.0 asked.replacements texts.replacements there.1 read.replacements in
-    (λ i. record { policy = policy i; metadata = metadata i; replacements = replacements i }) ∙ there.2
+    (λ i. record {
+      policy = policy i;
+      metadata = metadata i;
+      replacements = replacements i;
+      registries = read.registries i;
+    }) ∙ there.2
 one_text old (generate crates) texts known made is = made ∙ cc is
 
 same_texts : (old : Disk) (words : List (List ℕ)) (named : AreTold old words) (command : Command) (texts : Texts)
@@ -180,7 +187,7 @@ module _ (laws : AnswerLaws) (old new : Disk) (words : List (List ℕ)) where
   not_both (Gate error) report is on =
       let at = on.is_theirs in
       let same = same_texts old words is.named on.command at.texts on.asks at.read in
-      no_cause laws at.texts report error at.is_theirs is.refused.0
+      no_cause laws (known_files old.files on.command) at.texts report error at.is_theirs is.refused.0
       (subst (λ (t : Texts). IsCause t error) (sym same) is.refused.2)
   not_both (Done other) report is on = is.refused
   not_both (Usage at) report is on = is.refused
@@ -363,7 +370,8 @@ refused_words old new words Memory comes refused = absurd (refused comes)
 
 -- ---- the headline
 
-of_report : ((texts : Texts) → (report : Report) → IsReportOf texts report → IsHeadlineOf texts report)
+of_report : ((told : Option Files) → (texts : Texts) → (report : Report) → IsReportOf told texts report
+    → IsHeadlineOf texts report)
     → (old : Disk) (words : List (List ℕ)) (report : Report) → IsReportOn old words report
     → IsHeadlineOn old words report
 of_report law old words report on =
@@ -373,10 +381,11 @@ of_report law old words report on =
       asks = on.asks;
       texts = at.texts;
       read = at.read;
-      headline = law at.texts report at.is_theirs;
+      headline = law (known_files old.files on.command) at.texts report at.is_theirs;
     }
 
-pub headline_on : ((texts : Texts) → (report : Report) → IsReportOf texts report → IsHeadlineOf texts report)
+pub headline_on : ((told : Option Files) → (texts : Texts) → (report : Report) → IsReportOf told texts report
+    → IsHeadlineOf texts report)
     → (old new : Disk) (words : List (List ℕ)) (outcome : Outcome) → ComesBy old new words outcome
     → IfReported outcome (IsHeadlineOn old words)
 headline_on law old new words (Done report) comes = of_report law old words report comes
@@ -387,7 +396,8 @@ headline_on law old new words (Long which) comes = tt
 headline_on law old new words (Gate error) comes = tt
 headline_on law old new words Memory comes = tt
 
-dead_of_report : ((texts : Texts) → (report : Report) → IsReportOf texts report → CanDoWithoutDead texts report)
+dead_of_report : ((told : Option Files) → (texts : Texts) → (report : Report) → IsReportOf told texts report
+    → CanDoWithoutDead told texts report)
     → (old : Disk) (words : List (List ℕ)) (report : Report) → IsReportOn old words report
     → CanDoWithoutDeadOn old words report
 dead_of_report law old words report on =
@@ -396,10 +406,11 @@ dead_of_report law old words report on =
       asks = on.asks;
       texts = at.texts;
       read = at.read;
-      can = law at.texts report at.is_theirs;
+      can = law (known_files old.files on.command) at.texts report at.is_theirs;
     }
 
-pub dead_on : ((texts : Texts) → (report : Report) → IsReportOf texts report → CanDoWithoutDead texts report)
+pub dead_on : ((told : Option Files) → (texts : Texts) → (report : Report) → IsReportOf told texts report
+    → CanDoWithoutDead told texts report)
     → (old new : Disk) (words : List (List ℕ)) (outcome : Outcome) → ComesBy old new words outcome
     → IfReported outcome (CanDoWithoutDeadOn old words)
 dead_on law old new words (Done report) comes = dead_of_report law old words report comes

@@ -1,12 +1,17 @@
--- No line of a dead entry, none of a stop and no summary holds a float.
-use Rattle.std.proofs.Common.{◌≡◌, ℕ, false, List, [], ◌∷◌, codes, refl}
+-- No line of a dead entry, of what was not read or is malformed, none of a stop and no summary holds a float.
+use Rattle.std.proofs.Common.{◌≡◌, ℕ, false, List, [], ◌∷◌, Option, None, Some, codes, refl}
+use Rattle.std.specs.Option.{option_map_or}
 use Rattle.std.specs.Prelude.{map}
-use Rattle.serde_json.specs.Data.{array}
+use Rattle.serde_json.specs.Data.{array, member, no_members, null, string}
 use Rattle.serde_json.specs.View.{items_of}
 use Rattle.serde_json.specs.Written.{has_float, members_have_float}
 use Rattle.deny_base.specs.declared.entry.EntryId.{EntryId}
+use Rattle.deny_base.specs.declared.span.Kid.{Kid}
 use Rattle.deny_cfg.specs.PolicyText.{policy_file}
+use Rattle.deny_krates.specs.Ids.{crate_of}
+use Rattle.deny_model.specs.Graph.{Crate, Graph}
 use Rattle.deny_toml.specs.declared.error.ConfigFault.{ConfigFault}
+use Rattle.deny_unread.specs.declared.unread.Unread.{Unread}
 use Rattle.deny_gate.specs.declared.report.GateError.TheVariants as gate
 use Rattle.deny_gate.specs.declared.report.Report.{Report}
 use Rattle.deny_json.specs.Diagnostics.{diagnostic_value, tells}
@@ -14,11 +19,30 @@ use Rattle.deny_json.proofs.FloatLemmas.{in_diagnostic, in_front, in_items, in_t
 use Rattle.deny_cli.specs.Dead.{dead_value}
 use Rattle.deny_cli.specs.Stops.{fault_value, stop_fields, stop_word}
 use Rattle.deny_cli.specs.Summary.{report_summary}
+use Rattle.deny_cli.specs.Unread.{malformed_value, named_crate, purpose_word, unread_value, wanted_for}
 use Rattle.deny_cli.specs.declared.outcome.Outcome.{Outcome}
 use Rattle.deny_cli.specs.declared.outcome.Outcome.TheVariants.{Done, Usage, Read, Long, Gate, Write, Memory}
 
 pub in_dead : (e : EntryId) → has_float (dead_value e) ≡ false
 in_dead e = refl
+
+in_wanted : (g : Graph) (krate : Option Kid) → has_float (wanted_for g krate) ≡ false
+in_wanted g None = refl
+in_wanted g (Some kid) = in_named (crate_of g kid.0)
+  where
+    in_named : (c : Option Crate) → has_float (option_map_or named_crate c null) ≡ false
+    in_named None = refl
+    in_named (Some c) = refl
+
+pub in_unread : (g : Graph) (u : Unread) → has_float (unread_value g u) ≡ false
+in_unread g u =
+    let others = member (codes "path") (string u.path)
+    (member (codes "purpose") (string (purpose_word u.purpose)) no_members) in
+    in_tells (codes "unread") (member (codes "crate") (wanted_for g u.krate) others)
+    (in_front (codes "crate") (wanted_for g u.krate) others (in_wanted g u.krate) refl)
+
+pub in_malformed : (path : List ℕ) → has_float (malformed_value path) ≡ false
+in_malformed path = refl
 
 pub in_summary : (made : ℕ) (report : Report) → has_float (report_summary made report) ≡ false
 in_summary made report = refl

@@ -2,7 +2,10 @@ pub mod CausesLemmas
 pub mod CountLemmas
 pub mod FloatLemmas
 pub mod ReadingLemmas
+pub mod RegistryLemmas
+pub mod ReportLemmas
 pub mod Rows
 pub mod ToldLemmas
+pub mod UnreadLemmas
 pub mod WordsLemmas
 pub mod WordsRows

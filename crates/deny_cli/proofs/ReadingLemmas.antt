@@ -20,6 +20,7 @@ no_later disk = record {
   faults = omega arith;
   faults_at = λ kind path. omega arith;
   given = omega arith;
+  listed = omega arith;
 }
 
 pub later_twice : (old between new : Disk) → IsLater old between → IsLater between new → IsLater old new
@@ -28,6 +29,7 @@ later_twice old between new first second = record {
   faults = omega (arith, first.faults, second.faults);
   faults_at = λ kind path. omega (arith, first.faults_at kind path, second.faults_at kind path);
   given = omega (arith, first.given, second.given);
+  listed = omega (arith, first.listed, second.listed);
 }
 
 rose_since : (n before between after : ℕ) → before ≤ between → RoseBy n between after → RoseBy n before after

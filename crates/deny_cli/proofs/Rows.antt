@@ -1,15 +1,17 @@
 -- Lines as they are read: the definitions of the lines, computed. Those of findings stand with their own definitions.
-use Rattle.std.proofs.Common.{◌≡◌, false, [], ◌∷◌, codes, refl}
+use Rattle.std.proofs.Common.{◌≡◌, false, [], ◌∷◌, None, codes, refl}
 use Rattle.std.specs.Fmt.{digits}
 use Rattle.serde_json.proofs.OnLiterals.{serde_json_on_literals}
 use Rattle.deny_base.specs.declared.check.Which.TheVariants as which
 use Rattle.deny_base.specs.declared.entry.EntryKind.TheVariants as entry
 use Rattle.deny_krates.specs.fault.MetadataFault.TheVariants as fault
+use Rattle.deny_model.specs.Graph.{Graph}
+use Rattle.deny_unread.specs.declared.purpose.Purpose.TheVariants as purpose
 use Rattle.deny_gate.specs.declared.report.GateError.TheVariants as gate
 use Rattle.deny_gate.specs.declared.report.Verdict.TheVariants.{Pass, Fail}
 use Rattle.deny_json.specs.Lines.{line}
 use Rattle.deny_toml.specs.declared.error.FaultKind.TheVariants as kind
-use Rattle.deny_cli.specs.Lines.{dead_line, verdict_line}
+use Rattle.deny_cli.specs.Lines.{dead_line, malformed_line, unread_line, verdict_line}
 use Rattle.deny_cli.specs.Stops.{fault_value, stop_line}
 use Rattle.deny_cli.specs.Summary.{summary_value}
 use Rattle.deny_cli.specs.declared.outcome.Outcome.TheVariants.{Usage, Long, Gate}
@@ -36,6 +38,18 @@ pub is_dead_exception : dead_line (record { kind = entry.LicenseException; range
     ≡ codes "{\"fields\":{\"end\":7,\"kind\":\"license-exception\",\"start\":0},\"type\":\"dead\"}\n"
 unfolding serde_json_on_literals digits dead_line
 is_dead_exception = refl
+
+-- what could not be read of a workspace that is no crate is of none
+pub is_unread : (g : Graph)
+    → unread_line g (record { krate = None; path = codes "/w/Cargo.toml"; purpose = purpose.Manifest }) ≡ codes
+    "{\"fields\":{\"crate\":null,\"path\":\"/w/Cargo.toml\",\"purpose\":\"manifest\"},\"type\":\"unread\"}\n"
+unfolding serde_json_on_literals digits unread_line
+is_unread g = refl
+
+pub is_malformed : malformed_line (codes "/w/a/Cargo.toml")
+    ≡ codes "{\"fields\":{\"path\":\"/w/a/Cargo.toml\"},\"type\":\"malformed\"}\n"
+unfolding serde_json_on_literals digits malformed_line
+is_malformed = refl
 
 -- of four crates and the member above them, three findings are errors
 pub sums_up : line (summary_value 4 5 0 3 (Fail 2)) ≡ codes

@@ -9,7 +9,9 @@ use Rattle.std.proofs.Math.Seq.{take-suc}
 use Rattle.std.proofs.lemmas.List.{map-append, take-append-drop, take-map, take_all}
 use Rattle.std.proofs.lemmas.Bool.{leb-true}
 use Rattle.std.proofs.lemmas.Option.{none-some}
-use Rattle.deny_cli.specs.Words.{AskedSoFar, AsksForFew, Command, Form, begun, nothing, checking, check_of, generating, generating_some, count_of, is_plain, leads_with_zero, most_crates, names_file, path_added, step, filled, command_of, asked_by, Asks, IsAccepted, GoesOn, IsUsageAt, texts}
+use Rattle.deny_workspace.specs.declared.registries.Registry.{Registry}
+use Rattle.deny_cli.specs.Registries.{registries_in}
+use Rattle.deny_cli.specs.Words.{AskedSoFar, AsksForFew, Command, Form, begun, nothing, checking, check_of, generate, generating, generating_some, count_of, is_plain, leads_with_zero, most_crates, names_file, path_added, step, filled, command_of, asked_by, Asks, IsAccepted, GoesOn, IsUsageAt, takes_option, texts}
 
 -- ---- each form can be filled
 
@@ -19,23 +21,31 @@ a_path = 97 ∷ []
 -- with these words behind it, a form is that of a command
 pub record IsFillable (form : Form) : Type 0 where
   pub rest : List (List ℕ)
-  pub command : Command
-  pub fills : option_and_then command_of (filled (Some form) rest) ≡ Some command
+  pub command : List Registry → Command
+  pub fills : (registries : List Registry)
+      → option_and_then (command_of registries) (filled (Some form) rest) ≡ Some (command registries)
 
 fillable_check : (policy metadata replacements : Option (List ℕ))
     → IsFillable (checking (record { policy = policy; metadata = metadata; replacements = replacements }))
 unfolding step names_file
-fillable_check None None replacements = record { rest = a_path ∷ a_path ∷ []; command = _; fills = refl }
-fillable_check None (Some metadata) replacements = record { rest = a_path ∷ []; command = _; fills = refl }
-fillable_check (Some policy) None replacements = record { rest = a_path ∷ []; command = _; fills = refl }
-fillable_check (Some policy) (Some metadata) replacements = record { rest = []; command = _; fills = refl }
+fillable_check None None replacements =
+    record { rest = a_path ∷ a_path ∷ []; command = λ registries. _; fills = λ registries. refl }
+fillable_check None (Some metadata) replacements =
+    record { rest = a_path ∷ []; command = λ registries. _; fills = λ registries. refl }
+fillable_check (Some policy) None replacements =
+    record { rest = a_path ∷ []; command = λ registries. _; fills = λ registries. refl }
+fillable_check (Some policy) (Some metadata) replacements =
+    record { rest = []; command = λ registries. _; fills = λ registries. refl }
 
 pub fillable : (form : Form) → IsFillable form
 unfolding step names_file count_of is_plain leads_with_zero
-fillable nothing = record { rest = codes "check" ∷ a_path ∷ a_path ∷ []; command = _; fills = refl }
+fillable nothing =
+    record { rest = codes "check" ∷ a_path ∷ a_path ∷ []; command = λ registries. _; fills = λ registries. refl }
 fillable (checking asked) = fillable_check asked.policy asked.metadata asked.replacements
-fillable (generating None) = record { rest = codes "0" ∷ []; command = _; fills = refl }
-fillable (generating (Some crates)) = record { rest = []; command = _; fills = refl }
+fillable (generating None) =
+    record { rest = codes "0" ∷ []; command = λ registries. generate 0; fills = λ registries. refl }
+fillable (generating (Some crates)) =
+    record { rest = []; command = λ registries. generate crates; fills = λ registries. refl }
 
 -- ---- words one after another
 
@@ -52,13 +62,14 @@ filled_append form (x ∷ xs) ys = filled_append (option_and_then (λ before. st
 pub goes_on : (words : List (List ℕ)) (form : Form) → filled (Some nothing) words ≡ Some form → GoesOn words
 unfolding asked_by
 goes_on words form is =
-    let more = fillable form in (
+    let more = fillable form in
+    let registries = registries_in (words ++ more.rest) in (
       more.rest,
       (
-        more.command,
-        ap (option_and_then command_of) (filled_append (Some nothing) words more.rest
+        more.command registries,
+        ap (option_and_then (command_of registries)) (filled_append (Some nothing) words more.rest
             ∙ ap (λ (f : Option Form). filled f more.rest) is)
-            ∙ more.fills,
+            ∙ more.fills registries,
       ),
     )
 
@@ -68,7 +79,7 @@ unfolding asked_by
 breaks_off words is on =
     let none : filled (Some nothing) (words ++ on.0) ≡ None = filled_append (Some nothing) words on.0
     ∙ (ap (λ (f : Option Form). filled f on.0) is ∙ filled_none on.0) in
-    none-some on.1.0 (sym (ap (option_and_then command_of) none) ∙ on.1.1)
+    none-some on.1.0 (sym (ap (option_and_then (command_of (registries_in (words ++ on.0)))) none) ∙ on.1.1)
 
 pub filled_more : (words : List (List ℕ)) (form : Form) (word : List ℕ) → filled (Some nothing) words ≡ Some form
     → filled (Some nothing) (words ++ word ∷ []) ≡ step form word
@@ -107,11 +118,11 @@ usage_here words at form word inside is next stops =
 
 -- words that end too early
 pub usage_at_end : (words : List (List ℕ)) (form : Form) → filled (Some nothing) words ≡ Some form
-    → command_of form ≡ None → IsUsageAt words (length words)
+    → command_of (registries_in words) form ≡ None → IsUsageAt words (length words)
 unfolding asked_by
 usage_at_end words form is missing = record {
   refused = λ accepted. none-some accepted.0
-      (sym (ap (option_and_then command_of) is ∙ missing) ∙ accepted.1);
+      (sym (ap (option_and_then (command_of (registries_in words))) is ∙ missing) ∙ accepted.1);
   within = omega arith;
   before = subst (λ (ws : List (List ℕ)). GoesOn ws) (sym (take_all (length words) words (omega arith)))
       (goes_on words form is);
@@ -119,9 +130,9 @@ usage_at_end words form is missing = record {
 }
 
 pub asks_by : (words : List (List ℕ)) (form : Form) (command : Command) → filled (Some nothing) words ≡ Some form
-    → command_of form ≡ Some command → Asks words command
+    → command_of (registries_in words) form ≡ Some command → Asks words command
 unfolding asked_by
-asks_by words form command is full = ap (option_and_then command_of) is ∙ full
+asks_by words form command is full = ap (option_and_then (command_of (registries_in words))) is ∙ full
 
 -- ---- there is one such place, and one command
 
@@ -159,11 +170,12 @@ few_first true is_generate = tt
 few_first false true = tt
 few_first false false = tt
 
-few_path : (names : Bool) (asked : Option AskedSoFar)
-    → IfSome (if names then option_map checking asked else None) IsFew
-few_path true None = tt
-few_path true (Some asked) = tt
-few_path false asked = tt
+few_path : (names takes : Bool) (asked : AskedSoFar) (added : Option AskedSoFar)
+    → IfSome (if names then option_map checking added else if takes then Some (checking asked) else None) IsFew
+few_path true takes asked None = tt
+few_path true takes asked (Some added) = tt
+few_path false true asked added = tt
+few_path false false asked added = tt
 
 few_by : (crates : ℕ) (few : Bool) → nat_le crates most_crates ≡ few
     → IfSome (option_map generating_some (if few then Some crates else None)) IsFew
@@ -178,7 +190,8 @@ few_if true crates = few_by crates (nat_le crates most_crates) refl
 few_after : (form : Form) (word : List ℕ) → IfSome (step form word) IsFew
 unfolding step count_of
 few_after nothing word = few_first (same_text word (codes "check")) (same_text word (codes "generate"))
-few_after (checking asked) word = few_path (names_file word) (path_added asked word)
+few_after (checking asked) word =
+    few_path (names_file word) (takes_option asked word) asked (path_added asked word)
 few_after (generating None) word = few_if (is_plain word) (digits_value 10 word)
 few_after (generating (Some crates)) word = tt
 
@@ -187,20 +200,23 @@ few_filled form [] few = few
 few_filled None (word ∷ words) few = few_filled None words tt
 few_filled (Some form) (word ∷ words) few = few_filled (step form word) words (few_after form word)
 
-few_check : (policy metadata replacements : Option (List ℕ)) → IfSome (check_of policy metadata replacements) AsksForFew
-few_check None metadata replacements = tt
-few_check (Some policy) None replacements = tt
-few_check (Some policy) (Some metadata) replacements = tt
+few_check : (registries : List Registry) (policy metadata replacements : Option (List ℕ))
+    → IfSome (check_of registries policy metadata replacements) AsksForFew
+few_check registries None metadata replacements = tt
+few_check registries (Some policy) None replacements = tt
+few_check registries (Some policy) (Some metadata) replacements = tt
 
-few_of : (form : Option Form) → IfSome form IsFew → IfSome (option_and_then command_of form) AsksForFew
-few_of None few = tt
-few_of (Some nothing) few = tt
-few_of (Some (checking asked)) few = few_check asked.policy asked.metadata asked.replacements
-few_of (Some (generating None)) few = tt
-few_of (Some (generating (Some crates))) few = few
+few_of : (registries : List Registry) (form : Option Form) → IfSome form IsFew
+    → IfSome (option_and_then (command_of registries) form) AsksForFew
+few_of registries None few = tt
+few_of registries (Some nothing) few = tt
+few_of registries (Some (checking asked)) few =
+    few_check registries asked.policy asked.metadata asked.replacements
+few_of registries (Some (generating None)) few = tt
+few_of registries (Some (generating (Some crates))) few = few
 
 pub asks_for_few : (words : List (List ℕ)) (command : Command) → Asks words command → AsksForFew command
 unfolding asked_by
 asks_for_few words command asks =
     subst (λ (c : Option Command). IfSome c AsksForFew) asks
-    (few_of (filled (Some nothing) words) (few_filled (Some nothing) words tt))
+    (few_of (registries_in words) (filled (Some nothing) words) (few_filled (Some nothing) words tt))

@@ -1,35 +1,46 @@
 -- The words of a run as they are read: what lists of words ask for, computed; and which lists those are.
 use Rattle.std.proofs.Common.{◌≡◌, [], ◌∷◌, Some, None, codes, refl}
+use Rattle.deny_cli.specs.Registries.{behind, registries_in, registry_of}
 use Rattle.deny_cli.specs.Words.{check, generate, asked_by, count_of, is_plain, leads_with_zero, names_file, step}
 
 pub asks_for_two : asked_by (codes "check" ∷ codes "deny.toml" ∷ codes "metadata.json" ∷ [])
-    ≡ Some (check (record { policy = codes "deny.toml"; metadata = codes "metadata.json"; replacements = None }))
-unfolding asked_by step names_file
+    ≡ Some (check (record {
+      policy = codes "deny.toml";
+      metadata = codes "metadata.json";
+      replacements = None;
+      registries = [];
+    }))
+unfolding asked_by step names_file registries_in registry_of behind
 asks_for_two = refl
 
 pub asks_for_three : asked_by (codes "check" ∷ codes "a" ∷ codes "b" ∷ codes "c" ∷ [])
-    ≡ Some (check (record { policy = codes "a"; metadata = codes "b"; replacements = Some (codes "c") }))
-unfolding asked_by step names_file
+    ≡ Some (check (record {
+      policy = codes "a";
+      metadata = codes "b";
+      replacements = Some (codes "c");
+      registries = [];
+    }))
+unfolding asked_by step names_file registries_in registry_of behind
 asks_for_three = refl
 
 pub asks_for_too_few : asked_by (codes "check" ∷ codes "deny.toml" ∷ []) ≡ None
-unfolding asked_by step names_file
+unfolding asked_by step names_file registries_in registry_of behind
 asks_for_too_few = refl
 
 pub asks_for_too_many : asked_by (codes "check" ∷ codes "a" ∷ codes "b" ∷ codes "c" ∷ codes "d" ∷ []) ≡ None
-unfolding asked_by step names_file
+unfolding asked_by step names_file registries_in registry_of behind
 asks_for_too_many = refl
 
 pub asks_by_an_option : asked_by (codes "check" ∷ codes "-a" ∷ codes "b" ∷ []) ≡ None
-unfolding asked_by step names_file
+unfolding asked_by step names_file registries_in registry_of behind
 asks_by_an_option = refl
 
 pub asks_for_no_name : asked_by (codes "check" ∷ codes "a" ∷ [] ∷ []) ≡ None
-unfolding asked_by step names_file
+unfolding asked_by step names_file registries_in registry_of behind
 asks_for_no_name = refl
 
 pub asks_for_another : asked_by (codes "checks" ∷ codes "a" ∷ codes "b" ∷ []) ≡ None
-unfolding asked_by step names_file
+unfolding asked_by step names_file registries_in registry_of behind
 asks_for_another = refl
 
 -- ---- crates that are made
@@ -69,3 +80,72 @@ asks_for_two_numbers = refl
 pub asks_without_a_number : asked_by (codes "generate" ∷ []) ≡ None
 unfolding asked_by step
 asks_without_a_number = refl
+
+-- ---- registries
+
+-- the first `=` behind the front divides the name from the address
+pub names_a_registry : registry_of (codes "--registry=a=b=c")
+    ≡ Some (record { name = codes "a"; address = codes "b=c" })
+unfolding registry_of behind
+names_a_registry = refl
+
+pub names_no_name : registry_of (codes "--registry==u") ≡ None
+unfolding registry_of behind
+names_no_name = refl
+
+pub names_no_address : registry_of (codes "--registry=n=") ≡ None
+unfolding registry_of behind
+names_no_address = refl
+
+pub divides_nothing : registry_of (codes "--registry=n") ≡ None
+unfolding registry_of behind
+divides_nothing = refl
+
+pub names_nothing : registry_of (codes "--registry=") ≡ None
+unfolding registry_of behind
+names_nothing = refl
+
+pub names_in_parts : registry_of (codes "--registry") ≡ None
+unfolding registry_of behind
+names_in_parts = refl
+
+pub is_another_option : registry_of (codes "--home=/c") ≡ None
+unfolding registry_of behind
+is_another_option = refl
+
+-- registries keep their order, and one may be named twice
+pub asks_with_registries :
+    asked_by (codes "check" ∷ codes "--registry=b=u" ∷ codes "--registry=a=v" ∷ codes "p" ∷ codes "m" ∷ [])
+    ≡ Some (check (record {
+      policy = codes "p";
+      metadata = codes "m";
+      replacements = None;
+      registries = record { name = codes "b"; address = codes "u" } ∷ record { name = codes "a"; address = codes "v" }
+          ∷ [];
+    }))
+unfolding asked_by step names_file registries_in registry_of behind
+asks_with_registries = refl
+
+pub asks_behind_a_path : asked_by (codes "check" ∷ codes "p" ∷ codes "--registry=a=v" ∷ codes "m" ∷ []) ≡ None
+unfolding asked_by step names_file registries_in registry_of behind
+asks_behind_a_path = refl
+
+pub asks_behind_all : asked_by (codes "check" ∷ codes "p" ∷ codes "m" ∷ codes "--registry=a=v" ∷ []) ≡ None
+unfolding asked_by step names_file registries_in registry_of behind
+asks_behind_all = refl
+
+pub asks_without_paths : asked_by (codes "check" ∷ codes "--registry=a=v" ∷ []) ≡ None
+unfolding asked_by step names_file registries_in registry_of behind
+asks_without_paths = refl
+
+pub asks_before_check : asked_by (codes "--registry=a=v" ∷ codes "check" ∷ codes "p" ∷ codes "m" ∷ []) ≡ None
+unfolding asked_by step names_file registries_in registry_of behind
+asks_before_check = refl
+
+pub asks_of_a_number : asked_by (codes "generate" ∷ codes "--registry=a=v" ∷ codes "4" ∷ []) ≡ None
+unfolding asked_by step count_of is_plain leads_with_zero registries_in registry_of behind
+asks_of_a_number = refl
+
+pub asks_for_a_home : asked_by (codes "check" ∷ codes "--home=/c" ∷ codes "p" ∷ codes "m" ∷ []) ≡ None
+unfolding asked_by step names_file registries_in registry_of behind
+asks_for_a_home = refl

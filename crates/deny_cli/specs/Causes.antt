@@ -1,7 +1,9 @@
 -- When each outcome of a run comes. `old` is the disk as the run begins, `new` as it ends.
-use Rattle.std.specs.Prelude.{◌≡◌, ◌≢◌, ℕ, ◌<◌, ◌≤◌, ◌^◌, List, length, Option, Some, None, IfSome, option_map, ⊤}
+use Rattle.std.specs.Prelude.{◌≡◌, ◌≢◌, ℕ, ◌<◌, ◌≤◌, ◌^◌, List, [], codes, length, Option, Some, None, IfSome, option_map, ⊤}
+use Rattle.std.specs.FinMap as finite
 use Rattle.deny_outside.specs.Count.{Rose, RoseBy}
 use Rattle.deny_outside.specs.Disk.{Disk, Files, FailedAt, bytes_at}
+use Rattle.deny_outside.specs.MemoryDisk.{with_file}
 use Rattle.deny_outside.specs.Read.{IsWhole}
 use Rattle.deny_base.specs.declared.check.Which.{Which}
 use Rattle.deny_base.specs.declared.check.Which.TheVariants.{Policy, Metadata, Replacements}
@@ -21,6 +23,9 @@ use Rattle.deny_gate.specs.declared.report.GateError.TheVariants as gate
 use Rattle.deny_gate.specs.declared.report.Report.{Report}
 use Rattle.deny_generator.specs.MetadataText.{metadata_text}
 use Rattle.deny_generator.specs.PolicyText.{policy_text}
+use Rattle.deny_unread.specs.Bound.{Folders}
+use Rattle.deny_unread.specs.Causes.{AreCaused}
+use Rattle.deny_unread.specs.declared.unread.Unread.{Unread}
 use Rattle.deny_cli.specs.Words.{Asked, Command, check, generate, path_of, Asks, IsAccepted, IsUsageAt}
 use Rattle.deny_cli.specs.declared.outcome.Outcome.{Outcome}
 use Rattle.deny_cli.specs.declared.outcome.Outcome.TheVariants.{Done, Usage, Read, Long, Gate, Write, Memory}
@@ -34,12 +39,13 @@ IsLong text = 2 ^ 28 ≤ length text
 abbrev pub IsShort : List ℕ → Type 0
 IsShort text = length text < 2 ^ 28
 
--- those that stand at the paths of a check
+-- those that stand at the paths of a check, with the registries that it names
 abbrev pub texts_at : Files → Asked → Texts
 texts_at files asked = record {
   policy = bytes_at files asked.policy;
   metadata = bytes_at files asked.metadata;
   replacements = option_map (bytes_at files) asked.replacements;
+  registries = asked.registries;
 }
 
 -- those that are made for so many crates
@@ -48,7 +54,18 @@ made_texts crates = record {
   policy = policy_text crates;
   metadata = metadata_text crates;
   replacements = None;
+  registries = [];
 }
+
+-- the files of the disk that is made for them: the manifest of `app`, the one member
+unfoldable pub made_files : Files
+made_files = with_file finite.empty (codes "/w/Cargo.toml") (codes "[package]\nname = \"app\"\n")
+
+-- the files that the manifests of a command are read from, where they are known: for a check those of the disk, and for
+-- crates that are made those that are made for them
+abbrev pub known_files : Option Files → Command → Option Files
+known_files told (check asked) = told
+known_files told (generate crates) = Some made_files
 
 -- the texts of a command, where they are known: those of a check where the disk tells its files, and those that are
 -- made whatever the disk is
@@ -97,6 +114,8 @@ pub record AreRead (old : Disk) (asked : Asked) (texts : Texts) : Type 0 where
   pub policy : IsReadAt old asked.policy texts.policy
   pub metadata : IsReadAt old asked.metadata texts.metadata
   pub replacements : IsReadIfNamed old asked.replacements texts.replacements
+  -- beside them stand the registries that the check names
+  pub registries : texts.registries ≡ asked.registries
 
 -- these are the texts of a command: those of a check were read, and others are made
 abbrev pub AreTextsOf : Disk → Command → Texts → Type 0
@@ -108,11 +127,17 @@ abbrev pub IsPolicyAt : Disk → Command → List ℕ → Type 0
 IsPolicyAt old (check asked) policy = IsReadAt old asked.policy policy
 IsPolicyAt old (generate crates) policy = policy ≡ policy_text crates
 
--- the report is the one of the texts of a command
+-- the report is the one of the texts of a command, by the manifests of its graph
 pub record IsReportAt (old : Disk) (command : Command) (report : Report) : Type 0 where
   pub texts : Texts
   pub read : AreTextsOf old command texts
-  pub is_theirs : IsReportOf texts report
+  pub is_theirs : IsReportOf (known_files old.files command) texts report
+
+-- why a command left manifests unread: each by a bound or by a failed call between the two disks. A disk that is made
+-- never fails, and nothing on it is long, so that nothing is left unread there.
+abbrev pub AreCausedAt : Disk → Disk → Command → List Unread → Type 0
+AreCausedAt old new (check asked) unread = (folder : Folders) → AreCaused folder old new unread
+AreCausedAt old new (generate crates) unread = unread ≡ []
 
 -- the gate gives no report on the texts of a command, of which this is the policy, by its own cause; the
 -- labels of clashes lie in the policy
@@ -142,6 +167,12 @@ pub record IsReportOn (old : Disk) (words : List (List ℕ)) (report : Report) :
   pub command : Command
   pub asks : Asks words command
   pub is_theirs : IsReportAt old command report
+
+-- what the report says could not be read has its causes
+pub record AreCausedOn (old new : Disk) (words : List (List ℕ)) (report : Report) : Type 0 where
+  pub command : Command
+  pub asks : Asks words command
+  pub are_theirs : AreCausedAt old new command report.unread
 
 pub record IsStopOn (old : Disk) (words : List (List ℕ)) (error : GateError) : Type 0 where
   pub command : Command
@@ -221,7 +252,7 @@ pub record CanDoWithoutDeadOn (old : Disk) (words : List (List ℕ)) (report : R
   pub asks : Asks words command
   pub texts : Texts
   pub read : AreTextsOf old command texts
-  pub can : CanDoWithoutDead texts report
+  pub can : CanDoWithoutDead (known_files old.files command) texts report
 
 -- this is the text of the policy that the words ask for, its entries clash so, and the labels lie in it
 pub record ClashesIn (old : Disk) (words : List (List ℕ)) (told : List Diagnostic) (policy : List ℕ) : Type 0 where

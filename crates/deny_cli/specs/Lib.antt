@@ -4,7 +4,9 @@ pub mod Dead
 pub mod Lines
 pub mod Outcome
 pub mod Outputs
+pub mod Registries
 pub mod Stops
 pub mod Summary
 pub mod Told
+pub mod Unread
 pub mod Words

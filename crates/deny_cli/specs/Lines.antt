@@ -7,12 +7,14 @@ use Rattle.deny_base.specs.declared.files.File.{File}
 use Rattle.deny_model.specs.Graph.{Graph}
 use Rattle.deny_json.specs.Diagnostics.{tells}
 use Rattle.deny_json.specs.Lines.{diag_line, line}
+use Rattle.deny_unread.specs.declared.unread.Unread.{Unread}
 use Rattle.deny_gate.specs.declared.report.Finding.{Finding}
 use Rattle.deny_gate.specs.declared.report.Report.{Report}
 use Rattle.deny_gate.specs.declared.report.Verdict.{Verdict}
 use Rattle.deny_gate.specs.declared.report.Verdict.TheVariants.{Pass, Fail}
 use Rattle.deny_cli.specs.Dead.{dead_value}
 use Rattle.deny_cli.specs.Outcome.{bits_of}
+use Rattle.deny_cli.specs.Unread.{malformed_value, unread_value}
 
 abbrev pub verdict_word : Verdict → List ℕ
 verdict_word Pass = codes "pass"
@@ -30,10 +32,21 @@ finding_line files g finding = diag_line files g finding.kid finding.diag
 unfoldable pub dead_line : EntryId → List ℕ
 dead_line e = line (dead_value e)
 
+-- of what could not be read, whose crate stands in the graph
+unfoldable pub unread_line : Graph → Unread → List ℕ
+unread_line g u = line (unread_value g u)
+
+-- of a manifest that is malformed, by its path
+unfoldable pub malformed_line : List ℕ → List ℕ
+malformed_line path = line (malformed_value path)
+
 unfoldable pub verdict_line : Verdict → List ℕ
 verdict_line verdict = line (verdict_value verdict)
 
--- the lines of a report: its findings in order with their trees, then its dead entries, and its verdict
+-- the lines of a report: its findings in order with their trees, then its dead entries, what could not be read, which
+-- manifests are malformed, and its verdict
 unfoldable pub lines : Report → List ℕ
 lines report = flat_map (finding_line report.files report.krates) report.findings
-    ++ (flat_map dead_line report.dead ++ verdict_line report.verdict)
+    ++ (flat_map dead_line report.dead
+    ++ (flat_map (unread_line report.krates) report.unread
+    ++ (flat_map malformed_line report.malformed ++ verdict_line report.verdict)))

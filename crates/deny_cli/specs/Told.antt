@@ -14,6 +14,7 @@ use Rattle.deny_gate.specs.declared.report.Report.{Report}
 use Rattle.deny_cli.specs.Dead.{dead_value}
 use Rattle.deny_cli.specs.Lines.{lines, verdict_value}
 use Rattle.deny_cli.specs.Outcome.{bits_of}
+use Rattle.deny_cli.specs.Unread.{malformed_value, unread_value}
 
 abbrev pub finding_told : List File → Graph → Finding → Data
 finding_told files g finding = finding_value files finding.diag.diag (graphs_shown g finding.kid finding.diag)
@@ -21,7 +22,9 @@ finding_told files g finding = finding_value files finding.diag.diag (graphs_sho
 -- the values of the lines, in their order
 abbrev pub told : Report → List Data
 told report = map (finding_told report.files report.krates) report.findings
-    ++ (map dead_value report.dead ++ verdict_value report.verdict ∷ [])
+    ++ (map dead_value report.dead
+    ++ (map (unread_value report.krates) report.unread
+    ++ (map malformed_value report.malformed ++ verdict_value report.verdict ∷ [])))
 
 -- each line is the text of its value with a newline behind it, and that text is this value in JSON
 pub record AreJsonLines (report : Report) : Type 0 where

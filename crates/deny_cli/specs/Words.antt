@@ -1,5 +1,5 @@
 -- The words of a run: what they ask for, which lists are accepted, and where the others break off.
-use Rattle.std.specs.Prelude.{◌≡◌, ℕ, ◌+◌, ◌<◌, ◌≤◌, ◌==◌, ◌&&◌, Bool, false, not, nat_le, List, [], ◌∷◌, ◌++◌, Option, Some, None, is_none, option_map, option_and_then, length, take, map, codes, ⊤, String, string_bytes, if◌then◌else◌}
+use Rattle.std.specs.Prelude.{◌≡◌, ℕ, ◌+◌, ◌<◌, ◌≤◌, ◌==◌, ◌&&◌, Bool, false, not, nat_le, List, [], ◌∷◌, ◌++◌, Option, Some, None, is_none, is_some, option_map, option_and_then, length, take, map, codes, ⊤, String, string_bytes, if◌then◌else◌}
 use Rattle.std.specs.Char.{is_ascii_digit}
 use Rattle.std.specs.List.{list_all}
 use Rattle.std.specs.Str.Parse.{digits_value}
@@ -7,6 +7,8 @@ use Rattle.std.specs.declared.alloc.Global.{Global}
 use Rattle.deny_base.specs.declared.check.Which.{Which}
 use Rattle.deny_base.specs.declared.check.Which.TheVariants.{Policy, Metadata, Replacements}
 use Rattle.deny_model.specs.Text.{same_text}
+use Rattle.deny_workspace.specs.declared.registries.Registry.{Registry}
+use Rattle.deny_cli.specs.Registries.{registries_in, registry_of}
 
 -- the words as texts
 abbrev pub texts : List (String Global) → List (List ℕ)
@@ -38,11 +40,13 @@ count_of word =
 
 -- ---- what words ask for
 
--- what a check looks at: the paths of its texts, and of a table of replacements, if one is named
+-- what a check looks at: the paths of its texts, and of a table of replacements, if one is named, and the registries
+-- that manifests may name
 pub record Asked : Type 0 where
   pub policy : List ℕ
   pub metadata : List ℕ
   pub replacements : Option (List ℕ)
+  pub registries : List Registry
 
 pub data Command : Type 0 where
   check : Asked → Command
@@ -85,14 +89,20 @@ path_added asked path =
 abbrev pub generating_some : ℕ → Form
 generating_some crates = generating (Some crates)
 
--- what a word adds; none where it may not stand here
+-- an option stands before the paths; that one names a registry is all that options are for yet
+abbrev pub takes_option : AskedSoFar → List ℕ → Bool
+takes_option asked word = is_none asked.policy && is_some (registry_of word)
+
+-- what a word adds; none where it may not stand here. What options name is not part of the form.
 unfoldable pub step : Form → List ℕ → Option Form
 step nothing word =
     if same_text word (codes "check") then Some (checking begun)
     else if same_text word (codes "generate") then Some (generating None)
     else None
 step (checking asked) word =
-    if names_file word then option_map checking (path_added asked word) else None
+    if names_file word then option_map checking (path_added asked word)
+    else if takes_option asked word then Some (checking asked)
+    else None
 step (generating None) word = option_map generating_some (count_of word)
 step (generating (Some crates)) word = None
 
@@ -101,23 +111,27 @@ filled form [] = form
 filled form (word ∷ words) = filled (option_and_then (λ before. step before word) form) words
 
 -- a check whose policy and metadata have paths
-abbrev pub check_of : Option (List ℕ) → Option (List ℕ) → Option (List ℕ) → Option Command
-check_of None metadata replacements = None
-check_of (Some policy) None replacements = None
-check_of (Some policy) (Some metadata) replacements =
-    Some (check (record { policy = policy; metadata = metadata; replacements = replacements }))
+abbrev pub check_of : List Registry → Option (List ℕ) → Option (List ℕ) → Option (List ℕ) → Option Command
+check_of registries None metadata replacements = None
+check_of registries (Some policy) None replacements = None
+check_of registries (Some policy) (Some metadata) replacements = Some (check (record {
+  policy = policy;
+  metadata = metadata;
+  replacements = replacements;
+  registries = registries;
+}))
 
--- none where something is missing
-abbrev pub command_of : Form → Option Command
-command_of nothing = None
-command_of (checking asked) = check_of asked.policy asked.metadata asked.replacements
-command_of (generating crates) = option_map generate crates
+-- a form with the registries that options name; none where something is missing
+abbrev pub command_of : List Registry → Form → Option Command
+command_of registries nothing = None
+command_of registries (checking asked) = check_of registries asked.policy asked.metadata asked.replacements
+command_of registries (generating crates) = option_map generate crates
 
 -- ---- which words are accepted
 
--- the words ask for this
+-- the words ask for this: what they fill, with the registries that options among them name, in order
 unfoldable pub asked_by : List (List ℕ) → Option Command
-asked_by words = option_and_then command_of (filled (Some nothing) words)
+asked_by words = option_and_then (command_of (registries_in words)) (filled (Some nothing) words)
 
 abbrev pub Asks : List (List ℕ) → Command → Type 0
 Asks words command = asked_by words ≡ Some command

@@ -6,8 +6,10 @@ mod laws;
 mod lines;
 mod outcome;
 mod program;
+mod registries;
 mod stops;
 mod summary;
+mod unread;
 mod words;
 
 pub use laws::lines_are_json;

@@ -2,15 +2,18 @@
 ghost use Rattle.std.specs.Prelude.{◌≡◌, ◌++◌, IfOk, OnOk};
 ghost use Rattle.std.specs.List.{flat_map};
 ghost use Rattle.serde_json.specs.View.{view};
-ghost use Rattle.deny_cli.specs.Lines.{dead_line, finding_line, lines, verdict_line, verdict_value, verdict_word};
+ghost use Rattle.deny_cli.specs.Lines.{dead_line, finding_line, lines, malformed_line, unread_line, verdict_line, verdict_value, verdict_word};
 
 use crate::dead::dead_value;
 use crate::outcome::bits;
+use crate::unread::{malformed_value, unread_value};
 use deny_base::{EntryId, Files};
 use deny_gate::{Finding, Report, Verdict};
 use deny_json::{diag_line, line};
+use deny_krates::Krates;
 use deny_lists::{NoMemory, Text};
 use deny_trees::InclusionGrapher;
+use deny_unread::Unread;
 use serde_json::{Value, json};
 use std::alloc::{AllocError, Global};
 
@@ -65,6 +68,22 @@ fn dead_line(alloc: Global, entry: EntryId) -> Result<Text, NoMemory>
     line(alloc, &dead_value(alloc, entry)?)
 }
 
+/// The line of what could not be read.
+#[tactic(auto, unfolding(crate::specs::Lines::unread_line))]
+fn unread_line(alloc: Global, krates: &Krates, entry: &Unread) -> Result<Text, NoMemory>
+    ensures { IfOk result (λ text. text ≡ unread_line krates.now entry.now) }
+{
+    line(alloc, &unread_value(alloc, krates, entry)?)
+}
+
+/// The line of a manifest that is malformed.
+#[tactic(auto, unfolding(crate::specs::Lines::malformed_line))]
+fn malformed_line(alloc: Global, path: &str) -> Result<Text, NoMemory>
+    ensures { IfOk result (λ text. text ≡ malformed_line path.now) }
+{
+    line(alloc, &malformed_value(alloc, path)?)
+}
+
 /// Adds the lines of findings, in their order.
 fn push_findings(
     alloc: Global,
@@ -92,7 +111,33 @@ fn push_dead(alloc: Global, dead: &[EntryId], text: &mut Text) -> Result<(), NoM
     Ok(())
 }
 
-/// The lines of a report: its findings in order, with their trees, its dead entries, and its verdict.
+/// Adds the lines of what could not be read, in their order.
+fn push_unread(
+    alloc: Global,
+    krates: &Krates,
+    unread: &[Unread],
+    text: &mut Text,
+) -> Result<(), NoMemory>
+    ensures { OnOk result (text.new ≡ text.old ++ flat_map (unread_line krates.now) unread.now) }
+{
+    for entry in unread {
+        text.push_str(unread_line(alloc, krates, entry)?.as_str())?;
+    }
+    Ok(())
+}
+
+/// Adds the lines of manifests that are malformed, in their order.
+fn push_malformed(alloc: Global, malformed: &[Text], text: &mut Text) -> Result<(), NoMemory>
+    ensures { OnOk result (text.new ≡ text.old ++ flat_map malformed_line malformed.now) }
+{
+    for path in malformed {
+        text.push_str(malformed_line(alloc, path.as_str())?.as_str())?;
+    }
+    Ok(())
+}
+
+/// The lines of a report: its findings in order, with their trees, its dead entries, what could not be
+/// read, which manifests are malformed, and its verdict.
 #[tactic(auto, unfolding(crate::specs::Lines::lines))]
 pub fn lines(alloc: Global, report: &Report) -> Result<Text, NoMemory>
     ensures { IfOk result (λ text. text ≡ lines report.now) }
@@ -102,6 +147,8 @@ pub fn lines(alloc: Global, report: &Report) -> Result<Text, NoMemory>
     let findings = report.findings.as_slice();
     push_findings(alloc, &report.files, &grapher, findings, &mut text)?;
     push_dead(alloc, report.dead.as_slice(), &mut text)?;
+    push_unread(alloc, &report.krates, report.unread.as_slice(), &mut text)?;
+    push_malformed(alloc, report.malformed.as_slice(), &mut text)?;
     text.push_str(verdict_line(alloc, report.verdict)?.as_str())?;
     Ok(text)
 }

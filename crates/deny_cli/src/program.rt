@@ -1,27 +1,32 @@
-ghost use Rattle.std.specs.Prelude.{◌≡◌, ◌==◌, ◌≤◌, ℕ, List, [], IfOk, IfErr, not};
+ghost use Rattle.std.specs.Prelude.{◌≡◌, ◌==◌, ◌≤◌, ℕ, List, [], Some, IfOk, IfErr, not};
 ghost use Rattle.std.specs.List.{list_any};
 ghost use Rattle.deny_outside.specs.Count.{Rose};
 ghost use Rattle.deny_outside.specs.Disk.{Disk, IsLater};
 ghost use Rattle.deny_gate.specs.Gating.{AreShort, IsReportOf, texts_in};
 ghost use Rattle.deny_gate.specs.Labels.{AreLabelled};
 ghost use Rattle.deny_gate.specs.Report.{has_error};
-ghost use Rattle.deny_cli.specs.Causes.{AreTextsOf, ComesBy, StopsBy, StopsAt, IsHeadlineOn, CanDoWithoutDeadOn, IsReadAt, IsReadStop, IsReportAt, IsReportOn, IsValidRun, IsRefusedRun, IsReadable, IsGateStop, IsTextOfClashes, end_stop, made_texts};
+ghost use Rattle.deny_unread.specs.Bound.{Folders};
+ghost use Rattle.deny_unread.specs.Causes.{AreCaused};
+ghost use Rattle.deny_cli.specs.Causes.{AreCausedAt, AreCausedOn, AreTextsOf, ComesBy, StopsBy, StopsAt, IsHeadlineOn, CanDoWithoutDeadOn, IsReadAt, IsReadStop, IsReportAt, IsReportOn, IsValidRun, IsRefusedRun, IsReadable, IsGateStop, IsTextOfClashes, end_stop, made_files, made_texts};
 ghost use Rattle.deny_cli.specs.Commands.{asked_view, command_view};
 ghost use Rattle.deny_cli.specs.Outcome.{IfDone, IfReported, IsUsage, IsDoneOrMemory, IsStopOrMemory, failing_bits, status_of};
 ghost use Rattle.deny_cli.specs.declared.outcome.Outcome.{Outcome};
+ghost use Rattle.deny_cli.specs.declared.outcome.Outcome.TheVariants.{Memory};
 ghost use Rattle.deny_cli.specs.Stops.{IsTextOf};
 ghost use Rattle.deny_cli.specs.Outputs.{LeavesOut, LeavesErr, PutsLine, WritesReport};
 ghost use Rattle.deny_cli.specs.Words.{check, generate, texts, Asks, AsksForFew, IsAccepted, asked_by, most_crates};
 
 use crate::outcome::{Ended, Outcome};
+use crate::registries::registries_in;
 use crate::stops::{memory_line, stop_line};
 use crate::summary::answer_lines;
 use crate::words::{Asked, Command, read_words};
 use deny_base::Which;
 use deny_gate::{Inputs, Report, gate};
 use deny_generator::{disk_of, metadata_of, policy_of};
-use deny_lists::NoMemory;
+use deny_lists::{List, NoMemory};
 use deny_outside::{Out, OutFault, PackageFiles, ReadEnd, read_whole};
+use deny_workspace::Registry;
 use std::alloc::Global;
 
 /// What a run comes to, and the policy's text, in which the labels of clashes lie; it is empty where
@@ -78,6 +83,17 @@ fn read_text<D: PackageFiles>(
     }
 }
 
+/// The registries that a check names, or why there are none.
+fn registries_of(alloc: Global, asked: Asked<'_>) -> Result<List<Registry>, Outcome>
+    ensures ok { IfOk result (λ registries. registries ≡ (asked_view asked.entry).registries) }
+    ensures stop { IfErr result (λ outcome. outcome ≡ Memory) }
+{
+    match registries_in(alloc, asked.words) {
+        Ok(registries) => Ok(registries),
+        Err(NoMemory) => Err(Outcome::Memory),
+    }
+}
+
 /// The texts of a check, or why there are none. A text is read once those before it are.
 fn read_inputs<D: PackageFiles>(
     alloc: Global,
@@ -96,17 +112,21 @@ fn read_inputs<D: PackageFiles>(
         Some(path) => Some(read_text(alloc, Which::Replacements, path, disk)?),
         None => None,
     };
+    let registries = registries_of(alloc, asked)?;
     Ok(Inputs {
         policy,
         metadata,
         replacements,
+        registries,
     })
 }
 
 /// The report on texts, or why there is none.
 fn report_of<D: PackageFiles>(alloc: Global, inputs: Inputs, disk: &mut D) -> Result<Report, Ending>
     requires { AreShort (texts_in inputs) }
-    ensures report { IfOk result (IsReportOf (texts_in inputs)) }
+    ensures report { IfOk result (IsReportOf (D.seen disk.old).files (texts_in inputs)) }
+    ensures caused { IfOk result (λ report. (folder : Folders) →
+        AreCaused folder (D.seen disk.old) (D.seen disk.new) report.unread) }
     ensures labels { IfOk result (λ report. AreLabelled report.files report.findings) }
     ensures stop { IfErr result (λ ending. IsGateStop (texts_in inputs) ending.outcome) }
     ensures policy { IfErr result (λ ending. ending.policy.items ≡ inputs.policy.items) }
@@ -131,13 +151,15 @@ fn made_inputs(alloc: Global, crates: u32) -> Result<Inputs, NoMemory>
         policy: Vec::from_slice(alloc, policy.as_str().as_bytes())?,
         metadata: Vec::from_slice(alloc, metadata.as_str().as_bytes())?,
         replacements: None,
+        registries: List::new(alloc),
     })
 }
 
 /// The report on so many crates that are made, or why there is none. It stands on a disk of its own.
 fn made_report(alloc: Global, crates: u32) -> Result<Report, Ending>
     requires { crates ≤ most_crates }
-    ensures report { IfOk result (IsReportOf (made_texts crates)) }
+    ensures report { IfOk result (IsReportOf (Some made_files) (made_texts crates)) }
+    ensures caused { IfOk result (λ report. report.unread ≡ []) }
     ensures labels { IfOk result (λ report. AreLabelled report.files report.findings) }
     ensures stop { IfErr result (λ ending. (old new : Disk)
         → StopsAt old new (generate crates) ending.outcome ending.policy.items) }
@@ -159,6 +181,8 @@ fn report_at<D: PackageFiles>(
 ) -> Result<Report, Ending>
     requires { AsksForFew (command_view command) }
     ensures report { IfOk result (IsReportAt (D.seen disk.old) (command_view command.entry)) }
+    ensures caused { IfOk result (λ report. AreCausedAt (D.seen disk.old) (D.seen disk.new)
+        (command_view command.entry) report.unread) }
     ensures labels { IfOk result (λ report. AreLabelled report.files report.findings) }
     ensures stop { IfErr result (λ ending. StopsAt (D.seen disk.old) (D.seen disk.new)
         (command_view command.entry) ending.outcome ending.policy.items) }
@@ -184,6 +208,8 @@ fn answer_to<'w, D: PackageFiles>(
     ensures asks { IfOk result (λ answer. Asks (texts words.now) (command_view answer.command)) }
     ensures report { IfOk result (λ answer.
         IsReportOn (D.seen disk.old) (texts words.now) answer.report) }
+    ensures caused { IfOk result (λ answer.
+        AreCausedOn (D.seen disk.old) (D.seen disk.new) (texts words.now) answer.report) }
     ensures labels { IfOk result (λ answer. AreLabelled answer.report.files answer.report.findings) }
     ensures stop { IfErr result (λ ending.
         StopsBy (D.seen disk.old) (D.seen disk.new) (texts words.now) ending.outcome) }
@@ -224,6 +250,8 @@ fn ending_of<D: PackageFiles, W: Out>(
     out: &mut W,
 ) -> Ending
     ensures cause { ComesBy (D.seen disk.old) (D.seen disk.new) (texts words.now) result.outcome }
+    ensures caused { IfReported result.outcome
+        (AreCausedOn (D.seen disk.old) (D.seen disk.new) (texts words.now)) }
     ensures labels { IfReported result.outcome (λ report. AreLabelled report.files report.findings) }
     ensures policy { IsTextOfClashes (D.seen disk.old) (texts words.now) result.outcome result.policy.items }
     ensures out { LeavesOut W.written W.faults out.old out.new (asked_by (texts words.now)) result.outcome }
@@ -258,17 +286,23 @@ fn tell<E: Out>(alloc: Global, outcome: &Outcome, policy: &[u8], err: &mut E)
 }
 
 /// Runs the program on these words, without the program's own name:
-/// `check POLICY METADATA [REPLACEMENTS]`, or `generate N` with N from 0 to 20000.
+/// `check [OPTION].. POLICY METADATA [REPLACEMENTS]`, or `generate N` with N from 0 to 20000.
 ///
-/// For a check the texts at these paths are read from `disk`, in this order, and the lines of the
-/// report go to `out`. For `generate N` a policy and the metadata of N crates are made, the report on
-/// them is made on a disk of its own, and one line that sums it up goes to `out`. What goes to `out`
-/// goes there in one piece, and the one line that tells a stop to `err`; what a failing `err` makes of
-/// it changes nothing.
+/// An option `--registry=NAME=ADDRESS` names a registry for the manifests of a workspace: the first `=`
+/// behind the front divides the two, and neither is empty. There may be any number, and of one name the
+/// first counts. No other option is accepted yet: `--home=PATH` is refused like any word that may not
+/// stand there.
+///
+/// For a check the texts at these paths are read from `disk`, in this order, and then the manifests of
+/// the graph; the lines of the report go to `out`. For `generate N` a policy and the metadata of N
+/// crates are made, the report on them is made on a disk of its own, and one line that sums it up goes
+/// to `out`. What goes to `out` goes there in one piece, and the one line that tells a stop to `err`;
+/// what a failing `err` makes of it changes nothing.
 ///
 /// The order of the causes is: words, reading the policy, its length, reading the metadata, its
 /// length, the same of the table of replacements where one is named, what the gate refuses in them
-/// (in the same order), the output. Want of memory can come at any point but the first.
+/// (in the same order), the output. Want of memory can come at any point but the first. A manifest that
+/// cannot be read is none of them: the report tells it.
 pub fn run<D: PackageFiles, W: Out, E: Out>(
     alloc: Global,
     words: &[String],
@@ -276,7 +310,8 @@ pub fn run<D: PackageFiles, W: Out, E: Out>(
     out: &mut W,
     err: &mut E,
 ) -> Ended
-    // Each outcome comes by its cause alone; a report is the one of the texts that were read.
+    // Each outcome comes by its cause alone; a report is the one of the texts that were read, and of the
+    // files that the disk tells.
     ensures cause { ComesBy (D.seen disk.old) (D.seen disk.new) (texts words.now) result.outcome }
     // Words that are not accepted always end so.
     ensures usage { (¬ IsAccepted (texts words.now)) → IsUsage result.outcome }
@@ -300,6 +335,10 @@ pub fn run<D: PackageFiles, W: Out, E: Out>(
     // what stands without them is what the report tells, but for what names one of them as unused.
     ensures dead_can_go { IfReported result.outcome
         (CanDoWithoutDeadOn (D.seen disk.old) (texts words.now)) }
+    // What the report says could not be read was not read by a bound or by a failed call, and those that
+    // no bound explains are at most as many as calls failed.
+    ensures caused { IfReported result.outcome
+        (AreCausedOn (D.seen disk.old) (D.seen disk.new) (texts words.now)) }
     // Each label of a finding marks a range of its file.
     ensures labels { IfReported result.outcome (λ report. AreLabelled report.files report.findings) }
 

@@ -2,14 +2,19 @@ ghost use Rattle.std.specs.Prelude.{◌≡◌, ◌↔◌, IsTrue, MatchResult, c
 ghost use Rattle.std.specs.Char.{is_ascii_digit};
 ghost use Rattle.std.specs.List.{list_all};
 ghost use Rattle.deny_cli.specs.Commands.{command_view, form_view, so_far_view};
-ghost use Rattle.deny_cli.specs.Words.{count_of, is_plain, leads_with_zero, names_file, texts, Asks, IsUsageAt, command_of, path_added, step};
+ghost use Rattle.deny_cli.specs.Registries.{registries_in, registry_of};
+ghost use Rattle.deny_cli.specs.Words.{count_of, is_plain, leads_with_zero, names_file, texts, Asks, IsUsageAt, command_of, path_added, step, takes_option};
 
-/// What a check looks at: the paths of its texts, and of a table of replacements, if one is named.
+use crate::registries::registry_of;
+
+/// What a check looks at: the paths of its texts, and of a table of replacements, if one is named; and
+/// the words that ask for it, since options among them name registries.
 #[derive(Debug, Clone, Copy)]
 pub struct Asked<'a> {
     pub policy: &'a str,
     pub metadata: &'a str,
     pub replacements: Option<&'a str>,
+    pub words: &'a [String],
 }
 
 /// The most crates that can be asked for.
@@ -121,6 +126,13 @@ fn with_path<'a>(asked: AskedSoFar<'a>, path: &'a str) -> Option<AskedSoFar<'a>>
     }
 }
 
+/// Whether an option that names a registry may stand here, and the word is one.
+fn takes_option(asked: AskedSoFar<'_>, word: &str) -> bool
+    ensures { result ≡ takes_option (so_far_view asked.entry) word.now }
+{
+    asked.policy.is_none() && registry_of(word).is_some()
+}
+
 /// What a word adds; none where it may not stand here.
 #[tactic(auto, unfolding(crate::specs::Words::step))]
 fn step<'a>(form: Form<'a>, word: &'a str) -> Option<Form<'a>>
@@ -136,14 +148,16 @@ fn step<'a>(form: Form<'a>, word: &'a str) -> Option<Form<'a>>
         Form::Checking(asked) if names_file(word) => {
             Some(Form::Checking(with_path(asked, word)?))
         }
+        Form::Checking(asked) if takes_option(asked, word) => Some(form),
         Form::Generating(None) => Some(Form::Generating(Some(count_of(word)?))),
         Form::Nothing | Form::Checking(_) | Form::Generating(Some(_)) => None,
     }
 }
 
-/// The command of a form; none where something is missing.
-fn command_of(form: Form<'_>) -> Option<Command<'_>>
-    ensures { option_map command_view result ≡ command_of (form_view form.entry) }
+/// The command of a form that these words fill; none where something is missing.
+fn command_of<'a>(form: Form<'a>, words: &'a [String]) -> Option<Command<'a>>
+    ensures { option_map command_view result
+        ≡ command_of (registries_in (texts words.now)) (form_view form.entry) }
 {
     match form {
         Form::Nothing => None,
@@ -151,6 +165,7 @@ fn command_of(form: Form<'_>) -> Option<Command<'_>>
             policy: asked.policy?,
             metadata: asked.metadata?,
             replacements: asked.replacements,
+            words,
         })),
         Form::Generating(crates) => Some(Command::Generate(crates?)),
     }
@@ -174,7 +189,7 @@ pub fn read_words(words: &[String]) -> Result<Command<'_>, usize>
             None => return Err(at),
         }
     }
-    match command_of(form) {
+    match command_of(form, words) {
         Some(command) => Ok(command),
         None => Err(words.len()),
     }

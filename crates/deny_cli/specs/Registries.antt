@@ -1,0 +1,29 @@
+-- The registries that options name.
+use Rattle.std.specs.Prelude.{ℕ, ◌==◌, ◌||◌, Bool, List, Option, Some, None, codes, drop, length, nat_eq, option_and_then, if◌then◌else◌}
+use Rattle.std.specs.List.{after_first, before_first, filter_map, starts_with}
+use Rattle.deny_workspace.specs.declared.registries.Registry.{Registry}
+
+-- what stands behind the front of a word, if it begins so
+unfoldable pub behind : List ℕ → List ℕ → Option (List ℕ)
+behind front word = if starts_with nat_eq word front then Some (drop (length front) word) else None
+
+-- an equals sign has the code 61
+abbrev pub is_equals_sign : ℕ → Bool
+is_equals_sign byte = byte == 61
+
+-- neither the name nor the address is empty
+abbrev pub registry_by : List ℕ → List ℕ → Option Registry
+registry_by name address =
+    if length name == 0 || length address == 0 then None else Some (record { name = name; address = address })
+
+-- `NAME=ADDRESS`: the first `=` divides them, so that a name has none
+abbrev pub named_by : List ℕ → Option Registry
+named_by text = registry_by (before_first is_equals_sign text) (after_first is_equals_sign text)
+
+-- the registry that an option names: `--registry=NAME=ADDRESS`
+unfoldable pub registry_of : List ℕ → Option Registry
+registry_of word = option_and_then named_by (behind (codes "--registry=") word)
+
+-- the registries that the options among words name, in their order; no other word that is accepted names one
+unfoldable pub registries_in : List (List ℕ) → List Registry
+registries_in words = filter_map registry_of words

@@ -1,0 +1,57 @@
+//! What could not be read, and manifests that are malformed, as JSON.
+ghost use Rattle.std.specs.Prelude.{◌≡◌, IfOk};
+ghost use Rattle.std.specs.Option.{option_copied};
+ghost use Rattle.serde_json.specs.View.{view};
+ghost use Rattle.deny_cli.specs.Unread.{malformed_value, purpose_word, unread_value, wanted_for};
+
+use deny_base::Kid;
+use deny_krates::Krates;
+use deny_unread::{Purpose, Unread};
+use serde_json::{Value, json};
+use std::alloc::{AllocError, Global};
+
+/// The word of what something was read for.
+fn purpose_word(purpose: Purpose) -> &'static str
+    ensures { result.now ≡ purpose_word purpose }
+{
+    match purpose {
+        Purpose::Manifest => "manifest",
+        Purpose::Script => "script",
+        Purpose::List => "list",
+        Purpose::Header => "header",
+        Purpose::Sum => "sum",
+    }
+}
+
+/// The crate of the graph that something was wanted for, as `name = version`, or null.
+fn wanted_for(alloc: Global, krates: &Krates, krate: Option<&Kid>) -> Result<Value, AllocError>
+    ensures { IfOk result (λ value. view value ≡ wanted_for krates.now (option_copied krate.entry)) }
+{
+    let Some(kid) = krate else {
+        return Ok(Value::Null);
+    };
+    match krates.node_for_kid(kid) {
+        Some(krate) => Ok(Value::String(format!(in alloc; "{krate}")?)),
+        None => Ok(Value::Null),
+    }
+}
+
+/// What could not be read as JSON.
+pub fn unread_value(alloc: Global, krates: &Krates, entry: &Unread) -> Result<Value, AllocError>
+    ensures { IfOk result (λ value. view value ≡ unread_value krates.now entry.now) }
+{
+    let krate = wanted_for(alloc, krates, entry.krate.as_ref())?;
+    let path = entry.path.as_str();
+    let purpose = purpose_word(entry.purpose);
+    json!(in alloc; {
+        "fields": {"crate": krate, "path": path, "purpose": purpose},
+        "type": "unread",
+    })
+}
+
+/// The path of a malformed manifest as JSON.
+pub fn malformed_value(alloc: Global, path: &str) -> Result<Value, AllocError>
+    ensures { IfOk result (λ value. view value ≡ malformed_value path.now) }
+{
+    json!(in alloc; {"fields": {"path": path}, "type": "malformed"})
+}
