@@ -1,10 +1,11 @@
 #!/usr/bin/env python3
-"""Says whether runs over many licences, features, trees and dead entries take time in step with their texts.
+"""Says whether runs over many licences, features, trees, dead entries and manifests take time in step with their texts.
 
     tools/growth.py PROGRAM     for each form a line: that it is in step, or the processor time of both sizes
 
-PROGRAM is run with the words of `./deny check`, over texts of one size and of twice that, each a few times, of which the
-least time counts. The larger one may take 2.6 times as long as the smaller one, and the smaller one SECONDS.
+PROGRAM is run with the words of `./deny check`, over texts of one size and of four times that, in turn, until the least
+times are in step or the rounds are over: what else a machine does makes a run longer and never shorter. The larger one
+may take twice as long as four of the smaller one, and that one SECONDS; what is not in step takes sixteen times as long.
 """
 
 import json
@@ -14,22 +15,24 @@ import subprocess
 import sys
 import tempfile
 
-SECONDS, TIMES, RUNS = 10, 2.6, 3
+SECONDS, GROWN, TIMES, ROUNDS = 10, 4, 8, 12
 SHORTEST = 0.05  # what is measured below this says nothing
+REGISTRY = "registry+https://github.com/rust-lang/crates.io-index"
 
 
 def crate(name, **more):
-    return dict({"id": name, "manifest_path": "/", "name": name, "version": "1.0.0", "license": "MIT"}, **more)
+    own = {"id": name, "manifest_path": "/", "name": name, "version": "1.0.0", "license": "MIT", "source": REGISTRY}
+    return dict(own, **more)
 
 
-def metadata(packages, enabled=(), needed=None):
+def metadata(packages, enabled=(), needed=None, members=1, root="no-workspace"):
     """A graph in which the first package is the member and needs all others, or each what `needed` says."""
     ids = [package["id"] for package in packages]
     needed = {ids[0]: ids[1:]} if needed is None else needed
     needs = {id_: {"deps": [{"pkg": one} for one in list_]} for id_, list_ in needed.items()}
     nodes = [{"id": id_, **needs.get(id_, {}), **dict(enabled).get(id_, {})} for id_ in ids]
     resolve = {"nodes": nodes}
-    return {"packages": packages, "resolve": resolve, "workspace_members": ids[:1], "workspace_root": "/"}
+    return {"packages": packages, "resolve": resolve, "workspace_members": ids[:members], "workspace_root": root}
 
 
 def quoted(texts):
@@ -113,37 +116,94 @@ def dead(size):
     return policy, metadata([crate("app"), crate("x")])
 
 
+def versions(size):
+    """SIZE crates in two versions each, which stand beside each other in the lock text."""
+    names = ["c%05d" % number for number in range(size)]
+    packages = [crate(name) for name in names] + [crate(name, id=name + "@2", version="2.0.0") for name in names]
+    return "[bans]\nmultiple-versions = 'warn'\n", metadata([crate("app")] + packages)
+
+
+def asking(name, *names):
+    """A crate in a folder of its own, which asks for others, and its manifest."""
+    declared = [{"name": other, "req": "*"} for other in names]
+    manifest = "[package]\nname = '%s'\n[dependencies]\n%s" % (name, "".join("%s = '*'\n" % other for other in names))
+    return crate(name, manifest_path=name + "/Cargo.toml", dependencies=declared, source=None), manifest
+
+
+ASKS_FOR_ALL = "[bans]\nwildcards = 'warn'\n[bans.workspace-dependencies]\nduplicates = 'warn'\nunused = 'warn'\n"
+
+
+def in_workspace(asked, others, shared):
+    """A workspace of crates that ask for others and share some, with the manifests of all."""
+    made = [asking(name, *names) for name, names in asked.items()]
+    lines = "".join("%s = '*'\n" % name for name in shared)
+    manifests = {one["manifest_path"]: text for one, text in made}
+    manifests["workspace/Cargo.toml"] = "[workspace.dependencies]\n" + lines
+    packages = [one for one, _ in made] + [crate(name) for name in others]
+    return ASKS_FOR_ALL, metadata(packages, (), asked, len(asked), "workspace"), manifests
+
+
+def members(size):
+    """SIZE members that all ask for one crate, each with a manifest of its own."""
+    return in_workspace({"m%05d" % number: ["x"] for number in range(size)}, ["x"], ["x"])
+
+
+def declarations(size):
+    """A member that asks for SIZE crates."""
+    names = ["c%05d" % number for number in range(size)]
+    return in_workspace({"a": names, "b": []}, names, [])
+
+
+def shared(size):
+    """SIZE entries that a workspace shares, every second of which is for no crate."""
+    names = ["c%05d" % number for number in range(size)]
+    return in_workspace({"a": names[::2]}, names[::2], names)
+
+
 FORMS = [
-    (crates, 20000), (exceptions, 5000), (allowances, 10000), (chain, 20000), (features, 10000), (exact, 20000),
-    (deep, 20000), (wide, 20000), (dead, 20000),
+    (crates, 10000), (exceptions, 2500), (allowances, 5000), (chain, 10000), (features, 5000), (exact, 10000),
+    (deep, 10000), (wide, 10000), (dead, 10000), (versions, 5000), (members, 1500),
+    (declarations, 10000), (shared, 10000),
 ]
 
 
-def time_of(program, folder, texts):
-    """The least processor time of a run over these texts, which passes."""
-    policy, value = texts
-    paths = [os.path.join(folder, name) for name in ("deny.toml", "metadata.json")]
-    for path, text in zip(paths, (policy, json.dumps(value))):
-        with open(path, "w", encoding="utf-8") as file:
+def written(folder, texts):
+    """The words of a run over these texts, which are written into a folder."""
+    policy, value, *manifests = texts
+    paths = ("deny.toml", "metadata.json")
+    for path, text in {paths[0]: policy, paths[1]: json.dumps(value), **dict(*manifests)}.items():
+        os.makedirs(os.path.join(folder, os.path.dirname(path)), exist_ok=True)
+        with open(os.path.join(folder, path), "w", encoding="utf-8") as file:
             file.write(text)
-    times = []
-    for _ in range(RUNS):
-        before = resource.getrusage(resource.RUSAGE_CHILDREN)
-        subprocess.run([program, "check", *paths], stdout=subprocess.DEVNULL, check=True)
-        after = resource.getrusage(resource.RUSAGE_CHILDREN)
-        times.append(after.ru_utime + after.ru_stime - before.ru_utime - before.ru_stime)
-    return min(times)
+    return ["check", *paths]
+
+
+def time_of(program, folder, words):
+    """The processor time of a run in a folder, which passes."""
+    before = resource.getrusage(resource.RUSAGE_CHILDREN)
+    subprocess.run([program, *words], stdout=subprocess.DEVNULL, check=True, cwd=folder)
+    after = resource.getrusage(resource.RUSAGE_CHILDREN)
+    return after.ru_utime + after.ru_stime - before.ru_utime - before.ru_stime
+
+
+def said_of(program, form, size):
+    """That a form is in step, or its least times."""
+    with tempfile.TemporaryDirectory() as small, tempfile.TemporaryDirectory() as large:
+        runs = [(folder, written(folder, form(times * size))) for folder, times in ((small, 1), (large, GROWN))]
+        least = [float("inf"), float("inf")]
+        for _ in range(ROUNDS):
+            least = [min(time, time_of(program, *run)) for time, run in zip(least, runs)]
+            if least[0] < SECONDS and least[1] < TIMES * max(least[0], SHORTEST):
+                return "in step"
+    return "%.2f s, of %d times as much %.2f s" % (least[0], GROWN, least[1])
 
 
 def main():
     if len(sys.argv) != 2:
         sys.exit(__doc__)
-    with tempfile.TemporaryDirectory() as folder:
-        for form, size in FORMS:
-            one, two = (time_of(sys.argv[1], folder, form(times * size)) for times in (1, 2))
-            in_step = one < SECONDS and two < TIMES * max(one, SHORTEST)
-            said = "in step" if in_step else "%.2f s, of twice as much %.2f s" % (one, two)
-            print("%s: %s" % (form.__name__, said), flush=True)
+    program = os.path.abspath(sys.argv[1])
+    for form, size in FORMS:
+        print("%s: %s" % (form.__name__, said_of(program, form, size)), flush=True)
 
 
 if __name__ == "__main__":

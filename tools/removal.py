@@ -104,7 +104,7 @@ class Told:
     """The lines of a run, each with its fields, by what they are."""
 
     def __init__(self, written):
-        self.lines = {"diagnostic": [], "dead": [], "verdict": [], "stop": []}
+        self.lines = {kind: [] for kind in ("diagnostic", "dead", "unread", "malformed", "verdict", "stop")}
         for one in lines_of(written.decode()):
             value = json.loads(one)
             self.lines[value["type"]].append((one, value["fields"]))
@@ -117,7 +117,8 @@ class Told:
         places = {place_of(text, start) for start, _ in ranges}
         findings = [one for one in self.lines["diagnostic"] if not reports(one[1], places)]
         dead = [one for one, range_ in zip(self.lines["dead"], self.dead()) if range_ not in ranges]
-        return [one for one, _ in findings + dead] + [verdict_of(findings)]
+        of_files = self.lines["unread"] + self.lines["malformed"]
+        return [one for one, _ in findings + dead + of_files] + [verdict_of(findings)]
 
     def all(self):
         return [one for lines in self.lines.values() for one, _ in lines]

@@ -3,7 +3,9 @@
 import json
 import re
 
-from readings.report import compact
+from readings.metadata import Fault, read_metadata
+from readings.manifests import below
+from readings.report import compact, paths_of
 
 REGISTRY = "registry+https://github.com/rust-lang/crates.io-index"
 
@@ -127,6 +129,42 @@ def row_graph(text, tables=(), enabled=()):
     return declaring(furnished(value, packages, nodes))
 
 
+def declared_graph(declared, members="app", sources=(), folders=(), **more):
+    """A graph whose crates need what they declare: `declared` has lists of `asks(..)` by crate, each for the crate `to`
+    or the one of its name. A member alone lies at `/w`, several in folders below it; the others are from the registry,
+    below `/r`. `sources` and `folders` say otherwise, and `more` has members of packages by crate."""
+    sources, folders, packages = dict(sources), dict(folders), {}
+
+    def crate(word):
+        name, _, version = word.partition("@")
+        is_member = word in members.split()
+        version = version or ("0.1.0" if name in members.split() else "1.0.0")
+        if word not in packages:
+            one = package(name, version, source=sources.get(word, None if is_member else REGISTRY))
+            otherwise = "/w" if members == word else "/w/" + name if one["source"] is None else "/r/%s-%s" % (
+                name, version
+            )
+            folder = folders.get(word, otherwise)
+            packages[word] = dict(one, manifest_path=below(folder, "Cargo.toml"), **more.get(word, {}))
+        return packages[word]
+
+    edges, in_order = [], [crate(word) for word in members.split()]
+    for word, list_ in declared.items():
+        asked = [(crate(one.pop("to", one["name"])), one) for one in map(dict, list_)]
+        crate(word)["dependencies"] = [one for _, one in asked]
+        edges += [(packages[word], needed, one) for needed, one in asked]
+    deps = {one["id"]: [] for one in packages.values()}
+    for parent, needed, one in edges:
+        kind = {"kind": one.get("kind"), "target": one.get("target")}
+        deps[parent["id"]].append({"dep_kinds": [kind], "pkg": needed["id"]})
+    return {
+        "packages": list(packages.values()),
+        "resolve": {"nodes": [{"deps": deps[one["id"]], "id": one["id"]} for one in packages.values()]},
+        "workspace_members": [one["id"] for one in in_order],
+        "workspace_root": "/w",
+    }
+
+
 def licensed(text, licences, publish=(), members="app"):
     """A graph as above whose crates have licences, and lists of where they may be published."""
     packages = {word: {"license": licence} for word, licence in licences.items()}
@@ -138,7 +176,6 @@ def lean(value):
     """Metadata without what may be left out: no source, no dependencies, a normal one's kind."""
     for package_ in value["packages"]:
         del package_["source"]
-        package_["manifest_path"] = "/"
     for node in value["resolve"]["nodes"]:
         for dependency_ in node["deps"]:
             if dependency_["dep_kinds"] == [{"kind": None}]:
@@ -187,6 +224,16 @@ def dead_line(kind, start, end):
     return compact({"fields": {"end": end, "kind": kind, "start": start}, "type": "dead"}) + "\n"
 
 
+def unread_line(crate, path):
+    """The line of a manifest that could not be read: its crate `name = version`, or None."""
+    return compact({"fields": {"crate": crate, "path": path, "purpose": "manifest"}, "type": "unread"}) + "\n"
+
+
+def malformed_line(path):
+    """The line of a manifest that is none."""
+    return compact({"fields": {"path": path}, "type": "malformed"}) + "\n"
+
+
 X, X2, Y, Z = package("x"), package("x", "2.0.0"), package("y"), package("z")
 ALONE = compact(metadata([]))
 PASSED = '{"fields":{"bits":0,"verdict":"pass"},"type":"verdict"}\n'
@@ -203,13 +250,54 @@ TABLE = "std.bin"
 
 def case(name, policy="", text=ALONE, table=None, **more):
     """A run over a policy and metadata, and over a table of replacements where there is one: its bytes, or a text.
+    Words that are `options` stand before the texts. Its disk has `files` besides, and the manifests of the crates where
+    it has no others, or else `manifests`, by their paths.
     Of what the run tells `by_hand` says the findings in short and `dead` the dead entries, `trees` the trees of each
     finding as text, `lines` all lines and `stop` that of a stop, as check_by_hand of check_cases.py compares them."""
     text = text if isinstance(text, (str, list)) else compact(text)
-    words, files = WORDS, {WORDS[1]: policy, WORDS[2]: text}
+    words, files = WORDS[:1] + list(more.pop("options", [])) + WORDS[1:], {WORDS[1]: policy, WORDS[2]: text}
     if table is not None:
-        words, files = WORDS + [TABLE], dict(files, **{TABLE: bytes_text(table)})
+        words, files = words + [TABLE], dict(files, **{TABLE: bytes_text(table)})
+    files.update(more.pop("files", {}))
     return dict({"name": name, "words": words, "files": files}, **more)
+
+
+# ---- manifests
+
+
+def manifest_of(name):
+    return '[package]\nname = "%s"\n' % name
+
+
+def is_free(path, files):
+    """Whether a disk of these files takes one more at a path."""
+    parts = path.split("/")
+    folders = ["/".join(parts[:number]) for number in range(1, len(parts))]
+    is_good = path not in ("", "/") and parts[-1] and not {"", ".", ".."} & set(parts[1:])
+    return is_good and not set(folders) & set(files) and not any(other.startswith(path + "/") for other in files)
+
+
+def wanted_manifests(text):
+    """The manifests that the crates of metadata have, and that of the workspace, by their paths."""
+    try:
+        graph = read_metadata(text.encode())
+    except Fault:
+        return {}
+    local = [crate for crate in reversed(graph.crates) if crate.source is None]
+    of_crates = {crate.manifest_path: manifest_of(crate.name) for crate in local}
+    return {below(graph.root, "Cargo.toml"): "[workspace]\n", **of_crates}
+
+
+def with_manifests(case):
+    """The case with the manifests on its disk that are read besides, where it does not say `manifests` itself."""
+    manifests, paths, files = case.pop("manifests", None), paths_of(case["words"]), case.get("files", {})
+    text = files.get(paths[1]) if len(paths) > 1 else None
+    if manifests is None:
+        manifests = wanted_manifests(text) if isinstance(text, str) else {}
+    for path, text in manifests.items():
+        if path not in files and is_free(path, files):
+            files = dict(files, **{path: text})
+    return dict(case, files=files) if files else case
 
 
 def bytes_text(raw):

@@ -2,11 +2,12 @@
 """Writes the cases of crates/deny_cases, and what each must print.
 
 The expected output comes from a reading of the rules that is written here anew: it shares nothing with the program
-that the cases try, and stands in tools/readings. The cases stand in dead_cases, feature_cases, licence_check_cases,
-metadata_cases, policy_cases, rule_cases, std_cases and tree_cases.
+that the cases try, and stands in tools/readings. The cases stand in dead_cases, declaration_cases, feature_cases,
+licence_check_cases, manifest_cases, metadata_cases, policy_cases, rule_cases, std_cases, tree_cases and
+workspace_cases.
 
     check_cases.py cases FOLDER                             writes the files stdin and stdout of crates/deny_cases
-    check_cases.py check POLICY METADATA [REPLACEMENTS]     does what the program does with these files
+    check_cases.py check [OPTIONS] POLICY METADATA [REPLACEMENTS]     does what the program does with these files
 """
 
 import json
@@ -16,22 +17,28 @@ from pathlib import Path
 
 sys.path.insert(0, str(Path(__file__).resolve().parent.parent))
 
-from case_parts import ALONE, DENY_X, WITH_X, case
+from case_parts import ALONE, DENY_X, WITH_X, case, is_free, manifest_of, with_manifests
 from dead_cases import dead_cases
 from feature_cases import feature_cases
+from declaration_cases import declaration_cases
 from licence_check_cases import licence_check_cases
+from manifest_cases import long_manifests, manifest_cases
 from readings import toml
 from readings.dead import UNUSED
+from readings.manifests import Seen
 from readings.metadata import read_metadata
 from readings.policy import read_policy
 from readings.replaced import table_for
-from readings.report import LIMIT, compact, findings_of, report, run, stop_line
+from readings.report import (
+    LIMIT, compact, findings_of, options_of, paths_of, report, run, stop_line, usage_place,
+)
 from readings.trees import Trees, text_of
 from metadata_cases import metadata_cases
 from policy_cases import policy_cases
 from rule_cases import rule_cases
 from std_cases import long_tables, std_cases
 from tree_cases import tree_cases
+from workspace_cases import workspace_cases
 
 # The statuses of runs that are done: the bits of the checks that failed.
 DONE = (0, 2, 4, 6)
@@ -42,6 +49,26 @@ DONE = (0, 2, 4, 6)
 USAGE = '{"fields":{"at":%d,"stop":"usage"},"type":"stop"}\n'
 # The place of the word that is missing or too many.
 WRONG_AT = {(): 0, ("check",): 1, ("check", "p", "m", "r", "s"): 4, ("generate", "20001"): 1}
+
+ONE = "--registry=own=https://example.org/"
+# Registries before the texts, and options that are none or stand elsewhere.
+OPTIONS = [
+    ["check", ONE, "p", "m"], ["check", ONE, ONE, "--registry=a==", "p", "m", "r"], ["check", ONE, "p", "m", "r", "s"],
+    ["check", "--registry=a=\n", "p", "m"], ["check", "--registry= =b", "p", "m"],
+    ["check", "--registry=ü=é=", "p", "m"],
+    ["check", ONE], ["check", ONE, "p"], ["check", ONE, ""], ["check", ONE, "-p", "m"],
+    ["check", "--registry", "p", "m"], ["check", "--registry=", "p", "m"], ["check", "--registry=a", "p", "m"],
+    ["check", "--registry=a=", "p", "m"], ["check", "--registry==b", "p", "m"], ["check", "--registry===", "p", "m"],
+    ["check", "--registry", "a=b", "p", "m"], ["check", "--Registry=a=b", "p", "m"],
+    ["check", "-registry=a=b", "p", "m"],
+    ["check", "--registries=a=b", "p", "m"], ["check", ONE, "--registry=a", "p", "m"], ["check", "p", ONE, "m"],
+    ["check", "p", "m", ONE], ["check", ONE, "--home=/h", "p", "m"], ["check", "--home=/h", ONE, "p", "m"],
+    ["generate", ONE, "4"], ["generate", "4", ONE], [ONE, "check", "p", "m"], [ONE],
+]
+WRONG_AT.update({
+    ("check", ONE): 2, ("check", ONE, "p"): 3, ("check", "--registry=a=", "p", "m"): 1, ("check", "p", ONE, "m"): 2,
+    ("check", ONE, "p", "m", "r", "s"): 5, ("generate", ONE, "4"): 1,
+})
 
 SUMMARY = '{"fields":{"crates":%d,"dead":0,"errors":%d,"generated":%d,"verdict":"%s"},"type":"summary"}\n'
 MADE = {
@@ -57,7 +84,7 @@ def words():
         ["Check", "p", "m"], ["", "p", "m"], ["check", "", "m"], ["check", "-p", "m"],
         ["check", "p", ""], ["check", "p", "-"], ["check", "p", "--m", "r"], ["generate"], ["generate", ""],
         ["generate", "20001"], ["generate", "04"], ["generate", "+4"], ["generate", "4 "], ["generate", "4", "5"],
-        ["check", "--home=/h", "p", "m"], ["checks", "p"], ["check", "p", "m", ""],
+        ["check", "--home=/h", "p", "m"], ["checks", "p"], ["check", "p", "m", ""], *OPTIONS,
     ):
         stop = {"stop": USAGE % WRONG_AT[tuple(list_)]} if tuple(list_) in WRONG_AT else {}
         yield dict({"name": "words %s" % compact(list_), "words": list_, "files": {"p": "", "m": ALONE}}, **stop)
@@ -84,7 +111,7 @@ def outside():
         yield case("pieces of %d bytes" % piece, DENY_X, WITH_X, piece=piece)
     write = '{"fields":{"stop":"write"},"type":"stop"}\n'
     yield case("room for ten bytes", DENY_X, WITH_X, room=10, lines='{"fields":', stop=write)
-    whole = len(report(b"", ALONE.encode())[0])
+    whole = len(report(b"", ALONE.encode(), disk=lambda path: b"")[0])
     for room in (0, 1, 20, whole // 2, whole - 1, whole, whole + 1):
         yield case("room for %d bytes of %d" % (room, whole), room=room)
     for room in (0, 1, 20, len(stop_line("usage", at=0)) - 1, len(stop_line("usage", at=0))):
@@ -95,21 +122,26 @@ def outside():
 
 def long_texts():
     """Texts of 2^28 bytes, and of one byte less."""
+    manifests = {"/w/Cargo.toml": manifest_of("app")}
     lines = lambda size: [{"repeat": "\n" * 4096, "times": size // 4096}, "\n" * (size % 4096)]
     spaced = lambda size: [{"repeat": " " * 4096, "times": (size - 4096) // 4096}, " " * (4096 - len(ALONE)), ALONE]
     yield case("a long policy, and no metadata", lines(LIMIT), piece=1 << 24, fail=["metadata.json"])
     yield case("a long policy in pieces of 4096", lines(LIMIT), piece=4096)
     yield case("a policy of a byte less", lines(LIMIT - 1), piece=1 << 24, by_hand="")
     yield case("long metadata, and a policy that is no text", {"hex": "ff"}, spaced(LIMIT), piece=1 << 24)
-    yield case("metadata of a byte less", "", spaced(LIMIT)[:1] + [" " * (4095 - len(ALONE)), ALONE], piece=1 << 24)
+    a_byte_less = spaced(LIMIT)[:1] + [" " * (4095 - len(ALONE)), ALONE]
+    yield case("metadata of a byte less", "", a_byte_less, piece=1 << 24, manifests=manifests)
     one = {"name": "one long path for both texts", "words": ["check", "m", "m"], "files": {"m": lines(LIMIT)}}
     yield dict(one, piece=1 << 24)
 
 
 def cases():
     subjects = (rule_cases, feature_cases, licence_check_cases, policy_cases, metadata_cases, std_cases)
-    for part in (words, outside, *subjects, tree_cases, dead_cases, long_texts, long_tables):
-        yield from filter(is_wanted, part())
+    of_manifests = (manifest_cases, declaration_cases, workspace_cases)
+    for part in (
+        words, outside, *subjects, tree_cases, dead_cases, *of_manifests, long_texts, long_tables, long_manifests
+    ):
+        yield from map(with_manifests, filter(is_wanted, part()))
 
 
 def is_wanted(case):
@@ -168,6 +200,8 @@ def told(answer):
 def told_of(kind, fields):
     if kind in ("verdict", "dead"):
         return []
+    if kind in ("unread", "malformed"):
+        return [" ".join([kind, short(fields["crate"] or "none")] if kind == "unread" else [kind, fields["path"]])]
     if kind == "diagnostic":
         return [told_finding(fields)]
     if fields["stop"] == "config":
@@ -185,7 +219,7 @@ def told_finding(fields):
     """The code and the first crate that the message names, 1.0.0 and 0.1.0 left out, `/` and the feature behind it; of
     a licence what its notes or its label name, and the byte at which it cannot be read."""
     code, quoted = fields["code"], lambda text: re.findall("'([^']*)'", text)
-    names = [re.sub(r"@(1\.0\.0|0\.1\.0)$", "", name.replace(" = ", "@")) for name in quoted(fields["message"])]
+    names = [short(name) for name in quoted(fields["message"])]
     if code in ABOUT_A_FEATURE:
         feature, crate = names
         return "%s %s/%s" % (code, crate, feature)
@@ -193,9 +227,19 @@ def told_finding(fields):
         return ": ".join([code] + [name for note in fields["notes"] for name in quoted(note)])
     if code in ("license-not-encountered", "license-exception-not-encountered"):
         return "%s %s" % (code, fields["labels"][0]["span"])
+    if code == "workspace-duplicate":
+        crate, times = re.match("crate (.*) is used ([0-9]+) times", fields["message"]).groups()
+        names = [short(crate) + " " + times]
+    if code in ("unresolved-workspace-dependency", "unused-workspace-dependency"):
+        names = [fields["labels"][0]["span"]]
     if code == "parse-error":
         names = [names[0] + " " + re.search("[0-9]+$", fields["message"]).group()]
     return " ".join([code] + names[:1])
+
+
+def short(crate):
+    """A crate, `name@version`, without the versions that most crates of cases have."""
+    return re.sub(r"@(1\.0\.0|0\.1\.0)$", "", crate.replace(" = ", "@"))
 
 
 ABOUT_A_FEATURE = ("feature-not-explicitly-allowed", "feature-banned", "unknown-feature", "default-feature-enabled")
@@ -221,16 +265,18 @@ def check_dead(case, answer):
     reported = [one["labels"][0] for one in told if one["code"] != "unnecessary-skip"]
     places = sorted((label["line"], label["column"]) for label in reported)
     starts = [one["fields"]["start"] for one in values if one["type"] == "dead"]
-    policy = text_of_case(case["files"][case["words"][1]]) if starts else b""
+    policy = text_of_case(case["files"][paths_of(case["words"])[0]]) if starts else b""
     if places != [place_of(policy, start) for start in starts]:
         sys.exit("%s: reported at %s, dead at %s" % (answer["name"], places, starts))
 
 
 def trees_told(case, answer):
     """The trees of each finding as text, which is also what the values of its line say."""
-    texts = [text_of_case(case["files"][path]) for path in case["words"][1:]]
+    texts = [text_of_case(case["files"][path]) for path in paths_of(case["words"])]
     policy, graph = read_policy(texts[0]), read_metadata(texts[1])
-    found, trees = findings_of(policy, graph, table_for(policy, *texts[2:] or [None])), Trees(graph)
+    disk = lambda path: text_of_case(case["files"][path]) if path in case["files"] else None
+    found = findings_of(policy, graph, table_for(policy, *texts[2:] or [None]), Seen(graph, disk))
+    trees = Trees(graph)
     written = ["".join(text_of(graph, tree) for tree in trees.of_finding(finding)) for finding in found]
     fields = [json.loads(line)["fields"] for line in lines_of(answer["out"])]
     of_lines = ["".join(map(text_of_value, one["graphs"])) for one in fields if "graphs" in one]
@@ -258,10 +304,18 @@ def text_of_value(tree):
     return text
 
 
+def labels_told(case, answer):
+    """The code of each finding, and the place and the text of each of its labels."""
+    fields = [value["fields"] for value in values_of(answer) if value["type"] == "diagnostic"]
+    label = lambda one: "%(line)d:%(column)d %(span)s" % one
+    return "; ".join("%s %s" % (one["code"], ", ".join(map(label, one.get("labels", [])))) for one in fields)
+
+
 # What a row says by hand, and how that is read off its answer.
 BY_HAND = {
     "by_hand": lambda case, answer: told(answer),
     "dead": dead_told,
+    "labels": labels_told,
     "lines": lambda case, answer: answer["out"],
     "stop": lambda case, answer: answer["err"],
     "trees": trees_told,
@@ -279,6 +333,14 @@ def check_by_hand(by_hand, case, answer):
 # ---- the files
 
 
+def check_disk(case):
+    """A disk takes the files of a case."""
+    files = case.get("files", {})
+    for path in files:
+        if not is_free(path, set(files) - {path}):
+            sys.exit("%s: no disk takes %s" % (case["name"], path))
+
+
 def write_cases(folder):
     open_ = lambda name: open("%s/%s" % (folder, name), "w", encoding="utf-8")
     names = set()
@@ -288,6 +350,7 @@ def write_cases(folder):
                 sys.exit("%r stands twice" % one["name"])
             names.add(one["name"])
             by_hand = {name: one.pop(name) for name in BY_HAND if name in one}
+            check_disk(one)
             answer = expected(one)
             check_by_hand(by_hand, one, answer)
             if answer["status"] in DONE:
@@ -296,9 +359,17 @@ def write_cases(folder):
             stdout.write(compact(answer) + "\n")
 
 
-def check(*paths):
+def read_file(path):
+    """The bytes of a real file, or None where it cannot be read."""
+    try:
+        return Path(path).read_bytes()
+    except OSError:
+        return None
+
+
+def check(paths, registries):
     """What the program writes on these files, and its status."""
-    written, status = report(*(Path(path).read_bytes() for path in paths))
+    written, status = report(*map(Path.read_bytes, map(Path, paths)), disk=read_file, registries=registries)
     (sys.stdout if status in DONE else sys.stderr).write(written)
     return status
 
@@ -306,8 +377,8 @@ def check(*paths):
 def main():
     if len(sys.argv) == 3 and sys.argv[1] == "cases":
         write_cases(sys.argv[2])
-    elif len(sys.argv) in (4, 5) and sys.argv[1] == "check":
-        sys.exit(check(*sys.argv[2:]))
+    elif sys.argv[1:2] == ["check"] and usage_place(sys.argv[1:]) is None:
+        sys.exit(check(paths_of(sys.argv[1:]), options_of(sys.argv[1:])))
     else:
         sys.exit(__doc__)
 

@@ -1,7 +1,7 @@
 """Cases of policies: what each key takes, how an entry is written, what contradicts itself, what is not judged yet."""
 
 from case_parts import (
-    ALONE, DENY_X, PASSED, TREES_OF_APP, TREES_OF_X, TWO_X, WITH_X, case, featured, graph, licensed, public_graph, told,
+    ALONE, PASSED, TREES_OF_APP, TREES_OF_X, TWO_X, WITH_X, case, featured, graph, licensed, public_graph, told,
 )
 from readings.report import compact
 from replacement_cases import WORKED
@@ -409,28 +409,31 @@ def together(text, other):
 
 # ---- what stops a run first
 
-UNBUILT = [
-    "wildcards = 'warn'", "wildcards = 'deny'", "allow-build-scripts = []", "build = {}", "workspace-dependencies = {}",
+UNBUILT = ["allow-build-scripts = []", "build = {}"]
+# Keys of declarations, which tell nothing of crates without any.
+DECLARATIONS = [
+    "wildcards = 'allow'", "wildcards = 'warn'", "wildcards = 'deny'", "allow-wildcard-paths = false",
+    "allow-wildcard-paths = true", "workspace-dependencies = {}",
+    "workspace-dependencies = { duplicates = 'allow', include-path-dependencies = false, unused = 'warn' }",
 ]
 
 
 def unbuilt():
     """Keys that no rule reads yet."""
     for key in UNBUILT:
-        name = key if key.startswith("wildcards") else key.split(" ")[0]
+        name = key.split(" ")[0]
         yield case("not judged: %s" % name, "[bans]\n%s\n" % key, by_hand="not-built")
         yield case(
             "not judged: %s after all other keys" % name,
             "[bans]\ndeny = ['x']\nskip = ['y']\nallow = ['app']\nhighlight = 'all'\n%s\n" % key, WITH_X,
             by_hand="not-built"
         )
-    wanted = "[licenses]\nallow = ['MIT']\n\n[bans]\nwildcards = 'warn'\n"
-    yield case("not judged: wildcards beside licences", wanted, LICENSED_X, by_hand="not-built")
-    for key in ("wildcards = 'allow'", "allow-wildcard-paths = false", "allow-wildcard-paths = true"):
+    wanted = "[licenses]\nallow = ['MIT']\n\n[bans]\nallow-build-scripts = ['x']\n"
+    yield case("not judged: build scripts beside licences", wanted, LICENSED_X, by_hand="not-built")
+    for key in DECLARATIONS:
         yield case("judged: %s" % key, "[bans]\n%s\n" % key, WITH_X, by_hand="")
         yield case("judged: %s beside a ban" % key, "[bans]\n%s\ndeny = ['x']\n" % key, WITH_X, by_hand="banned x")
-    for table in ("build", "workspace-dependencies"):
-        yield case("not judged: [bans.%s]" % table, "[bans.%s]\n" % table, by_hand="not-built")
+    yield case("not judged: [bans.build]", "[bans.build]\n", by_hand="not-built")
     for text in (
         "[license]\n", "[bans]\ndeny = []\n[other.licenses]\n", "[graph]\nbuild = 1\n", "build = 5\nfeatures = 1\n",
         "[bans]\nfeatures = []\n", "[bans]\nexternal-default-features = 'warn'\nworkspace-default-features = 'deny'\n",
@@ -440,7 +443,7 @@ def unbuilt():
 
 def stops():
     """Several causes to stop at once: which one is told."""
-    fault, clash, key, bad = "more = 1", "deny = ['x']\nskip = ['x']", "wildcards = 'warn'", "{"
+    fault, clash, key, bad = "more = 1", "deny = ['x']\nskip = ['x']", "allow-build-scripts = ['x']", "{"
     metadata = {"good": WITH_X, "bad": bad}
     for name, parts in (
         ("a fault, a clash and a key that is not judged", (fault, clash, key)), ("a fault and a clash", (fault, clash)),
@@ -455,8 +458,8 @@ def stops():
             fail=["metadata.json"]
         )
     yield case(
-        "stop: keys that are not judged, of another kind", "[bans]\nbuild = 5\nwildcards = true\n",
-        by_hand="wrong-kind 15..16 bans.build; wrong-kind 29..33 bans.wildcards"
+        "stop: keys that are not judged, of another kind", "[bans]\nbuild = 5\nallow-build-scripts = true\n",
+        by_hand="wrong-kind 15..16 bans.build; wrong-kind 39..43 bans.allow-build-scripts"
     )
     yield case("stop: [licenses] and a fault", "[licenses]\n[bans]\nskip = 1\n", by_hand="wrong-kind 25..26 bans.skip")
 
@@ -603,7 +606,9 @@ def template():
     no_licences = "\n".join(lines[:8] + lines[15:])
     yield case("the template without licences", no_licences, TWO_X, by_hand="duplicate x")
     denied = TEMPLATE.replace("wildcards = \"allow\"", "wildcards = \"deny\"")
-    yield case("the template, wildcards denied", denied, licences, by_hand="not-built")
+    yield case(
+        "the template, wildcards denied", denied, licences, by_hand="accepted: MIT; accepted: MIT OR Apache-2.0"
+    )
     several = TEMPLATE.replace('"warn"', '"deny"').replace('"Apache-2.0"', '"Zlib"')
     yield case(
         "the template with other values", several, licensed("app -> x, app -> x@2.0.0", {"app": "MIT", "x": "Zlib"}),

@@ -136,7 +136,10 @@ def whole_lines():
                 (4, 18, "allowed here", "x"), (4, 36, "reason", "\nours"), graphs=TREES_OF_X
             ),
             told("not-allowed", "error", "crate 'x = 2.0.0' is not explicitly allowed", graphs=of_x2),
-            told("duplicate", "error", "found 2 duplicate entries for crate 'x'", graphs=TREES_OF_X + of_x2),
+            told(
+                "duplicate", "error", "found 2 duplicate entries for crate 'x'",
+                (2, 1, "lock entries", "x 1.0.0 /w\nx 2.0.0 /w"), graphs=TREES_OF_X + of_x2
+            ),
             failed,
         ])
     )

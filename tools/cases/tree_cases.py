@@ -663,7 +663,7 @@ def some_crates(draw, names, most):
         table = {feature: [some_entry(draw) for _ in range(draw(4))] for feature in FEATURES if draw(3)}
         declared = [some_declaration(draw, names) for _ in range(draw(5))]
         id_ = "%s%s %s" % ("zMa"[draw(3)], name, version)
-        own = {"id": id_, "manifest_path": "/", "name": name, "version": version}
+        own = {"id": id_, "manifest_path": "/w/Cargo.toml", "name": name, "version": version}
         crates.append(dict(own, dependencies=declared, features=table))
     return crates
 
@@ -696,7 +696,7 @@ def some_whole_graph(draw, names, most):
         if draw(3):
             nodes[0]["deps"].append({"pkg": other["id"]})
     members = [crates[0]["id"]] + [one["id"] for one in crates[1:] if draw(6) == 0]
-    return {"packages": crates, "resolve": {"nodes": nodes}, "workspace_members": members, "workspace_root": "/"}
+    return {"packages": crates, "resolve": {"nodes": nodes}, "workspace_members": members, "workspace_root": "/w"}
 
 
 def by_chance():

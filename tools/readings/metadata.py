@@ -4,6 +4,7 @@ import json
 import re
 from collections import namedtuple
 
+from readings.sources import CRATES_IO, are_below, is_source, read_source
 from readings.versions import matches, precedence, read_requirement, read_version
 
 DEPTH = 127  # JSON nests no deeper than this
@@ -12,40 +13,14 @@ DEPTH = 127  # JSON nests no deeper than this
 # ---- the texts that metadata holds
 
 
-def are_below(limit, numbers):
-    return all(int(number) < limit for number in numbers)
-
-
 def is_rust_version(text):
     """One to three dotted numbers under 2^32."""
     return bool(re.fullmatch(r"[0-9]+(\.[0-9]+){0,2}", text)) and are_below(2**32, text.split("."))
 
 
-SPECIAL = r"(?:https?|ftp|wss?)://(?:[^/?#@]*@)?([^/?#@:\[\]]+|\[[0-9a-f:.]+\])(?::([0-9]*))?(?:[/?#].*)?"
-OTHER = r"(?!https?:|ftp:|wss?:)[a-z][a-z0-9+.-]*:.*"
-
-
-def is_address(text):
-    """An absolute URL with a scheme, of which the web's have a host and a port under 2^16."""
-    found = re.fullmatch(SPECIAL, text)
-    if found:
-        return not re.search(r"[ <>^|%]", found.group(1)) and are_below(2**16, [found.group(2) or 0])
-    return bool(re.fullmatch(OTHER, text))
-
-
-# The public registry, in the two forms in which cargo knows it.
-CRATES_IO = ("registry+https://github.com/rust-lang/crates.io-index", "sparse+https://index.crates.io/")
-
-
 def minor_of(rust_version):
     """The second number of a version of Rust, 0 where it has none; or None where there is no version."""
     return None if rust_version is None else int((rust_version.split(".") + ["0"])[1])
-
-
-def is_source(text):
-    """An address behind the word for how it is read."""
-    kind, plus, address = text.partition("+")
-    return kind in ("registry", "sparse", "git") and plus == "+" and is_address(address)
 
 
 # ---- JSON
@@ -212,10 +187,10 @@ def read_document(root):
     packages, members = root.member("packages"), root.member("workspace_members")
     packages.take(list)
     members = root.texts("workspace_members")
-    root.text("workspace_root")
+    folder = root.text("workspace_root")
     resolve = root.member("resolve")
     resolve.take(dict)
-    return root.objects("packages", read_package), members, resolve.objects("nodes", read_node)
+    return root.objects("packages", read_package), members, resolve.objects("nodes", read_node), folder
 
 
 # ---- the graph of metadata
@@ -268,14 +243,17 @@ def reached_by(nodes, members, kinds):
 class Crate:
     """A crate of the graph. `needs` and `dependents` are the places of others, by edges of every kind, and `edges` are
     those that lead from it, each a place, a kind and a target. `features` is its table of features, and `enabled` are
-    those that are enabled, in order."""
+    those that are enabled, in order. `source` is None for a crate that lies in a folder of its own, and `source_text`
+    what the metadata says of it."""
 
     def __init__(self, place, package, is_member, is_built, enabled):
         self.place, self.id = place, package["id"]
         self.name, self.version = package["name"], package["version"]
         self.read_version = read_version(self.version)
         self.is_member, self.is_built = is_member, is_built
-        self.is_public, self.rust_minor = package["source"] in CRATES_IO, minor_of(package["rust_version"])
+        self.source_text, self.manifest_path = package["source"], package["manifest_path"]
+        self.source = None if self.source_text is None else read_source(self.source_text)
+        self.is_public, self.rust_minor = self.source_text in CRATES_IO, minor_of(package["rust_version"])
         self.license, self.publish = package["license"], package["publish"]
         self.features, self.enabled = package["features"], sorted(set(enabled), key=str.encode)
         self.has_enabled = set(enabled).__contains__
@@ -288,11 +266,23 @@ class Crate:
     def order(self):
         return precedence(self.read_version), self.id.encode()
 
+    def folder(self):
+        return self.manifest_path.rpartition("/")[0] or "/"
+
+    def is_from(self, *kinds):
+        """Whether its source is of one of these kinds."""
+        return self.source is not None and self.source.kind in kinds
+
+    def is_private(self):
+        """Whether it may be published nowhere."""
+        return self.publish == []
+
 
 class Graph:
-    """The crates that the members reach, in order."""
+    """The crates that the members reach, in order, and the folder of the workspace."""
 
-    def __init__(self, packages, nodes, enabled, members):
+    def __init__(self, packages, nodes, enabled, members, root):
+        self.root = root
         reached = reached_by(nodes, members, {"normal", "build", "dev"})
         built = reached_by(nodes, members, {"normal", "build"})
         ordered = sorted((packages[id_] for id_ in reached), key=place_in_order)
@@ -301,7 +291,7 @@ class Graph:
             for place, package in enumerate(ordered)
         ]
         places = {crate.id: crate.place for crate in self.crates}
-        self.by_name = {}
+        self.by_name, self.by_edge = {}, {}
         for crate in self.crates:
             self.by_name.setdefault(crate.name, []).append(crate)
             for needed, kinds in nodes[crate.id]:
@@ -315,11 +305,18 @@ class Graph:
     def dependents(self, crate):
         return [self.crates[place] for place in sorted(crate.dependents)]
 
+    def children(self, crate):
+        """What a crate needs, by name, kind and target, in order."""
+        if crate.place not in self.by_edge:
+            found = self.by_edge[crate.place] = {}
+            for place, kind, target in sorted(crate.edges, key=lambda edge: edge[0]):
+                found.setdefault((self.crates[place].name, kind, target), []).append(self.crates[place])
+        return self.by_edge[crate.place]
+
     def resolved(self, crate, declaration):
         """The crate that a declaration of a crate is for: of those that it needs by this name, for this kind and this
         target, the first whose version matches, else the first; or None."""
-        by_edge = sorted({place for place, *rest in crate.edges if rest == [declaration.kind, declaration.target]})
-        children = [self.crates[place] for place in by_edge if self.crates[place].name == declaration.name]
+        children = self.children(crate).get((declaration.name, declaration.kind, declaration.target), [])
         comparators = read_requirement(declaration.req)
         fitting = [child for child in children if matches(comparators, child.read_version)]
         return (fitting or children or [None])[0]
@@ -339,9 +336,9 @@ def read_metadata(text):
         raise Fault("float")
     if isinstance(value, dict) and value.get("resolve") is None:
         raise Fault("no-resolve")
-    packages, members, nodes = At(value).object(read_document)
+    packages, members, nodes, root = At(value).object(read_document)
     check_ids(packages, members, nodes)
     check_texts(packages)
     packages = {package["id"]: package for package in packages}
     dependencies = {id_: found for id_, found, _ in nodes}
-    return Graph(packages, dependencies, {id_: enabled for id_, _, enabled in nodes}, set(members))
+    return Graph(packages, dependencies, {id_: enabled for id_, _, enabled in nodes}, set(members), root)

@@ -14,8 +14,8 @@ FAULT_KINDS = ["not-utf8", "grammar", "clash", "unknown", "missing", "wrong-kind
 
 # A value that was read, and its range.
 Spanned = namedtuple("Spanned", "value span")
-# A label: its range and its text.
-Label = namedtuple("Label", "span message")
+# A label: its range and its message, and the text that it lies in where that is not the policy.
+Label = namedtuple("Label", "span message text", defaults=[None])
 # An error about the policy itself.
 Diagnostic = namedtuple("Diagnostic", "message labels")
 
@@ -283,8 +283,8 @@ BANS = {
     "std-replacements": table(STD_REPLACEMENTS),
 }
 
-# What no rule reads yet: such a policy is not judged, as one is not that wants to hear of wildcards.
-UNBUILT = ["allow-build-scripts", "build", "workspace-dependencies"]
+# What no rule reads yet: such a policy is not judged.
+UNBUILT = ["allow-build-scripts", "build"]
 
 # ---- `[licenses]`
 
@@ -324,7 +324,7 @@ class Policy:
         return [e for e in self.entries("deny") if e.get("deny-multiple-versions")]
 
     def is_built(self):
-        return self.get("wildcards", "allow") == "allow" and not any(name in self.bans for name in UNBUILT)
+        return not any(name in self.bans for name in UNBUILT)
 
 
 def read_tree(text):

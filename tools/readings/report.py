@@ -1,17 +1,20 @@
-"""What a run of `check POLICY METADATA [REPLACEMENTS]` or `generate N` writes, and its status."""
+"""What a run of `check [OPTIONS] POLICY METADATA [REPLACEMENTS]` or `generate N` writes, and its status."""
 
 import json
 import re
 
 from readings.dead import dead_entries
+from readings.dependencies import dependency_rules
 from readings.features import feature_rules
 from readings.licensing import licence_rules
+from readings.manifests import Seen
 from readings.metadata import Fault, read_metadata
 from readings.policy import Faults, clashes, read_policy
 from readings.replaced import std_rules, table_for
 from readings.replacements import Bad
-from readings.rules import crate_rules, in_order
+from readings.rules import Rules, crate_rules, in_order
 from readings.trees import Trees
+from readings.workspace import Workspace
 
 LIMIT = 2**28  # a text that is read has fewer bytes than this
 MOST_MADE = 20000  # crates that can be asked for
@@ -40,6 +43,7 @@ def stop_line(stop, **fields):
 def labelled(text, label):
     """A label: where its range begins, from 1 and in characters, and its text without quotes at the ends."""
     start, end = label.span
+    text = text if label.text is None else label.text
     before = text[:start]
     column = len(before[before.rfind(b"\n") + 1 :].decode()) + 1
     span = text[start:end].decode().strip('"')
@@ -75,13 +79,20 @@ def fault_value(fault):
 # ---- runs
 
 
-def findings_of(policy, graph, table):
+def findings_of(policy, graph, table, seen, registries=()):
     """What stands, in order."""
-    by_texts = [rules(policy, graph) for rules in (crate_rules, feature_rules, licence_rules)]
-    return in_order(finding for findings in [*by_texts, std_rules(policy, graph, table)] for finding in findings)
+    rules = Rules(policy, graph)
+    parts = [crate_rules(rules), dependency_rules(rules, seen, Workspace(graph, seen, registries))]
+    parts += [feature_rules(policy, graph), licence_rules(policy, graph), std_rules(policy, graph, table)]
+    return in_order(finding for findings in parts for finding in findings)
 
 
-def report(policy_text, metadata_text, replacements=None):
+def no_disk(path):
+    """A disk of which nothing can be read."""
+    return None
+
+
+def report(policy_text, metadata_text, replacements=None, disk=no_disk, registries=()):
     """The lines of the report on these texts and its status, or the line of a stop and its status."""
     try:
         policy = read_policy(policy_text)
@@ -100,9 +111,11 @@ def report(policy_text, metadata_text, replacements=None):
         table = table_for(policy, replacements)
     except Bad as bad:
         return stop_line("replacement", offset=bad.args[0]), 22
-    found, trees = findings_of(policy, graph, table), Trees(graph)
+    seen, trees = Seen(graph, disk), Trees(graph)
+    found = findings_of(policy, graph, table, seen, registries)
     lines = [finding_line(finding, policy_text, trees) for finding in found]
     lines += [dead_line(entry) for entry in dead_entries(policy, graph, table, found)]
+    lines += [line(kind, fields) for kind, fields in seen.lines()]
     bits = sum({finding.bit for finding in found if finding.severity == "error"})
     lines.append(line("verdict", {"bits": bits, "verdict": "fail" if bits else "pass"}))
     return "".join(lines), bits
@@ -116,19 +129,39 @@ def is_number(word):
     return re.fullmatch("0|[1-9][0-9]*", word) is not None and int(word) <= MOST_MADE
 
 
-# What a word behind the command has to be, and how many words there are at least.
-FORMS = {"check": ([is_path, is_path, is_path], 3), "generate": ([is_number], 2)}
+REGISTRY_OPTION = re.compile("--registry=([^=]+)=(.+)", re.DOTALL)
+
+
+def options_of(words):
+    """The registries that the words behind a command name, each its name and its address."""
+    found = []
+    for word in words[1:] if words[:1] == ["check"] else []:
+        option = REGISTRY_OPTION.fullmatch(word)
+        if not option:
+            break
+        found.append(option.groups())
+    return found
+
+
+# What a word behind the options has to be, and how many words there are at least.
+FORMS = {"check": ([is_path, is_path, is_path], 2), "generate": ([is_number], 1)}
 
 
 def usage_place(words):
-    """Where the words break off from `check POLICY METADATA [REPLACEMENTS]` or `generate N`, or None."""
+    """Where the words break off from `check [OPTIONS] POLICY METADATA [REPLACEMENTS]` or `generate N`, or None."""
     if not words or words[0] not in FORMS:
         return 0
     tests, fewest = FORMS[words[0]]
-    for place, word in enumerate(words[1:], 1):
-        if place > len(tests) or not tests[place - 1](word):
-            return place
-    return len(words) if len(words) < fewest else None
+    first = 1 + len(options_of(words))
+    for number, word in enumerate(words[first:]):
+        if number == len(tests) or not tests[number](word):
+            return first + number
+    return len(words) if len(words) < first + fewest else None
+
+
+def paths_of(words):
+    """The paths of the texts that accepted words name."""
+    return words[1 + len(options_of(words)) :]
 
 
 def made(number):
@@ -153,7 +186,7 @@ def summary(number):
     """The line that sums up the report on what is made of a number, and the status."""
     policy_text, metadata_text = made(number)
     policy, graph = read_policy(policy_text), read_metadata(metadata_text)
-    found = findings_of(policy, graph, None)
+    found = findings_of(policy, graph, None, Seen(graph, lambda path: b""))
     bits = sum({finding.bit for finding in found if finding.severity == "error"})
     return line("summary", {
         "crates": len(graph.crates), "dead": len(dead_entries(policy, graph, None, found)),
@@ -169,11 +202,11 @@ def run(words, texts, failing=()):
         return stop_line("usage", at=place), 16
     if words[0] == "generate":
         return summary(int(words[1]))
-    read = []
-    for file, path in zip(("policy", "metadata", "replacements"), words[1:]):
-        if path not in texts or path in failing:
+    disk, read = lambda path: texts[path]() if path in texts and path not in failing else None, []
+    for file, path in zip(("policy", "metadata", "replacements"), paths_of(words)):
+        read.append(disk(path))
+        if read[-1] is None:
             return stop_line("read", file=file), 17
-        read.append(texts[path]())
         if len(read[-1]) >= LIMIT:
             return stop_line("long", file=file), 18
-    return report(*read)
+    return report(*read, disk=disk, registries=options_of(words))

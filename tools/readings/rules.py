@@ -1,5 +1,6 @@
 """The crate rules: what stands of a policy on a graph, in the order of the report."""
 
+from readings.lock import Lock
 from readings.policy import Label
 from readings.trees import crate_node
 
@@ -8,7 +9,8 @@ CODES = [
     "banned", "allowed", "not-allowed", "duplicate", "skipped", "wildcard", "unmatched-skip", "unnecessary-skip",
     "allowed-by-wrapper", "unmatched-wrapper", "skipped-by-root", "unmatched-skip-root", "exact-features-mismatch",
     "feature-not-explicitly-allowed", "feature-banned", "unknown-feature", "default-feature-enabled", "unused-wrapper",
-    "replaced-in-std", "unmatched-replacement-ignore", "accepted", "rejected", "unlicensed", "parse-error",
+    "workspace-duplicate", "unresolved-workspace-dependency", "unused-workspace-dependency", "replaced-in-std",
+    "unmatched-replacement-ignore", "accepted", "rejected", "unlicensed", "parse-error",
     "skipped-private-workspace-crate", "license-not-encountered", "license-exception-not-encountered",
 ]
 # The exit bit of the check that a section belongs to.
@@ -178,6 +180,7 @@ def skipped_trees(rules):
 
 
 def duplicates(rules):
+    lock = Lock(rules.graph)
     wanted_once = {crate.place for entry in rules.policy.one_version_wanted() for crate in rules.matched(entry)}
     for name in rules.graph.by_name:
         crates = [crate for crate in rules.reduced_group(name) if not rules.is_marked(crate)]
@@ -187,13 +190,13 @@ def duplicates(rules):
             in_order_ = sorted(crates, key=lambda crate: crate.order())
             places, nodes = [crate.place for crate in in_order_], [crate_node(crate) for crate in in_order_]
             message = "found %d duplicate entries for crate '%s'" % (len(crates), name)
+            labels = [Label(lock.span_of(crates), "lock entries", lock.text)]
             more = {"place": places[0], "places": places, "nodes": nodes}
-            yield Finding("groups", "duplicate", SEVERITY[level], message, **more)
+            yield Finding("groups", "duplicate", SEVERITY[level], message, labels, **more)
 
 
-def crate_rules(policy, graph):
+def crate_rules(rules):
     """What stands by the crate rules."""
-    rules = Rules(policy, graph)
     for part in (bans, unused_wrappers, allowances, skipped_crates, skipped_trees, duplicates):
         yield from part(rules)
 

@@ -9,6 +9,8 @@ pub mod examples;
 #[cfg(test)]
 mod krates;
 #[cfg(test)]
+mod listing;
+#[cfg(test)]
 mod lists;
 #[cfg(test)]
 mod outside;

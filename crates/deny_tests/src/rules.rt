@@ -1,7 +1,7 @@
 //! What the gate shows of duplicates.
 use deny_base::{DepKind, Edge};
 use deny_gate::{GateError, Inputs, Report, gate};
-use deny_lists::NoMemory;
+use deny_lists::{List, NoMemory};
 use deny_outside::MemoryDisk;
 use deny_rules::{DupEdges, DupSet};
 
@@ -22,6 +22,7 @@ fn answer(rt: &HostRuntime) -> Result<Result<Report, GateError>, NoMemory> {
         policy: Vec::from_slice(rt.alloc(), policy)?,
         metadata: Vec::from_slice(rt.alloc(), GRAPH)?,
         replacements: None,
+        registries: List::new(rt.alloc()),
     };
     let mut disk = MemoryDisk::new(rt.alloc(), 1);
     Ok(gate(rt.alloc(), &inputs, &mut disk))
