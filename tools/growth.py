@@ -1,5 +1,6 @@
 #!/usr/bin/env python3
-"""Says whether runs over many licences, features, trees, dead entries and manifests take time in step with their texts.
+"""Says whether runs over many licences, features, trees, dead entries, manifests and files of packages take time in step
+with these.
 
     tools/growth.py PROGRAM     for each form a line: that it is in step, or the processor time of both sizes
 
@@ -160,18 +161,81 @@ def shared(size):
     return in_workspace({"a": names[::2]}, names[::2], names)
 
 
+def executed(name):
+    """A crate that is executed while others are built, in a folder of its own."""
+    targets = [{"kind": ["proc-macro"], "src_path": name + "/lib.rs"}]
+    return crate(name, manifest_path=name + "/Cargo.toml", targets=targets)
+
+
+def with_package(bypass, paths):
+    """A crate with a package of these files, which are scripts, and what a bypass says of them."""
+    files = {"x/" + path: "#!/bin/sh\n# a script\n" for path in paths}
+    policy = "[bans.build]\ninterpreted = 'warn'\nbypass = [{ crate = 'x', %s }]\n" % bypass
+    return policy, metadata([crate("app"), executed("x")]), files
+
+
+def files(size):
+    """A package of SIZE files, each of which a glob allows."""
+    return with_package("allow-globs = ['d/*']", ["d/f%05d" % number for number in range(size)])
+
+
+def scripts(size):
+    """A package of SIZE files that are told as scripts."""
+    return with_package("allow = []", ["f%05d" % number for number in range(size)])
+
+
+def folders(size):
+    """A package of SIZE folders, each with a file."""
+    return with_package("allow = []", ["d%05d/f" % number for number in range(size)])
+
+
+def depth(size):
+    """A package of folders that are SIZE deep, with a file at their end."""
+    return with_package("allow = []", ["d/" * size + "f"])
+
+
+def paths(size):
+    """A package of SIZE files, each of which is an allowed path."""
+    names = ["f%05d" % number for number in range(size)]
+    allowed = ", ".join("{ path = '%s' }" % name for name in reversed(names))
+    return with_package("allow = [%s]" % allowed, names)
+
+
+def nowhere(size):
+    """SIZE allowed paths and globs that are nowhere."""
+    names = ["q%05d" % number for number in range(size)]
+    allowed = ", ".join("{ path = '%s' }" % name for name in names)
+    return with_package("allow = [%s], allow-globs = %s" % (allowed, quoted("*." + name for name in names)), ["f"])
+
+
+def globs(size):
+    """A package of SIZE files, each of which a glob of its own allows."""
+    names = ["f%05d" % number for number in range(size)]
+    return with_package("allow-globs = %s" % quoted("*." + name for name in names), ["a." + name for name in names])
+
+
+def packages(size):
+    """SIZE packages, each with a bypass for one of its files."""
+    names = ["c%05d" % number for number in range(size)]
+    bypasses = ",\n".join("{ crate = '%s', allow = [{ path = 'f' }] }" % name for name in reversed(names))
+    found = {name + "/f": "#!/bin/sh\n# a script\n" for name in names}
+    made = metadata([crate("app")] + [executed(name) for name in names])
+    return "[bans.build]\nbypass = [\n%s\n]\n" % bypasses, made, found
+
+
 FORMS = [
     (crates, 10000), (exceptions, 2500), (allowances, 5000), (chain, 10000), (features, 5000), (exact, 10000),
     (deep, 10000), (wide, 10000), (dead, 10000), (versions, 5000), (members, 1500),
-    (declarations, 10000), (shared, 10000),
+    (declarations, 10000), (shared, 10000), (files, 5000), (scripts, 5000), (folders, 2500), (depth, 500), (paths, 500),
+    (nowhere, 500), (globs, 500), (packages, 500),
 ]
 
 
 def written(folder, texts):
     """The words of a run over these texts, which are written into a folder."""
-    policy, value, *manifests = texts
+    policy, value, *files_ = texts
     paths = ("deny.toml", "metadata.json")
-    for path, text in {paths[0]: policy, paths[1]: json.dumps(value), **dict(*manifests)}.items():
+    for path, text in {paths[0]: policy, paths[1]: json.dumps(value), **dict(*files_)}.items():
         os.makedirs(os.path.join(folder, os.path.dirname(path)), exist_ok=True)
         with open(os.path.join(folder, path), "w", encoding="utf-8") as file:
             file.write(text)
@@ -202,6 +266,7 @@ def main():
     if len(sys.argv) != 2:
         sys.exit(__doc__)
     program = os.path.abspath(sys.argv[1])
+    sys.setrecursionlimit(10000)  # folders are made and taken away one in the other
     for form, size in FORMS:
         print("%s: %s" % (form.__name__, said_of(program, form, size)), flush=True)
 

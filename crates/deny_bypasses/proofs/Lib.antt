@@ -1,0 +1,2 @@
+pub mod CrateLemmas
+pub mod ViewLemmas
