@@ -2,7 +2,7 @@
 //! status that the run ends with.
 #![tactic(auto)]
 
-use deny_cli::run;
+use deny_cli::status_of_run;
 use deny_outside::{RealDisk, RealOut};
 use std::process::ExitCode;
 use std::{env, io};
@@ -22,6 +22,6 @@ fn main(rt: HostRuntime) -> ExitCode {
     let mut disk = RealDisk::new(&rt);
     let mut out = RealOut::out(&rt);
     let mut err = RealOut::err(&rt);
-    let ended = run(rt.alloc(), words.as_slice(), &mut disk, &mut out, &mut err);
-    ExitCode::from(ended.status)
+    let status = status_of_run(rt.alloc(), words.as_slice(), &mut disk, &mut out, &mut err);
+    ExitCode::from(status)
 }

@@ -1,6 +1,6 @@
 use crate::case_error::CaseError;
 use crate::text::text_bytes;
-use deny_cli::run;
+use deny_cli::status_of_run;
 use deny_lists::{List, Text};
 use deny_outside::{MemoryDisk, MemoryOut};
 use serde_json::{Map, Value, json};
@@ -79,6 +79,9 @@ impl Case {
         for path in &strings(alloc, self.value.get("fail"))? {
             disk.fail_path(path.as_str())?;
         }
+        if let Some(number) = self.value.get("fail_call").and_then(Value::as_u64) {
+            disk.fail_call(number)?;
+        }
         Ok(disk)
     }
 
@@ -91,20 +94,9 @@ impl Case {
         let mut disk = self.disk(alloc)?;
         let mut out = MemoryOut::new(alloc, self.number("room", ROOM))?;
         let mut err = MemoryOut::new(alloc, self.number("err_room", ROOM))?;
-        let status = status_of(alloc, words.as_slice(), &mut disk, &mut out, &mut err);
+        let status = status_of_run(alloc, words.as_slice(), &mut disk, &mut out, &mut err);
         told(alloc, name, &out, &err, status)
     }
-}
-
-/// Runs the program on these words in a world of its own, and gives the status that it ends with.
-fn status_of(
-    alloc: Global,
-    words: &[String],
-    disk: &mut MemoryDisk,
-    out: &mut MemoryOut,
-    err: &mut MemoryOut,
-) -> u8 {
-    run(alloc, words, disk, out, err).status
 }
 
 /// What came of a case, as a line of JSON.

@@ -3,8 +3,9 @@
 //!
 //! A case has a `name` and its `words`. `files` gives each path a text: a string, an object
 //! `{"hex": "00ff"}` or `{"repeat": "ab", "times": 3}`, or an array of these, one after another.
-//! `fail` lists the paths whose reading fails, `piece` is how many bytes a read gives at most,
-//! `room` and `err_room` how many bytes the outputs take; these four may be left out.
+//! `fail` lists the paths whose reading fails, `fail_call` is the number of a call that fails, from 0,
+//! `piece` is how many bytes a read gives at most, `room` and `err_room` how many bytes the outputs
+//! take; these five may be left out.
 #![tactic(auto)]
 
 mod case;

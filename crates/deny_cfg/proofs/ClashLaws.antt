@@ -1,22 +1,31 @@
 -- Only equal clashes tie; and how clashes are gathered.
-use Rattle.std.proofs.Common.{◌≡◌, ◌<◌, ◌≤◌, ◌+◌, ◌++◌, ℕ, Bool, true, false, List, [], ◌∷◌, Option, Some, None, drop, length, map, slice_index_or, add-one, append_assoc, append-nil, refl, sym, ap, ◌∙◌}
-use Rattle.std.specs.Prelude.{cond, filter, filter_map}
+use Rattle.std.proofs.Common.{◌≡◌, ◌<◌, ◌≤◌, ◌+◌, ◌++◌, ℕ, Bool, true, false, List, [], ◌∷◌, Option, Some, None, drop, length, map, slice_index_or, add-one, append_assoc, append-nil, inl, inr, refl, sym, subst, ap, ◌∙◌}
+use Rattle.std.specs.Prelude.{Contains, Err, Ok, OnOk, Result, cond, filter, filter_map}
 use Rattle.std.specs.List.{cons_option}
 use Rattle.std.proofs.Math.ListN.{drop_of_length-le}
 use Rattle.std.proofs.Math.Seq.{drop-cons}
+use Rattle.std.specs.Ordering.{bool_cmp, nat_cmp}
 use Rattle.std.specs.FinMap.{IsAntisymmetric, nat_cmp-IsAntisymmetric}
 use Rattle.deny_base.proofs.KeyEqual.{span_cmp-exact}
 use Rattle.deny_lists.proofs.Orders.{then_first, then_second}
 use Rattle.deny_base.specs.KeyOrder.{span_cmp}
 use Rattle.deny_base.specs.declared.span.Span.{Span}
-use Rattle.deny_cfg.specs.Clashes.{kind_number, kind_cmp, clash_cmp}
+use Rattle.deny_build_cfg.specs.Wrong.{IsWrong}
+use Rattle.deny_build_cfg.specs.declared.wrong.BuildFault.{BuildFault}
+use Rattle.deny_lists.proofs.Adding.{adds_list, adds_same}
+use Rattle.deny_lists.proofs.Members.{Contains-from_map, contains_map, no_member}
+use Rattle.deny_lists.specs.Ascending.{Adds}
+use Rattle.deny_tables.specs.declared.bans.cfg.build.BuildConfig.{BuildConfig}
+use Rattle.deny_cfg.specs.Clashes.{IsBuildClash, IsWrongIn, build_clash, clash_cmp, kind_cmp, kind_number}
 use Rattle.deny_cfg.specs.declared.clash.Clash.{Clash}
 use Rattle.deny_cfg.specs.declared.clash.ClashKind.{ClashKind}
-use Rattle.deny_cfg.specs.declared.clash.ClashKind.TheVariants.{WrappersOfMultiple, DenyAndAllow, DenyAndSkip, AllowAndSkip, FeatureTwice}
+use Rattle.deny_cfg.specs.declared.clash.ClashKind.TheVariants.{WrappersOfMultiple, DenyAndAllow, DenyAndSkip, AllowAndSkip, FeatureTwice, Extension, Glob, Path}
 
 kind_at : ℕ → ClashKind
 kind_at n =
-    slice_index_or (WrappersOfMultiple ∷ DenyAndAllow ∷ DenyAndSkip ∷ AllowAndSkip ∷ FeatureTwice ∷ []) n FeatureTwice
+    slice_index_or
+    (WrappersOfMultiple ∷ DenyAndAllow ∷ DenyAndSkip ∷ AllowAndSkip ∷ FeatureTwice ∷ Extension ∷ Glob ∷ Path ∷ []) n
+    FeatureTwice
 
 kind_at-number : (kind : ClashKind) → kind_at (kind_number kind) ≡ kind
 unfolding kind_at kind_number
@@ -25,16 +34,31 @@ kind_at-number DenyAndAllow = refl
 kind_at-number DenyAndSkip = refl
 kind_at-number AllowAndSkip = refl
 kind_at-number FeatureTwice = refl
+kind_at-number Extension = refl
+kind_at-number Glob = refl
+kind_at-number Path = refl
 
 kind_cmp-exact : IsAntisymmetric kind_cmp
 kind_cmp-exact a b e =
     sym (kind_at-number a) ∙ (ap kind_at (nat_cmp-IsAntisymmetric (kind_number a) (kind_number b) e) ∙ kind_at-number b)
 
-clash_from : ClashKind → Span → Span → Span → ℕ → Clash
-clash_from kind first second third wrappers =
-    record { kind = kind; first = first; second = second; third = third; wrappers = wrappers }
+bool_cmp-exact : IsAntisymmetric bool_cmp
+bool_cmp-exact true true e = refl
+bool_cmp-exact true false e = cc e
+bool_cmp-exact false true e = cc e
+bool_cmp-exact false false e = refl
 
-clash_from-is : (c : Clash) → clash_from c.kind c.first c.second c.third c.wrappers ≡ c
+clash_from : ClashKind → Span → Span → Span → ℕ → Bool → Clash
+clash_from kind first second third number ascii = record {
+  kind = kind;
+  first = first;
+  second = second;
+  third = third;
+  number = number;
+  ascii = ascii;
+}
+
+clash_from-is : (c : Clash) → clash_from c.kind c.first c.second c.third c.number c.ascii ≡ c
 unfolding clash_from
 clash_from-is c = refl
 
@@ -47,8 +71,11 @@ clash_cmp-exact a b e =
     let first : a.first ≡ b.first = span_cmp-exact a.first b.first (then_first _ _ after_kind) in
     let second : a.second ≡ b.second = span_cmp-exact a.second b.second (then_first _ _ after_first) in
     let third : a.third ≡ b.third = span_cmp-exact a.third b.third (then_first _ _ after_second) in
-    let wrappers : a.wrappers ≡ b.wrappers =
-    nat_cmp-IsAntisymmetric a.wrappers b.wrappers (then_second (span_cmp a.third b.third) _ after_second) in
+    let after_third = then_second (span_cmp a.third b.third) _ after_second in
+    let number : a.number ≡ b.number =
+    nat_cmp-IsAntisymmetric a.number b.number (then_first _ _ after_third) in
+    let ascii : a.ascii ≡ b.ascii =
+    bool_cmp-exact a.ascii b.ascii (then_second (nat_cmp a.number b.number) _ after_third) in
     cc (clash_from-is a, clash_from-is b)
 
 put_one : {A : Type 0} (done : List A) (o : Option A) (rest : List A)
@@ -85,3 +112,24 @@ given_where f h p (x ∷ xs) = by_test (p x) (given_where f h p xs)
         ≡ cons_option (cond b (f (h x)) None) (filter_map (λ x. cond (p x) (f (h x)) None) xs)
     by_test true e = ap (cons_option (f (h x))) e
     by_test false e = e
+
+-- what is wrong in a table was put behind the others
+pub adds_wrong : (source : List ℕ) (written : Option BuildConfig) (build : BuildConfig) (faults given : List BuildFault)
+    (old new : List Clash) → written ≡ Some build → Adds (IsWrong source build) [] faults → given ≡ faults
+    → new ≡ old ++ map build_clash given → Adds (IsBuildClash source written) old new
+adds_wrong source written build faults given old new is wrong same put =
+    subst (λ o. Adds (IsBuildClash source o) old new) (sym is)
+    (adds_same (Contains (map build_clash faults)) (IsWrongIn source build) old new
+    (adds_list old new (map build_clash faults) (put ∙ ap (λ fs. old ++ map build_clash fs) same))
+    (λ found there.
+    let made = Contains-from_map build_clash faults found there in
+    elim (wrong.sound made.from made.member) as (λ _. IsWrongIn source build found) [
+      | inl none ↦ absurd (no_member made.from none)
+      | inr here ↦ record { of = made.from; wrong = here; is = sym made.is }
+    ])
+    (λ found here. subst (Contains (map build_clash faults)) (sym here.is)
+    (contains_map build_clash faults here.of (wrong.whole here.of here.wrong))))
+
+pub on_ok_more : {T E : Type 0} (r : Result T E) (P Q : Type 0) → (P → Q) → OnOk r P → OnOk r Q
+on_ok_more (Ok x) P Q more is = more is
+on_ok_more (Err e) P Q more is = tt

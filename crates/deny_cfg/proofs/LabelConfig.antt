@@ -19,12 +19,13 @@ use Rattle.deny_entries.specs.Apart.{reason_entry-apart}
 use Rattle.deny_tables.specs.Apart.{ban_entry-apart, feature_entry-apart, tree_skip_entry-apart}
 use Rattle.deny_entries.specs.Reasons.{ReadsReason, ReadsReasonKey, ReadsReasoned, reason_fields}
 use Rattle.deny_tables.specs.Bans.{ReadsBan, ReadsBanEntry, ReadsTreeSkip, ReadsTreeSkipEntry, ban_fields, tree_skip_fields}
+use Rattle.deny_tables.specs.Build.{ReadsBuild}
 use Rattle.deny_tables.specs.Config.{ReadsConfig}
 use Rattle.deny_entries.specs.Depends.{reason-depends}
 use Rattle.deny_tables.specs.Depends.{ban-depends, features-depend, tree_skip-depends}
 use Rattle.deny_entries.specs.Entry.{ReadsEntryKeys, ReadsSome}
 use Rattle.deny_tables.specs.Features.{ReadsCrateFeatures, ReadsFeatures, feature_fields, lists_in, nowhere}
-use Rattle.deny_cfg.specs.LabelRanges.{AreLabels, config_labels, crate_ban_ranges, crate_feature_ranges, joined, of_some, own_range, reason_range, root_ranges, std_ranges, with_spec, word_ranges}
+use Rattle.deny_cfg.specs.LabelRanges.{AreLabels, config_labels, crate_ban_ranges, crate_feature_ranges, joined, of_some, own_range, reason_range, root_ranges, std_ranges, with_spec, word_ranges, written_build_ranges}
 use Rattle.deny_entries.proofs.RowLaws.{says_of}
 use Rattle.deny_entries.specs.PolicyKey.{name_of}
 use Rattle.deny_cfg.specs.PolicyText.{ReadsBans, bans_name}
@@ -39,6 +40,7 @@ use Rattle.deny_tables.specs.declared.bans.cfg.tree_skip.TreeSkipExtended.{TreeS
 use Rattle.deny_entries.specs.declared.policy_key.PolicyKey.TheVariants as key
 use Rattle.deny_entries.specs.declared.reason.Reason.{Reason}
 use Rattle.deny_entries.specs.declared.spec_or_extended.PackageSpecOrExtended.{PackageSpecOrExtended}
+use Rattle.deny_cfg.proofs.BuildLabels.{build_within}
 use Rattle.deny_cfg.proofs.LabelLaws.{◌▸◌, Lie, StandsAt, Within, WithinKey, WithinKeys, at_stands, entries_stand, key_at, keys_within, list_within, no_entries_stand, no_keys, no_more, one_key, optional_within, or_within, starts, table_within}
 use Rattle.deny_cfg.proofs.LabelReads.{entry_keys_within, entry_within, flag_within, meaning_within, reason_within, word_within, words_within}
 
@@ -159,6 +161,8 @@ config_within text entries config reads =
     (at_key key.SkipTree entries) config.skip_tree (says_of key.SkipTree reads)
     ▸ optional_within text std_ranges (ReadsTable ReadsStd) (std_within text) (at_key key.StdReplacements entries)
     config.std_replacements (says_of key.StdReplacements reads)
+    ▸ optional_within text written_build_ranges (ReadsTable ReadsBuild) (build_within text) (at_key key.Build entries)
+    config.build (says_of key.Build reads)
     ▸ no_more) refl
 
 -- what is read of the table `bans`, within the root

@@ -1,69 +1,26 @@
 -- The ranges of a validated configuration are among those of the configuration as it is written.
-use Rattle.std.proofs.Common.{◌≡◌, ◌≢◌, ◌<◌, ◌+◌, ◌++◌, ℕ, Bool, true, false, cond, not, List, [], ◌∷◌, length, map, append_assoc, Option, Some, None, refl, sym, ap, ◌∙◌, subst, arith}
+use Rattle.std.proofs.Common.{◌≡◌, ◌≢◌, ◌<◌, ◌++◌, ℕ, Bool, true, false, cond, not, List, [], ◌∷◌, length, map, append_assoc, Option, Some, None, refl, sym, ap, ◌∙◌, subst, arith}
 use Rattle.std.specs.Prelude.{AllPairs, filter, option_map}
 use Rattle.std.specs.List.{flat_map}
-use Rattle.std.proofs.lemmas.List.{get_or-map, length-map, map-append}
+use Rattle.std.proofs.lemmas.List.{get_or-map, length-map}
 use Rattle.std.proofs.lemmas.List.Elements.{recursion_from_All}
 use Rattle.deny_base.specs.declared.span.Span.{Span}
 use Rattle.deny_base.specs.declared.span.Spanned.{Spanned}
 use Rattle.deny_model.specs.Policy.{Words}
-use Rattle.deny_toml.proofs.ApartLaws.{times, times-append}
-use Rattle.deny_toml.proofs.ApartParts.{AreDistinct, IsPartOf, part_itself, part_of_part}
+use Rattle.deny_toml.proofs.ApartParts.{AreDistinct}
 use Rattle.deny_toml.specs.Ranges.{IsRange}
 use Rattle.deny_cfg.specs.Clashes.{is_ban}
-use Rattle.deny_cfg.specs.LabelRanges.{AreLabels, ban_ranges, config_labels, crate_ban_ranges, crate_feature_ranges, feature_ranges, joined, of_some, own_range, reason_range, root_ranges, spec_range, std_ranges, with_spec, word_labels, word_ranges}
-use Rattle.deny_cfg.specs.Valid.{IsValidOf, ban_of, features_of, is_multiple, krate_ban}
+use Rattle.deny_cfg.specs.LabelRanges.{AreLabels, ban_ranges, build_ranges, config_labels, crate_ban_ranges, crate_feature_ranges, feature_ranges, of_some, own_range, reason_range, root_ranges, spec_range, std_ranges, with_spec, word_labels, word_ranges, written_build_ranges}
+use Rattle.deny_cfg.specs.Valid.{IsValidOf, ban_of, features_of, is_multiple, krate_ban, older_key_of}
 use Rattle.deny_tables.specs.declared.bans.cfg.ban.CrateBanExtended.{CrateBanExtended}
 use Rattle.deny_tables.specs.declared.bans.cfg.config.Config.{Config}
 use Rattle.deny_tables.specs.declared.bans.cfg.features.CrateFeatures.{CrateFeatures}
 use Rattle.deny_cfg.specs.declared.bans.cfg.valid.ValidConfig.{ValidConfig}
 use Rattle.deny_entries.specs.declared.spec_or_extended.PackageSpecOrExtended.{PackageSpecOrExtended}
+use Rattle.deny_cfg.proofs.Among.{Among, among_both, among_itself, among_joined, among_rest, among_same, among_then, lie_prefix, lie_rest, times_both}
+use Rattle.deny_cfg.proofs.BuildAmong.{built_among}
 use Rattle.deny_cfg.proofs.LabelConfig.{are_labels}
-use Rattle.deny_cfg.proofs.LabelLaws.{Lie, lie_append, starts}
-
--- what lies of the one list lies of the other, which has no place more often
-pub record Among (xs ys : List Span) : Type 0 where
-  pub lie : (text : List ℕ) → Lie text ys → Lie text xs
-  pub part : IsPartOf (starts xs) (starts ys)
-
-pub among_itself : (xs : List Span) → Among xs xs
-among_itself xs = record { lie = λ text lie. lie; part = part_itself (starts xs) }
-
-among_same : (xs ys : List Span) → xs ≡ ys → Among xs ys
-among_same xs ys e = subst (Among xs) e (among_itself xs)
-
-among_then : (xs ys zs : List Span) → Among xs ys → Among ys zs → Among xs zs
-among_then xs ys zs one other =
-    record {
-      lie = λ text lie. one.lie text (other.lie text lie);
-      part = part_of_part (starts xs) (starts ys)
-          (starts zs) one.part other.part;
-    }
-
-pub lie_prefix : (text : List ℕ) (xs ys : List Span) → Lie text (xs ++ ys) → Lie text xs
-lie_prefix text [] ys lie = tt
-lie_prefix text (x ∷ xs) ys lie = (lie.0, lie_prefix text xs ys lie.1)
-
-pub lie_rest : (text : List ℕ) (xs ys : List Span) → Lie text (xs ++ ys) → Lie text ys
-lie_rest text [] ys lie = lie
-lie_rest text (x ∷ xs) ys lie = lie_rest text xs ys lie.1
-
-starts-append : (xs ys : List Span) → starts (xs ++ ys) ≡ starts xs ++ starts ys
-starts-append xs ys = map-append (λ (span : Span). span.start) xs ys
-
-pub times_both : (xs ys : List Span) (x : ℕ) → times x (starts (xs ++ ys)) ≡ times x (starts xs) + times x (starts ys)
-times_both xs ys x = ap (times x) (starts-append xs ys) ∙ times-append x (starts xs) (starts ys)
-
-pub among_both : (xs ys zs ws : List Span) → Among xs zs → Among ys ws → Among (xs ++ ys) (zs ++ ws)
-among_both xs ys zs ws one other = record {
-  lie =
-      λ text lie. lie_append text xs ys (one.lie text (lie_prefix text zs ws lie))
-      (other.lie text (lie_rest text zs ws lie));
-  part = λ x. omega (arith, one.part x, other.part x, times_both xs ys x, times_both zs ws x);
-}
-
-pub among_rest : (xs ys : List Span) → Among ys (xs ++ ys)
-among_rest xs ys = record { lie = λ text lie. lie_rest text xs ys lie; part = λ x. omega (arith, times_both xs ys x) }
+use Rattle.deny_cfg.proofs.LabelLaws.{lie_append, starts}
 
 -- ---- bans without their flags, beside the other entries
 
@@ -153,23 +110,10 @@ features_same : (fs : List CrateFeatures)
 features_same [] = refl
 features_same (f ∷ fs) = ap (λ spans. crate_feature_ranges f ++ spans) (features_same fs)
 
-abbrev pub AmongEach : List (List Span) → List (List Span) → Type 0
-AmongEach [] [] = Unit {0}
-AmongEach [] (ys ∷ yss) = ⊥
-AmongEach (xs ∷ xss) [] = ⊥
-AmongEach (xs ∷ xss) (ys ∷ yss) = Among xs ys × AmongEach xss yss
-
-pub among_joined : (xss yss : List (List Span)) → AmongEach xss yss → Among (joined xss) (joined yss)
-among_joined [] [] each = among_itself []
-among_joined [] (ys ∷ yss) each = absurd each
-among_joined (xs ∷ xss) [] each = absurd each
-among_joined (xs ∷ xss) (ys ∷ yss) each =
-    among_both xs (joined xss) ys (joined yss) each.0 (among_joined xss yss each.1)
-
-valid_among : (config : Config) (file : ℕ) (valid : ValidConfig) → IsValidOf config file valid
+valid_among : (config : Config) (file number : ℕ) (valid : ValidConfig) → IsValidOf config file number valid
     → Among (word_labels valid) (config_labels config)
 unfolding word_labels config_labels
-valid_among config file valid is =
+valid_among config file number valid is =
     let entries = flat_map (with_spec reason_range) in
     let deny = ap (flat_map (with_spec ban_ranges)) is.denied in
     let multiple = ap (flat_map spec_range) is.denied_multiple_versions in
@@ -178,11 +122,12 @@ valid_among config file valid is =
     ∷ flat_map (with_spec reason_range) valid.allowed ∷ of_some own_range valid.external_default_features
     ∷ of_some own_range valid.workspace_default_features ∷ flat_map feature_ranges valid.features
     ∷ flat_map (with_spec reason_range) valid.skipped ∷ flat_map (with_spec root_ranges) valid.tree_skipped
-    ∷ of_some std_ranges valid.std_replacements ∷ [])
+    ∷ of_some std_ranges valid.std_replacements ∷ of_some build_ranges valid.build ∷ [])
     (flat_map (with_spec crate_ban_ranges) config.deny ∷ flat_map (with_spec reason_range) config.allow
     ∷ of_some own_range config.external_default_features ∷ of_some own_range config.workspace_default_features
     ∷ flat_map crate_feature_ranges config.features ∷ flat_map (with_spec reason_range) config.skip
-    ∷ flat_map (with_spec root_ranges) config.skip_tree ∷ of_some std_ranges config.std_replacements ∷ []) (
+    ∷ flat_map (with_spec root_ranges) config.skip_tree ∷ of_some std_ranges config.std_replacements
+    ∷ of_some written_build_ranges config.build ∷ []) (
       among_then _ (banned config.deny ++ several config.deny) _
           (among_same (flat_map (with_spec ban_ranges) valid.denied
           ++ flat_map spec_range valid.denied_multiple_versions) (banned config.deny ++ several config.deny)
@@ -214,7 +159,10 @@ valid_among config file valid is =
                     among_same (of_some std_ranges valid.std_replacements) (of_some std_ranges config.std_replacements)
                         (ap (of_some std_ranges) is.std_replacements),
                     (
-                        tt),
+                      built_among config.build config.allow_build_scripts number (older_key_of config) valid.build
+                          is.build,
+                      tt,
+                    ),
                   ),
                 ),
               ),
@@ -238,7 +186,8 @@ labels_among text xs ys among labels =
     are_labels text xs (starts ys) (among.lie text (recursion_from_All (IsRange text) ys labels.placed)) among.part
     (distinct_starts ys labels.apart)
 
-pub valid_are_labels : (text : List ℕ) (config : Config) (file : ℕ) (valid : ValidConfig) → IsValidOf config file valid
+pub valid_are_labels : (text : List ℕ) (config : Config) (file number : ℕ) (valid : ValidConfig)
+    → IsValidOf config file number valid
     → AreLabels text (config_labels config) → AreLabels text (word_labels valid)
-valid_are_labels text config file valid is labels =
-    labels_among text (word_labels valid) (config_labels config) (valid_among config file valid is) labels
+valid_are_labels text config file number valid is labels =
+    labels_among text (word_labels valid) (config_labels config) (valid_among config file number valid is) labels

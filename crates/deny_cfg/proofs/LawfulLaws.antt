@@ -7,14 +7,15 @@ use Rattle.deny_base.specs.declared.span.Spanned.{Spanned}
 use Rattle.deny_spdx.specs.declared.requirement.Requirement.{Requirement}
 use Rattle.deny_tables.specs.declared.licenses.config.Config.{Config}
 use Rattle.deny_tables.specs.declared.licenses.exception.Exception.{Exception}
-use Rattle.deny_cfg.specs.LabelRanges.{AreLabels, ban_ranges, exception_range, feature_ranges, feature_ranges_by, licence_labels, licence_ranges, of_some, own_range, reason_range, root_ranges, spec_range, std_ranges, std_ranges_by, with_spec, word_labels, word_ranges}
+use Rattle.deny_cfg.specs.LabelRanges.{AreLabels, ban_ranges, build_ranges, exception_range, feature_ranges, feature_ranges_by, licence_labels, licence_ranges, of_some, own_range, reason_range, root_ranges, spec_range, std_ranges, std_ranges_by, with_spec, word_labels, word_ranges}
 use Rattle.deny_cfg.specs.Lawful.{IsLawful, IsLawfulLicensing, entry_spans, no_range, wrapper_ranges}
 use Rattle.deny_cfg.specs.declared.bans.cfg.valid.KrateBan.{KrateBan}
 use Rattle.deny_cfg.specs.declared.bans.cfg.valid.ValidConfig.{ValidConfig}
 use Rattle.deny_cfg.specs.declared.bans.cfg.valid.ValidKrateFeatures.{ValidKrateFeatures}
 use Rattle.deny_entries.specs.declared.reason.Reason.{Reason}
 use Rattle.deny_entries.specs.declared.spec_or_extended.PackageSpecOrExtended.{PackageSpecOrExtended}
-use Rattle.deny_cfg.proofs.LabelValid.{Among, among_both, among_itself, among_joined, among_rest, labels_among, lie_prefix, times_both}
+use Rattle.deny_cfg.proofs.Among.{Among, among_both, among_itself, among_joined, among_rest, lie_prefix, times_both}
+use Rattle.deny_cfg.proofs.LabelValid.{labels_among}
 
 among_prefix : (xs ys : List Span) → Among xs (xs ++ ys)
 among_prefix xs ys = record {
@@ -74,12 +75,13 @@ entries_among valid =
     ∷ of_some own_range valid.external_default_features
     ∷ of_some own_range valid.workspace_default_features ∷ flat_map (feature_ranges_by no_range) valid.features
     ∷ flat_map (with_spec no_range) valid.skipped
-    ∷ flat_map (with_spec no_range) valid.tree_skipped ∷ of_some (std_ranges_by no_range) valid.std_replacements ∷ [])
+    ∷ flat_map (with_spec no_range) valid.tree_skipped ∷ of_some (std_ranges_by no_range) valid.std_replacements
+    ∷ of_some build_ranges valid.build ∷ [])
     ((flat_map (with_spec ban_ranges) valid.denied ++ several) ∷ flat_map (with_spec reason_range) valid.allowed
     ∷ of_some own_range valid.external_default_features
     ∷ of_some own_range valid.workspace_default_features ∷ flat_map feature_ranges valid.features
     ∷ flat_map (with_spec reason_range) valid.skipped ∷ flat_map (with_spec root_ranges) valid.tree_skipped
-    ∷ of_some std_ranges valid.std_replacements ∷ []) (
+    ∷ of_some std_ranges valid.std_replacements ∷ of_some build_ranges valid.build ∷ []) (
       among_both (flat_map (with_spec wrapper_ranges) valid.denied) several
           (flat_map (with_spec ban_ranges) valid.denied) several
           (among_flat (with_spec wrapper_ranges) (with_spec ban_ranges)
@@ -101,8 +103,7 @@ entries_among valid =
                   (
                     among_some (std_ranges_by no_range) std_ranges (λ std. reasons_among std.ignore)
                         valid.std_replacements,
-                    (
-                        tt),
+                    (among_itself (of_some build_ranges valid.build), tt),
                   ),
                 ),
               ),

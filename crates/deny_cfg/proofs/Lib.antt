@@ -1,3 +1,11 @@
+pub mod Among
+pub mod BuildAlike
+pub mod BuildAmong
+pub mod BuildClashes
+pub mod BuildLabels
+pub mod BuildTold
+pub mod BuildView
+pub mod BuiltLaws
 pub mod ToldLaws
 pub mod LawfulLaws
 pub mod LabelValid

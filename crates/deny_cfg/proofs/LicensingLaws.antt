@@ -1,7 +1,5 @@
--- What a tree says of licences is one in all that the rules see, and so is whether it writes a key whose rule is not
--- there yet.
-use Rattle.std.proofs.Common.{◌≡◌, ◌||◌, false, [], Option, None, Some, refl, sym, ap, ◌∙◌}
-use Rattle.std.specs.Prelude.{is_some}
+-- What a tree says of licences is one in all that the rules see.
+use Rattle.std.proofs.Common.{◌≡◌, false, [], Option, None, Some, sym, ap, ◌∙◌}
 use Rattle.std.specs.List.{each_same}
 use Rattle.deny_base.specs.declared.level.LintLevel.TheVariants as level
 use Rattle.deny_spdx.specs.Meaning.{requirement_in}
@@ -10,22 +8,18 @@ use Rattle.deny_lists.proofs.Alike.{same_map}
 use Rattle.deny_entries.specs.Entry.{ReadsEntryKeys}
 use Rattle.deny_entries.specs.Licence.{ReadsLicences}
 use Rattle.deny_entries.specs.PolicyKey.{name_of}
-use Rattle.deny_entries.specs.Spec.{ReadsSpec}
-use Rattle.deny_entries.specs.Table.{Entries, ReadsIfThere, ReadsTable, ReadsThere, at_key}
+use Rattle.deny_entries.specs.Table.{Entries, ReadsTable, ReadsThere, at_key}
 use Rattle.deny_entries.specs.Words.{ReadsAs, ReadsBool, ReadsList, ReadsSpanned, ReadsText, level_of}
 use Rattle.deny_entries.specs.declared.policy_key.PolicyKey.TheVariants as key
 use Rattle.deny_entries.proofs.ReadsLaws.{ReadsAlike, ReadsOne, SpecsAlike, alike_list, alike_list_or, alike_table, keys_alike, one_as, one_bool, one_or, one_spanned, one_text}
 use Rattle.deny_entries.proofs.RowLaws.{says_of}
-use Rattle.deny_tables.specs.Build.{a_build}
-use Rattle.deny_tables.specs.Config.{ReadsConfig}
 use Rattle.deny_tables.specs.Licenses.{ReadsException, ReadsExceptionKeys, ReadsLicenses, ReadsPrivate, none_private, private_in}
-use Rattle.deny_tables.specs.declared.bans.cfg.config.Config as bans
 use Rattle.deny_tables.specs.declared.licenses.config.Config.{Config}
 use Rattle.deny_tables.specs.declared.licenses.exception.Exception.{Exception}
 use Rattle.deny_cfg.specs.LicensingView.{exception_view, licensing_of, licensing_view}
-use Rattle.deny_cfg.specs.PolicyText.{ReadsBans, ReadsLicensing, writes_unbuilt}
+use Rattle.deny_cfg.specs.PolicyText.{ReadsLicensing}
 
-one_list : {T : Type 0} (Reads : Value → T → Type 0) → ReadsOne Reads → ReadsOne (ReadsList Reads)
+pub one_list : {T : Type 0} (Reads : Value → T → Type 0) → ReadsOne Reads → ReadsOne (ReadsList Reads)
 one_list Reads same v xs ys one two =
     sym (each_same xs ys (alike_list Reads (λ x y. y ≡ x) (λ w x y here there. same w y x there here) v xs ys one two))
 
@@ -33,7 +27,7 @@ one_licences : ReadsOne ReadsLicences
 one_licences =
     one_list (ReadsSpanned (ReadsAs requirement_in)) (one_spanned (ReadsAs requirement_in) (one_as requirement_in))
 
-one_there : {T : Type 0} (Reads : Value → T → Type 0) → ReadsOne Reads → ReadsOne (ReadsThere Reads)
+pub one_there : {T : Type 0} (Reads : Value → T → Type 0) → ReadsOne Reads → ReadsOne (ReadsThere Reads)
 one_there Reads same None x y one two = absurd one
 one_there Reads same (Some v) x y one two = same v x y one two
 
@@ -109,33 +103,3 @@ licensing_alike None a b one two = ap licensing_of (one ∙ sym two)
 licensing_alike (Some v) None b one two = absurd one
 licensing_alike (Some v) (Some a) None one two = absurd two
 licensing_alike (Some v) (Some a) (Some b) one two = ap Some (one_view_of v a b one two)
-
--- ---- keys whose rules are not there yet
-
-is_there : {T : Type 0} (Reads : Value → T → Type 0) (v : Option Value) (x : Option T) → ReadsIfThere Reads v x
-    → is_some x ≡ is_some v
-is_there {T} Reads None x reads = ap (λ (o : Option T). is_some o) reads
-is_there Reads (Some v) None reads = absurd reads
-is_there Reads (Some v) (Some x) reads = refl
-
-both_there : {T : Type 0} (Reads : Value → T → Type 0) (v : Option Value) (x y : Option T) → ReadsIfThere Reads v x
-    → ReadsIfThere Reads v y → is_some x ≡ is_some y
-both_there Reads v x y one two = is_there Reads v x one ∙ sym (is_there Reads v y two)
-
-unbuilt_in : (entries : Entries) (a b : bans.Config) → ReadsConfig entries a → ReadsConfig entries b
-    → writes_unbuilt a ≡ writes_unbuilt b
-unfolding name_of writes_unbuilt
-unbuilt_in entries a b one two =
-    let scripts =
-    both_there (ReadsSpanned (ReadsList ReadsSpec)) (at_key key.AllowBuildScripts entries) a.allow_build_scripts
-    b.allow_build_scripts (says_of key.AllowBuildScripts one) (says_of key.AllowBuildScripts two) in
-    let build =
-    both_there a_build.Reads (at_key key.Build entries) a.build b.build (says_of key.Build one)
-    (says_of key.Build two) in
-    λ i. scripts i || build i
-
-pub unbuilt_alike : (o : Option Value) (a b : bans.Config) → ReadsBans o a → ReadsBans o b
-    → writes_unbuilt a ≡ writes_unbuilt b
-unbuilt_alike None a b one two = unbuilt_in [] a b one two
-unbuilt_alike (Some v) a b one two =
-    alike_table ReadsConfig (λ x y. writes_unbuilt x ≡ writes_unbuilt y) unbuilt_in v a b one two

@@ -1,7 +1,7 @@
 -- What a text says as a policy is one, and so is why it says none.
-use Rattle.std.proofs.Common.{◌≡◌, ◌⊎◌, inl, inr, ℕ, List, [], ◌∷◌, map, refl, sym, ap, subst, arith, ◌∙◌}
-use Rattle.std.specs.Prelude.{Contains, Option, None, Some}
-use Rattle.std.specs.Cmp.{IsTotalOrder, nat_cmp_total, on_total, then_total}
+use Rattle.std.proofs.Common.{◌≡◌, ◌⊎◌, ◌+◌, inl, inr, ℕ, List, [], ◌∷◌, map, refl, sym, ap, subst, ◌∙◌}
+use Rattle.std.specs.Prelude.{Option, None, Some}
+use Rattle.std.specs.Cmp.{IsTotalOrder, bool_cmp_total, nat_cmp_total, on_total, then_total}
 use Rattle.deny_lists.specs.Ascending.{Lists}
 use Rattle.deny_base.specs.declared.finding.Diagnostic.{Diagnostic}
 use Rattle.deny_base.specs.declared.span.Span.{Span}
@@ -19,10 +19,11 @@ use Rattle.deny_toml.specs.declared.error.TomlKind.{TomlKind}
 use Rattle.deny_toml.specs.declared.error.TomlKind.TheVariants as toml
 use Rattle.deny_toml.specs.Expression.{Expression}
 use Rattle.deny_toml.specs.declared.value.Value.{Value}
-use Rattle.deny_cfg.specs.Clashes.{clash_cmp, clash_told, clashes_in, kind_number}
+use Rattle.deny_cfg.specs.Clashes.{clash_cmp, clash_told, kind_number}
+use Rattle.deny_cfg.specs.Deprecated.{warnings_by}
 use Rattle.deny_cfg.specs.LicensingView.{licensing_of}
-use Rattle.deny_cfg.specs.PolicyText.{AreFaults, IsPolicyOf, ListsFaults, ReadsBans, ReadsLicensing, Says, TellsClashes, bans_name, faults_of_tree, kind_of, licenses_name, writes_unbuilt}
-use Rattle.deny_cfg.specs.PolicyView.{policy_view}
+use Rattle.deny_cfg.specs.PolicyText.{AreFaults, IsPolicyOf, ListsFaults, ReadsBans, ReadsLicensing, Says, TellsClashes, bans_name, faults_of_tree, kind_of, licenses_name}
+use Rattle.deny_cfg.specs.PolicyView.{building_of, builtin_file_of, policy_view}
 use Rattle.deny_tables.specs.declared.bans.cfg.config.Config.{Config}
 use Rattle.deny_tables.specs.declared.licenses.config.Config as licenses
 use Rattle.deny_cfg.specs.declared.clash.Clash.{Clash}
@@ -30,8 +31,11 @@ use Rattle.deny_cfg.specs.declared.policy.Policy.{Policy}
 use Rattle.deny_entries.proofs.ReadsLaws.{ReadsAlike, alike_table}
 use Rattle.deny_tables.proofs.ConfigLaws.{ConfigsAlike, configs_alike}
 use Rattle.deny_tables.specs.Config.{ReadsConfig}
-use Rattle.deny_cfg.proofs.LicensingLaws.{licensing_alike, unbuilt_alike}
-use Rattle.deny_cfg.proofs.ViewLaws.{same_clashes, same_view}
+use Rattle.deny_cfg.proofs.BuildAlike.{BuiltAlike, built_alike}
+use Rattle.deny_cfg.proofs.BuildClashes.{clash_alike, clashes_alike}
+use Rattle.deny_cfg.proofs.BuildView.{same_building, same_builtin_file, same_older_key}
+use Rattle.deny_cfg.proofs.LicensingLaws.{licensing_alike}
+use Rattle.deny_cfg.proofs.ViewLaws.{same_view}
 
 -- what a text writes is one, and so is its tree
 one_document : (text : List ℕ) (es fs : List Expression) → IsDocumentOf text es → IsDocumentOf text fs → es ≡ fs
@@ -59,26 +63,35 @@ module _ (text : List ℕ) (a b : Config) (l m : Option licenses.Config) (one : 
   pub says_alike : ConfigsAlike a b
   says_alike = bans_alike (below_name bans_name one.tree) a b one.reads bans_of_one
 
-  same_unbuilt : writes_unbuilt a ≡ writes_unbuilt b
-  same_unbuilt = unbuilt_alike (below_name bans_name one.tree) a b one.reads bans_of_one
+  pub says_built : BuiltAlike a b
+  says_built = built_alike (below_name bans_name one.tree) a b one.reads bans_of_one
 
   same_licensing : licensing_of l ≡ licensing_of m
   same_licensing = licensing_alike (below_name licenses_name one.tree) l m one.reads_licenses licensing_of_one
 
-pub same_policy : (text : List ℕ) (file : ℕ) (a b : Policy) → IsPolicyOf text file a → IsPolicyOf text file b
-    → (policy_view a.bans ≡ policy_view b.bans) × (a.not_built ≡ b.not_built)
-same_policy text file a b one two = (
-  same_view one.config two.config file file a.bans b.bans
-      (says_alike text one.config two.config a.licenses b.licenses one.says.says two.says.says) one.valid two.valid,
-  one.says.unbuilt_is
-      ∙ same_unbuilt text one.config two.config a.licenses b.licenses one.says.says two.says.says
-      ∙ sym two.says.unbuilt_is,
-)
+module _ (text : List ℕ) (file : ℕ) (a b : Policy) (one : IsPolicyOf text file a) (two : IsPolicyOf text file b) where
+  built : BuiltAlike one.config two.config
+  built = says_built text one.config two.config a.licenses b.licenses one.says two.says
+
+  pub same_policy : policy_view a.bans ≡ policy_view b.bans
+  same_policy =
+      same_view one.config two.config file (file + 1) file (file + 1) a.bans b.bans
+      (says_alike text one.config two.config a.licenses b.licenses one.says two.says) one.valid two.valid
+
+  pub same_built : building_of a.bans ≡ building_of b.bans
+  same_built = same_building one.config two.config built file (file + 1) a.bans b.bans one.valid two.valid
+
+  pub same_globs_file : builtin_file_of a.bans ≡ builtin_file_of b.bans
+  same_globs_file = same_builtin_file one.config two.config built file (file + 1) a.bans b.bans one.valid two.valid
+
+  pub same_warnings : a.warnings ≡ b.warnings
+  same_warnings =
+      one.warnings ∙ ap (warnings_by file) (same_older_key one.config two.config built) ∙ sym two.warnings
 
 pub same_licences : (text : List ℕ) (file : ℕ) (a b : Policy) → IsPolicyOf text file a → IsPolicyOf text file b
     → licensing_of a.licenses ≡ licensing_of b.licenses
 same_licences text file a b one two =
-    same_licensing text one.config two.config a.licenses b.licenses one.says.says two.says.says
+    same_licensing text one.config two.config a.licenses b.licenses one.says two.says
 
 -- the one fault of a text outside the grammar
 abbrev pub IsGrammarFault : List ConfigFault → Type 0
@@ -145,27 +158,33 @@ clash_cmp-total =
     (then_total (on_total (λ (c : Clash). c.first) span_cmp-total)
     (then_total (on_total (λ (c : Clash). c.second) span_cmp-total)
     (then_total (on_total (λ (c : Clash). c.third) span_cmp-total)
-    (on_total (λ (c : Clash). c.wrappers) nat_cmp_total))))
+    (then_total (on_total (λ (c : Clash). c.number) nat_cmp_total)
+    (on_total (λ (c : Clash). c.ascii) bool_cmp_total)))))
 
 pub same_told : (text : List ℕ) (file : ℕ) (xs ys : List Diagnostic) → TellsClashes text file xs
     → TellsClashes text file ys → xs ≡ ys
 same_told text file xs ys one two =
     let alike = says_alike text two.config one.config two.licensing one.licensing two.says one.says in
-    let clashes = same_clashes two.config one.config alike in
-    let listed = subst (λ found. Lists clash_cmp (Contains found) two.are.clashes) clashes two.are.listed in
+    let back = says_alike text one.config two.config one.licensing two.licensing one.says two.says in
+    let built = says_built text two.config one.config two.licensing one.licensing two.says one.says in
+    let too = says_built text one.config two.config one.licensing two.licensing one.says two.says in
+    let listed =
+    clashes_alike text two.config one.config alike built back too two.are.clashes two.are.listed in
     one.are.is ∙ ap (map (clash_told file))
     (one_list clash_cmp-total one.are.clashes two.are.clashes one.are.listed listed) ∙ sym two.are.is
 
-none_listed : (clashes found : List Clash) → found ≡ [] → Lists clash_cmp (Contains found) clashes → clashes ≡ []
-none_listed [] found none listed = refl
-none_listed (c ∷ clashes) found none listed =
-    let is : Contains [] c = subst (λ xs. Contains xs c) none (listed.sound c (Contains-first c clashes)) in
-    absurd (omega (arith, is.1))
+none_listed : {P : Clash → Type 0} (clashes : List Clash) → ((found : Clash) → P found → ⊥)
+    → Lists clash_cmp P clashes → clashes ≡ []
+none_listed [] none listed = refl
+none_listed (c ∷ clashes) none listed = absurd (none c (listed.sound c (Contains-first c clashes)))
 
 pub policy_without_clashes : (text : List ℕ) (file number : ℕ) (told : List Diagnostic) (policy : Policy)
     → TellsClashes text file told → IsPolicyOf text number policy → ⊥
 policy_without_clashes text file number told policy tells is =
-    let alike = says_alike text tells.config is.config tells.licensing policy.licenses tells.says is.says.says in
-    let none = same_clashes tells.config is.config alike ∙ is.no_clash in
+    let alike = says_alike text tells.config is.config tells.licensing policy.licenses tells.says is.says in
+    let built = says_built text tells.config is.config tells.licensing policy.licenses tells.says is.says in
     tells.some (tells.are.is
-    ∙ ap (map (clash_told file)) (none_listed tells.are.clashes (clashes_in tells.config) none tells.are.listed))
+    ∙ ap (map (clash_told file))
+    (none_listed tells.are.clashes
+    (λ found clashes. is.no_clash found (clash_alike text tells.config is.config alike built found clashes))
+    tells.are.listed))

@@ -1,7 +1,11 @@
 -- What is told of a text that has no policy, and that a text without clashes tells none.
 use Rattle.deny_lists.proofs.Members.{no_member}
-use Rattle.std.proofs.Common.{◌≡◌, ◌++◌, ℕ, List, [], ◌∷◌, Contains, map, Ok, Err, inl, refl, sym, ap, ◌∙◌, subst}
-use Rattle.std.specs.Prelude.{IfErr, IsUtf8, OnErr, OnOk, Result}
+use Rattle.deny_lists.proofs.PrefixLemmas.{gains_whole_of}
+use Rattle.std.proofs.Common.{◌≡◌, ◌++◌, ◌-◌, ℕ, List, [], ◌∷◌, Contains, append_assoc, length, map, take, Ok, Err, inl, inr, refl, sym, ap, ◌∙◌, subst, arith}
+use Rattle.std.proofs.lemmas.Bool.{cases_lt}
+use Rattle.std.proofs.lemmas.List.{length-append, take-append-le, take_all}
+use Rattle.std.proofs.Math.Seq.{take-append_seam}
+use Rattle.std.specs.Prelude.{IfErr, IfOk, IsUtf8, OnErr, Result}
 use Rattle.deny_base.specs.declared.files.File.{File}
 use Rattle.deny_base.specs.declared.finding.Diagnostic.{Diagnostic}
 use Rattle.deny_base.specs.declared.span.Span.{Span}
@@ -16,12 +20,17 @@ use Rattle.deny_toml.specs.declared.error.DeserError.TheVariants as deser
 use Rattle.deny_toml.specs.declared.error.FaultKind.TheVariants as kind
 use Rattle.deny_toml.specs.declared.error.TomlKind.{TomlKind}
 use Rattle.deny_toml.specs.declared.value.Value.{Value}
-use Rattle.deny_cfg.specs.Clashes.{AreClashes, clash_told, clashes_in}
-use Rattle.deny_cfg.specs.PolicyText.{AreFaults, IsConfig, IsNoPolicy, Keeps, KeepsOnError, ListsFaults, faults_of_tree, kind_of, policy_file}
+use Rattle.deny_cfg.specs.Clashes.{AreClashes, IsClash, clash_cmp, clash_told}
+use Rattle.deny_cfg.specs.PolicyText.{AddsFiles, AddsOnError, AreFaults, IsConfig, IsNoPolicy, Keeps, KeepsOnError, ListsFaults, faults_of_tree, globs_files, kind_of, policy_file, policy_files}
 use Rattle.deny_cfg.specs.PolicyText.AreFaults.{not_utf8, no_toml, of_tree}
-use Rattle.deny_lists.specs.Prefix.{Gains}
+use Rattle.deny_lists.specs.Ascending.{Lists}
+use Rattle.deny_lists.specs.Prefix.{Gains, GainsPrefix, GainsPrefixOf}
+use Rattle.deny_cfg.specs.Deprecated.{AreTold, warnings_of}
 use Rattle.deny_tables.specs.declared.bans.cfg.config.Config.{Config}
 use Rattle.deny_cfg.specs.declared.clash.Clash.{Clash}
+use Rattle.deny_cfg.specs.PolicyView.{builtin_file_of}
+use Rattle.deny_cfg.specs.Validating.{source_in}
+use Rattle.deny_cfg.specs.declared.policy.Policy.{Policy}
 use Rattle.deny_cfg.specs.declared.policy.PolicyError.{PolicyError}
 use Rattle.deny_cfg.specs.declared.policy.PolicyError.TheVariants as error
 
@@ -62,42 +71,138 @@ nothing_mapped f [] e = refl
 nothing_mapped f (x ∷ xs) e = cc
 
 -- where nothing is told, nothing clashes
-pub none_told : (config : Config) (file : ℕ) (told : List Diagnostic) → AreClashes config file told → told ≡ []
-    → clashes_in config ≡ []
-none_told config file told are none =
+pub none_told : (text : List ℕ) (config : Config) (file : ℕ) (told : List Diagnostic) → AreClashes text config file told
+    → told ≡ [] → (found : Clash) → IsClash text config found → ⊥
+none_told text config file told are none found is =
     let empty : are.clashes ≡ [] = nothing_mapped (clash_told file) are.clashes (sym are.is ∙ none) in
-    no_members (clashes_in config)
-    (λ z is. no_member z (subst (λ (xs : List Clash). Contains xs z) empty (are.listed.whole z is)))
+    no_member found (subst (λ (xs : List Clash). Contains xs found) empty (are.listed.whole found is))
+
+-- clashes come first, and then the warnings: as many are told where there are none
+pub none_before : {T : Type 0} (clashes warnings told : List T) → told ≡ clashes ++ warnings
+    → length told ≡ length warnings → clashes ≡ []
+none_before [] warnings told is long = refl
+none_before (x ∷ xs) warnings told is long =
+    absurd (omega (arith, ap length is, length-append (x ∷ xs) warnings, long))
+
+-- and without the warnings the clashes are left
+pub first_left : {T : Type 0} (clashes warnings told : List T) (count : ℕ) → told ≡ clashes ++ warnings
+    → count ≡ length told - length warnings → take count told ≡ clashes
+first_left clashes warnings told count is long =
+    let same : count ≡ length clashes =
+    omega (arith, long, ap length is, length-append clashes warnings) in
+    (λ i. take (same i) (is i)) ∙ take-append_seam clashes warnings
 
 -- a list that was empty holds what it gains
 pub gained : {T : Type 0} (P : List T → Type 0) (old new : List T) → old ≡ [] → Gains P old new → P new
 gained P old new none gains = subst P (sym (gains.behind ∙ ap (λ xs. xs ++ gains.more) none)) gains.are
 
+-- what the files hold
+kept_policy : (bytes text : List ℕ) (old mid new more : List File) → text ≡ bytes
+    → mid ≡ old ++ policy_file text ∷ [] → new ≡ mid ++ more → new ≡ old ++ policy_file bytes ∷ more
+kept_policy bytes text old mid new more same put added =
+    added ∙ (ap (λ fs. fs ++ more) (put ∙ ap (λ t. old ++ policy_file t ∷ []) same)
+    ∙ append_assoc old (policy_file bytes ∷ []) more)
+
+pub kept_policies : (r : Result Policy PolicyError) (bytes text : List ℕ) (old mid new : List File) → text ≡ bytes
+    → mid ≡ old ++ policy_file text ∷ []
+    → IfOk r (λ policy. new ≡ mid ++ globs_files (builtin_file_of policy.bans))
+    → IfOk r (λ policy. new ≡ old ++ policy_files bytes policy.bans)
+kept_policies (Ok policy) bytes text old mid new same put added =
+    kept_policy bytes text old mid new (globs_files (builtin_file_of policy.bans)) same put added
+kept_policies (Err e) bytes text old mid new same put added = tt
+
+-- the text of the file that was put last
+pub last_source : (files : List File) (file : File) → source_in (files ++ file ∷ []) (length files) ≡ file.source
+last_source [] file = refl
+last_source (f ∷ files) file = last_source files file
+
 -- a text that is UTF-8 was put behind the files
-pub kept_by : (bytes text : List ℕ) (old mid new : List File) → IsUtf8 bytes → text ≡ bytes
-    → mid ≡ old ++ policy_file text ∷ [] → new ≡ mid → Keeps bytes old new
-kept_by bytes text old mid new utf8 same put stays =
-    record { utf8 = λ _. stays ∙ (put ∙ ap (λ t. old ++ policy_file t ∷ []) same); other = λ not. absurd (not utf8) }
+kept_text : (bytes : List ℕ) (old mid : List File) → IsUtf8 bytes → mid ≡ old ++ policy_file bytes ∷ []
+    → Keeps bytes old mid
+kept_text bytes old mid utf8 put = record { utf8 = λ _. put; other = λ not. absurd (not utf8) }
 
-pub kept_on_ok : {T E : Type 0} (r : Result T E) (P : Type 0) → P → OnOk r P
-kept_on_ok (Ok x) P is = is
-kept_on_ok (Err e) P is = tt
+kept_at : (e : PolicyError) (bytes : List ℕ) (old mid new : List File) → IsUtf8 bytes
+    → mid ≡ old ++ policy_file bytes ∷ [] → AddsOnError e bytes mid new → KeepsOnError e bytes old new
+kept_at (error.Config faults) bytes old mid new utf8 put adds =
+    subst (Keeps bytes old) (sym adds) (kept_text bytes old mid utf8 put)
+kept_at (error.Invalid told) bytes old mid new utf8 put adds =
+    subst (λ files. AddsFiles bytes files new) put adds
+kept_at error.Memory bytes old mid new utf8 put (inl same) =
+    inr (inl (subst (Keeps bytes old) (sym same) (kept_text bytes old mid utf8 put)))
+kept_at error.Memory bytes old mid new utf8 put (inr adds) =
+    inr (inr (subst (λ files. AddsFiles bytes files new) put adds))
 
-kept_at : (e : PolicyError) (bytes : List ℕ) (old new : List File) → Keeps bytes old new → KeepsOnError e bytes old new
-kept_at (error.Config faults) bytes old new keeps = keeps
-kept_at (error.Invalid told) bytes old new keeps = keeps
-kept_at error.Memory bytes old new keeps = inl keeps
+pub kept_on_error : {T : Type 0} (r : Result T PolicyError) (bytes text : List ℕ) (old mid new : List File)
+    → IsUtf8 bytes → text ≡ bytes → mid ≡ old ++ policy_file text ∷ []
+    → IfErr r (λ e. AddsOnError e text mid new) → IfErr r (λ e. KeepsOnError e bytes old new)
+kept_on_error (Ok x) bytes text old mid new utf8 same put adds = tt
+kept_on_error (Err e) bytes text old mid new utf8 same put adds =
+    kept_at e bytes old mid new utf8 (put ∙ ap (λ t. old ++ policy_file t ∷ []) same)
+    (subst (λ t. AddsOnError e t mid new) same adds)
 
 pub on_error : {T E : Type 0} (r : Result T E) (P : Type 0) → P → OnErr r P
 on_error (Ok x) P is = tt
 on_error (Err e) P is = is
 
-pub kept_on_error : {T : Type 0} (r : Result T PolicyError) (bytes : List ℕ) (old new : List File) → Keeps bytes old new
-    → IfErr r (λ e. KeepsOnError e bytes old new)
-kept_on_error (Ok x) bytes old new keeps = tt
-kept_on_error (Err e) bytes old new keeps = kept_at e bytes old new keeps
+pub on_error_more : {T E : Type 0} (r : Result T E) (P Q : Type 0) → (P → Q) → OnErr r P → OnErr r Q
+on_error_more (Ok x) P Q more is = tt
+on_error_more (Err e) P Q more is = more is
 
 pub no_policy_of : (text : List ℕ) (file : ℕ) (e : PolicyError) → IsConfig (ListsFaults text) e → IsNoPolicy text file e
 no_policy_of text file (error.Config faults) is = is
 no_policy_of text file (error.Invalid told) is = absurd is
 no_policy_of text file error.Memory is = tt
+
+-- nothing was added where the text has faults, or memory was wanting
+pub none_added : (e : PolicyError) (P : List ConfigFault → Type 0) (text : List ℕ) (files : List File) → IsConfig P e
+    → AddsOnError e text files files
+none_added (error.Config faults) P text files is = refl
+none_added (error.Invalid told) P text files is = absurd is
+none_added error.Memory P text files is = inl refl
+
+-- what is told of a configuration: its clashes, and then its warnings
+pub told_of : (source : List ℕ) (config : Config) (file : ℕ) (clashes : List Clash)
+    → Lists clash_cmp (IsClash source config) clashes
+    → AreTold source config file (map (clash_told file) clashes ++ warnings_of file config)
+told_of source config file clashes listed = record {
+  clashes = map (clash_told file) clashes;
+  are = record { clashes = clashes; listed = listed; is = refl };
+  is = refl;
+}
+
+-- a prefix of the first part is one of both
+gains_first : {T : Type 0} (first second old new : List T) → GainsPrefix first old new
+    → GainsPrefix (first ++ second) old new
+gains_first first second old new gains = elim (cases_lt gains.count (length first)) [
+  | inl short ↦ record {
+    count = gains.count;
+    behind = gains.behind
+        ∙ ap (λ xs. old ++ xs) (sym (take-append-le gains.count first second (omega (arith, short))));
+  }
+  | inr long ↦ record {
+    count = length first;
+    behind = gains.behind
+        ∙ ap (λ xs. old ++ xs)
+        (take_all gains.count first (omega (arith, long)) ∙ sym (take-append_seam first second));
+  }
+]
+
+pub told_first : (source : List ℕ) (config : Config) (file : ℕ) (clashes given : List Clash) (old new : List Diagnostic)
+    → Lists clash_cmp (IsClash source config) clashes → given ≡ clashes
+    → GainsPrefix (map (clash_told file) given) old new
+    → GainsPrefixOf (AreTold source config file) old new
+told_first source config file clashes given old new listed same gains =
+    let told = map (clash_told file) clashes in
+    inr (
+      told ++ warnings_of file config,
+      told_of source config file clashes listed,
+      gains_first told (warnings_of file config) old new
+          (subst (λ cs. GainsPrefix (map (clash_told file) cs) old new) same gains),
+    )
+
+-- all of it was told
+pub told_whole : (source given : List ℕ) (config : Config) (file : ℕ) (old new : List Diagnostic) → given ≡ source
+    → Gains (AreTold given config file) old new → GainsPrefixOf (AreTold source config file) old new
+told_whole source given config file old new same gains =
+    gains_whole_of (AreTold source config file) gains.more old new
+    (subst (λ text. AreTold text config file gains.more) same gains.are) gains.behind

@@ -1,12 +1,13 @@
 -- The labels of what clashes lie in the text.
 use Rattle.deny_lists.proofs.Each.{all_append, all_filter, all_flat, all_found, all_given, all_mapped, all_weaker}
-use Rattle.std.proofs.Common.{◌≡◌, ℕ, Bool, true, false, cond, List, [], ◌∷◌, length, map, Contains, Option, Some, None, refl, sym, subst, arith}
-use Rattle.std.specs.Prelude.{All, IfSome, IsUtf8, filter, filter_map, find, option_and_then, option_map}
+use Rattle.std.proofs.Common.{◌≡◌, ◌++◌, ℕ, Bool, true, false, cond, List, [], ◌∷◌, length, map, Contains, Option, Some, None, inl, inr, refl, sym, subst, arith}
+use Rattle.std.specs.Prelude.{All, IfSome, IsUtf8, codes, filter, filter_map, find, option_and_then, option_map}
 use Rattle.std.specs.List.{AllByRecursion, flat_map}
 use Rattle.std.proofs.lemmas.List.Elements.{All-from_recursion, recursion_from_All}
 use Rattle.std.proofs.lemmas.Str.{IsCharBoundary-start}
 use Rattle.deny_lists.proofs.Members.{Contains-first, Contains-rest, at_member}
 use Rattle.deny_base.specs.declared.finding.Diagnostic.{Diagnostic}
+use Rattle.deny_base.specs.declared.label.LabelStyle.TheVariants.{Primary, Secondary}
 use Rattle.deny_base.specs.declared.span.Span.{Span}
 use Rattle.deny_base.specs.declared.span.Spanned.{Spanned}
 use Rattle.deny_model.specs.Keys.{no_span}
@@ -18,14 +19,18 @@ use Rattle.deny_toml.specs.Ranges.{IsRange, StandsIn}
 use Rattle.deny_toml.specs.Value.{entries_in}
 use Rattle.deny_toml.specs.declared.value.Table.{Table}
 use Rattle.deny_toml.specs.declared.value.Value.{Value}
+use Rattle.deny_build_cfg.specs.declared.wrong.BuildFault.{BuildFault}
+use Rattle.deny_build_cfg.specs.declared.wrong.BuildFault.TheVariants as fault
+use Rattle.deny_tables.specs.declared.bans.cfg.build.BuildConfig.{BuildConfig}
 use Rattle.deny_tables.specs.Bans.{ReadsBan, ReadsBanEntry, ban_fields}
-use Rattle.deny_cfg.specs.Clashes.{AreClashes, banned_specs, clash_labels, clash_told, clash_with, clashes_in, feature_clash, feature_clashes, is_ban, specs_of, wrappers_clash, wrappers_clash_by}
+use Rattle.deny_cfg.specs.Clashes.{AreClashes, IsBuildClash, IsClash, banned_specs, build_clash, clash_labels, clash_told, clash_with, clashes_in, feature_at, feature_clash, feature_clashes, is_ban, label_of, one_label, specs_of, two_places, wrappers_clash, wrappers_clash_by}
 use Rattle.deny_tables.specs.Config.{ReadsConfig}
 use Rattle.deny_entries.specs.Entry.{ReadsEntryBy, ReadsPair, ReadsSome}
-use Rattle.deny_cfg.specs.LabelRanges.{AreLabels, config_labels, crate_ban_ranges, crate_feature_ranges, list_ranges, of_some, own_range, reason_range, told_ranges, with_spec, word_ranges, wrapper_list}
+use Rattle.deny_cfg.specs.LabelRanges.{AreLabels, config_labels, crate_ban_ranges, crate_feature_ranges, list_ranges, of_some, own_range, reason_range, root_ranges, std_ranges, told_ranges, with_spec, word_ranges, wrapper_list, written_build_ranges}
 use Rattle.deny_cfg.specs.PolicyText.{ReadsBans, bans_name}
 use Rattle.deny_entries.proofs.RowLaws.{says_of}
 use Rattle.deny_entries.specs.PolicyKey.{name_of}
+use Rattle.deny_entries.specs.Spec.{ReadsSpec}
 use Rattle.deny_entries.specs.SpecView.{same_spec}
 use Rattle.deny_entries.specs.Table.{Entries, ReadsIn, ReadsIfThere, ReadsOr, at_key}
 use Rattle.deny_entries.specs.Words.{ReadsList, ReadsSpanned, ReadsTexts}
@@ -41,7 +46,8 @@ use Rattle.deny_entries.specs.declared.reason.Reason.{Reason}
 use Rattle.deny_entries.specs.declared.spec_or_extended.PackageSpecOrExtended.{PackageSpecOrExtended}
 use Rattle.deny_cfg.proofs.LabelConfig.{name_stands}
 use Rattle.deny_cfg.proofs.LabelLaws.{EntriesStand, Lie, StandsAt, at_stands, elements_stand, entries_stand, lie_append, no_entries_stand, stands_itself}
-use Rattle.deny_cfg.proofs.LabelValid.{lie_rest, lie_prefix}
+use Rattle.deny_cfg.proofs.Among.{lie_prefix, lie_rest}
+use Rattle.deny_cfg.proofs.BuildTold.{FaultLies, wrong_lies}
 
 -- ---- the lists of wrappers
 
@@ -102,26 +108,46 @@ deny_read : (entries : Entries) (config : Config) → ReadsConfig entries config
 unfolding name_of
 deny_read entries config reads = says_of key.Deny reads
 
+-- the list that may stand for the table `build`
+scripts_lie : (text : List ℕ) (o : Option Value) (scripts : Option (Spanned (List PackageSpec))) → StandsAt text o
+    → ReadsIfThere (ReadsSpanned (ReadsList ReadsSpec)) o scripts → Lie text (of_some own_range scripts)
+scripts_lie text o None stands reads = tt
+scripts_lie text None (Some scripts) stands reads = cc
+scripts_lie text (Some v) (Some scripts) stands reads =
+    (subst (IsRange text) (sym reads.0) (stands_itself text v stands).placed, tt)
+
+scripts_read : (entries : Entries) (config : Config) → ReadsConfig entries config
+    → ReadsIfThere (ReadsSpanned (ReadsList ReadsSpec)) (at_key key.AllowBuildScripts entries)
+    config.allow_build_scripts
+unfolding name_of
+scripts_read entries config reads = says_of key.AllowBuildScripts reads
+
+keys_lie : (text : List ℕ) (entries : Entries) (config : Config) → EntriesStand text entries
+    → ReadsConfig entries config
+    → Lie text (flat_map wrapper_list config.deny ++ of_some own_range config.allow_build_scripts)
+keys_lie text entries config stand reads =
+    lie_append text (flat_map wrapper_list config.deny) (of_some own_range config.allow_build_scripts)
+    (deny_lies text (at_key key.Deny entries) config.deny (at_stands text (name_of key.Deny) entries stand)
+    (deny_read entries config reads))
+    (scripts_lie text (at_key key.AllowBuildScripts entries) config.allow_build_scripts
+    (at_stands text (name_of key.AllowBuildScripts) entries stand) (scripts_read entries config reads))
+
 bans_lie : (text : List ℕ) (o : Option Value) (config : Config) → StandsAt text o → ReadsBans o config
-    → Lie text (flat_map wrapper_list config.deny)
-bans_lie text None config stands reads =
-    deny_lies text (at_key key.Deny []) config.deny (at_stands text (name_of key.Deny) [] (no_entries_stand text))
-    (deny_read [] config reads)
+    → Lie text (flat_map wrapper_list config.deny ++ of_some own_range config.allow_build_scripts)
+bans_lie text None config stands reads = keys_lie text [] config (no_entries_stand text) reads
 bans_lie text (Some v) config stands reads = by_table (table_in v) refl reads
   where
     by_table : (o : Option Table) → table_in v ≡ o → ReadsIn ReadsConfig o config
-        → Lie text (flat_map wrapper_list config.deny)
+        → Lie text (flat_map wrapper_list config.deny ++ of_some own_range config.allow_build_scripts)
     by_table None is keys = absurd keys
-    by_table (Some t) is keys =
-        deny_lies text (at_key key.Deny (entries_in t)) config.deny
-        (at_stands text (name_of key.Deny) (entries_in t) (entries_stand text v t is stands))
-        (deny_read (entries_in t) config keys)
+    by_table (Some t) is keys = keys_lie text (entries_in t) config (entries_stand text v t is stands) keys
 
 pub lists_lie : (text : List ℕ) (tree : Value) (config : Config) → StandsIn text tree
     → ReadsBans (below_name bans_name tree) config → All (IsRange text) (list_ranges config)
 unfolding list_ranges
 lists_lie text tree config stands reads =
-    All-from_recursion (IsRange text) (flat_map wrapper_list config.deny)
+    All-from_recursion (IsRange text)
+    (flat_map wrapper_list config.deny ++ of_some own_range config.allow_build_scripts)
     (bans_lie text (below_name bans_name tree) config (name_stands text bans_name tree stands) reads)
 
 -- ---- clashes
@@ -161,7 +187,8 @@ module _ (text : List ℕ) (nothing : IsRange text no_span) where
             first = wrappers.span;
             second = flag.span;
             third = no_span;
-            wrappers = length wrappers.value;
+            number = length wrappers.value;
+            ascii = false;
           })) None) (ClashLies text)
       by_test true = (other.0, (one.0, nothing))
       by_test false = tt
@@ -189,8 +216,7 @@ module _ (text : List ℕ) (nothing : IsRange text no_span) where
   unfolding clash_with
   equal_lies kind others all spec here =
       mapped_lies NameLies (ClashLies text)
-      (λ other. record
-      { kind = kind; first = spec.name.span; second = other.name.span; third = no_span; wrappers = 0 })
+      (λ other. two_places kind spec.name.span other.name.span)
       (λ other there. (here, (there, nothing)))
       (find (same_spec spec) others) (all_found NameLies (same_spec spec) others all)
 
@@ -219,8 +245,7 @@ module _ (text : List ℕ) (nothing : IsRange text no_span) where
       let denied = word_lies f.deny (lie_prefix text deny _ (lie_rest text allow _ lie.1)) in
       all_given (λ (word : Words). IsRange text word.span) (ClashLies text) (feature_clash f)
       (λ word here. mapped_lies (λ (other : Words). IsRange text other.span) (ClashLies text)
-      (λ other. record
-      { kind = clash.FeatureTwice; first = f.spec.name.span; second = word.span; third = other.span; wrappers = 0 })
+      (λ other. feature_at f.spec.name.span word other.span)
       (λ other there. (lie.0, (here, there)))
       (find (λ other. same_text word.value other.value) f.deny)
       (all_found (λ (other : Words). IsRange text other.span) (λ other. same_text word.value other.value) f.deny
@@ -270,6 +295,25 @@ module _ (text : List ℕ) (nothing : IsRange text no_span) where
       (all_flat (λ f. Lie text (crate_feature_ranges f)) (ClashLies text) feature_clashes feature_lies config.features
       (lie_each text crate_feature_ranges config.features (lie_prefix text features _ after_levels))))))
 
+  -- of the table `build`, which comes last
+  last_lies : (config : Config) → Lie text (config_labels config)
+      → Lie text (of_some written_build_ranges config.build)
+  unfolding config_labels
+  last_lies config lie =
+      let deny = flat_map (with_spec crate_ban_ranges) config.deny in
+      let allow = flat_map (with_spec reason_range) config.allow in
+      let external = of_some own_range config.external_default_features in
+      let workspace = of_some own_range config.workspace_default_features in
+      let features = flat_map crate_feature_ranges config.features in
+      let skip = flat_map (with_spec reason_range) config.skip in
+      let trees = flat_map (with_spec root_ranges) config.skip_tree in
+      let std = of_some std_ranges config.std_replacements in
+      let after_levels =
+      lie_rest text workspace _ (lie_rest text external _ (lie_rest text allow _ (lie_rest text deny _ lie))) in
+      lie_prefix text (of_some written_build_ranges config.build) []
+      (lie_rest text std _
+      (lie_rest text trees _ (lie_rest text skip _ (lie_rest text features _ after_levels))))
+
   labels_by : (kind : ClashKind) (file : ℕ) (c : Clash) → ClashLies text c
       → Lie text (map (λ label. label.span) (clash_labels kind file c))
   labels_by clash.WrappersOfMultiple file c lies = (lies.0, (lies.1.0, tt))
@@ -277,6 +321,40 @@ module _ (text : List ℕ) (nothing : IsRange text no_span) where
   labels_by clash.DenyAndSkip file c lies = (lies.0, (lies.1.0, tt))
   labels_by clash.AllowAndSkip file c lies = (lies.0, (lies.1.0, tt))
   labels_by clash.FeatureTwice file c lies = (lies.0, (lies.1.0, (lies.1.1, tt)))
+  labels_by clash.Extension file c lies = by_form c.ascii
+    where
+      by_form : (b : Bool)
+          → Lie text (map (λ label. label.span)
+          (cond b
+          (label_of Primary file c.first (codes "extension")
+          ∷ label_of Secondary file c.second (codes "invalid character") ∷ [])
+          (one_label file c (codes "invalid extension"))))
+      by_form true = (lies.0, (lies.1.0, tt))
+      by_form false = (lies.0, tt)
+  labels_by clash.Glob file c lies = (lies.0, tt)
+  labels_by clash.Path file c lies = (lies.0, tt)
+
+  build_lies_by : (found : BuildFault) → FaultLies text found → ClashLies text (build_clash found)
+  unfolding FaultLies
+  build_lies_by (fault.NonAscii range) lies = (lies, (nothing, nothing))
+  build_lies_by (fault.NoLetter range byte) lies = (lies.0, (lies.1, nothing))
+  build_lies_by (fault.Glob range byte) lies = (lies, (nothing, nothing))
+  build_lies_by (fault.Absolute range) lies = (lies, (nothing, nothing))
+
+  build_lies : IsUtf8 text → (build : Option BuildConfig) → Lie text (of_some written_build_ranges build)
+      → (found : Clash) → IsBuildClash text build found → ClashLies text found
+  build_lies utf8 None lie found is = absurd is
+  build_lies utf8 (Some build) lie found is =
+      subst (ClashLies text) (sym is.is)
+      (build_lies_by is.of (wrong_lies text utf8 build lie is.of is.wrong))
+
+  clash_lies : IsUtf8 text → (config : Config) → Lie text (config_labels config)
+      → Lie text (flat_map wrapper_list config.deny) → (found : Clash) → IsClash text config found
+      → ClashLies text found
+  clash_lies utf8 config lie lists found (inl entries) =
+      at_member (ClashLies text) (clashes_in config) found (clashes_lie config lie lists) entries
+  clash_lies utf8 config lie lists found (inr wrong) =
+      build_lies utf8 config.build (last_lies config lie) found wrong
 
   told_by : (file : ℕ) (cs : List Clash) → AllByRecursion (ClashLies text) cs
       → Lie text (told_ranges (map (clash_told file) cs))
@@ -303,16 +381,18 @@ nothing_lies text utf8 =
 -- the labels of what is told of clashes
 pub told_lie : (text : List ℕ) (config : Config) (file : ℕ) (told : List Diagnostic) → IsUtf8 text
     → AreLabels text (config_labels config) → All (IsRange text) (list_ranges config)
-    → AreClashes config file told → All (IsRange text) (told_ranges told)
+    → AreClashes text config file told → All (IsRange text) (told_ranges told)
 unfolding list_ranges
 told_lie text config file told utf8 labels lists are =
     let nothing = nothing_lies text utf8 in
-    let all =
-    clashes_lie text nothing config (recursion_from_All (IsRange text) (config_labels config) labels.placed)
-    (recursion_from_All (IsRange text) (flat_map wrapper_list config.deny) lists) in
+    let wrappers = flat_map wrapper_list config.deny in
+    let both = recursion_from_All (IsRange text)
+    (wrappers ++ of_some own_range config.allow_build_scripts) lists in
     let listed =
     of_members (ClashLies text) are.clashes
-    (λ c is. at_member (ClashLies text) (clashes_in config) c all (are.listed.sound c is)) in
+    (λ c is. clash_lies text nothing utf8 config
+    (recursion_from_All (IsRange text) (config_labels config) labels.placed)
+    (lie_prefix text wrappers (of_some own_range config.allow_build_scripts) both) c (are.listed.sound c is)) in
     All-from_recursion (IsRange text) (told_ranges told)
     (subst (λ (ds : List Diagnostic). Lie text (told_ranges ds)) (sym are.is)
     (told_by text nothing file are.clashes listed))

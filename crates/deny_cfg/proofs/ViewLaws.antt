@@ -194,7 +194,7 @@ same_features a b alike =
     (map features_of b.features)
     (alike_map FeaturesAlike SeenAlike features_of seen_alike a.features b.features alike.features)
 
-same_option : {T A : Type 0} (Alike : T → T → Type 0) (f : T → A) → Same Alike f f → (a b : Option T)
+pub same_option : {T A : Type 0} (Alike : T → T → Type 0) (f : T → A) → Same Alike f f → (a b : Option T)
     → BothAlike Alike a b → option_map f a ≡ option_map f b
 same_option Alike f same None None both = refl
 same_option Alike f same None (Some y) both = absurd both
@@ -215,10 +215,10 @@ same_replacing a b alike =
     }
 
 -- the view of a configuration that was found valid
-pub same_view : (a b : Config) (file number : ℕ) (these those : ValidConfig) → ConfigsAlike a b → IsValidOf a file these
-    → IsValidOf b number those
+pub same_view : (a b : Config) (file next number following : ℕ) (these those : ValidConfig) → ConfigsAlike a b
+    → IsValidOf a file next these → IsValidOf b number following those
     → policy_view these ≡ policy_view those
-same_view a b file number these those alike one two =
+same_view a b file next number following these those alike one two =
     let multiple_versions = one.multiple_versions ∙ alike.multiple_versions ∙ sym two.multiple_versions in
     let include_dev = one.include_dev ∙ alike.include_dev ∙ sym two.include_dev in
     let highlight = one.highlight ∙ alike.highlight ∙ sym two.highlight in

@@ -1,9 +1,9 @@
--- Which entries of a policy contradict each other, and what is told of it.
-use Rattle.std.specs.Prelude.{◌&&◌, ◌==◌, ◌++◌, ◌≡◌, ℕ, Bool, false, not, List, [], ◌∷◌, Option, None, Some, filter, find, length, map, filter_map, option_map, option_and_then, codes, Contains, if◌then◌else◌}
+-- Which entries of a policy contradict each other, what is wrong in its table `build`, and what is told of it.
+use Rattle.std.specs.Prelude.{◌&&◌, ◌==◌, ◌++◌, ◌≡◌, ◌⊎◌, ℕ, Bool, false, true, not, List, [], ◌∷◌, Option, None, Some, filter, find, length, map, filter_map, option_map, option_and_then, codes, Contains, if◌then◌else◌}
 use Rattle.std.specs.Fmt.{decimal}
 use Rattle.std.specs.List.{flat_map}
 use Rattle.std.specs.Option.{option_map_or}
-use Rattle.std.specs.Ordering.{nat_cmp, on, then_cmp}
+use Rattle.std.specs.Ordering.{bool_cmp, nat_cmp, on, then_cmp}
 use Rattle.std.specs.declared.cmp.Ordering.{Ordering}
 use Rattle.deny_lists.specs.Ascending.{Lists}
 use Rattle.deny_base.specs.KeyOrder.{span_cmp}
@@ -14,8 +14,12 @@ use Rattle.deny_base.specs.declared.label.LabelStyle.TheVariants.{Primary, Secon
 use Rattle.deny_base.specs.declared.level.Severity.TheVariants.{Error}
 use Rattle.deny_base.specs.declared.span.Span.{Span}
 use Rattle.deny_base.specs.declared.span.Spanned.{Spanned}
+use Rattle.deny_build_cfg.specs.Wrong.{IsWrong}
+use Rattle.deny_build_cfg.specs.declared.wrong.BuildFault.{BuildFault}
+use Rattle.deny_build_cfg.specs.declared.wrong.BuildFault.TheVariants as fault
 use Rattle.deny_entries.specs.SpecView.{same_spec}
 use Rattle.deny_tables.specs.declared.bans.cfg.ban.CrateBanExtended.{CrateBanExtended}
+use Rattle.deny_tables.specs.declared.bans.cfg.build.BuildConfig.{BuildConfig}
 use Rattle.deny_tables.specs.declared.bans.cfg.config.Config.{Config}
 use Rattle.deny_tables.specs.declared.bans.cfg.features.CrateFeatures.{CrateFeatures}
 use Rattle.deny_cfg.specs.declared.clash.Clash.{Clash}
@@ -36,7 +40,14 @@ unfoldable pub is_ban : PackageSpecOrExtended CrateBanExtended → Bool
 is_ban e = not (option_map_or (λ flag. flag.value) (flag_of e) false)
 
 abbrev pub two_places : ClashKind → Span → Span → Clash
-two_places kind first second = record { kind = kind; first = first; second = second; third = no_span; wrappers = 0 }
+two_places kind first second = record {
+  kind = kind;
+  first = first;
+  second = second;
+  third = no_span;
+  number = 0;
+  ascii = false;
+}
 
 -- an entry that denies several versions alone names no wrappers
 abbrev pub wrappers_clash_by : Option (Spanned Bool) → Option (Spanned (List Words)) → Option Clash
@@ -47,8 +58,9 @@ wrappers_clash_by (Some flag) (Some wrappers) =
       first = wrappers.span;
       second = flag.span;
       third = no_span;
-      wrappers = length
+      number = length
           wrappers.value;
+      ascii = false;
     })
     else None
 wrappers_clash_by _ _ = None
@@ -69,8 +81,14 @@ banned_specs config = specs_of (filter is_ban config.deny)
 
 -- an allowed feature, and the first equal denied one of the same entry
 abbrev pub feature_at : Span → Words → Span → Clash
-feature_at name allowed denied =
-    record { kind = clash.FeatureTwice; first = name; second = allowed.span; third = denied; wrappers = 0 }
+feature_at name allowed denied = record {
+  kind = clash.FeatureTwice;
+  first = name;
+  second = allowed.span;
+  third = denied;
+  number = 0;
+  ascii = false;
+}
 
 unfoldable pub feature_clash : CrateFeatures → Words → Option Clash
 feature_clash entry allowed = option_map
@@ -87,12 +105,35 @@ clashes_in config = filter_map wrappers_clash config.deny
     ++ (filter_map (clash_with clash.AllowAndSkip (specs_of config.skip)) (specs_of config.allow)
     ++ flat_map feature_clashes config.features)))
 
+-- what is wrong in a table `build`
+abbrev pub build_clash : BuildFault → Clash
+build_clash (fault.NonAscii range) = two_places clash.Extension range no_span
+build_clash (fault.NoLetter range byte) = record (two_places clash.Extension range byte) { ascii = true }
+build_clash (fault.Glob range byte) = record (two_places clash.Glob range no_span) { number = byte }
+build_clash (fault.Absolute range) = two_places clash.Path range no_span
+
+pub record IsWrongIn (source : List ℕ) (build : BuildConfig) (found : Clash) : Type 0 where
+  pub of : BuildFault
+  pub wrong : IsWrong source build of
+  pub is : found ≡ build_clash of
+
+abbrev pub IsBuildClash : List ℕ → Option BuildConfig → Clash → Type 0
+IsBuildClash source None found = ⊥
+IsBuildClash source (Some build) found = IsWrongIn source build found
+
+-- this clashes in a configuration that is read from the text
+abbrev pub IsClash : List ℕ → Config → Clash → Type 0
+IsClash source config found = Contains (clashes_in config) found ⊎ IsBuildClash source config.build found
+
 unfoldable pub kind_number : ClashKind → ℕ
 kind_number clash.WrappersOfMultiple = 0
 kind_number clash.DenyAndAllow = 1
 kind_number clash.DenyAndSkip = 2
 kind_number clash.AllowAndSkip = 3
 kind_number clash.FeatureTwice = 4
+kind_number clash.Extension = 5
+kind_number clash.Glob = 6
+kind_number clash.Path = 7
 
 abbrev pub kind_cmp : ClashKind → ClashKind → Ordering
 kind_cmp = on kind_number nat_cmp
@@ -101,15 +142,21 @@ kind_cmp = on kind_number nat_cmp
 abbrev pub clash_cmp : Clash → Clash → Ordering
 clash_cmp = then_cmp (on (λ c. c.kind) kind_cmp)
     (then_cmp (on (λ c. c.first) span_cmp)
-    (then_cmp (on (λ c. c.second) span_cmp) (then_cmp (on (λ c. c.third) span_cmp) (on (λ c. c.wrappers) nat_cmp))))
+    (then_cmp (on (λ c. c.second) span_cmp)
+    (then_cmp (on (λ c. c.third) span_cmp)
+    (then_cmp (on (λ c. c.number) nat_cmp) (on (λ c. c.ascii) bool_cmp)))))
 
-abbrev pub clash_message : ClashKind → List ℕ
-clash_message clash.WrappersOfMultiple =
+abbrev pub clash_message : ClashKind → Clash → List ℕ
+clash_message clash.WrappersOfMultiple c =
     codes "a crate ban was specified with both `wrappers` and `deny-multiple-versions` = true"
-clash_message clash.DenyAndAllow = codes "a crate was specified in both `allow` and `deny`"
-clash_message clash.DenyAndSkip = codes "a crate was specified in both `skip` and `deny`"
-clash_message clash.AllowAndSkip = codes "a crate was specified in both `skip` and `allow`"
-clash_message clash.FeatureTwice = codes "a crate feature was specified as both allowed and denied"
+clash_message clash.DenyAndAllow c = codes "a crate was specified in both `allow` and `deny`"
+clash_message clash.DenyAndSkip c = codes "a crate was specified in both `skip` and `deny`"
+clash_message clash.AllowAndSkip c = codes "a crate was specified in both `skip` and `allow`"
+clash_message clash.FeatureTwice c = codes "a crate feature was specified as both allowed and denied"
+clash_message clash.Extension c =
+    if c.ascii then codes "invalid file extension provided" else codes "non-ascii file extension provided"
+clash_message clash.Glob c = codes "invalid glob pattern: at byte " ++ decimal c.number
+clash_message clash.Path c = codes "absolute paths are not allowed"
 
 abbrev pub label_of : LabelStyle → ℕ → Span → List ℕ → Label
 label_of style file span message = record { style = style; file_id = file; span = span; message = message }
@@ -119,7 +166,7 @@ marks file c first second = label_of Secondary file c.first first ∷ label_of S
 
 abbrev pub wrapper_labels : ℕ → Clash → List Label
 wrapper_labels file c =
-    marks file c (codes "has " ++ (decimal c.wrappers ++ codes " `wrappers`"))
+    marks file c (codes "has " ++ (decimal c.number ++ codes " `wrappers`"))
     (codes "has `deny-multiple-versions` set to true")
 
 abbrev pub feature_labels : ℕ → Clash → List Label
@@ -129,24 +176,38 @@ feature_labels file c =
     ∷ label_of Secondary file c.third (codes "marked as `deny`")
     ∷ []
 
+abbrev pub one_label : ℕ → Clash → List ℕ → List Label
+one_label file c message = label_of Primary file c.first message ∷ []
+
+-- an extension, and the first character of it that may not be there, where all are ASCII
+abbrev pub extension_labels : ℕ → Clash → List Label
+extension_labels file c =
+    if c.ascii
+    then label_of Primary file c.first (codes "extension")
+    ∷ label_of Secondary file c.second (codes "invalid character") ∷ []
+    else one_label file c (codes "invalid extension")
+
 abbrev pub clash_labels : ClashKind → ℕ → Clash → List Label
 clash_labels clash.WrappersOfMultiple file c = wrapper_labels file c
 clash_labels clash.DenyAndAllow file c = marks file c (codes "marked as `deny`") (codes "marked as `allow`")
 clash_labels clash.DenyAndSkip file c = marks file c (codes "marked as `deny`") (codes "marked as `skip`")
 clash_labels clash.AllowAndSkip file c = marks file c (codes "marked as `allow`") (codes "marked as `skip`")
 clash_labels clash.FeatureTwice file c = feature_labels file c
+clash_labels clash.Extension file c = extension_labels file c
+clash_labels clash.Glob file c = one_label file c []
+clash_labels clash.Path file c = one_label file c []
 
 unfoldable pub clash_told : ℕ → Clash → Diagnostic
 clash_told file c = record {
   severity = Error;
   code = None;
-  message = clash_message c.kind;
+  message = clash_message c.kind c;
   labels = clash_labels c.kind file c;
   notes = [];
 }
 
--- these diagnostics tell what clashes, in order, each once
-pub record AreClashes (config : Config) (file : ℕ) (told : List Diagnostic) : Type 0 where
+-- these diagnostics tell what clashes in a configuration that is read from the text, in order, each once
+pub record AreClashes (source : List ℕ) (config : Config) (file : ℕ) (told : List Diagnostic) : Type 0 where
   pub clashes : List Clash
-  pub listed : Lists clash_cmp (Contains (clashes_in config)) clashes
+  pub listed : Lists clash_cmp (IsClash source config) clashes
   pub is : told ≡ map (clash_told file) clashes

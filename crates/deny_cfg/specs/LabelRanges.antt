@@ -5,7 +5,15 @@ use Rattle.deny_base.specs.declared.finding.Diagnostic.{Diagnostic}
 use Rattle.deny_base.specs.declared.span.Span.{Span}
 use Rattle.deny_base.specs.declared.span.Spanned.{Spanned}
 use Rattle.deny_toml.specs.Ranges.{IsRange}
+use Rattle.deny_build_cfg.specs.declared.glob_set.ValidGlobSet.{ValidGlobSet}
+use Rattle.deny_build_cfg.specs.declared.pattern.GlobPattern.{GlobPattern}
+use Rattle.deny_build_cfg.specs.declared.pattern.GlobPattern.TheVariants.{Builtin, User}
+use Rattle.deny_build_cfg.specs.declared.valid.ValidBuildConfig.{ValidBuildConfig}
+use Rattle.deny_build_cfg.specs.declared.valid.ValidBypass.{ValidBypass}
 use Rattle.deny_tables.specs.declared.bans.cfg.ban.CrateBanExtended.{CrateBanExtended}
+use Rattle.deny_tables.specs.declared.bans.cfg.build.BuildConfig.{BuildConfig}
+use Rattle.deny_tables.specs.declared.bans.cfg.bypass.Bypass.{Bypass}
+use Rattle.deny_tables.specs.declared.bans.cfg.bypass.BypassPath.{BypassPath}
 use Rattle.deny_tables.specs.declared.bans.cfg.config.Config.{Config}
 use Rattle.deny_tables.specs.declared.bans.cfg.features.CrateFeatures.{CrateFeatures}
 use Rattle.deny_tables.specs.declared.bans.cfg.std_replacements.StdReplacementConfig.{StdReplacementConfig}
@@ -65,6 +73,35 @@ std_ranges_by reasons std = flat_map (with_spec reasons) std.ignore
 abbrev pub std_ranges : StdReplacementConfig → List Span
 std_ranges = std_ranges_by reason_range
 
+-- a file that passes, with its checksum
+abbrev pub path_ranges : BypassPath → List Span
+path_ranges file = joined (own_range file.path ∷ of_some own_range file.checksum ∷ [])
+
+-- a pattern that the policy writes; the others stand in another file
+abbrev pub pattern_range : GlobPattern → List Span
+pattern_range (Builtin glob) = []
+pattern_range (User word) = own_range word
+
+abbrev pub pattern_ranges : ValidGlobSet → List Span
+pattern_ranges globs = flat_map pattern_range globs.patterns
+
+-- an entry of `bypass`: its name, the checksum of the script, its features, globs and paths
+abbrev pub bypass_ranges : ValidBypass → List Span
+bypass_ranges bypass =
+    spec_range bypass.spec
+    ++ joined (
+    of_some own_range bypass.build_script
+    ∷ word_ranges bypass.required_features
+    ∷ of_some pattern_ranges bypass.allow_globs
+    ∷ flat_map path_ranges bypass.allow
+    ∷ []
+    )
+
+-- the table `build`: the extensions of scripts, and its entries
+abbrev pub build_ranges : ValidBuildConfig → List Span
+build_ranges build =
+    joined (pattern_ranges build.script_extensions ∷ flat_map bypass_ranges build.bypass ∷ [])
+
 -- of each name, feature and level, and what is taken of bans, reasons and trees besides
 abbrev pub ranges_by : (KrateBan → List Span) → (Reason → List Span) → (TreeSkipExtended → List Span) → ValidConfig
     → List Span
@@ -77,6 +114,7 @@ ranges_by bans reasons trees cfg = joined (
     ∷ flat_map (with_spec reasons) cfg.skipped
     ∷ flat_map (with_spec trees) cfg.tree_skipped
     ∷ of_some (std_ranges_by reasons) cfg.std_replacements
+    ∷ of_some build_ranges cfg.build
     ∷ []
     )
 
@@ -98,6 +136,25 @@ abbrev pub crate_feature_ranges : CrateFeatures → List Span
 crate_feature_ranges f =
     spec_range f.spec ++ joined (word_ranges f.allow.value ∷ word_ranges f.deny ∷ of_some reason_range f.reason ∷ [])
 
+abbrev pub written_bypass_ranges : Bypass → List Span
+written_bypass_ranges bypass =
+    spec_range bypass.spec
+    ++ joined (
+    of_some own_range bypass.build_script
+    ∷ word_ranges bypass.required_features
+    ∷ of_some word_ranges bypass.allow_globs
+    ∷ flat_map path_ranges bypass.allow
+    ∷ []
+    )
+
+abbrev pub written_build_ranges : BuildConfig → List Span
+written_build_ranges build =
+    joined (
+    of_some word_ranges build.script_extensions
+    ∷ of_some (flat_map written_bypass_ranges) build.bypass
+    ∷ []
+    )
+
 unfoldable pub config_labels : Config → List Span
 config_labels config = joined (
     flat_map (with_spec crate_ban_ranges) config.deny
@@ -108,6 +165,7 @@ config_labels config = joined (
     ∷ flat_map (with_spec reason_range) config.skip
     ∷ flat_map (with_spec root_ranges) config.skip_tree
     ∷ of_some std_ranges config.std_replacements
+    ∷ of_some written_build_ranges config.build
     ∷ []
     )
 
@@ -130,8 +188,13 @@ pub record AreLabels (text : List ℕ) (spans : List Span) : Type 0 where
 abbrev pub wrapper_list : PackageSpecOrExtended CrateBanExtended → List Span
 wrapper_list e = of_some (λ said. of_some own_range said.wrappers) e.inner
 
+-- and of the list that may stand for the table `build`
 unfoldable pub list_ranges : Config → List Span
-list_ranges config = flat_map wrapper_list config.deny
+list_ranges config = flat_map wrapper_list config.deny ++ of_some own_range config.allow_build_scripts
+
+-- of the older key that stands for the table `build`
+abbrev pub older_range : ValidConfig → List Span
+older_range cfg = of_some (λ build. of_some (λ range. range ∷ []) build.older_key) cfg.build
 
 -- of the labels of what is told
 abbrev pub told_ranges : List Diagnostic → List Span

@@ -1,4 +1,5 @@
 pub mod Clashes
+pub mod Deprecated
 pub mod FirstPlaces
 pub mod LabelRanges
 pub mod Lawful
@@ -7,6 +8,7 @@ pub mod PolicyText
 pub mod PolicyView
 pub mod Valid
 pub mod Validating
+pub use Rattle.deny_build_cfg.specs.BuildingView
 pub use Rattle.deny_entries.specs.Entry
 pub use Rattle.deny_entries.specs.PolicyKey
 pub use Rattle.deny_entries.specs.Reasons

@@ -1,5 +1,5 @@
 -- What a text says as a policy: its faults, what clashes in it, and the policy where there is neither.
-use Rattle.std.specs.Prelude.{◌≡◌, ◌≢◌, ◌++◌, ◌⊎◌, ◌||◌, ⊤, ℕ, All, Bool, false, true, List, [], ◌∷◌, Option, None, Some, codes, is_some, IsUtf8}
+use Rattle.std.specs.Prelude.{◌≡◌, ◌≢◌, ◌+◌, ◌++◌, ◌⊎◌, ⊤, ℕ, All, List, [], ◌∷◌, Option, None, Some, codes, IsUtf8}
 use Rattle.std.specs.List.Sorted.{IsStrictlySortedBy}
 use Rattle.deny_base.specs.declared.files.File.{File}
 use Rattle.deny_base.specs.declared.finding.Diagnostic.{Diagnostic}
@@ -16,12 +16,17 @@ use Rattle.deny_toml.specs.declared.error.FaultKind.TheVariants as kind
 use Rattle.deny_toml.specs.declared.error.TomlKind.{TomlKind}
 use Rattle.deny_toml.specs.declared.error.TomlKind.TheVariants as toml
 use Rattle.deny_toml.specs.declared.value.Value.{Value}
-use Rattle.deny_cfg.specs.Clashes.{AreClashes, clashes_in}
+use Rattle.deny_cfg.specs.Clashes.{AreClashes, IsClash}
+use Rattle.deny_cfg.specs.Deprecated.{warnings_of}
 use Rattle.deny_tables.specs.Config.{ReadsConfig, faults_of_config}
 use Rattle.deny_tables.specs.Licenses.{ReadsLicenses, faults_of_licenses}
 use Rattle.deny_cfg.specs.LabelRanges.{told_ranges}
+use Rattle.deny_cfg.specs.PolicyView.{builtin_file_of}
+use Rattle.deny_cfg.specs.declared.bans.cfg.valid.ValidConfig.{ValidConfig}
+use Rattle.deny_build_cfg.specs.Builtin.{builtin_file}
 use Rattle.deny_entries.specs.Table.{ReadsIfThere, ReadsTable}
-use Rattle.deny_cfg.specs.Valid.{IsValidOf}
+use Rattle.deny_cfg.specs.Valid.{IsValidOf, files_asked}
+use Rattle.deny_cfg.specs.declared.clash.Clash.{Clash}
 use Rattle.deny_tables.specs.declared.bans.cfg.config.Config.{Config}
 use Rattle.deny_tables.specs.declared.licenses.config.Config as licenses
 use Rattle.deny_cfg.specs.declared.policy.Policy.{Policy}
@@ -77,23 +82,13 @@ pub record Says (text : List ℕ) (config : Config) (licensing : Option licenses
   pub reads : ReadsBans (below_name bans_name tree) config
   pub reads_licenses : ReadsLicensing (below_name licenses_name tree) licensing
 
--- whether `bans` writes a key whose rule is not there yet: one of build scripts
-unfoldable pub writes_unbuilt : Config → Bool
-writes_unbuilt config = is_some config.allow_build_scripts || is_some config.build
-
--- the same, and whether the text writes a key whose rule is not there yet
-pub record SaysOf (text : List ℕ) (config : Config) (licensing : Option licenses.Config) (unbuilt : Bool)
-    : Type 0 where
-  pub says : Says text config licensing
-  pub unbuilt_is : unbuilt ≡ writes_unbuilt config
-
--- The policy of a text: it is TOML without faults and without clashes, and this is what it says.
+-- The policy of a text that is the last file: it is TOML without faults and without clashes, and this is what it says.
 pub record IsPolicyOf (text : List ℕ) (file : ℕ) (policy : Policy) : Type 0 where
   pub config : Config
-  pub says : SaysOf text config policy.licenses policy.not_built
-  pub no_clash : clashes_in config ≡ []
-  pub valid : IsValidOf config file policy.bans
-  pub no_warning : policy.warnings ≡ []
+  pub says : Says text config policy.licenses
+  pub no_clash : (found : Clash) → IsClash text config found → ⊥
+  pub valid : IsValidOf config file (file + 1) policy.bans
+  pub warnings : policy.warnings ≡ warnings_of file config
 
 -- What clashes in a text without faults. All labels lie in the text.
 pub record TellsClashes (text : List ℕ) (file : ℕ) (told : List Diagnostic) : Type 0 where
@@ -101,7 +96,7 @@ pub record TellsClashes (text : List ℕ) (file : ℕ) (told : List Diagnostic) 
   pub licensing : Option licenses.Config
   pub says : Says text config licensing
   pub some : told ≢ []
-  pub are : AreClashes config file told
+  pub are : AreClashes text config file told
   pub placed : All (IsRange text) (told_ranges told)
 
 -- Why a text has no policy. Want of memory says nothing of the text.
@@ -125,8 +120,34 @@ pub record Keeps (text : List ℕ) (old new : List File) : Type 0 where
   pub utf8 : IsUtf8 text → new ≡ old ++ policy_file text ∷ []
   pub other : ¬ IsUtf8 text → new ≡ old
 
+-- the file of the built-in globs, where it has a number
+abbrev pub globs_files : Option ℕ → List File
+globs_files None = []
+globs_files (Some number) = builtin_file ∷ []
+
+-- the text's file, and behind it that of the built-in globs, where there are some
+abbrev pub policy_files : List ℕ → ValidConfig → List File
+policy_files text cfg = policy_file text ∷ globs_files (builtin_file_of cfg)
+
+-- A text without faults adds the file of the built-in globs, exactly where it asks for them.
+pub record AddsFiles (text : List ℕ) (old new : List File) : Type 0 where
+  pub config : Config
+  pub licensing : Option licenses.Config
+  pub says : Says text config licensing
+  pub is : new ≡ old ++ files_asked config
+
+-- both: the text is put behind the other files, and then what it asks for
+abbrev pub KeepsAll : List ℕ → List File → List File → Type 0
+KeepsAll text old new = AddsFiles text (old ++ policy_file text ∷ []) new
+
+-- where the text has no policy: with faults it adds nothing; where memory is wanting, it may have added nothing
+abbrev pub AddsOnError : PolicyError → List ℕ → List File → List File → Type 0
+AddsOnError (error.Config faults) text old new = new ≡ old
+AddsOnError (error.Invalid told) text old new = AddsFiles text old new
+AddsOnError error.Memory text old new = (new ≡ old) ⊎ AddsFiles text old new
+
 -- also where the text then has no policy; where memory is wanting, the files may be as they were
 abbrev pub KeepsOnError : PolicyError → List ℕ → List File → List File → Type 0
 KeepsOnError (error.Config faults) text old new = Keeps text old new
-KeepsOnError (error.Invalid told) text old new = Keeps text old new
-KeepsOnError error.Memory text old new = Keeps text old new ⊎ (new ≡ old)
+KeepsOnError (error.Invalid told) text old new = KeepsAll text old new
+KeepsOnError error.Memory text old new = (new ≡ old) ⊎ (Keeps text old new ⊎ KeepsAll text old new)

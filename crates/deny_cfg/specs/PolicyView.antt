@@ -1,6 +1,9 @@
 -- What the rules see of a configuration.
-use Rattle.std.specs.Prelude.{ℕ, ◌+◌, List, [], ◌∷◌, map, Option, None, Some, option_map, option_and_then}
+use Rattle.std.specs.Prelude.{ℕ, ◌+◌, List, [], ◌∷◌, map, IfSome, Option, None, Some, option_map, option_and_then}
 use Rattle.semver.specs.Identifiers.{parts_of}
+use Rattle.deny_build_cfg.specs.Build.{IsReadBuild}
+use Rattle.deny_build_cfg.specs.BuildingView.{building_view, globs_file}
+use Rattle.deny_build_model.specs.Building.{Building}
 use Rattle.deny_model.specs.Policy as model
 use Rattle.deny_model.specs.Policy.{Ban, Entry, FeatureEntry, Policy, Replacing, Root, Sharing, Words}
 use Rattle.deny_entries.specs.SpecView.{spec_view}
@@ -96,3 +99,15 @@ policy_view cfg = record {
   sharing = option_map sharing_view cfg.workspace_dependencies;
   replacing = option_map replacing_view cfg.std_replacements;
 }
+
+-- what it says of build scripts and of the files of packages; none where it does not speak of them
+abbrev pub building_of : ValidConfig → Option Building
+building_of cfg = option_map building_view cfg.build
+
+-- the file of the built-in globs, where there are some
+abbrev pub builtin_file_of : ValidConfig → Option ℕ
+builtin_file_of cfg = option_and_then globs_file cfg.build
+
+-- the globs of the table `build` are those of its texts
+abbrev pub AreGlobsRead : ValidConfig → Type 0
+AreGlobsRead cfg = IfSome cfg.build IsReadBuild

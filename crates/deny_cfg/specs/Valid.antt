@@ -1,7 +1,13 @@
 -- A configuration without clashes, as the rules take it.
-use Rattle.std.specs.Prelude.{◌≡◌, ℕ, Bool, not, filter, map, option_map}
+use Rattle.std.specs.Prelude.{◌≡◌, ℕ, Bool, not, List, [], Option, filter, map, option_map}
+use Rattle.std.specs.Option.{option_map_or}
+use Rattle.deny_base.specs.declared.files.File.{File}
+use Rattle.deny_base.specs.declared.span.Span.{Span}
+use Rattle.deny_build_cfg.specs.Build.{IsBuildOf, build_by, files_of, older_key_by}
+use Rattle.deny_build_cfg.specs.Globs.{OfBoth}
 use Rattle.deny_cfg.specs.Clashes.{is_ban}
 use Rattle.deny_tables.specs.declared.bans.cfg.ban.CrateBanExtended.{CrateBanExtended}
+use Rattle.deny_tables.specs.declared.bans.cfg.build.BuildConfig.{BuildConfig}
 use Rattle.deny_tables.specs.declared.bans.cfg.config.Config.{Config}
 use Rattle.deny_tables.specs.declared.bans.cfg.features.CrateFeatures.{CrateFeatures}
 use Rattle.deny_cfg.specs.declared.bans.cfg.valid.KrateBan.{KrateBan}
@@ -30,8 +36,21 @@ features_of f =
 abbrev pub is_multiple : PackageSpecOrExtended CrateBanExtended → Bool
 is_multiple e = not (is_ban e)
 
--- the entries of `deny` are bans, or deny several versions alone; all else is as it is written
-pub record IsValidOf (config : Config) (file : ℕ) (valid : ValidConfig) : Type 0 where
+-- the table `build` that holds: the one that is written, else the one that the older key stands for
+abbrev pub build_of : Config → Option BuildConfig
+build_of config = build_by config.build config.allow_build_scripts
+
+-- the range of the older key, where it stands for the table
+abbrev pub older_key_of : Config → Option Span
+older_key_of config = older_key_by config.build config.allow_build_scripts
+
+-- the files that are added: that of the built-in globs, exactly where they are asked for
+abbrev pub files_asked : Config → List File
+files_asked config = option_map_or (λ build. files_of build.enable_builtin_globs) (build_of config) []
+
+-- The entries of `deny` are bans, or deny several versions alone; the table `build` is as rules take it, with the
+-- built-in globs, where they are asked for, in the next file; all else is as it is written.
+pub record IsValidOf (config : Config) (file next : ℕ) (valid : ValidConfig) : Type 0 where
   pub file_id : valid.file_id ≡ file
   pub multiple_versions : valid.multiple_versions ≡ config.multiple_versions
   pub include_dev : valid.multiple_versions_include_dev ≡ config.multiple_versions_include_dev
@@ -49,3 +68,4 @@ pub record IsValidOf (config : Config) (file : ℕ) (valid : ValidConfig) : Type
   pub allow_wildcard_paths : valid.allow_wildcard_paths ≡ config.allow_wildcard_paths
   pub workspace_dependencies : valid.workspace_dependencies ≡ config.workspace_dependencies
   pub std_replacements : valid.std_replacements ≡ config.std_replacements
+  pub build : OfBoth (λ build. IsBuildOf build next (older_key_of config)) (build_of config) valid.build

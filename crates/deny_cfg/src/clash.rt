@@ -1,15 +1,19 @@
-//! Entries of a policy that contradict each other.
+//! Entries of a policy that contradict each other, and what is wrong in its table `build`.
 ghost use Rattle.std.specs.Prelude.{◌≡◌, ◌==◌, Some, refl};
 ghost use Rattle.std.specs.Ordering.{nat_cmp};
 ghost use Rattle.std.specs.Cmp.{nat_cmp_total, on_total, on_per, on_equiv, nat_eq_equiv, partial_equiv_from_equiv, partial_order_from_own_ties, partial_order_from_total, unsigned_ties};
 ghost use Rattle.std.specs.FinMap.{IsAntisymmetric};
-ghost use Rattle.deny_cfg.specs.Clashes.{kind_number, kind_cmp, clash_cmp, two_places};
+ghost use Rattle.deny_cfg.specs.Clashes.{build_clash, clash_cmp, kind_cmp, kind_number, two_places};
 ghost use Rattle.deny_cfg.specs.declared.clash.Clash.{Clash};
 
 use deny_base::Span;
+use deny_build_cfg::BuildFault;
 use std::cmp::Ordering;
 
-/// What contradicts what.
+/// The range of a label that is not there.
+const NO_SPAN: Span = Span { start: 0, end: 0 };
+
+/// What contradicts what, or is wrong.
 #[derive(Debug, Clone, Copy)]
 pub enum ClashKind {
     /// An entry of `deny` names wrappers, and denies several versions alone.
@@ -22,6 +26,12 @@ pub enum ClashKind {
     AllowAndSkip,
     /// An entry of `features` allows and denies a feature.
     FeatureTwice,
+    /// An extension of `script-extensions` has another character than ASCII letters and digits.
+    Extension,
+    /// An entry of `allow-globs` is no glob.
+    Glob,
+    /// An entry of `allow` in `bypass` has an absolute path.
+    Path,
 }
 
 impl ClashKind {
@@ -36,6 +46,9 @@ impl ClashKind {
             ClashKind::DenyAndSkip => 2,
             ClashKind::AllowAndSkip => 3,
             ClashKind::FeatureTwice => 4,
+            ClashKind::Extension => 5,
+            ClashKind::Glob => 6,
+            ClashKind::Path => 7,
         }
     }
 }
@@ -78,18 +91,21 @@ impl Ord for ClashKind {
     }
 }
 
-/// Two places of a policy that contradict each other. Clashes are ordered by kind, and then by the
-/// ranges of their labels.
+/// Two places of a policy that contradict each other, or one that is wrong. Clashes are ordered by kind, and then by
+/// the ranges of their labels.
 #[derive(Debug, Clone, Copy, PartialEq, Eq, PartialOrd, Ord)]
 pub struct Clash {
     pub kind: ClashKind,
-    /// The ranges of the first two labels.
+    /// The range of the first label.
     pub first: Span,
+    /// The range of the second label; 0..0 where there is none.
     pub second: Span,
     /// The range of the third label of a `FeatureTwice`, else 0..0.
     pub third: Span,
-    /// How many wrappers there are, of a `WrappersOfMultiple`, else 0.
-    pub wrappers: u64,
+    /// How many wrappers there are, of a `WrappersOfMultiple`; the byte for which a `Glob` is none; else 0.
+    pub number: u64,
+    /// Whether an `Extension` is all ASCII, so that its second label is at a character; else false.
+    pub ascii: bool,
 }
 
 impl Clash {
@@ -101,8 +117,27 @@ impl Clash {
             kind,
             first,
             second,
-            third: Span { start: 0, end: 0 },
-            wrappers: 0,
+            third: NO_SPAN,
+            number: 0,
+            ascii: false,
+        }
+    }
+
+    /// What is wrong in a table `build`.
+    pub fn of_build(fault: BuildFault) -> Clash
+        ensures { result ≡ build_clash fault }
+    {
+        match fault {
+            BuildFault::NonAscii(range) => Clash::of(ClashKind::Extension, range, NO_SPAN),
+            BuildFault::NoLetter(range, byte) => Clash {
+                ascii: true,
+                ..Clash::of(ClashKind::Extension, range, byte)
+            },
+            BuildFault::Glob(range, byte) => Clash {
+                number: byte,
+                ..Clash::of(ClashKind::Glob, range, NO_SPAN)
+            },
+            BuildFault::Absolute(range) => Clash::of(ClashKind::Path, range, NO_SPAN),
         }
     }
 }

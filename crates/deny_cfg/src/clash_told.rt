@@ -1,8 +1,9 @@
 //! What is told of clashes.
-ghost use Rattle.std.specs.Prelude.{◌≡◌, ◌∷◌, [], ◌++◌, IfOk, OnErr, OnOk, map};
+ghost use Rattle.std.specs.Prelude.{◌≡◌, ◌∷◌, [], ◌++◌, IfOk, OnErr, OnOk, codes, if◌then◌else◌, map};
+ghost use Rattle.std.specs.Fmt.{decimal};
 ghost use Rattle.deny_base.specs.declared.label.LabelStyle.TheVariants.{Secondary};
 ghost use Rattle.deny_cfg.specs.Clashes as spec;
-ghost use Rattle.deny_cfg.specs.Clashes.{clash_labels, clash_message, clash_told, label_of, marks};
+ghost use Rattle.deny_cfg.specs.Clashes.{clash_labels, clash_message, clash_told, extension_labels, label_of, marks, one_label};
 ghost use Rattle.deny_lists.specs.Prefix.{GainsPrefix};
 
 use crate::clash::{Clash, ClashKind};
@@ -10,20 +11,53 @@ use deny_base::{Diagnostic, FileId, Label, LabelStyle, Severity, Span};
 use deny_lists::{List, NoMemory, Text};
 use std::alloc::Global;
 
-fn clash_message(kind: ClashKind) -> &'static str
-    ensures { result.now ≡ clash_message kind }
+fn extension_message(ascii: bool) -> &'static str
+    ensures { result.now ≡ (if ascii then codes "invalid file extension provided" else codes "non-ascii file extension provided") }
 {
-    match kind {
-        ClashKind::WrappersOfMultiple =>
-            "a crate ban was specified with both `wrappers` and `deny-multiple-versions` = true",
-        ClashKind::DenyAndAllow => "a crate was specified in both `allow` and `deny`",
-        ClashKind::DenyAndSkip => "a crate was specified in both `skip` and `deny`",
-        ClashKind::AllowAndSkip => "a crate was specified in both `skip` and `allow`",
-        ClashKind::FeatureTwice => "a crate feature was specified as both allowed and denied",
+    if ascii {
+        "invalid file extension provided"
+    } else {
+        "non-ascii file extension provided"
     }
 }
 
-fn label_of(
+fn glob_message(alloc: Global, byte: u64) -> Result<Text, NoMemory>
+    ensures { IfOk result (λ message. message ≡ codes "invalid glob pattern: at byte " ++ decimal byte) }
+{
+    Ok(Text::from_string(format!(in alloc; "invalid glob pattern: at byte {byte}")?))
+}
+
+fn clash_message(alloc: Global, clash: &Clash) -> Result<Text, NoMemory>
+    ensures { IfOk result (λ message. message ≡ clash_message clash.now.kind clash.now) }
+{
+    match clash.kind {
+        ClashKind::WrappersOfMultiple => Text::from_str(
+            alloc,
+            "a crate ban was specified with both `wrappers` and `deny-multiple-versions` = true",
+        ),
+        ClashKind::DenyAndAllow => Text::from_str(
+            alloc,
+            "a crate was specified in both `allow` and `deny`",
+        ),
+        ClashKind::DenyAndSkip => Text::from_str(
+            alloc,
+            "a crate was specified in both `skip` and `deny`",
+        ),
+        ClashKind::AllowAndSkip => Text::from_str(
+            alloc,
+            "a crate was specified in both `skip` and `allow`",
+        ),
+        ClashKind::FeatureTwice => Text::from_str(
+            alloc,
+            "a crate feature was specified as both allowed and denied",
+        ),
+        ClashKind::Extension => Text::from_str(alloc, extension_message(clash.ascii)),
+        ClashKind::Glob => glob_message(alloc, clash.number),
+        ClashKind::Path => Text::from_str(alloc, "absolute paths are not allowed"),
+    }
+}
+
+pub(crate) fn label_of(
     alloc: Global,
     style: LabelStyle,
     file_id: FileId,
@@ -60,7 +94,7 @@ fn marks(
 fn wrapper_labels(alloc: Global, file: FileId, clash: &Clash) -> Result<List<Label>, NoMemory>
     ensures { IfOk result (λ labels. labels ≡ spec.wrapper_labels file clash.now) }
 {
-    let first = format!(in alloc; "has {} `wrappers`", clash.wrappers)?;
+    let first = format!(in alloc; "has {} `wrappers`", clash.number)?;
     marks(
         alloc,
         file,
@@ -99,6 +133,38 @@ fn feature_labels(alloc: Global, file: FileId, clash: &Clash) -> Result<List<Lab
     Ok(labels)
 }
 
+/// One label, at the first place.
+fn one_label(
+    alloc: Global,
+    file: FileId,
+    clash: &Clash,
+    message: &str,
+) -> Result<List<Label>, NoMemory>
+    ensures { IfOk result (λ labels. labels ≡ one_label file clash.now message.now) }
+{
+    let mut labels = List::new(alloc);
+    labels.push(label_of(alloc, LabelStyle::Primary, file, clash.first, message)?)?;
+    Ok(labels)
+}
+
+/// The labels of an extension.
+fn extension_labels(alloc: Global, file: FileId, clash: &Clash) -> Result<List<Label>, NoMemory>
+    ensures { IfOk result (λ labels. labels ≡ extension_labels file clash.now) }
+{
+    if !clash.ascii {
+        return one_label(alloc, file, clash, "invalid extension");
+    }
+    let mut labels = one_label(alloc, file, clash, "extension")?;
+    labels.push(label_of(
+        alloc,
+        LabelStyle::Secondary,
+        file,
+        clash.second,
+        "invalid character",
+    )?)?;
+    Ok(labels)
+}
+
 fn clash_labels(alloc: Global, file: FileId, clash: &Clash) -> Result<List<Label>, NoMemory>
     ensures { IfOk result (λ labels. labels ≡ clash_labels clash.now.kind file clash.now) }
 {
@@ -120,6 +186,9 @@ fn clash_labels(alloc: Global, file: FileId, clash: &Clash) -> Result<List<Label
             "marked as `skip`",
         ),
         ClashKind::FeatureTwice => feature_labels(alloc, file, clash),
+        ClashKind::Extension => extension_labels(alloc, file, clash),
+        ClashKind::Glob => one_label(alloc, file, clash, ""),
+        ClashKind::Path => one_label(alloc, file, clash, ""),
     }
 }
 
@@ -130,7 +199,7 @@ fn clash_told(alloc: Global, file: FileId, clash: &Clash) -> Result<Diagnostic, 
     Ok(Diagnostic {
         severity: Severity::Error,
         code: None,
-        message: Text::from_str(alloc, clash_message(clash.kind))?,
+        message: clash_message(alloc, clash)?,
         labels: clash_labels(alloc, file, clash)?,
         notes: List::new(alloc),
     })

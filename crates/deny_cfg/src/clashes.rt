@@ -1,17 +1,21 @@
-//! Which entries of a policy clash.
-ghost use Rattle.std.specs.Prelude.{◌≡◌, ◌++◌, [], Contains, IfOk, None, OnOk, Some, if◌then◌else◌, filter, filter_map, option_map};
+//! Which entries of a policy clash, and what is wrong in its table `build`.
+ghost use Rattle.std.specs.Prelude.{◌≡◌, ◌++◌, [], IfOk, None, OnOk, Some, if◌then◌else◌, filter, filter_map, map, option_map};
 ghost use Rattle.std.specs.List.{cons_option, flat_map};
-ghost use Rattle.deny_lists.specs.Ascending.{Lists};
-ghost use Rattle.deny_cfg.specs.Clashes.{clash_cmp, clash_with, clashes_in, feature_clashes, is_ban, specs_of, two_places, wrappers_clash, wrappers_clash_by};
+ghost use Rattle.deny_lists.specs.Ascending.{Adds, Lists};
+ghost use Rattle.deny_cfg.specs.Clashes.{IsBuildClash, IsClash, build_clash, clash_cmp, clash_with, clashes_in, feature_clashes};
+ghost use Rattle.deny_cfg.specs.Clashes.{is_ban, specs_of, two_places, wrappers_clash, wrappers_clash_by};
 ghost use Rattle.deny_cfg.specs.Clashes as spec;
 ghost use Rattle.deny_cfg.specs.FirstPlaces.{place_in, plain_wording, spec_wording};
 
 use crate::clash::{Clash, ClashKind, clash_order};
 use crate::first_places::{FirstPlaces, Wording};
 use deny_base::{Span, Spanned};
+use deny_build_cfg::{BuildFault, wrong_in};
 use deny_entries::PackageSpec;
 use deny_lists::{List, NoMemory, Text, put_in_order};
-use deny_tables::bans::cfg::{Config, CrateBan, CrateBanExtended, CrateFeatures, SpecAndReason};
+use deny_tables::bans::cfg::{
+    BuildConfig, Config, CrateBan, CrateBanExtended, CrateFeatures, SpecAndReason,
+};
 use std::alloc::Global;
 
 /// Whether an entry of `deny` bans, and does not deny several versions alone.
@@ -37,11 +41,8 @@ fn flag_clash(flag: &Spanned<bool>, wrappers: &Spanned<List<Spanned<Text>>>) -> 
         return None;
     }
     Some(Clash {
-        kind: ClashKind::WrappersOfMultiple,
-        first: wrappers.span,
-        second: flag.span,
-        third: Span { start: 0, end: 0 },
-        wrappers: count as u64,
+        number: count as u64,
+        ..Clash::of(ClashKind::WrappersOfMultiple, wrappers.span, flag.span)
     })
 }
 
@@ -162,11 +163,8 @@ fn feature_clash(
 {
     match denied.find(&Wording::of_word(&allowed.value)?) {
         Some(place) => Ok(Some(Clash {
-            kind: ClashKind::FeatureTwice,
-            first: name,
-            second: allowed.span,
             third: place,
-            wrappers: 0,
+            ..Clash::of(ClashKind::FeatureTwice, name, allowed.span)
         })),
         None => Ok(None),
     }
@@ -221,11 +219,37 @@ fn clashes_in(alloc: Global, config: &Config) -> Result<List<Clash>, NoMemory>
     Ok(clashes)
 }
 
-/// What clashes in a configuration, in order, each once.
-pub fn clashes_of(alloc: Global, config: &Config) -> Result<List<Clash>, NoMemory>
-    ensures { IfOk result (Lists clash_cmp (Contains (clashes_in config.now))) }
+/// Puts what is wrong behind the others.
+fn put_faults(faults: &[BuildFault], clashes: &mut List<Clash>) -> Result<(), NoMemory>
+    ensures { OnOk result (clashes.new ≡ clashes.old ++ map build_clash faults.now) }
+{
+    for fault in faults {
+        clashes.push(Clash::of_build(*fault))?;
+    }
+    Ok(())
+}
+
+/// Adds what is wrong in the table `build` of the text, if there is one.
+fn add_build_clashes(
+    alloc: Global,
+    source: &str,
+    build: &Option<BuildConfig>,
+    clashes: &mut List<Clash>,
+) -> Result<(), NoMemory>
+    ensures { OnOk result (Adds (IsBuildClash source.now build.now) clashes.old clashes.new) }
+{
+    match build {
+        Some(build) => put_faults(wrong_in(alloc, source, build)?.as_slice(), clashes),
+        None => Ok(()),
+    }
+}
+
+/// What clashes in a configuration that is read from the text, in order, each once.
+pub fn clashes_of(alloc: Global, source: &str, config: &Config) -> Result<List<Clash>, NoMemory>
+    ensures { IfOk result (Lists clash_cmp (IsClash source.now config.now)) }
 {
     let mut clashes = clashes_in(alloc, config)?;
+    add_build_clashes(alloc, source, &config.build, &mut clashes)?;
     clash_order();
     put_in_order(&mut clashes)?;
     Ok(clashes)

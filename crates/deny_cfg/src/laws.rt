@@ -7,14 +7,19 @@ ghost use Rattle.deny_toml.specs.declared.error.ConfigFault.{ConfigFault};
 ghost use Rattle.deny_toml.specs.declared.error.FaultKind.TheVariants.{Grammar};
 ghost use Rattle.deny_cfg.specs.LicensingView.{licensing_of};
 ghost use Rattle.deny_cfg.specs.PolicyText.{IsPolicyOf, ListsFaults, TellsClashes};
-ghost use Rattle.deny_cfg.specs.PolicyView.{policy_view};
+ghost use Rattle.deny_cfg.specs.PolicyView.{building_of, builtin_file_of, policy_view};
 ghost use Rattle.deny_cfg.specs.declared.policy.Policy.{Policy};
 
-/// Two policies of one text are one in all that the rules that are built look at, and agree on whether the
-/// text writes a key whose rule is not there yet.
+/// Two policies of one text are one in all that the rules look at.
 pub fn one_policy()
     ensures bans { (text : List ℕ) → (file : ℕ) → (a b : Policy) → IsPolicyOf text file a → IsPolicyOf text file b
-        → (policy_view a.bans ≡ policy_view b.bans) × (a.not_built ≡ b.not_built) }
+        → policy_view a.bans ≡ policy_view b.bans }
+    ensures building { (text : List ℕ) → (file : ℕ) → (a b : Policy) → IsPolicyOf text file a → IsPolicyOf text file b
+        → building_of a.bans ≡ building_of b.bans }
+    ensures globs { (text : List ℕ) → (file : ℕ) → (a b : Policy) → IsPolicyOf text file a → IsPolicyOf text file b
+        → builtin_file_of a.bans ≡ builtin_file_of b.bans }
+    ensures warnings { (text : List ℕ) → (file : ℕ) → (a b : Policy) → IsPolicyOf text file a → IsPolicyOf text file b
+        → a.warnings ≡ b.warnings }
     ensures licences { (text : List ℕ) → (file : ℕ) → (a b : Policy) → IsPolicyOf text file a → IsPolicyOf text file b
         → licensing_of a.licenses ≡ licensing_of b.licenses }
 {}

@@ -5,6 +5,7 @@ pub mod bans;
 mod clash;
 mod clash_told;
 mod clashes;
+mod deprecated;
 mod first_places;
 mod laws;
 pub mod licenses;

@@ -1,18 +1,24 @@
 //! The text of a policy.
-ghost use Rattle.std.specs.Prelude.{◌≡◌, ◌<◌, ◌^◌, ◌∷◌, [], All, IfOk, IfErr, IfSome, None, OnOk, length};
+ghost use Rattle.std.specs.Prelude.{◌≡◌, ℕ, ◌+◌, ◌++◌, ◌<◌, ◌^◌, ◌∷◌, [], All, IfOk, IfErr, IfSome, None, length, take};
 ghost use Rattle.deny_toml.specs.Apart.{AreApart};
 ghost use Rattle.deny_toml.specs.Calls.{below_name};
 ghost use Rattle.deny_toml.specs.Faults.{Reports, fault_at};
 ghost use Rattle.deny_toml.specs.Parser.{IsTreeOf};
 ghost use Rattle.deny_toml.specs.Ranges.{IsRange, StandsIn};
-ghost use Rattle.deny_cfg.specs.LabelRanges.{AreLabels, config_labels, licence_ranges, list_ranges, word_labels};
+ghost use Rattle.deny_cfg.specs.Deprecated.{warnings_of};
+ghost use Rattle.deny_cfg.specs.LabelRanges.{AreLabels, config_labels, licence_ranges, list_ranges, older_range, word_labels};
 ghost use Rattle.deny_cfg.specs.Lawful.{IsLawful, IsLawfulLicensing};
-ghost use Rattle.deny_cfg.specs.PolicyText.{IsConfig, IsNoPolicy, IsPolicyOf, Keeps, KeepsOnError, ListsFaults, ReadsBans, ReadsLicensing, Says, bans_name, faults_of_tree, kind_of, licenses_name, writes_unbuilt};
+ghost use Rattle.deny_cfg.specs.PolicyText.{AddsOnError, IsConfig, IsNoPolicy, IsPolicyOf, KeepsOnError, ListsFaults};
+ghost use Rattle.deny_cfg.specs.PolicyText.{ReadsBans, ReadsLicensing, Says, bans_name, faults_of_tree, globs_files};
+ghost use Rattle.deny_cfg.specs.PolicyText.{kind_of, licenses_name, policy_files};
+ghost use Rattle.deny_cfg.specs.PolicyView.{builtin_file_of};
+ghost use Rattle.deny_cfg.specs.Validating.{source_in};
 
 use crate::bans::cfg::ValidConfig;
 use crate::licenses;
 use crate::validate::{UnvalidatedConfig, ValidationContext};
 use deny_base::{Diagnostic, FileId, Files, Span};
+use deny_build_cfg::older_key_by;
 use deny_lists::{List, NoMemory, Text};
 use deny_tables::bans::cfg::Config;
 use deny_toml::{
@@ -29,10 +35,8 @@ pub struct Policy {
     pub bans: ValidConfig,
     /// The table `licenses`; none exactly where the text does not write it.
     pub licenses: Option<licenses::ValidConfig>,
-    /// Warnings about the policy itself; there are none yet.
+    /// Warnings about the policy itself: that `allow-build-scripts` stands for the table `build`.
     pub warnings: List<Diagnostic>,
-    /// Whether the policy writes a key whose rule is not there yet: `build` or `allow-build-scripts`.
-    pub not_built: bool,
 }
 
 /// Why a text has no policy.
@@ -167,15 +171,26 @@ fn tables_of(alloc: Global, text: &str) -> Result<Tables, PolicyError>
     }
 }
 
-/// Whether `bans` writes a key whose rule is not there yet.
-#[tactic(auto, unfolding(crate::specs::PolicyText::writes_unbuilt))]
-fn writes_unbuilt(bans: &Config) -> bool
-    ensures { result ≡ writes_unbuilt bans.now }
+/// How many warnings are told of a configuration.
+fn warnings_len(bans: &Config) -> usize
+    ensures { (file : ℕ) → result ≡ length (warnings_of file bans.now) }
 {
-    bans.allow_build_scripts.is_some() || bans.build.is_some()
+    match older_key_by(&bans.build, &bans.allow_build_scripts) {
+        Some(_) => 1,
+        None => 0,
+    }
 }
 
-/// The policy of a text that stands as the file of that number.
+/// The first of what was told.
+fn first_told(told: List<Diagnostic>, count: usize) -> List<Diagnostic>
+    ensures { result ≡ take count told }
+{
+    let mut told = told;
+    told.vec.truncate(count);
+    told
+}
+
+/// The policy of a text that stands as the file of that number, which is the last one.
 fn policy_of(
     alloc: Global,
     text: &str,
@@ -184,51 +199,57 @@ fn policy_of(
 ) -> Result<Policy, PolicyError>
     requires small { length text.now < 2 ^ 28 }
     requires few { length files.old < 2 ^ 31 }
+    requires stands { text.now ≡ source_in files.old file }
+    requires last { length files.old ≡ file + 1 }
     ensures policy { IfOk result (IsPolicyOf text.now file) }
     ensures labels { IfOk result (λ policy. AreLabels text.now (word_labels policy.bans)) }
+    ensures older_key { IfOk result (λ policy. All (IsRange text.now) (older_range policy.bans)) }
     ensures lawful { IfOk result (λ policy. IsLawful policy.bans) }
     ensures licence_labels { IfOk result (λ policy. AreLabels text.now (licence_ranges policy.licenses)) }
     ensures lawful_licences { IfOk result (λ policy. IfSome policy.licenses IsLawfulLicensing) }
     ensures cause { IfErr result (IsNoPolicy text.now file) }
-    ensures files_stay { files.new ≡ files.old }
+    ensures files { IfOk result (λ policy. files.new ≡ files.old ++ globs_files (builtin_file_of policy.bans)) }
+    ensures files_too { IfErr result (λ e. AddsOnError e text.now files.old files.new) }
 {
     let tables = tables_of(alloc, text)?;
-    let not_built = writes_unbuilt(&tables.bans);
-    let mut clashes = List::new(alloc);
+    let warnings = warnings_len(&tables.bans);
+    let mut told = List::new(alloc);
     let bans = tables.bans.validate(ValidationContext {
         alloc,
         cfg_id: file,
         files,
-        diagnostics: &mut clashes,
+        diagnostics: &mut told,
     })?;
-    if clashes.len() == 0 {
+    if told.len() == warnings {
         Ok(Policy {
             bans,
             licenses: tables.licenses,
-            warnings: List::new(alloc),
-            not_built,
+            warnings: told,
         })
     } else {
-        Err(PolicyError::Invalid(clashes))
+        let clashes = told.len() - warnings;
+        Err(PolicyError::Invalid(first_told(told, clashes)))
     }
 }
 
 /// Reads the policy of a text of under 2^28 bytes, and puts the text behind the other files as
-/// `deny.toml`, if it is UTF-8; there have to be fewer than 2^30 others.
+/// `deny.toml`, if it is UTF-8, and behind that the file of the built-in globs, if it asks for these; there have to
+/// be fewer than 2^30 others.
 ///
 /// `Config` comes exactly where the text has faults, `Invalid` exactly where it has none and entries
-/// of it clash. `Memory` may come in place of each of these; the text was then put behind the files,
-/// or they are as they were.
+/// of it clash. `Memory` may come in place of each of these; the files were then put behind the others,
+/// or the first of them, or none.
 pub fn read_policy(alloc: Global, bytes: &[u8], files: &mut Files) -> Result<Policy, PolicyError>
     requires small { length bytes.now < 2 ^ 28 }
     requires few { length files.old < 2 ^ 30 }
     ensures policy { IfOk result (IsPolicyOf bytes.now (length files.old)) }
     ensures labels { IfOk result (λ policy. AreLabels bytes.now (word_labels policy.bans)) }
+    ensures older_key { IfOk result (λ policy. All (IsRange bytes.now) (older_range policy.bans)) }
     ensures lawful { IfOk result (λ policy. IsLawful policy.bans) }
     ensures licence_labels { IfOk result (λ policy. AreLabels bytes.now (licence_ranges policy.licenses)) }
     ensures lawful_licences { IfOk result (λ policy. IfSome policy.licenses IsLawfulLicensing) }
     ensures cause { IfErr result (IsNoPolicy bytes.now (length files.old)) }
-    ensures kept { OnOk result (Keeps bytes.now files.old files.new) }
+    ensures kept { IfOk result (λ policy. files.new ≡ files.old ++ policy_files bytes.now policy.bans) }
     ensures kept_too { IfErr result (λ e. KeepsOnError e bytes.now files.old files.new) }
 {
     match str::from_utf8(bytes) {

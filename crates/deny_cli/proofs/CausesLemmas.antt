@@ -71,7 +71,7 @@ pub record AnswerLaws : Type 0 where
   pub valid : (texts : Texts) → (error : GateError) → error ≢ gate.Memory → HasPolicy texts.policy
       → HasGraph texts.metadata → (AsksForTable texts.policy → HasTable texts.replacements) → IsCause texts error → ⊥
   pub policies : (text : List ℕ) → (file : ℕ) → (a b : cfg.Policy) → IsPolicyOf text file a → IsPolicyOf text file b
-      → (policy_view a.bans ≡ policy_view b.bans) × (a.not_built ≡ b.not_built)
+      → policy_view a.bans ≡ policy_view b.bans
 
 -- texts that have a report are a policy, metadata without fault, and the table that the policy asks for
 has_policy : (told : Option Files) (texts : Texts) (report : Report) → IsReportOf told texts report
@@ -85,8 +85,8 @@ has_graph told texts report of = record { read = of.by.is_graph.read; is_read = 
 has_table : AnswerLaws → (told : Option Files) (texts : Texts) (report : Report) → IsReportOf told texts report
     → AsksForTable texts.policy → HasTable texts.replacements
 has_table laws told texts report of asked =
-    let one = laws.policies texts.policy policy_id asked.said of.by.said asked.is_said.is_policy of.by.is_said.is_policy
-    in of.by.table (subst (λ (p : model.Policy). IsTrue (asks_for_table p)) one.0 asked.asks)
+    let one = laws.policies texts.policy policy_id asked.said of.by.said asked.is_said of.by.is_said in
+    of.by.table (subst (λ (p : model.Policy). IsTrue (asks_for_table p)) one asked.asks)
 
 -- so no cause stands why they have none
 no_cause : AnswerLaws → (told : Option Files) (texts : Texts) (report : Report) (error : GateError)
@@ -134,6 +134,7 @@ one_text old (check asked) texts known read is =
       policy = policy i;
       metadata = metadata i;
       replacements = replacements i;
+      home = read.home i;
       registries = read.registries i;
     }) ∙ there.2
 one_text old (generate crates) texts known made is = made ∙ cc is
@@ -242,7 +243,6 @@ module _ (laws : AnswerLaws) (old new : Disk) (words : List (List ℕ)) where
       → IsStopOrMemory stop (Gate error)
   stop_or_memory stop (gate.Config faults) is = is (λ e. absurd (cc e))
   stop_or_memory stop (gate.Invalid told) is = is (λ e. absurd (cc e))
-  stop_or_memory stop (gate.NotBuilt which) is = is (λ e. absurd (cc e))
   stop_or_memory stop (gate.Metadata f) is = is (λ e. absurd (cc e))
   stop_or_memory stop (gate.Replacement at) is = is (λ e. absurd (cc e))
   stop_or_memory stop gate.Memory is = search rules
@@ -268,7 +268,6 @@ module _ (laws : AnswerLaws) (old new : Disk) (words : List (List ℕ)) where
   done_or_memory : (error : GateError) → (error ≢ gate.Memory → ⊥) → IsDoneOrMemory (Gate error)
   done_or_memory (gate.Config faults) no_other = absurd (no_other (λ e. absurd (cc e)))
   done_or_memory (gate.Invalid told) no_other = absurd (no_other (λ e. absurd (cc e)))
-  done_or_memory (gate.NotBuilt which) no_other = absurd (no_other (λ e. absurd (cc e)))
   done_or_memory (gate.Metadata f) no_other = absurd (no_other (λ e. absurd (cc e)))
   done_or_memory (gate.Replacement at) no_other = absurd (no_other (λ e. absurd (cc e)))
   done_or_memory gate.Memory no_other = tt
@@ -327,7 +326,6 @@ text_of_clashes old new words command text (Gate (gate.Invalid told)) asks stops
       labelled = stops.labelled;
     }
 text_of_clashes old new words command text (Gate (gate.Config faults)) asks stops = tt
-text_of_clashes old new words command text (Gate (gate.NotBuilt which)) asks stops = tt
 text_of_clashes old new words command text (Gate (gate.Metadata f)) asks stops = tt
 text_of_clashes old new words command text (Gate (gate.Replacement at)) asks stops = tt
 text_of_clashes old new words command text (Gate gate.Memory) asks stops = tt
@@ -346,7 +344,6 @@ is_text old words policy text (Gate (gate.Invalid told)) same is = subst
       short_policy_at old is.command policy (asks_for_few words is.command is.asks) is.read,
     )
 is_text old words policy text (Gate (gate.Config faults)) same is = tt
-is_text old words policy text (Gate (gate.NotBuilt which)) same is = tt
 is_text old words policy text (Gate (gate.Metadata f)) same is = tt
 is_text old words policy text (Gate (gate.Replacement at)) same is = tt
 is_text old words policy text (Gate gate.Memory) same is = tt

@@ -62,7 +62,6 @@ in_stop_fields policy (Gate (gate.Invalid told)) =
     in_front (codes "diagnostics") (array (items_of (map (diagnostic_value (policy_file policy ∷ [])) told)))
     (stop_word (codes "invalid"))
     (in_items (diagnostic_value (policy_file policy ∷ [])) (in_diagnostic (policy_file policy ∷ [])) told) refl
-in_stop_fields policy (Gate (gate.NotBuilt which)) = refl
 in_stop_fields policy (Gate (gate.Metadata fault)) = refl
 in_stop_fields policy (Gate (gate.Replacement at)) = refl
 in_stop_fields policy (Gate gate.Memory) = refl

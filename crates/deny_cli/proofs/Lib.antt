@@ -1,8 +1,8 @@
 pub mod CausesLemmas
 pub mod CountLemmas
 pub mod FloatLemmas
+pub mod OptionLemmas
 pub mod ReadingLemmas
-pub mod RegistryLemmas
 pub mod ReportLemmas
 pub mod Rows
 pub mod ToldLemmas

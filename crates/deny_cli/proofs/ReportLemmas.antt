@@ -1,20 +1,32 @@
 -- The report on a command's texts: of a check by the disk as it was before they were read, and of crates that are made
 -- by the disk that is made for them.
-use Rattle.std.proofs.Common.{◌≡◌, ℕ, [], Option, Some, Result, Ok, Err, ap, codes, refl, subst, sym}
+use Rattle.std.proofs.Common.{◌≡◌, ℕ, [], List, Option, None, Some, Result, Ok, Err, ap, codes, refl, subst, sym}
 use Rattle.std.specs.Prelude.{IfOk}
 use Rattle.std.specs.FinMap as finite
+use Rattle.deny_build_model.specs.Building.{Building}
+use Rattle.deny_build_model.specs.declared.package.Package.{Package}
+use Rattle.deny_cfg.specs.PolicyView.{building_of}
+use Rattle.deny_model.specs.Graph.{Graph}
+use Rattle.deny_model.specs.View.{View}
 use Rattle.deny_outside.specs.Disk.{Disk, Files, IsLater}
 use Rattle.deny_outside.specs.MemoryDisk.{with_file}
 use Rattle.deny_outside.specs.SureDisk.{Sure, sure_seen}
-use Rattle.deny_unread.specs.Bound.{Folders}
-use Rattle.deny_unread.specs.Causes.{AreCaused}
+use Rattle.deny_packages.proofs.Among.{AreSameEntries, seen_weaker}
+use Rattle.deny_packages.specs.Seen.{ArePackagesSeenBy}
+use Rattle.deny_packages.specs.Why.{AreFoldersOf, IsBecause}
+use Rattle.deny_rules.specs.Packages.{AreSeenBy, HaveCauses}
+use Rattle.deny_spans.specs.Seen.{IsSeen}
 use Rattle.deny_unread.proofs.CauseLemmas.{caused_wider}
 use Rattle.deny_unread.proofs.Later.{later_same}
-use Rattle.deny_gate.specs.Gating.{IsReportOf, Texts}
+use Rattle.deny_unread.specs.declared.unread.Unread.{Unread}
+use Rattle.deny_gate.proofs.IdsApart.{ids_apart}
+use Rattle.deny_gate.proofs.JoinedUnread.{because_wider}
+use Rattle.deny_gate.specs.Gating.{IsCausedReport, IsReportBy, IsReportOf, Texts, first_files}
+use Rattle.deny_gate.specs.Unread.{of_manifests, of_packages}
 use Rattle.deny_gate.specs.declared.report.Report.{Report}
-use Rattle.deny_cli.specs.Causes.{AreCausedAt, AreTextsOf, IsReportAt, made_files, made_texts}
+use Rattle.deny_cli.specs.Causes.{AreTextsOf, IsCausedAt, IsReportAt, made_files, made_texts}
 use Rattle.deny_cli.specs.Words.{Asked, Command, check, generate}
-use Rattle.deny_cli.proofs.UnreadLemmas.{none_unread}
+use Rattle.deny_cli.proofs.UnreadLemmas.{are_folders, folder_in, none_unread}
 
 -- ---- of a check
 
@@ -31,14 +43,70 @@ report_there (Ok report) old between command asked texts is later read of =
     })
 
 -- and what was not read behind them has its causes in the whole time
+
+same_entries : (g : Graph) (us : List Unread) → AreSameEntries g us us
+same_entries g us c member = record {
+  script = λ path. refl;
+  list = λ path. refl;
+  header = λ path. refl;
+  sum = λ path. refl;
+}
+
+causes_wider : (old between new : Disk) (building : Option Building) (home : Option (List ℕ)) (g : Graph)
+    (us : List Unread) (packages : List Package) → IsLater old between
+    → HaveCauses between new building home g us packages → HaveCauses old new building home g us packages
+causes_wider old between new None home g us packages later causes = tt
+causes_wider old between new (Some b) home g us packages later causes = record {
+  reached = causes.reached;
+  tells = causes.tells;
+  because = λ folder are.
+      subst (λ (told : Option Files). ArePackagesSeenBy (IsBecause folder old new) told b causes.reached home g us
+      packages) later.files
+      (seen_weaker (IsBecause folder between new) (IsBecause folder old new) between.files b causes.reached home g us us
+      packages (because_wider folder old between new later) (same_entries g us) (causes.because folder are));
+}
+
+told_before : (old between : Disk) (texts : Texts) (view : View) (packages : List Package) (report : Report)
+    → IsLater old between → IsReportBy between.files texts view packages report
+    → IsReportBy old.files texts view packages report
+told_before old between texts view packages report later by = record {
+  said = by.said;
+  is_said = by.is_said;
+  graph = by.graph;
+  is_graph = by.is_graph;
+  table = by.table;
+  ascending = by.ascending;
+  seen = subst (λ (told : Option Files). IsSeen told by.graph texts.registries
+      (first_files texts.policy by.said by.graph) report.files (of_manifests report.unread) report.malformed view)
+      later.files by.seen;
+  looked_at = subst (λ (told : Option Files). AreSeenBy told (building_of by.said.bans) texts.home by.graph
+      (of_packages report.unread) packages) later.files by.looked_at;
+  is_report = by.is_report;
+}
+
+caused_before : (old between new : Disk) (texts : Texts) (report : Report) → IsLater old between
+    → IsCausedReport between new texts report → IsCausedReport old new texts report
+unfolding told_before
+caused_before old between new texts report later is = record {
+  view = is.view;
+  packages = is.packages;
+  by = told_before old between texts is.view is.packages report later is.by;
+  caused = λ folder are.
+      caused_wider folder old between new new report.unread later (later_same new) (is.caused folder are);
+  causes = causes_wider old between new (building_of is.by.said.bans) texts.home is.by.graph (of_packages report.unread)
+      is.packages later is.causes;
+}
+
 pub caused_there : {E : Type 0} (result : Result Report E) (old between new : Disk) (command : Command) (asked : Asked)
-    → command ≡ check asked → IsLater old between
-    → IfOk result (λ report. (folder : Folders) → AreCaused folder between new report.unread)
-    → IfOk result (λ report. AreCausedAt old new command report.unread)
-caused_there (Err error) old between new command asked is later caused = tt
-caused_there (Ok report) old between new command asked is later caused =
-    subst (λ (c : Command). AreCausedAt old new c report.unread) (sym is)
-    (λ folder. caused_wider folder old between new new report.unread later (later_same new) (caused folder))
+    (texts : Texts) → command ≡ check asked → IsLater old between → AreTextsOf old (check asked) texts
+    → IfOk result (IsCausedReport between new texts) → IfOk result (IsCausedAt old new command)
+caused_there (Err error) old between new command asked texts is later read caused = tt
+caused_there (Ok report) old between new command asked texts is later read caused =
+    subst (λ (c : Command). IsCausedAt old new c report) (sym is) (record {
+      texts = texts;
+      read = read;
+      is_theirs = caused_before old between new texts report later caused;
+    })
 
 -- ---- of crates that are made
 
@@ -51,11 +119,21 @@ pub has_made_files : (disk : Sure) → disk ≡ record {
 unfolding made_files
 has_made_files disk is = ap (λ (d : Sure). d.files) is
 
-pub none_of : {E : Type 0} (result : Result Report E) (old new : Sure) → old.files ≡ made_files
-    → IfOk result (λ report. (folder : Folders) → AreCaused folder (sure_seen old) (sure_seen new) report.unread)
+-- nothing is left unread there, since the crates of a graph have folders
+none_left : (old new : Sure) (texts : Texts) (report : Report) → old.files ≡ made_files
+    → IsCausedReport (sure_seen old) (sure_seen new) texts report → report.unread ≡ []
+none_left old new texts report same is =
+    let g = is.by.graph in
+    let folder = folder_in g in
+    let folders = are_folders g (ids_apart texts.metadata g is.by.is_graph) in
+    none_unread folder old new report.unread same (is.caused folder
+    (subst (λ (judged : Graph). AreFoldersOf judged folder) (sym is.by.is_report.graph) folders))
+
+pub none_of : {E : Type 0} (result : Result Report E) (old new : Sure) (texts : Texts) → old.files ≡ made_files
+    → IfOk result (IsCausedReport (sure_seen old) (sure_seen new) texts)
     → IfOk result (λ report. report.unread ≡ [])
-none_of (Err error) old new same caused = tt
-none_of (Ok report) old new same caused = none_unread old new report.unread same caused
+none_of (Err error) old new texts same caused = tt
+none_of (Ok report) old new texts same caused = none_left old new texts report same caused
 
 pub made_is : {E : Type 0} (result : Result Report E) (crates : ℕ) (files : Files) (texts : Texts) → files ≡ made_files
     → texts ≡ made_texts crates → IfOk result (IsReportOf (Some files) texts)

@@ -87,8 +87,3 @@ pub is_no_table : stop_line [] (Gate (gate.Replacement 25))
     ≡ codes "{\"fields\":{\"offset\":25,\"stop\":\"replacement\"},\"type\":\"stop\"}\n"
 unfolding serde_json_on_literals digits stop_line
 is_no_table = refl
-
-pub is_not_built : stop_line [] (Gate (gate.NotBuilt which.Policy)) ≡ codes
-    "{\"fields\":{\"file\":\"policy\",\"stop\":\"not-built\"},\"type\":\"stop\"}\n"
-unfolding serde_json_on_literals digits stop_line
-is_not_built = refl

@@ -11,7 +11,7 @@ use Rattle.std.proofs.lemmas.Bool.{leb-true}
 use Rattle.std.proofs.lemmas.Option.{none-some}
 use Rattle.deny_workspace.specs.declared.registries.Registry.{Registry}
 use Rattle.deny_cli.specs.Registries.{registries_in}
-use Rattle.deny_cli.specs.Words.{AskedSoFar, AsksForFew, Command, Form, begun, nothing, checking, check_of, generate, generating, generating_some, count_of, is_plain, leads_with_zero, most_crates, names_file, path_added, step, filled, command_of, asked_by, Asks, IsAccepted, GoesOn, IsUsageAt, takes_option, texts}
+use Rattle.deny_cli.specs.Words.{AskedSoFar, AsksForFew, Command, Form, begun, nothing, checking, check_of, generate, generating, generating_some, count_of, is_plain, leads_with_zero, most_crates, names_file, path_added, step, filled, command_of, asked_by, Asks, IsAccepted, GoesOn, IsUsageAt, option_added, texts}
 
 -- ---- each form can be filled
 
@@ -25,23 +25,27 @@ pub record IsFillable (form : Form) : Type 0 where
   pub fills : (registries : List Registry)
       → option_and_then (command_of registries) (filled (Some form) rest) ≡ Some (command registries)
 
-fillable_check : (policy metadata replacements : Option (List ℕ))
-    → IsFillable (checking (record { policy = policy; metadata = metadata; replacements = replacements }))
+fillable_check : (policy metadata replacements home : Option (List ℕ)) → IsFillable (checking (record {
+  policy = policy;
+  metadata = metadata;
+  replacements = replacements;
+  home = home;
+}))
 unfolding step names_file
-fillable_check None None replacements =
+fillable_check None None replacements home =
     record { rest = a_path ∷ a_path ∷ []; command = λ registries. _; fills = λ registries. refl }
-fillable_check None (Some metadata) replacements =
+fillable_check None (Some metadata) replacements home =
     record { rest = a_path ∷ []; command = λ registries. _; fills = λ registries. refl }
-fillable_check (Some policy) None replacements =
+fillable_check (Some policy) None replacements home =
     record { rest = a_path ∷ []; command = λ registries. _; fills = λ registries. refl }
-fillable_check (Some policy) (Some metadata) replacements =
+fillable_check (Some policy) (Some metadata) replacements home =
     record { rest = []; command = λ registries. _; fills = λ registries. refl }
 
 pub fillable : (form : Form) → IsFillable form
 unfolding step names_file count_of is_plain leads_with_zero
 fillable nothing =
     record { rest = codes "check" ∷ a_path ∷ a_path ∷ []; command = λ registries. _; fills = λ registries. refl }
-fillable (checking asked) = fillable_check asked.policy asked.metadata asked.replacements
+fillable (checking asked) = fillable_check asked.policy asked.metadata asked.replacements asked.home
 fillable (generating None) =
     record { rest = codes "0" ∷ []; command = λ registries. generate 0; fills = λ registries. refl }
 fillable (generating (Some crates)) =
@@ -170,12 +174,9 @@ few_first true is_generate = tt
 few_first false true = tt
 few_first false false = tt
 
-few_path : (names takes : Bool) (asked : AskedSoFar) (added : Option AskedSoFar)
-    → IfSome (if names then option_map checking added else if takes then Some (checking asked) else None) IsFew
-few_path true takes asked None = tt
-few_path true takes asked (Some added) = tt
-few_path false true asked added = tt
-few_path false false asked added = tt
+few_checking : (added : Option AskedSoFar) → IfSome (option_map checking added) IsFew
+few_checking None = tt
+few_checking (Some added) = tt
 
 few_by : (crates : ℕ) (few : Bool) → nat_le crates most_crates ≡ few
     → IfSome (option_map generating_some (if few then Some crates else None)) IsFew
@@ -191,7 +192,7 @@ few_after : (form : Form) (word : List ℕ) → IfSome (step form word) IsFew
 unfolding step count_of
 few_after nothing word = few_first (same_text word (codes "check")) (same_text word (codes "generate"))
 few_after (checking asked) word =
-    few_path (names_file word) (takes_option asked word) asked (path_added asked word)
+    few_checking (if names_file word then path_added asked word else option_added asked word)
 few_after (generating None) word = few_if (is_plain word) (digits_value 10 word)
 few_after (generating (Some crates)) word = tt
 
@@ -200,18 +201,18 @@ few_filled form [] few = few
 few_filled None (word ∷ words) few = few_filled None words tt
 few_filled (Some form) (word ∷ words) few = few_filled (step form word) words (few_after form word)
 
-few_check : (registries : List Registry) (policy metadata replacements : Option (List ℕ))
-    → IfSome (check_of registries policy metadata replacements) AsksForFew
-few_check registries None metadata replacements = tt
-few_check registries (Some policy) None replacements = tt
-few_check registries (Some policy) (Some metadata) replacements = tt
+few_check : (registries : List Registry) (home policy metadata replacements : Option (List ℕ))
+    → IfSome (check_of registries home policy metadata replacements) AsksForFew
+few_check registries home None metadata replacements = tt
+few_check registries home (Some policy) None replacements = tt
+few_check registries home (Some policy) (Some metadata) replacements = tt
 
 few_of : (registries : List Registry) (form : Option Form) → IfSome form IsFew
     → IfSome (option_and_then (command_of registries) form) AsksForFew
 few_of registries None few = tt
 few_of registries (Some nothing) few = tt
 few_of registries (Some (checking asked)) few =
-    few_check registries asked.policy asked.metadata asked.replacements
+    few_check registries asked.home asked.policy asked.metadata asked.replacements
 few_of registries (Some (generating None)) few = tt
 few_of registries (Some (generating (Some crates))) few = few
 

@@ -1,6 +1,8 @@
 -- The words of a run as they are read: what lists of words ask for, computed; and which lists those are.
 use Rattle.std.proofs.Common.{◌≡◌, [], ◌∷◌, Some, None, codes, refl}
-use Rattle.deny_cli.specs.Registries.{behind, registries_in, registry_of}
+use Rattle.deny_cli.specs.Home.{home_of}
+use Rattle.deny_cli.specs.Options.{behind}
+use Rattle.deny_cli.specs.Registries.{registries_in, registry_of}
 use Rattle.deny_cli.specs.Words.{check, generate, asked_by, count_of, is_plain, leads_with_zero, names_file, step}
 
 pub asks_for_two : asked_by (codes "check" ∷ codes "deny.toml" ∷ codes "metadata.json" ∷ [])
@@ -8,9 +10,10 @@ pub asks_for_two : asked_by (codes "check" ∷ codes "deny.toml" ∷ codes "meta
       policy = codes "deny.toml";
       metadata = codes "metadata.json";
       replacements = None;
+      home = None;
       registries = [];
     }))
-unfolding asked_by step names_file registries_in registry_of behind
+unfolding asked_by step names_file home_of registries_in registry_of behind
 asks_for_two = refl
 
 pub asks_for_three : asked_by (codes "check" ∷ codes "a" ∷ codes "b" ∷ codes "c" ∷ [])
@@ -18,29 +21,30 @@ pub asks_for_three : asked_by (codes "check" ∷ codes "a" ∷ codes "b" ∷ cod
       policy = codes "a";
       metadata = codes "b";
       replacements = Some (codes "c");
+      home = None;
       registries = [];
     }))
-unfolding asked_by step names_file registries_in registry_of behind
+unfolding asked_by step names_file home_of registries_in registry_of behind
 asks_for_three = refl
 
 pub asks_for_too_few : asked_by (codes "check" ∷ codes "deny.toml" ∷ []) ≡ None
-unfolding asked_by step names_file registries_in registry_of behind
+unfolding asked_by step names_file home_of registries_in registry_of behind
 asks_for_too_few = refl
 
 pub asks_for_too_many : asked_by (codes "check" ∷ codes "a" ∷ codes "b" ∷ codes "c" ∷ codes "d" ∷ []) ≡ None
-unfolding asked_by step names_file registries_in registry_of behind
+unfolding asked_by step names_file home_of registries_in registry_of behind
 asks_for_too_many = refl
 
 pub asks_by_an_option : asked_by (codes "check" ∷ codes "-a" ∷ codes "b" ∷ []) ≡ None
-unfolding asked_by step names_file registries_in registry_of behind
+unfolding asked_by step names_file home_of registries_in registry_of behind
 asks_by_an_option = refl
 
 pub asks_for_no_name : asked_by (codes "check" ∷ codes "a" ∷ [] ∷ []) ≡ None
-unfolding asked_by step names_file registries_in registry_of behind
+unfolding asked_by step names_file home_of registries_in registry_of behind
 asks_for_no_name = refl
 
 pub asks_for_another : asked_by (codes "checks" ∷ codes "a" ∷ codes "b" ∷ []) ≡ None
-unfolding asked_by step names_file registries_in registry_of behind
+unfolding asked_by step names_file home_of registries_in registry_of behind
 asks_for_another = refl
 
 -- ---- crates that are made
@@ -113,6 +117,22 @@ pub is_another_option : registry_of (codes "--home=/c") ≡ None
 unfolding registry_of behind
 is_another_option = refl
 
+-- ---- a home
+
+pub names_a_home : home_of (codes "--home=/c=d") ≡ Some (codes "/c=d")
+unfolding home_of behind
+names_a_home = refl
+
+pub names_no_path : home_of (codes "--home=") ≡ None
+unfolding home_of behind
+names_no_path = refl
+
+pub names_no_home : home_of (codes "--registry=a=b") ≡ None
+unfolding home_of behind
+names_no_home = refl
+
+-- ---- options before the paths
+
 -- registries keep their order, and one may be named twice
 pub asks_with_registries :
     asked_by (codes "check" ∷ codes "--registry=b=u" ∷ codes "--registry=a=v" ∷ codes "p" ∷ codes "m" ∷ [])
@@ -120,32 +140,72 @@ pub asks_with_registries :
       policy = codes "p";
       metadata = codes "m";
       replacements = None;
+      home = None;
       registries = record { name = codes "b"; address = codes "u" } ∷ record { name = codes "a"; address = codes "v" }
           ∷ [];
     }))
-unfolding asked_by step names_file registries_in registry_of behind
+unfolding asked_by step names_file home_of registries_in registry_of behind
 asks_with_registries = refl
 
 pub asks_behind_a_path : asked_by (codes "check" ∷ codes "p" ∷ codes "--registry=a=v" ∷ codes "m" ∷ []) ≡ None
-unfolding asked_by step names_file registries_in registry_of behind
+unfolding asked_by step names_file home_of registries_in registry_of behind
 asks_behind_a_path = refl
 
 pub asks_behind_all : asked_by (codes "check" ∷ codes "p" ∷ codes "m" ∷ codes "--registry=a=v" ∷ []) ≡ None
-unfolding asked_by step names_file registries_in registry_of behind
+unfolding asked_by step names_file home_of registries_in registry_of behind
 asks_behind_all = refl
 
 pub asks_without_paths : asked_by (codes "check" ∷ codes "--registry=a=v" ∷ []) ≡ None
-unfolding asked_by step names_file registries_in registry_of behind
+unfolding asked_by step names_file home_of registries_in registry_of behind
 asks_without_paths = refl
 
 pub asks_before_check : asked_by (codes "--registry=a=v" ∷ codes "check" ∷ codes "p" ∷ codes "m" ∷ []) ≡ None
-unfolding asked_by step names_file registries_in registry_of behind
+unfolding asked_by step names_file home_of registries_in registry_of behind
 asks_before_check = refl
 
 pub asks_of_a_number : asked_by (codes "generate" ∷ codes "--registry=a=v" ∷ codes "4" ∷ []) ≡ None
 unfolding asked_by step count_of is_plain leads_with_zero registries_in registry_of behind
 asks_of_a_number = refl
 
-pub asks_for_a_home : asked_by (codes "check" ∷ codes "--home=/c" ∷ codes "p" ∷ codes "m" ∷ []) ≡ None
-unfolding asked_by step names_file registries_in registry_of behind
+pub asks_of_a_number_at_home : asked_by (codes "generate" ∷ codes "--home=/c" ∷ codes "4" ∷ []) ≡ None
+unfolding asked_by step count_of is_plain leads_with_zero registries_in registry_of behind
+asks_of_a_number_at_home = refl
+
+pub asks_for_a_home : asked_by (codes "check" ∷ codes "--home=/c" ∷ codes "p" ∷ codes "m" ∷ [])
+    ≡ Some (check (record {
+      policy = codes "p";
+      metadata = codes "m";
+      replacements = None;
+      home = Some (codes "/c");
+      registries = [];
+    }))
+unfolding asked_by step names_file home_of registries_in registry_of behind
 asks_for_a_home = refl
+
+-- between registries too
+pub asks_for_both :
+    asked_by (codes "check" ∷ codes "--registry=b=u" ∷ codes "--home=/c" ∷ codes "--registry=a=v" ∷ codes "p"
+    ∷ codes "m" ∷ codes "t" ∷ [])
+    ≡ Some (check (record {
+      policy = codes "p";
+      metadata = codes "m";
+      replacements = Some (codes "t");
+      home = Some (codes "/c");
+      registries = record { name = codes "b"; address = codes "u" } ∷ record { name = codes "a"; address = codes "v" }
+          ∷ [];
+    }))
+unfolding asked_by step names_file home_of registries_in registry_of behind
+asks_for_both = refl
+
+pub asks_for_two_homes :
+    asked_by (codes "check" ∷ codes "--home=/c" ∷ codes "--home=/c" ∷ codes "p" ∷ codes "m" ∷ []) ≡ None
+unfolding asked_by step names_file home_of registries_in registry_of behind
+asks_for_two_homes = refl
+
+pub asks_for_an_empty_home : asked_by (codes "check" ∷ codes "--home=" ∷ codes "p" ∷ codes "m" ∷ []) ≡ None
+unfolding asked_by step names_file home_of registries_in registry_of behind
+asks_for_an_empty_home = refl
+
+pub asks_for_a_home_late : asked_by (codes "check" ∷ codes "p" ∷ codes "--home=/c" ∷ codes "m" ∷ []) ≡ None
+unfolding asked_by step names_file home_of registries_in registry_of behind
+asks_for_a_home_late = refl

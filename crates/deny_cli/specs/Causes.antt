@@ -14,7 +14,7 @@ use Rattle.deny_outside.specs.declared.read.ReadEnd.TheVariants as end
 use Rattle.deny_cfg.specs.PolicyText.{TellsClashes}
 use Rattle.deny_codes.specs.Saying.{HasTable}
 use Rattle.deny_gate.specs.Dead.{CanDoWithoutDead}
-use Rattle.deny_gate.specs.Gating.{AreShort, AsksForTable, HasGraph, HasPolicy, IsCause, IsReportOf, Texts}
+use Rattle.deny_gate.specs.Gating.{AreShort, AsksForTable, HasGraph, HasPolicy, IsCause, IsCausedReport, IsReportOf, Texts}
 use Rattle.deny_gate.specs.Headline.{IsHeadlineOf}
 use Rattle.deny_gate.specs.Labels.{AreLabelledClashes, IsLabelledCause}
 use Rattle.deny_gate.specs.Report.{policy_id}
@@ -23,9 +23,6 @@ use Rattle.deny_gate.specs.declared.report.GateError.TheVariants as gate
 use Rattle.deny_gate.specs.declared.report.Report.{Report}
 use Rattle.deny_generator.specs.MetadataText.{metadata_text}
 use Rattle.deny_generator.specs.PolicyText.{policy_text}
-use Rattle.deny_unread.specs.Bound.{Folders}
-use Rattle.deny_unread.specs.Causes.{AreCaused}
-use Rattle.deny_unread.specs.declared.unread.Unread.{Unread}
 use Rattle.deny_cli.specs.Words.{Asked, Command, check, generate, path_of, Asks, IsAccepted, IsUsageAt}
 use Rattle.deny_cli.specs.declared.outcome.Outcome.{Outcome}
 use Rattle.deny_cli.specs.declared.outcome.Outcome.TheVariants.{Done, Usage, Read, Long, Gate, Write, Memory}
@@ -39,12 +36,13 @@ IsLong text = 2 ^ 28 ≤ length text
 abbrev pub IsShort : List ℕ → Type 0
 IsShort text = length text < 2 ^ 28
 
--- those that stand at the paths of a check, with the registries that it names
+-- those that stand at the paths of a check, with the home and the registries that it names
 abbrev pub texts_at : Files → Asked → Texts
 texts_at files asked = record {
   policy = bytes_at files asked.policy;
   metadata = bytes_at files asked.metadata;
   replacements = option_map (bytes_at files) asked.replacements;
+  home = asked.home;
   registries = asked.registries;
 }
 
@@ -54,6 +52,7 @@ made_texts crates = record {
   policy = policy_text crates;
   metadata = metadata_text crates;
   replacements = None;
+  home = None;
   registries = [];
 }
 
@@ -61,8 +60,8 @@ made_texts crates = record {
 unfoldable pub made_files : Files
 made_files = with_file finite.empty (codes "/w/Cargo.toml") (codes "[package]\nname = \"app\"\n")
 
--- the files that the manifests of a command are read from, where they are known: for a check those of the disk, and for
--- crates that are made those that are made for them
+-- the files that the manifests and packages of a command are read from, where they are known: for a check those of the
+-- disk, and for crates that are made those that are made for them
 abbrev pub known_files : Option Files → Command → Option Files
 known_files told (check asked) = told
 known_files told (generate crates) = Some made_files
@@ -114,7 +113,8 @@ pub record AreRead (old : Disk) (asked : Asked) (texts : Texts) : Type 0 where
   pub policy : IsReadAt old asked.policy texts.policy
   pub metadata : IsReadAt old asked.metadata texts.metadata
   pub replacements : IsReadIfNamed old asked.replacements texts.replacements
-  -- beside them stand the registries that the check names
+  -- beside them stand the home and the registries that the check names
+  pub home : texts.home ≡ asked.home
   pub registries : texts.registries ≡ asked.registries
 
 -- these are the texts of a command: those of a check were read, and others are made
@@ -127,17 +127,23 @@ abbrev pub IsPolicyAt : Disk → Command → List ℕ → Type 0
 IsPolicyAt old (check asked) policy = IsReadAt old asked.policy policy
 IsPolicyAt old (generate crates) policy = policy ≡ policy_text crates
 
--- the report is the one of the texts of a command, by the manifests of its graph
+-- the report is the one of the texts of a command, by the manifests and packages of its graph
 pub record IsReportAt (old : Disk) (command : Command) (report : Report) : Type 0 where
   pub texts : Texts
   pub read : AreTextsOf old command texts
   pub is_theirs : IsReportOf (known_files old.files command) texts report
 
--- why a command left manifests unread: each by a bound or by a failed call between the two disks. A disk that is made
--- never fails, and nothing on it is long, so that nothing is left unread there.
-abbrev pub AreCausedAt : Disk → Disk → Command → List Unread → Type 0
-AreCausedAt old new (check asked) unread = (folder : Folders) → AreCaused folder old new unread
-AreCausedAt old new (generate crates) unread = unread ≡ []
+-- what a check could not read has its causes between two disks, and so have the failures that its report tells
+pub record IsCausedBy (old new : Disk) (asked : Asked) (report : Report) : Type 0 where
+  pub texts : Texts
+  pub read : AreRead old asked texts
+  pub is_theirs : IsCausedReport old new texts report
+
+-- why a command left manifests and packages unread. A disk that is made never fails, and nothing on it is large, so that
+-- nothing is left unread there.
+abbrev pub IsCausedAt : Disk → Disk → Command → Report → Type 0
+IsCausedAt old new (check asked) report = IsCausedBy old new asked report
+IsCausedAt old new (generate crates) report = report.unread ≡ []
 
 -- the gate gives no report on the texts of a command, of which this is the policy, by its own cause; the
 -- labels of clashes lie in the policy
@@ -169,10 +175,10 @@ pub record IsReportOn (old : Disk) (words : List (List ℕ)) (report : Report) :
   pub is_theirs : IsReportAt old command report
 
 -- what the report says could not be read has its causes
-pub record AreCausedOn (old new : Disk) (words : List (List ℕ)) (report : Report) : Type 0 where
+pub record IsCausedOn (old new : Disk) (words : List (List ℕ)) (report : Report) : Type 0 where
   pub command : Command
   pub asks : Asks words command
-  pub are_theirs : AreCausedAt old new command report.unread
+  pub is_theirs : IsCausedAt old new command report
 
 pub record IsStopOn (old : Disk) (words : List (List ℕ)) (error : GateError) : Type 0 where
   pub command : Command
@@ -270,7 +276,6 @@ IsTextOfClashes old words (Read which) policy = ⊤
 IsTextOfClashes old words (Long which) policy = ⊤
 IsTextOfClashes old words (Gate (gate.Config faults)) policy = ⊤
 IsTextOfClashes old words (Gate (gate.Invalid told)) policy = ClashesIn old words told policy
-IsTextOfClashes old words (Gate (gate.NotBuilt which)) policy = ⊤
 IsTextOfClashes old words (Gate (gate.Metadata fault)) policy = ⊤
 IsTextOfClashes old words (Gate (gate.Replacement at)) policy = ⊤
 IsTextOfClashes old words (Gate gate.Memory) policy = ⊤

@@ -24,6 +24,7 @@ asked_view asked = record {
   policy = asked.policy.now;
   metadata = asked.metadata.now;
   replacements = option_map text_view asked.replacements;
+  home = option_map text_view asked.home;
   registries = registries_in (word.texts asked.words.now);
 }
 
@@ -36,6 +37,7 @@ so_far_view asked = record {
   policy = option_map text_view asked.policy;
   metadata = option_map text_view asked.metadata;
   replacements = option_map text_view asked.replacements;
+  home = option_map text_view asked.home;
 }
 
 abbrev pub form_view : Form → word.Form

@@ -1,7 +1,9 @@
 pub mod Causes
 pub mod Commands
 pub mod Dead
+pub mod Home
 pub mod Lines
+pub mod Options
 pub mod Outcome
 pub mod Outputs
 pub mod Registries

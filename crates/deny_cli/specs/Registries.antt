@@ -1,11 +1,8 @@
 -- The registries that options name.
-use Rattle.std.specs.Prelude.{ℕ, ◌==◌, ◌||◌, Bool, List, Option, Some, None, codes, drop, length, nat_eq, option_and_then, if◌then◌else◌}
-use Rattle.std.specs.List.{after_first, before_first, filter_map, starts_with}
+use Rattle.std.specs.Prelude.{ℕ, ◌==◌, ◌||◌, Bool, List, Option, Some, None, codes, length, option_and_then, if◌then◌else◌}
+use Rattle.std.specs.List.{after_first, before_first, filter_map}
 use Rattle.deny_workspace.specs.declared.registries.Registry.{Registry}
-
--- what stands behind the front of a word, if it begins so
-unfoldable pub behind : List ℕ → List ℕ → Option (List ℕ)
-behind front word = if starts_with nat_eq word front then Some (drop (length front) word) else None
+use Rattle.deny_cli.specs.Options.{behind}
 
 -- an equals sign has the code 61
 abbrev pub is_equals_sign : ℕ → Bool

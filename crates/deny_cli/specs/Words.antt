@@ -8,6 +8,7 @@ use Rattle.deny_base.specs.declared.check.Which.{Which}
 use Rattle.deny_base.specs.declared.check.Which.TheVariants.{Policy, Metadata, Replacements}
 use Rattle.deny_model.specs.Text.{same_text}
 use Rattle.deny_workspace.specs.declared.registries.Registry.{Registry}
+use Rattle.deny_cli.specs.Home.{home_of}
 use Rattle.deny_cli.specs.Registries.{registries_in, registry_of}
 
 -- the words as texts
@@ -40,12 +41,13 @@ count_of word =
 
 -- ---- what words ask for
 
--- what a check looks at: the paths of its texts, and of a table of replacements, if one is named, and the registries
--- that manifests may name
+-- what a check looks at: the paths of its texts, and of a table of replacements, if one is named, the home, if one is
+-- named, and the registries that manifests may name
 pub record Asked : Type 0 where
   pub policy : List ℕ
   pub metadata : List ℕ
   pub replacements : Option (List ℕ)
+  pub home : Option (List ℕ)
   pub registries : List Registry
 
 pub data Command : Type 0 where
@@ -66,6 +68,7 @@ pub record AskedSoFar : Type 0 where
   pub policy : Option (List ℕ)
   pub metadata : Option (List ℕ)
   pub replacements : Option (List ℕ)
+  pub home : Option (List ℕ)
 
 pub data Form : Type 0 where
   nothing : Form
@@ -75,7 +78,7 @@ pub data Form : Type 0 where
 
 -- a check that asks for nothing yet
 abbrev pub begun : AskedSoFar
-begun = record { policy = None; metadata = None; replacements = None }
+begun = record { policy = None; metadata = None; replacements = None; home = None }
 
 -- a path is that of the first text that has none
 abbrev pub path_added : AskedSoFar → List ℕ → Option AskedSoFar
@@ -89,20 +92,27 @@ path_added asked path =
 abbrev pub generating_some : ℕ → Form
 generating_some crates = generating (Some crates)
 
--- an option stands before the paths; that one names a registry is all that options are for yet
-abbrev pub takes_option : AskedSoFar → List ℕ → Bool
-takes_option asked word = is_none asked.policy && is_some (registry_of word)
+-- a home is named at most once
+abbrev pub home_added : AskedSoFar → List ℕ → Option AskedSoFar
+home_added asked word = if is_none asked.home
+    then option_map (λ home. record asked { home = Some home }) (home_of word) else None
 
--- what a word adds; none where it may not stand here. What options name is not part of the form.
+-- options stand before the paths: each names a registry or a home. Registries may be named often, so that the form
+-- need not keep them.
+abbrev pub option_added : AskedSoFar → List ℕ → Option AskedSoFar
+option_added asked word =
+    if is_some asked.policy then None
+    else if is_some (registry_of word) then Some asked
+    else home_added asked word
+
+-- what a word adds; none where it may not stand here
 unfoldable pub step : Form → List ℕ → Option Form
 step nothing word =
     if same_text word (codes "check") then Some (checking begun)
     else if same_text word (codes "generate") then Some (generating None)
     else None
 step (checking asked) word =
-    if names_file word then option_map checking (path_added asked word)
-    else if takes_option asked word then Some (checking asked)
-    else None
+    option_map checking (if names_file word then path_added asked word else option_added asked word)
 step (generating None) word = option_map generating_some (count_of word)
 step (generating (Some crates)) word = None
 
@@ -111,20 +121,23 @@ filled form [] = form
 filled form (word ∷ words) = filled (option_and_then (λ before. step before word) form) words
 
 -- a check whose policy and metadata have paths
-abbrev pub check_of : List Registry → Option (List ℕ) → Option (List ℕ) → Option (List ℕ) → Option Command
-check_of registries None metadata replacements = None
-check_of registries (Some policy) None replacements = None
-check_of registries (Some policy) (Some metadata) replacements = Some (check (record {
+abbrev pub check_of : List Registry → Option (List ℕ) → Option (List ℕ) → Option (List ℕ) → Option (List ℕ)
+    → Option Command
+check_of registries home None metadata replacements = None
+check_of registries home (Some policy) None replacements = None
+check_of registries home (Some policy) (Some metadata) replacements = Some (check (record {
   policy = policy;
   metadata = metadata;
   replacements = replacements;
+  home = home;
   registries = registries;
 }))
 
 -- a form with the registries that options name; none where something is missing
 abbrev pub command_of : List Registry → Form → Option Command
 command_of registries nothing = None
-command_of registries (checking asked) = check_of registries asked.policy asked.metadata asked.replacements
+command_of registries (checking asked) =
+    check_of registries asked.home asked.policy asked.metadata asked.replacements
 command_of registries (generating crates) = option_map generate crates
 
 -- ---- which words are accepted

@@ -2,11 +2,14 @@
 #![tactic(auto)]
 
 mod dead;
+mod home;
 mod laws;
 mod lines;
+mod options;
 mod outcome;
 mod program;
 mod registries;
+mod status;
 mod stops;
 mod summary;
 mod unread;
@@ -15,3 +18,4 @@ mod words;
 pub use laws::lines_are_json;
 pub use outcome::{Ended, Outcome};
 pub use program::run;
+pub use status::status_of_run;

@@ -28,8 +28,7 @@ impl Outcome {
     /// The status that a program ends with: the bits of the verdict where the run is done, and else
     /// 16 for the words, 17 for reading, 18 for a text that is too long, 19 for faults of the policy,
     /// 20 for entries of it that clash, 21 for a fault of the metadata, 22 for a table of
-    /// replacements that is wanted and not there, 23 for writing, 24 for memory, 25 for a policy that
-    /// writes a rule that is not there yet.
+    /// replacements that is wanted and not there, 23 for writing, 24 for memory.
     pub fn status(&self) -> u8
         ensures { result ≡ status_of self.now }
     {
@@ -44,7 +43,6 @@ impl Outcome {
             Outcome::Gate(GateError::Replacement(_)) => 22,
             Outcome::Write(_) => 23,
             Outcome::Gate(GateError::Memory) | Outcome::Memory => 24,
-            Outcome::Gate(GateError::NotBuilt(_)) => 25,
         }
     }
 }

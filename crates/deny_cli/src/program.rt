@@ -2,12 +2,10 @@ ghost use Rattle.std.specs.Prelude.{◌≡◌, ◌==◌, ◌≤◌, ℕ, List, [
 ghost use Rattle.std.specs.List.{list_any};
 ghost use Rattle.deny_outside.specs.Count.{Rose};
 ghost use Rattle.deny_outside.specs.Disk.{Disk, IsLater};
-ghost use Rattle.deny_gate.specs.Gating.{AreShort, IsReportOf, texts_in};
+ghost use Rattle.deny_gate.specs.Gating.{AreShort, IsCausedReport, IsReportOf, texts_in};
 ghost use Rattle.deny_gate.specs.Labels.{AreLabelled};
 ghost use Rattle.deny_gate.specs.Report.{has_error};
-ghost use Rattle.deny_unread.specs.Bound.{Folders};
-ghost use Rattle.deny_unread.specs.Causes.{AreCaused};
-ghost use Rattle.deny_cli.specs.Causes.{AreCausedAt, AreCausedOn, AreTextsOf, ComesBy, StopsBy, StopsAt, IsHeadlineOn, CanDoWithoutDeadOn, IsReadAt, IsReadStop, IsReportAt, IsReportOn, IsValidRun, IsRefusedRun, IsReadable, IsGateStop, IsTextOfClashes, end_stop, made_files, made_texts};
+ghost use Rattle.deny_cli.specs.Causes.{IsCausedAt, IsCausedOn, AreTextsOf, ComesBy, StopsBy, StopsAt, IsHeadlineOn, CanDoWithoutDeadOn, IsReadAt, IsReadStop, IsReportAt, IsReportOn, IsValidRun, IsRefusedRun, IsReadable, IsGateStop, IsTextOfClashes, end_stop, made_files, made_texts};
 ghost use Rattle.deny_cli.specs.Commands.{asked_view, command_view};
 ghost use Rattle.deny_cli.specs.Outcome.{IfDone, IfReported, IsUsage, IsDoneOrMemory, IsStopOrMemory, failing_bits, status_of};
 ghost use Rattle.deny_cli.specs.declared.outcome.Outcome.{Outcome};
@@ -24,7 +22,7 @@ use crate::words::{Asked, Command, read_words};
 use deny_base::Which;
 use deny_gate::{Inputs, Report, gate};
 use deny_generator::{disk_of, metadata_of, policy_of};
-use deny_lists::{List, NoMemory};
+use deny_lists::{List, NoMemory, Text};
 use deny_outside::{Out, OutFault, PackageFiles, ReadEnd, read_whole};
 use deny_workspace::Registry;
 use std::alloc::Global;
@@ -94,6 +92,20 @@ fn registries_of(alloc: Global, asked: Asked<'_>) -> Result<List<Registry>, Outc
     }
 }
 
+/// The home that a check names, or why there is none.
+fn home_in(alloc: Global, asked: Asked<'_>) -> Result<Option<Text>, Outcome>
+    ensures ok { IfOk result (λ home. home ≡ (asked_view asked.entry).home) }
+    ensures stop { IfErr result (λ outcome. outcome ≡ Memory) }
+{
+    match asked.home {
+        Some(path) => match Text::from_str(alloc, path) {
+            Ok(home) => Ok(Some(home)),
+            Err(NoMemory) => Err(Outcome::Memory),
+        },
+        None => Ok(None),
+    }
+}
+
 /// The texts of a check, or why there are none. A text is read once those before it are.
 fn read_inputs<D: PackageFiles>(
     alloc: Global,
@@ -112,11 +124,13 @@ fn read_inputs<D: PackageFiles>(
         Some(path) => Some(read_text(alloc, Which::Replacements, path, disk)?),
         None => None,
     };
+    let home = home_in(alloc, asked)?;
     let registries = registries_of(alloc, asked)?;
     Ok(Inputs {
         policy,
         metadata,
         replacements,
+        home,
         registries,
     })
 }
@@ -125,8 +139,7 @@ fn read_inputs<D: PackageFiles>(
 fn report_of<D: PackageFiles>(alloc: Global, inputs: Inputs, disk: &mut D) -> Result<Report, Ending>
     requires { AreShort (texts_in inputs) }
     ensures report { IfOk result (IsReportOf (D.seen disk.old).files (texts_in inputs)) }
-    ensures caused { IfOk result (λ report. (folder : Folders) →
-        AreCaused folder (D.seen disk.old) (D.seen disk.new) report.unread) }
+    ensures caused { IfOk result (IsCausedReport (D.seen disk.old) (D.seen disk.new) (texts_in inputs)) }
     ensures labels { IfOk result (λ report. AreLabelled report.files report.findings) }
     ensures stop { IfErr result (λ ending. IsGateStop (texts_in inputs) ending.outcome) }
     ensures policy { IfErr result (λ ending. ending.policy.items ≡ inputs.policy.items) }
@@ -151,6 +164,7 @@ fn made_inputs(alloc: Global, crates: u32) -> Result<Inputs, NoMemory>
         policy: Vec::from_slice(alloc, policy.as_str().as_bytes())?,
         metadata: Vec::from_slice(alloc, metadata.as_str().as_bytes())?,
         replacements: None,
+        home: None,
         registries: List::new(alloc),
     })
 }
@@ -181,8 +195,7 @@ fn report_at<D: PackageFiles>(
 ) -> Result<Report, Ending>
     requires { AsksForFew (command_view command) }
     ensures report { IfOk result (IsReportAt (D.seen disk.old) (command_view command.entry)) }
-    ensures caused { IfOk result (λ report. AreCausedAt (D.seen disk.old) (D.seen disk.new)
-        (command_view command.entry) report.unread) }
+    ensures caused { IfOk result (IsCausedAt (D.seen disk.old) (D.seen disk.new) (command_view command.entry)) }
     ensures labels { IfOk result (λ report. AreLabelled report.files report.findings) }
     ensures stop { IfErr result (λ ending. StopsAt (D.seen disk.old) (D.seen disk.new)
         (command_view command.entry) ending.outcome ending.policy.items) }
@@ -209,7 +222,7 @@ fn answer_to<'w, D: PackageFiles>(
     ensures report { IfOk result (λ answer.
         IsReportOn (D.seen disk.old) (texts words.now) answer.report) }
     ensures caused { IfOk result (λ answer.
-        AreCausedOn (D.seen disk.old) (D.seen disk.new) (texts words.now) answer.report) }
+        IsCausedOn (D.seen disk.old) (D.seen disk.new) (texts words.now) answer.report) }
     ensures labels { IfOk result (λ answer. AreLabelled answer.report.files answer.report.findings) }
     ensures stop { IfErr result (λ ending.
         StopsBy (D.seen disk.old) (D.seen disk.new) (texts words.now) ending.outcome) }
@@ -251,7 +264,7 @@ fn ending_of<D: PackageFiles, W: Out>(
 ) -> Ending
     ensures cause { ComesBy (D.seen disk.old) (D.seen disk.new) (texts words.now) result.outcome }
     ensures caused { IfReported result.outcome
-        (AreCausedOn (D.seen disk.old) (D.seen disk.new) (texts words.now)) }
+        (IsCausedOn (D.seen disk.old) (D.seen disk.new) (texts words.now)) }
     ensures labels { IfReported result.outcome (λ report. AreLabelled report.files report.findings) }
     ensures policy { IsTextOfClashes (D.seen disk.old) (texts words.now) result.outcome result.policy.items }
     ensures out { LeavesOut W.written W.faults out.old out.new (asked_by (texts words.now)) result.outcome }
@@ -290,19 +303,19 @@ fn tell<E: Out>(alloc: Global, outcome: &Outcome, policy: &[u8], err: &mut E)
 ///
 /// An option `--registry=NAME=ADDRESS` names a registry for the manifests of a workspace: the first `=`
 /// behind the front divides the two, and neither is empty. There may be any number, and of one name the
-/// first counts. No other option is accepted yet: `--home=PATH` is refused like any word that may not
-/// stand there.
+/// first counts. An option `--home=PATH` names the folder that the paths of package files are shown
+/// from; it is not empty, and stands at most once. No other option is accepted.
 ///
-/// For a check the texts at these paths are read from `disk`, in this order, and then the manifests of
-/// the graph; the lines of the report go to `out`. For `generate N` a policy and the metadata of N
-/// crates are made, the report on them is made on a disk of its own, and one line that sums it up goes
-/// to `out`. What goes to `out` goes there in one piece, and the one line that tells a stop to `err`;
-/// what a failing `err` makes of it changes nothing.
+/// For a check the texts at these paths are read from `disk`, in this order, then the manifests of the
+/// graph, and then what the policy asks of packages; the lines of the report go to `out`. For
+/// `generate N` a policy and the metadata of N crates are made, the report on them is made on a disk of
+/// its own, and one line that sums it up goes to `out`. What goes to `out` goes there in one piece, and
+/// the one line that tells a stop to `err`; what a failing `err` makes of it changes nothing.
 ///
 /// The order of the causes is: words, reading the policy, its length, reading the metadata, its
 /// length, the same of the table of replacements where one is named, what the gate refuses in them
-/// (in the same order), the output. Want of memory can come at any point but the first. A manifest that
-/// cannot be read is none of them: the report tells it.
+/// (in the same order), the output. Want of memory can come at any point but the first. A manifest or a
+/// file of a package that cannot be read is none of them: the report tells it.
 pub fn run<D: PackageFiles, W: Out, E: Out>(
     alloc: Global,
     words: &[String],
@@ -310,20 +323,15 @@ pub fn run<D: PackageFiles, W: Out, E: Out>(
     out: &mut W,
     err: &mut E,
 ) -> Ended
-    // Each outcome comes by its cause alone; a report is the one of the texts that were read, and of the
-    // files that the disk tells.
+    // Each outcome comes by its cause alone: a report is that of the texts and files that were read.
     ensures cause { ComesBy (D.seen disk.old) (D.seen disk.new) (texts words.now) result.outcome }
-    // Words that are not accepted always end so.
     ensures usage { (¬ IsAccepted (texts words.now)) → IsUsage result.outcome }
-    // Accepted words, a policy whose rules are there, metadata without fault and the table that the
-    // policy asks for end with a report, where no reading of a text that is asked for fails, nor
-    // the output.
+    // Unless reading a text that is asked for fails, or the output, valid texts end with a report,
     ensures completes { IsValidRun (D.seen disk.old) (texts words.now)
         → IsReadable (D.seen disk.old) (D.seen disk.new) (texts words.now)
         → (¬ Rose (W.faults out.old) (W.faults out.new))
         → IsDoneOrMemory result.outcome }
-    // Texts that are too long or that the gate refuses end so, where no reading of a text that is
-    // asked for fails: behind a long policy none is.
+    // and those that are too long, or that the gate refuses, with their stop.
     ensures refuses { (stop : Outcome)
         → IsRefusedRun (D.seen disk.old) (texts words.now) stop
         → IsReadable (D.seen disk.old) (D.seen disk.new) (texts words.now)
@@ -331,22 +339,21 @@ pub fn run<D: PackageFiles, W: Out, E: Out>(
 
     // What is told at level deny is exactly what violates a rule, and nothing covers.
     ensures headline { IfReported result.outcome (IsHeadlineOn (D.seen disk.old) (texts words.now)) }
-    // Any entries that are told as dead can go from the policy, where no list of wrappers is emptied:
-    // what stands without them is what the report tells, but for what names one of them as unused.
+    // Entries that are told as dead can go, where no list of wrappers is emptied: without them the
+    // report tells the same, but for what names one of them as unused.
     ensures dead_can_go { IfReported result.outcome
         (CanDoWithoutDeadOn (D.seen disk.old) (texts words.now)) }
-    // What the report says could not be read was not read by a bound or by a failed call, and those that
-    // no bound explains are at most as many as calls failed.
+    // What is told as unread was not read by a bound or by a failed call, and at least as many calls
+    // failed as no bound explains.
     ensures caused { IfReported result.outcome
-        (AreCausedOn (D.seen disk.old) (D.seen disk.new) (texts words.now)) }
-    // Each label of a finding marks a range of its file.
+        (IsCausedOn (D.seen disk.old) (D.seen disk.new) (texts words.now)) }
     ensures labels { IfReported result.outcome (λ report. AreLabelled report.files report.findings) }
 
     ensures status { result.status ≡ status_of result.outcome }
-    // A run that is done fails exactly where a finding is an error.
+    // A run that is done fails exactly where a finding is an error,
     ensures fails { IfDone result.outcome (λ report.
         not (result.status == 0) ≡ list_any has_error report.findings) }
-    // By check: 2 where the bans check has an error, 4 where the licence check has one, or their sum.
+    // by 2 where one of the bans check is, by 4 where one of the licence check is, or by their sum.
     ensures bits { IfDone result.outcome (λ report. result.status ≡ failing_bits report.findings) }
 
     ensures out { LeavesOut W.written W.faults out.old out.new (asked_by (texts words.now)) result.outcome }

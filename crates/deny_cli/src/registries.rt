@@ -1,11 +1,11 @@
 //! The registries that options name.
 ghost use Rattle.std.specs.Prelude.{◌≡◌, ◌++◌, [], IfOk, OnOk, option_map, string_bytes};
 ghost use Rattle.std.specs.List.{cons_option};
-ghost use Rattle.std.specs.Option.{option_copied};
 ghost use Rattle.deny_cli.specs.Commands.{named_view};
-ghost use Rattle.deny_cli.specs.Registries.{behind, named_by, registries_in, registry_by, registry_of};
+ghost use Rattle.deny_cli.specs.Registries.{named_by, registries_in, registry_by, registry_of};
 ghost use Rattle.deny_cli.specs.Words.{texts};
 
+use crate::options::behind;
 use deny_lists::{List, NoMemory, Text};
 use deny_workspace::Registry;
 use std::alloc::Global;
@@ -15,13 +15,6 @@ use std::alloc::Global;
 pub struct Named<'a> {
     pub name: &'a str,
     pub address: &'a str,
-}
-
-/// What stands behind the front of a word, if it begins so.
-fn behind<'w>(front: &str, word: &'w str) -> Option<&'w str>
-    ensures { option_copied result ≡ behind front.now word.now }
-{
-    word.strip_prefix(front)
 }
 
 /// A registry by its name and address, of which neither is empty.

@@ -3,17 +3,19 @@ ghost use Rattle.std.specs.Char.{is_ascii_digit};
 ghost use Rattle.std.specs.List.{list_all};
 ghost use Rattle.deny_cli.specs.Commands.{command_view, form_view, so_far_view};
 ghost use Rattle.deny_cli.specs.Registries.{registries_in, registry_of};
-ghost use Rattle.deny_cli.specs.Words.{count_of, is_plain, leads_with_zero, names_file, texts, Asks, IsUsageAt, command_of, path_added, step, takes_option};
+ghost use Rattle.deny_cli.specs.Words.{count_of, is_plain, leads_with_zero, home_added, names_file, texts, Asks, IsUsageAt, command_of, option_added, path_added, step};
 
+use crate::home::home_of;
 use crate::registries::registry_of;
 
-/// What a check looks at: the paths of its texts, and of a table of replacements, if one is named; and
-/// the words that ask for it, since options among them name registries.
+/// What a check looks at: the paths of its texts, and of a table of replacements, if one is named; the
+/// home, if one is named; and the words that ask for it, since options among them name registries.
 #[derive(Debug, Clone, Copy)]
 pub struct Asked<'a> {
     pub policy: &'a str,
     pub metadata: &'a str,
     pub replacements: Option<&'a str>,
+    pub home: Option<&'a str>,
     pub words: &'a [String],
 }
 
@@ -34,6 +36,7 @@ struct AskedSoFar<'a> {
     policy: Option<&'a str>,
     metadata: Option<&'a str>,
     replacements: Option<&'a str>,
+    home: Option<&'a str>,
 }
 
 /// A command that is filled word by word.
@@ -126,11 +129,31 @@ fn with_path<'a>(asked: AskedSoFar<'a>, path: &'a str) -> Option<AskedSoFar<'a>>
     }
 }
 
-/// Whether an option that names a registry may stand here, and the word is one.
-fn takes_option(asked: AskedSoFar<'_>, word: &str) -> bool
-    ensures { result ≡ takes_option (so_far_view asked.entry) word.now }
+/// A check with the home that a word names; none where it has one, or the word names none.
+fn with_home<'a>(asked: AskedSoFar<'a>, word: &'a str) -> Option<AskedSoFar<'a>>
+    ensures { option_map so_far_view result ≡ home_added (so_far_view asked.entry) word.now }
 {
-    asked.policy.is_none() && registry_of(word).is_some()
+    if asked.home.is_some() {
+        return None;
+    }
+    let home = home_of(word)?;
+    Some(AskedSoFar {
+        home: Some(home),
+        ..asked
+    })
+}
+
+/// A check with what an option names; none where no option may stand, or the word is none.
+fn with_option<'a>(asked: AskedSoFar<'a>, word: &'a str) -> Option<AskedSoFar<'a>>
+    ensures { option_map so_far_view result ≡ option_added (so_far_view asked.entry) word.now }
+{
+    if asked.policy.is_some() {
+        None
+    } else if registry_of(word).is_some() {
+        Some(asked)
+    } else {
+        with_home(asked, word)
+    }
 }
 
 /// What a word adds; none where it may not stand here.
@@ -143,14 +166,15 @@ fn step<'a>(form: Form<'a>, word: &'a str) -> Option<Form<'a>>
             policy: None,
             metadata: None,
             replacements: None,
+            home: None,
         })),
         Form::Nothing if word == "generate" => Some(Form::Generating(None)),
         Form::Checking(asked) if names_file(word) => {
             Some(Form::Checking(with_path(asked, word)?))
         }
-        Form::Checking(asked) if takes_option(asked, word) => Some(form),
+        Form::Checking(asked) => Some(Form::Checking(with_option(asked, word)?)),
         Form::Generating(None) => Some(Form::Generating(Some(count_of(word)?))),
-        Form::Nothing | Form::Checking(_) | Form::Generating(Some(_)) => None,
+        Form::Nothing | Form::Generating(Some(_)) => None,
     }
 }
 
@@ -165,6 +189,7 @@ fn command_of<'a>(form: Form<'a>, words: &'a [String]) -> Option<Command<'a>>
             policy: asked.policy?,
             metadata: asked.metadata?,
             replacements: asked.replacements,
+            home: asked.home,
             words,
         })),
         Form::Generating(crates) => Some(Command::Generate(crates?)),

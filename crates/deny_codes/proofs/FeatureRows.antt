@@ -28,7 +28,7 @@ use Rattle.deny_codes.specs.Features.{unlisted, missing, is_mismatched, tells_un
 use Rattle.deny_codes.specs.Features.{mismatched_keys, banned_features, feature_banned_keys_at, feature_banned_keys_of}
 use Rattle.deny_codes.specs.Features.{feature_banned_keys, unknown_features, unknown_feature_keys_at}
 use Rattle.deny_codes.specs.Features.{unknown_feature_keys_of, unknown_feature_keys, not_allowed_feature_key, feature_at}
-use Rattle.deny_codes.specs.Features.{feature_nodes_at, mismatched_told, feature_not_allowed_told, feature_banned_told}
+use Rattle.deny_codes.specs.Features.{feature_nodes_at, named_at, mismatched_told, feature_not_allowed_told, feature_banned_told}
 use Rattle.deny_codes.specs.Features.{unknown_feature_told, default_severity, default_enabled_told}
 use Rattle.deny_codes.specs.Members.{is_member}
 use Rattle.deny_codes.specs.Telling.{plainly}
@@ -86,7 +86,7 @@ unfolding on_cases digits with_table a_and_b x by_default beside app_by_default 
     minds_default is_default_told default_enabled_keys_of default_enabled_keys_at has_default_apart is_unlisted unlisted
     missing is_mismatched tells_unknown is_mismatch_told mismatched_keys_of banned_features feature_banned_keys_at
     feature_banned_keys_of unknown_features unknown_feature_keys_at unknown_feature_keys_of not_allowed_feature_key
-    feature_at feature_nodes_at mismatched_told feature_not_allowed_told feature_banned_told unknown_feature_told
+    feature_at named_at feature_nodes_at mismatched_told feature_not_allowed_told feature_banned_told unknown_feature_told
     default_severity default_enabled_told
 features_on_cases = tt
 
@@ -555,7 +555,7 @@ told_banned : feature_banned_told denying_b (beside x) 3 (crate_key code.Feature
 unfolding features_on_cases denying_b
 told_banned = refl
 
-told_unknown : unknown_feature_told allowing_c (beside x) 3 (crate_key code.UnknownFeature 1 (range 20))
+told_unknown : unknown_feature_told allowing_c [] (beside x) 3 (crate_key code.UnknownFeature 1 (range 20))
     ≡ plainly severity.Warning (codes "found unknown feature 'c' for crate 'x = 1.0.0'")
     (primary 3 (range 20) (codes "unknown feature") ∷ []) (Some (record { 0 = codes "x" }))
 unfolding features_on_cases allowing_c

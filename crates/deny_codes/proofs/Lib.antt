@@ -1,5 +1,9 @@
 pub mod Agreement
 pub mod BanRows
+pub mod BuildAlike
+pub mod BuildCases
+pub mod BuildMade
+pub mod BuildScriptRows
 pub mod Cases
 pub mod CountingRows
 pub mod DuplicateRows
@@ -11,6 +15,9 @@ pub mod LicenceRows
 pub mod Licensed
 pub mod Made
 pub mod ManifestCases
+pub mod PackageFileRows
+pub mod PackageRows
+pub mod PackageToldRows
 pub mod Parts
 pub mod SayingRows
 pub mod Sections

@@ -10,6 +10,10 @@ use Rattle.deny_model.specs.Licensing.{Licensing}
 use Rattle.deny_codes.specs.Circumstances.{Circumstances, licensed}
 use Rattle.deny_codes.specs.Codes.{is_of_bans}
 use Rattle.deny_codes.specs.Facts.{Facts}
+use Rattle.deny_codes.specs.PackagesTold.{bypassed_by_glob_told, checksum_match_told, checksum_mismatch_told}
+use Rattle.deny_codes.specs.PackagesTold.{denied_by_extension_told, detected_told, features_enabled_told, mismatch_note}
+use Rattle.deny_codes.specs.PackagesTold.{path_bypassed_told, script_denied_told, unable_to_check_told}
+use Rattle.deny_codes.specs.PackagesTold.{unmatched_glob_told, unmatched_path_told}
 use Rattle.deny_codes.specs.Standing.{StandsAs, StandsBy, StandsIn}
 use Rattle.deny_codes.specs.Told.{pack_of, pack_told, words_as, words_by}
 use Rattle.deny_codes.proofs.Sections.{not_licensed}
@@ -27,7 +31,9 @@ code_back _ c licensing facts key is = is
 
 words_alike : (d : Code) (c : Circumstances) (licensing : Option Licensing) (key : Key)
     → words_as d (licensed c licensing) key ≡ words_as d c key
-unfolding words_as
+unfolding words_as script_denied_told path_bypassed_told bypassed_by_glob_told checksum_match_told
+    checksum_mismatch_told mismatch_note denied_by_extension_told detected_told unable_to_check_told
+    features_enabled_told unmatched_path_told unmatched_glob_told
 words_alike code.Banned c licensing key = refl
 words_alike _ c licensing key = refl
 

@@ -1,5 +1,7 @@
 -- What a report is about: a policy and a graph, and whatever else the rules look at.
 use Rattle.std.specs.Prelude.{ℕ, List, [], Option, None, Some}
+use Rattle.deny_build_model.specs.Building.{Building}
+use Rattle.deny_build_model.specs.declared.package.Package.{Package}
 use Rattle.deny_model.specs.Graph.{Graph}
 use Rattle.deny_model.specs.Licensing.{Licensing}
 use Rattle.deny_model.specs.Policy.{Policy}
@@ -15,11 +17,15 @@ pub record Circumstances : Type 0 where
   pub policy : Policy
   -- what the policy says of licences; none where it does not speak of them
   pub licensing : Option Licensing
+  -- what it says of build scripts and packaged files; none where it does not speak of them
+  pub building : Option Building
   pub graph : Graph
   -- the bytes of the table of replacements; none where there is no table
   pub table : List ℕ
   -- what is seen of manifests
   pub view : View
+  -- what is seen of packages, by the places of their crates
+  pub packages : List Package
   -- the folder that paths are shown from
   pub home : Option (List ℕ)
   -- the registries that count as the workspace's own
@@ -33,14 +39,16 @@ policy_alone file = record { policy = file; lock = None; globs = None }
 abbrev pub policy_and_lock : ℕ → ℕ → FileNumbers
 policy_and_lock file lock = record { policy = file; lock = Some lock; globs = None }
 
--- a policy, a graph and a view, by the numbers of their files, without licences and without a table
+-- a policy, a graph and a view, by the numbers of their files, without licences, builds and a table
 abbrev pub seen_in : FileNumbers → Policy → Graph → View → Circumstances
 seen_in files p g view = record {
   policy = p;
   licensing = None;
+  building = None;
   graph = g;
   table = [];
   view = view;
+  packages = [];
   home = None;
   registries = [];
   files = files;
@@ -62,6 +70,14 @@ tabled c table = record c { table = table }
 abbrev pub licensed : Circumstances → Option Licensing → Circumstances
 licensed c licensing = record c { licensing = licensing }
 
--- the same by another view
-abbrev pub viewed : Circumstances → View → Circumstances
-viewed c view = record c { view = view }
+-- the same with what a policy says of builds
+abbrev pub built : Circumstances → Option Building → Circumstances
+built c building = record c { building = building }
+
+-- the same by what else was seen, of manifests and of packages
+abbrev pub seen_anew : Circumstances → View → List Package → Circumstances
+seen_anew c view packages = record c { view = view; packages = packages }
+
+-- the same by what was seen of packages; the built-in globs have this number among the files, where they are there
+abbrev pub with_packages : Circumstances → Option ℕ → List Package → Circumstances
+with_packages c globs packages = record c { packages = packages; files = record c.files { globs = globs } }

@@ -259,9 +259,15 @@ feature_banned_told p g file key = with_features
     (kid_at g key.place))
     (feature_nodes_at g key.place (feature_at p key.entry ∷ []))
 
-unfoldable pub unknown_feature_told : Policy → Graph → ℕ → Key → Words
-unknown_feature_told p g file key = plainly severity.Warning
-    (of_feature (codes "found unknown feature '") (feature_at p key.entry) (codes "' for crate '") g key (codes "'"))
+-- these are the features that others than entries of `features` name
+unfoldable pub named_at : List policy.Words → Policy → Span → List ℕ
+named_at others p range = option_map_or (λ w. w.value)
+    (find (λ w. same_span w.span range) (flat_map features_of p.features ++ others)) []
+
+unfoldable pub unknown_feature_told : Policy → List policy.Words → Graph → ℕ → Key → Words
+unknown_feature_told p others g file key = plainly severity.Warning
+    (of_feature (codes "found unknown feature '") (named_at others p key.entry) (codes "' for crate '") g key
+    (codes "'"))
     (primary file key.entry (codes "unknown feature") ∷ [])
     (kid_at g key.place)
 

@@ -8,12 +8,13 @@ use Rattle.deny_model.specs.Licensing.{Licensing}
 use Rattle.deny_codes.specs.Circumstances.{Circumstances}
 use Rattle.deny_codes.specs.Facts.{Facts}
 use Rattle.deny_codes.specs.Licences.{TellsCounting, licence_hits}
+use Rattle.deny_codes.specs.Packages.{bypass_hits_in}
 use Rattle.deny_codes.specs.StdReplacements.{ignore_hits_in}
 
--- by the bans check: those of the crate rules, and then those that pass replaced crates over; one for each entry that
--- is hit
+-- by the bans check: those of the crate rules, then those that pass replaced crates over, and those that let packages
+-- pass; one for each entry that is hit
 abbrev pub hits_in : Circumstances → Facts → List Hit
-hits_in c facts = all_hits c.policy c.graph facts.chains ++ ignore_hits_in c
+hits_in c facts = all_hits c.policy c.graph facts.chains ++ (ignore_hits_in c ++ bypass_hits_in c facts)
 
 -- a test tells the crates that the licence check runs over, where the policy speaks of licences
 abbrev pub TellsLicensed : Option Licensing → Graph → (Crate → Bool) → Type 0

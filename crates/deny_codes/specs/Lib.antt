@@ -1,5 +1,6 @@
 pub mod AllowList
 pub mod Bans
+pub mod BuildScripts
 pub mod Circumstances
 pub mod Codes
 pub mod Duplicates
@@ -9,6 +10,9 @@ pub mod FirstMatch
 pub mod Hits
 pub mod Licences
 pub mod Members
+pub mod PackageFiles
+pub mod Packages
+pub mod PackagesTold
 pub mod Saying
 pub mod Sharing
 pub mod SkippedTrees

@@ -1,5 +1,5 @@
 -- What stands, code by code, and so what a report holds.
-use Rattle.std.specs.Prelude.{Bool, IsTrue, List, Option, Contains}
+use Rattle.std.specs.Prelude.{◌⊎◌, Bool, IsTrue, List, Option, Contains}
 use Rattle.deny_lists.specs.Ascending.{Lists}
 use Rattle.deny_base.specs.KeyOrder.{key_cmp}
 use Rattle.deny_base.specs.declared.code.Code.{Code}
@@ -23,6 +23,7 @@ use Rattle.deny_codes.specs.Features.{IsFeatureNotAllowed, default_enabled_keys,
 use Rattle.deny_codes.specs.Features.{unknown_feature_keys}
 use Rattle.deny_codes.specs.Licences.{IsOfLicences, accepted_keys, exception_not_encountered_keys, not_encountered_keys}
 use Rattle.deny_codes.specs.Licences.{parse_error_keys, rejected_keys, skipped_private_keys, unlicensed_keys}
+use Rattle.deny_codes.specs.Packages.{build_keys_in, deprecated_keys_in}
 use Rattle.deny_codes.specs.Sharing.{unused_entry_keys, workspace_duplicate_keys}
 use Rattle.deny_codes.specs.SkippedTrees.{skipped_by_root_keys}
 use Rattle.deny_codes.specs.Skips.{skipped_keys}
@@ -30,7 +31,6 @@ use Rattle.deny_codes.specs.StdReplacements.{replaced_keys_in, unmatched_ignore_
 use Rattle.deny_codes.specs.Wildcards.{unresolved_keys, wildcard_keys}
 use Rattle.deny_codes.specs.Wrappers.{unused_wrapper_keys}
 
--- a code whose rule is not there yet has no key that stands
 abbrev pub StandsAs : Code → Circumstances → Facts → Key → Type 0
 StandsAs code.Banned c facts key = Contains (banned_keys c.policy c.graph) key
 StandsAs code.Allowed c facts key = Contains (allowed_keys c.policy c.graph) key
@@ -44,24 +44,25 @@ StandsAs code.AllowedByWrapper c facts key = Contains (allowed_by_wrapper_keys c
 StandsAs code.UnmatchedWrapper c facts key = Contains (unmatched_wrapper_keys c.policy c.graph) key
 StandsAs code.SkippedByRoot c facts key = Contains (skipped_by_root_keys c.policy c.graph facts.chains) key
 StandsAs code.UnmatchedSkipRoot c facts key = Contains (unmatched_skip_root_keys c.policy c.graph) key
-StandsAs code.BuildScriptNotAllowed c facts key = ⊥
+StandsAs code.BuildScriptNotAllowed c facts key = Contains (build_keys_in c facts) key
 StandsAs code.ExactFeaturesMismatch c facts key = Contains (mismatched_keys c.policy c.graph) key
 StandsAs code.FeatureNotExplicitlyAllowed c facts key = IsFeatureNotAllowed c.policy c.graph key
 StandsAs code.FeatureBanned c facts key = Contains (feature_banned_keys c.policy c.graph) key
-StandsAs code.UnknownFeature c facts key = Contains (unknown_feature_keys c.policy c.graph) key
+StandsAs code.UnknownFeature c facts key =
+    Contains (unknown_feature_keys c.policy c.graph) key ⊎ Contains (build_keys_in c facts) key
 StandsAs code.DefaultFeatureEnabled c facts key = Contains (default_enabled_keys c.policy c.graph) key
-StandsAs code.PathBypassed c facts key = ⊥
-StandsAs code.PathBypassedByGlob c facts key = ⊥
-StandsAs code.ChecksumMatch c facts key = ⊥
-StandsAs code.ChecksumMismatch c facts key = ⊥
-StandsAs code.DeniedByExtension c facts key = ⊥
-StandsAs code.DetectedExecutable c facts key = ⊥
-StandsAs code.DetectedExecutableScript c facts key = ⊥
-StandsAs code.UnableToCheckPath c facts key = ⊥
-StandsAs code.FeaturesEnabled c facts key = ⊥
-StandsAs code.UnmatchedBypass c facts key = ⊥
-StandsAs code.UnmatchedPathBypass c facts key = ⊥
-StandsAs code.UnmatchedGlob c facts key = ⊥
+StandsAs code.PathBypassed c facts key = Contains (build_keys_in c facts) key
+StandsAs code.PathBypassedByGlob c facts key = Contains (build_keys_in c facts) key
+StandsAs code.ChecksumMatch c facts key = Contains (build_keys_in c facts) key
+StandsAs code.ChecksumMismatch c facts key = Contains (build_keys_in c facts) key
+StandsAs code.DeniedByExtension c facts key = Contains (build_keys_in c facts) key
+StandsAs code.DetectedExecutable c facts key = Contains (build_keys_in c facts) key
+StandsAs code.DetectedExecutableScript c facts key = Contains (build_keys_in c facts) key
+StandsAs code.UnableToCheckPath c facts key = Contains (build_keys_in c facts) key
+StandsAs code.FeaturesEnabled c facts key = Contains (build_keys_in c facts) key
+StandsAs code.UnmatchedBypass c facts key = Contains (build_keys_in c facts) key
+StandsAs code.UnmatchedPathBypass c facts key = Contains (build_keys_in c facts) key
+StandsAs code.UnmatchedGlob c facts key = Contains (build_keys_in c facts) key
 StandsAs code.UnusedWrapper c facts key = Contains (unused_wrapper_keys c.policy c.graph) key
 StandsAs code.WorkspaceDuplicate c facts key = Contains (workspace_duplicate_keys c.policy c.graph c.view) key
 StandsAs code.UnresolvedWorkspaceDependency c facts key =
@@ -83,7 +84,7 @@ StandsLicensed license.LicenseExceptionNotEncountered licensing g key =
     IsOfLicences exception_not_encountered_keys licensing g key
 
 abbrev pub StandsBy : DiagnosticCode → Circumstances → Facts → Key → Type 0
-StandsBy Deprecated c facts key = ⊥
+StandsBy Deprecated c facts key = Contains (deprecated_keys_in c) key
 StandsBy (Bans code) c facts key = StandsAs code c facts key
 StandsBy (License code) c facts key = StandsLicensed code c.licensing c.graph key
 

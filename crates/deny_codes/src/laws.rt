@@ -3,6 +3,7 @@ ghost use Rattle.deny_lists.specs.Ascending.{Lists};
 ghost use Rattle.deny_base.specs.KeyOrder.{key_cmp};
 ghost use Rattle.deny_base.specs.declared.key.Key.{Key};
 ghost use Rattle.deny_base.specs.declared.key.Section.{Section};
+ghost use Rattle.deny_build_model.specs.declared.package.Package.{Package};
 ghost use Rattle.deny_model.specs.Bans.{wrapper_of};
 ghost use Rattle.deny_model.specs.Graph.{Crate};
 ghost use Rattle.deny_model.specs.Licensing.{Licensing};
@@ -10,7 +11,7 @@ ghost use Rattle.deny_model.specs.Policy as policy;
 ghost use Rattle.deny_model.specs.View.{View};
 ghost use Rattle.deny_model.specs.Wrappers.{wraps};
 ghost use Rattle.deny_codes.specs.Bans.{bears_name};
-ghost use Rattle.deny_codes.specs.Circumstances.{Circumstances, licensed, viewed};
+ghost use Rattle.deny_codes.specs.Circumstances.{Circumstances, licensed, seen_anew};
 ghost use Rattle.deny_codes.specs.Codes.{asks_no_file, is_of_bans, is_of_licenses, unseeing};
 ghost use Rattle.deny_codes.specs.Facts.{Facts};
 ghost use Rattle.deny_codes.specs.FirstMatch.{first_of, is_first};
@@ -32,18 +33,19 @@ pub fn one_check()
     deny_base::key_order();
 }
 
-/// By another view stands the same, as far as codes ask nothing of files.
+/// By what else was seen of manifests and packages stands the same, as far as codes ask nothing of files.
 pub fn one_unseen()
-    ensures { (c : Circumstances) → (view : View) → (xs ys : List Key)
-        → AreKeys c xs → AreKeys (viewed c view) ys → unseeing xs ≡ unseeing ys }
+    ensures { (c : Circumstances) → (view : View) → (packages : List Package) → (xs ys : List Key)
+        → AreKeys c xs → AreKeys (seen_anew c view packages) ys → unseeing xs ≡ unseeing ys }
 {
     deny_base::key_order();
 }
 
 /// And such a code is told the same.
 pub fn words_unseen()
-    ensures { (c : Circumstances) → (view : View) → (key : Key)
-        → IsTrue (asks_no_file key.code) → words_told (viewed c view) key ≡ words_told c key }
+    ensures { (c : Circumstances) → (view : View) → (packages : List Package) → (key : Key)
+        → IsTrue (asks_no_file key.code)
+        → words_told (seen_anew c view packages) key ≡ words_told c key }
 {}
 
 /// What stands in the sections of the bans check, and then what stands in those of the licence check,

@@ -1,12 +1,9 @@
 -- Texts have one answer, since a text is one policy or is none for one reason, and bytes break at one place.
 use Rattle.std.proofs.Common.{◌≡◌, ◌≢◌, ◌⊎◌, ◌∙◌, ℕ, List, [], ◌∷◌, Option, None, Some, Ok, Err, ap, inl}
 use Rattle.std.proofs.Common.{inr, refl, sym}
-use Rattle.std.proofs.lemmas.Bool.{true≢false}
-use Rattle.deny_base.specs.declared.check.Which.TheVariants as which
 use Rattle.deny_base.specs.declared.finding.Diagnostic.{Diagnostic}
 use Rattle.deny_base.specs.declared.span.Span.{Span}
 use Rattle.deny_cfg.specs.PolicyText.{IsPolicyOf, ListsFaults, TellsClashes}
-use Rattle.deny_cfg.specs.PolicyView.{policy_view}
 use Rattle.deny_cfg.specs.declared.policy.Policy.{Policy}
 use Rattle.deny_krates.specs.fault.MetadataFault.{MetadataFault}
 use Rattle.deny_std_table.specs.declared.error.ReplacementError.TheVariants.{Bad}
@@ -14,17 +11,14 @@ use Rattle.deny_toml.specs.Faults.{fault_at}
 use Rattle.deny_toml.specs.declared.error.ConfigFault.{ConfigFault}
 use Rattle.deny_toml.specs.declared.error.FaultKind.TheVariants.{Grammar}
 use Rattle.deny_codes.specs.Saying.{HasTable, IsBreakIn}
-use Rattle.deny_gate.specs.Gating.{AreOneCause, AsksForTable, HasGraph, HasPolicy, IsBuilt, IsCause, IsFirstFault}
-use Rattle.deny_gate.specs.Gating.{IsUnbuilt, Texts}
+use Rattle.deny_gate.specs.Gating.{AreOneCause, AsksForTable, HasGraph, HasPolicy, IsCause, IsFirstFault, Texts}
 use Rattle.deny_gate.specs.Report.{policy_id}
 use Rattle.deny_gate.specs.declared.report.GateError.{GateError}
-use Rattle.deny_gate.specs.declared.report.GateError.TheVariants.{Config, Invalid, NotBuilt, Metadata, Replacement}
+use Rattle.deny_gate.specs.declared.report.GateError.TheVariants.{Config, Invalid, Metadata, Replacement}
 use Rattle.deny_gate.specs.declared.report.GateError.TheVariants.{Memory}
 
 -- what is known of a policy's text
 pub record TextLaws : Type 0 where
-  pub policies : (text : List ℕ) → (file : ℕ) → (a b : Policy) → IsPolicyOf text file a → IsPolicyOf text file b
-      → (policy_view a.bans ≡ policy_view b.bans) × (a.not_built ≡ b.not_built)
   pub faults : (text : List ℕ) → (xs ys : List ConfigFault) → ListsFaults text xs → ListsFaults text ys
       → (xs ≡ ys) ⊎ (((place : Span) × (xs ≡ fault_at Grammar [] place ∷ []))
       × ((place : Span) × (ys ≡ fault_at Grammar [] place ∷ [])))
@@ -62,66 +56,41 @@ module _ (laws : TextLaws) (texts : Texts) where
         )
       ]
 
-  -- a policy whose rules are there has no cause of its own
-  no_faults : (faults : List ConfigFault) (said : Policy) → ListsFaults texts.policy faults → IsBuilt texts.policy said
-      → ⊥
-  no_faults faults said are built = laws.no_policy_with_faults texts.policy policy_id faults said are built.is_policy
+  -- a policy has no cause of its own
+  no_faults : (faults : List ConfigFault) (said : Policy) → ListsFaults texts.policy faults
+      → IsPolicyOf texts.policy policy_id said → ⊥
+  no_faults faults said are is = laws.no_policy_with_faults texts.policy policy_id faults said are is
 
   no_clashes : (told : List Diagnostic) (said : Policy) → TellsClashes texts.policy policy_id told
-      → IsBuilt texts.policy said → ⊥
-  no_clashes told said are built =
-      laws.no_policy_with_clashes texts.policy policy_id policy_id told said are built.is_policy
-
-  not_unbuilt : (said : Policy) → IsUnbuilt texts.policy → IsBuilt texts.policy said → ⊥
-  not_unbuilt said is built = true≢false (sym is.is_unbuilt
-      ∙ ((laws.policies texts.policy policy_id is.said said is.is_policy built.is_policy).1 ∙ built.is_built))
+      → IsPolicyOf texts.policy policy_id said → ⊥
+  no_clashes told said are is = laws.no_policy_with_clashes texts.policy policy_id policy_id told said are is
 
   pub one_cause : (a b : GateError) → a ≢ Memory → b ≢ Memory → IsCause texts a → IsCause texts b → AreOneCause a b
   one_cause (Config xs) (Config ys) m n h k = one_config xs ys h k
   one_cause (Config xs) (Invalid told) m n h k = absurd (laws.faults_alone texts.policy policy_id xs told h k)
-  one_cause (Config xs) (NotBuilt which.Policy) m n h k = absurd
-      (laws.no_policy_with_faults texts.policy policy_id xs k.said h k.is_policy)
   one_cause (Config xs) (Metadata f) m n h k = absurd (no_faults xs k.0.said h k.0.is_said)
   one_cause (Config xs) (Replacement at) m n h k = absurd (no_faults xs k.0.said h k.0.is_said)
   one_cause (Invalid told) (Config ys) m n h k = absurd (laws.faults_alone texts.policy policy_id ys told k h)
   one_cause (Invalid told) (Invalid others) m n h k = inl
       (ap Invalid (laws.clashes texts.policy policy_id told others h k))
-  one_cause (Invalid told) (NotBuilt which.Policy) m n h k = absurd
-      (laws.no_policy_with_clashes texts.policy policy_id policy_id told k.said h k.is_policy)
   one_cause (Invalid told) (Metadata f) m n h k = absurd (no_clashes told k.0.said h k.0.is_said)
   one_cause (Invalid told) (Replacement at) m n h k = absurd (no_clashes told k.0.said h k.0.is_said)
-  one_cause (NotBuilt which.Policy) (Config ys) m n h k = absurd
-      (laws.no_policy_with_faults texts.policy policy_id ys h.said k h.is_policy)
-  one_cause (NotBuilt which.Policy) (Invalid others) m n h k = absurd
-      (laws.no_policy_with_clashes texts.policy policy_id policy_id others h.said k h.is_policy)
-  one_cause (NotBuilt which.Policy) (NotBuilt which.Policy) m n h k = inl refl
-  one_cause (NotBuilt which.Policy) (Metadata f) m n h k = absurd (not_unbuilt k.0.said h k.0.is_said)
-  one_cause (NotBuilt which.Policy) (Replacement at) m n h k = absurd (not_unbuilt k.0.said h k.0.is_said)
   one_cause (Metadata f) (Config ys) m n h k = absurd (no_faults ys h.0.said k h.0.is_said)
   one_cause (Metadata f) (Invalid others) m n h k = absurd (no_clashes others h.0.said k h.0.is_said)
-  one_cause (Metadata f) (NotBuilt which.Policy) m n h k = absurd (not_unbuilt h.0.said k h.0.is_said)
   one_cause (Metadata f) (Metadata e) m n h k = let same : Err f ≡ Err e = sym h.1.is ∙ k.1.is in inl (cc same)
   one_cause (Metadata f) (Replacement at) m n h k = absurd (no_fault texts.metadata f k.1 h.1)
   one_cause (Replacement at) (Config ys) m n h k = absurd (no_faults ys h.0.said k h.0.is_said)
   one_cause (Replacement at) (Invalid others) m n h k = absurd (no_clashes others h.0.said k h.0.is_said)
-  one_cause (Replacement at) (NotBuilt which.Policy) m n h k = absurd (not_unbuilt h.0.said k h.0.is_said)
   one_cause (Replacement at) (Metadata e) m n h k = absurd (no_fault texts.metadata e h.1 k.1)
   one_cause (Replacement at) (Replacement place) m n h k = inl
       (ap Replacement (one_break texts.replacements at place h.2 k.2))
   one_cause Memory b m n h k = absurd (m refl)
   one_cause a Memory m n h k = absurd (n refl)
-  one_cause (NotBuilt which.Metadata) b m n h k = absurd h
-  one_cause (NotBuilt which.Replacements) b m n h k = absurd h
-  one_cause a (NotBuilt which.Metadata) m n h k = absurd k
-  one_cause a (NotBuilt which.Replacements) m n h k = absurd k
 
   pub no_cause : (error : GateError) → error ≢ Memory → HasPolicy texts.policy → HasGraph texts.metadata
       → (AsksForTable texts.policy → HasTable texts.replacements) → IsCause texts error → ⊥
   no_cause (Config faults) m there graph table h = no_faults faults there.said h there.is_said
   no_cause (Invalid told) m there graph table h = no_clashes told there.said h there.is_said
-  no_cause (NotBuilt which.Policy) m there graph table h = not_unbuilt there.said h there.is_said
-  no_cause (NotBuilt which.Metadata) m there graph table h = h
-  no_cause (NotBuilt which.Replacements) m there graph table h = h
   no_cause (Metadata f) m there graph table h = no_fault texts.metadata f graph h.1
   no_cause (Replacement at) m there graph table h = no_break texts.replacements at (table h.0) h.2
   no_cause Memory m there graph table h = m refl

@@ -1,15 +1,21 @@
 -- When an answer may come, once the policy is there.
-use Rattle.std.proofs.Common.{◌≡◌, ℕ, List, Option, Result, Ok, Err, subst}
+use Rattle.std.proofs.Common.{◌≡◌, ℕ, List, Result, Ok, Err, subst}
 use Rattle.std.specs.Prelude.{IfOk, IfErr}
+use Rattle.deny_cfg.specs.PolicyText.{IsPolicyOf}
 use Rattle.deny_cfg.specs.PolicyView.{policy_view}
 use Rattle.deny_cfg.specs.declared.policy.Policy.{Policy}
 use Rattle.deny_laws.specs.Dead.{DeadCanGo}
-use Rattle.deny_outside.specs.Disk.{Files}
+use Rattle.deny_laws.specs.Asking.{PackagesStay}
+use Rattle.deny_outside.specs.Disk.{Disk}
+use Rattle.deny_packages.specs.Why.{AreFoldersOf}
+use Rattle.deny_unread.specs.Bound.{Folders}
+use Rattle.deny_unread.specs.Causes.{AreCaused}
 use Rattle.deny_gate.specs.Dead.{CanDoWithoutDead}
-use Rattle.deny_gate.specs.Gating.{IsBuilt, IsCause, IsCauseBehind, IsReportOf, IsReportOn, Texts}
+use Rattle.deny_gate.specs.Gating.{IsCause, IsCauseBehind, IsCausedReport, IsReportBy, IsReportOf, IsReportOn, Texts}
 use Rattle.deny_gate.specs.Headline.{IsHeadlineOf}
+use Rattle.deny_gate.specs.Report.{policy_id}
 use Rattle.deny_gate.specs.declared.report.GateError.{GateError}
-use Rattle.deny_gate.specs.declared.report.GateError.TheVariants.{Config, Invalid, NotBuilt, Metadata, Replacement}
+use Rattle.deny_gate.specs.declared.report.GateError.TheVariants.{Config, Invalid, Metadata, Replacement}
 use Rattle.deny_gate.specs.declared.report.GateError.TheVariants.{Memory}
 use Rattle.deny_gate.specs.declared.report.Report.{Report}
 use Rattle.deny_gate.specs.Stats.{code_of, exit_code}
@@ -18,55 +24,73 @@ use Rattle.deny_gate.proofs.ExitLaws.{exit_of}
 use Rattle.deny_gate.proofs.HeadlineLaws.{headline_of}
 
 -- the text that was read is the policy's
-module _ (texts : Texts) (said : Policy) (read : List ℕ) (same : read ≡ texts.policy) (handed : IsBuilt read said) where
-  built : IsBuilt texts.policy said
-  built = subst (λ (text : List ℕ). IsBuilt text said) same handed
+module _ (texts : Texts) (said : Policy) (read : List ℕ) (same : read ≡ texts.policy)
+    (handed : IsPolicyOf read policy_id said) where
+  of_text : IsPolicyOf texts.policy policy_id said
+  of_text = subst (λ (text : List ℕ). IsPolicyOf text policy_id said) same handed
 
   by_rest : (error : GateError) → IsCauseBehind (policy_view said.bans) texts error → IsCause texts error
-  by_rest (Metadata f) cause = (record { said = said; is_said = built }, cause)
+  by_rest (Metadata f) cause = (record { said = said; is_said = of_text }, cause)
   by_rest (Replacement at) cause =
-      (record { said = said; is_said = built; asks = cause.1.0 }, cause.0, cause.1.1)
+      (record { said = said; is_said = of_text; asks = cause.1.0 }, cause.0, cause.1.1)
   by_rest Memory cause = tt
   by_rest (Config faults) cause = absurd cause
   by_rest (Invalid told) cause = absurd cause
-  by_rest (NotBuilt text) cause = absurd cause
 
   pub cause_then : (result : Result Report GateError) → IfErr result (IsCauseBehind (policy_view said.bans) texts)
       → IfErr result (IsCause texts)
   cause_then (Ok report) cause = tt
   cause_then (Err error) cause = by_rest error cause
 
-  module _ (told : Option Files) where
-    report_is : (report : Report) → IsReportOn told said texts report → IsReportOf told texts report
-    report_is report on = record {
-      view = on.seen.view;
-      by = record {
-        said = said;
-        is_said = built;
-        graph = on.graph;
-        is_graph = on.is_graph;
-        table = on.table;
-        seen = on.seen.seen;
-        is_report = on.seen.is_report;
-      };
+  module _ (old new : Disk) where
+    report_by : (report : Report) (on : IsReportOn old new said texts report)
+        → IsReportBy old.files texts on.seen.view on.seen.packages report
+    report_by report on = record {
+      said = said;
+      is_said = of_text;
+      graph = on.graph;
+      is_graph = on.is_graph;
+      table = on.table;
+      ascending = on.seen.ascending;
+      seen = on.seen.seen;
+      looked_at = on.seen.looked_at;
+      is_report = on.seen.is_report;
     }
 
-    pub report_then : (result : Result Report GateError) → IfOk result (IsReportOn told said texts)
-        → IfOk result (IsReportOf told texts)
+    report_is : (report : Report) → IsReportOn old new said texts report → IsReportOf old.files texts report
+    report_is report on =
+        record { view = on.seen.view; packages = on.seen.packages; by = report_by report on }
+
+    pub report_then : (result : Result Report GateError) → IfOk result (IsReportOn old new said texts)
+        → IfOk result (IsReportOf old.files texts)
     report_then (Ok report) on = report_is report on
     report_then (Err error) on = tt
 
-    pub headline_then : (result : Result Report GateError) → IfOk result (IsReportOn told said texts)
+    pub caused_then : (result : Result Report GateError) → IfOk result (IsReportOn old new said texts)
+        → IfOk result (λ report. (folder : Folders) → AreFoldersOf report.krates folder
+        → AreCaused folder old new report.unread)
+        → IfOk result (IsCausedReport old new texts)
+    unfolding report_by
+    caused_then (Ok report) on caused = record {
+      view = on.seen.view;
+      packages = on.seen.packages;
+      by = report_by report on;
+      caused = caused;
+      causes = on.seen.causes;
+    }
+    caused_then (Err error) on caused = tt
+
+    pub headline_then : (result : Result Report GateError) → IfOk result (IsReportOn old new said texts)
         → IfOk result (IsHeadlineOf texts)
-    headline_then (Ok report) on = headline_of told texts report (report_is report on)
+    headline_then (Ok report) on = headline_of old.files texts report (report_is report on)
     headline_then (Err error) on = tt
 
-    pub code_then : (result : Result Report GateError) → IfOk result (IsReportOn told said texts)
+    pub code_then : (result : Result Report GateError) → IfOk result (IsReportOn old new said texts)
         → IfOk result (λ report. exit_code report.stats ≡ code_of report.verdict)
-    code_then (Ok report) on = exit_of told texts report (report_is report on)
+    code_then (Ok report) on = exit_of old.files texts report (report_is report on)
     code_then (Err error) on = tt
 
-    pub dead_then : DeadCanGo → (result : Result Report GateError) → IfOk result (IsReportOn told said texts)
-        → IfOk result (CanDoWithoutDead told texts)
-    dead_then law (Ok report) on = without_dead law told texts report (report_is report on)
-    dead_then law (Err error) on = tt
+    pub dead_then : DeadCanGo → PackagesStay → (result : Result Report GateError)
+        → IfOk result (IsReportOn old new said texts) → IfOk result (CanDoWithoutDead old.files texts)
+    dead_then law stay (Ok report) on = without_dead law stay old.files texts report (report_is report on)
+    dead_then law stay (Err error) on = tt

@@ -1,31 +1,39 @@
 -- The labels of clashes lie in the policy's text, which is the one file.
-use Rattle.std.proofs.Common.{◌≡◌, ℕ, List, [], ◌∷◌, Result, Ok, Err, refl, sym, ap, subst}
-use Rattle.std.specs.Prelude.{IfErr, map, slice_get}
+use Rattle.std.proofs.Common.{◌≡◌, ℕ, Bool, true, false, List, [], ◌∷◌, Result, Ok, Err, refl, sym, ap, subst}
+use Rattle.std.specs.Prelude.{IfErr, codes, if◌then◌else◌, map, slice_get}
 use Rattle.std.specs.List.{AllByRecursion}
 use Rattle.std.specs.Result.{IsErrAnd}
 use Rattle.std.proofs.lemmas.List.Elements.{All-nil, All-cons, recursion_from_All}
 use Rattle.deny_base.specs.declared.finding.Diagnostic.{Diagnostic}
 use Rattle.deny_base.specs.declared.label.Label.{Label}
-use Rattle.deny_cfg.specs.Clashes.{clash_labels, clash_told}
+use Rattle.deny_base.specs.declared.label.LabelStyle.TheVariants.{Primary, Secondary}
+use Rattle.deny_cfg.specs.Clashes.{clash_labels, clash_told, label_of, one_label}
 use Rattle.deny_cfg.specs.LabelRanges.{told_ranges}
 use Rattle.deny_cfg.specs.PolicyText.{TellsClashes, policy_file}
 use Rattle.deny_cfg.specs.declared.clash.Clash.{Clash}
 use Rattle.deny_cfg.specs.declared.clash.ClashKind.{ClashKind}
 use Rattle.deny_cfg.specs.declared.clash.ClashKind.TheVariants as clash
+use Rattle.deny_cfg.proofs.Among.{lie_prefix, lie_rest}
 use Rattle.deny_cfg.proofs.LabelLaws.{Lie}
-use Rattle.deny_cfg.proofs.LabelValid.{lie_rest, lie_prefix}
 use Rattle.deny_toml.specs.Ranges.{IsRange}
 use Rattle.deny_model.specs.Policy.{Policy}
 use Rattle.deny_gate.specs.Gating.{IsCauseBehind, IsPolicyCause, Texts}
 use Rattle.deny_gate.specs.Labels.{AreLabelledClashes, ArePlaced, IsLabelledCause, IsPlaced}
 use Rattle.deny_gate.specs.Report.{policy_id}
 use Rattle.deny_gate.specs.declared.report.GateError.{GateError}
-use Rattle.deny_gate.specs.declared.report.GateError.TheVariants.{Config, Invalid, NotBuilt, Metadata, Replacement}
+use Rattle.deny_gate.specs.declared.report.GateError.TheVariants.{Config, Invalid, Metadata, Replacement}
 use Rattle.deny_gate.specs.declared.report.GateError.TheVariants.{Memory}
 use Rattle.deny_gate.specs.declared.report.Report.{Report}
 
 abbrev AreIn : ℕ → List Label → Type 0
 AreIn file labels = AllByRecursion (λ (label : Label). label.file_id ≡ file) labels
+
+extension_in_file : (ascii : Bool) (file : ℕ) (c : Clash) → AreIn file (if ascii
+    then label_of Primary file c.first (codes "extension")
+    ∷ label_of Secondary file c.second (codes "invalid character") ∷ []
+    else one_label file c (codes "invalid extension"))
+extension_in_file true file c = (refl, (refl, tt))
+extension_in_file false file c = (refl, tt)
 
 in_file : (kind : ClashKind) (file : ℕ) (c : Clash) → AreIn file (clash_labels kind file c)
 in_file clash.WrappersOfMultiple file c = (refl, (refl, tt))
@@ -33,6 +41,9 @@ in_file clash.DenyAndAllow file c = (refl, (refl, tt))
 in_file clash.DenyAndSkip file c = (refl, (refl, tt))
 in_file clash.AllowAndSkip file c = (refl, (refl, tt))
 in_file clash.FeatureTwice file c = (refl, (refl, (refl, tt)))
+in_file clash.Extension file c = extension_in_file c.ascii file c
+in_file clash.Glob file c = (refl, tt)
+in_file clash.Path file c = (refl, tt)
 
 told_in_file : (file : ℕ) (c : Clash) → AreIn file (clash_told file c).labels
 unfolding clash_told
@@ -72,7 +83,6 @@ module _ (text : List ℕ) where
   cause_labelled : (error : GateError) → IsPolicyCause text error → IsLabelledCause text error
   cause_labelled (Invalid told) cause = clashes_labelled told cause
   cause_labelled (Config faults) cause = tt
-  cause_labelled (NotBuilt which) cause = tt
   cause_labelled (Metadata f) cause = tt
   cause_labelled (Replacement at) cause = tt
   cause_labelled Memory cause = tt
@@ -91,7 +101,6 @@ no_clash : (policy : List ℕ) (p : Policy) (texts : Texts) (error : GateError) 
     → IsLabelledCause policy error
 no_clash policy p texts (Invalid told) cause = absurd cause
 no_clash policy p texts (Config faults) cause = tt
-no_clash policy p texts (NotBuilt which) cause = tt
 no_clash policy p texts (Metadata f) cause = tt
 no_clash policy p texts (Replacement at) cause = tt
 no_clash policy p texts Memory cause = tt

@@ -5,29 +5,43 @@ use Rattle.std.specs.Cmp.{IsTotalOrder, on_total}
 use Rattle.deny_lists.specs.Ascending.{Lists}
 use Rattle.deny_lists.proofs.Members.{from_contains_map}
 use Rattle.deny_lists.proofs.Sorted.{one_list}
+use Rattle.std.proofs.lemmas.Option.{same_Some}
 use Rattle.deny_base.specs.Entry.{entry_cmp}
 use Rattle.deny_base.specs.KeyOrder.{key_cmp}
 use Rattle.deny_base.specs.declared.entry.EntryId.{EntryId}
 use Rattle.deny_base.specs.declared.entry.Hit.{Hit}
 use Rattle.deny_base.specs.declared.key.Key.{Key}
+use Rattle.deny_base.specs.declared.code.Code.TheVariants as code
+use Rattle.deny_base.specs.declared.code.DiagnosticCode.{DiagnosticCode}
+use Rattle.deny_base.specs.declared.code.DiagnosticCode.TheVariants.{Bans}
+use Rattle.deny_build_model.specs.Building.{Building}
 use Rattle.deny_model.specs.Graph.{Crate, Graph}
 use Rattle.deny_model.specs.Licensing.{Licensing}
 use Rattle.deny_outside.specs.Disk.{Files}
 use Rattle.deny_codes.specs.Circumstances.{Circumstances}
 use Rattle.deny_codes.specs.Hits.{TellsLicensed, both_hits, hits_in, licence_hits_in}
-use Rattle.deny_codes.specs.Standing.{AreKeys, Stands}
+use Rattle.deny_codes.specs.Packages.{looking}
+use Rattle.deny_codes.specs.PackagesTold.{mismatch_severity}
+use Rattle.deny_codes.specs.Standing.{AreKeys, Stands, StandsBy}
 use Rattle.deny_codes.specs.Told.{words_told}
+use Rattle.deny_laws.specs.Asking.{PackagesStay}
 use Rattle.deny_laws.specs.Dead.{AreAmong, AreDead, DeadCanGo}
-use Rattle.deny_laws.specs.Removal.{AreGone, EmptyNone, cut_licensing, unnaming, without_in}
+use Rattle.deny_laws.specs.Removal.{AreGone, EmptyNone, HaveNoHit, cut_building, cut_licensing, unnaming, without_in}
 use Rattle.deny_gate.specs.Dead.{CanDoWithoutDead, LosesOnly, TellsTheRest}
-use Rattle.deny_gate.specs.Gating.{IsReportOf, Texts}
+use Rattle.deny_gate.specs.Gating.{IsReportOf, Texts, circumstances_of}
 use Rattle.deny_gate.specs.Hits.{AreHits, entry_of}
 use Rattle.deny_gate.specs.Report.{IsReport, finding_told, keys_in}
+use Rattle.deny_gate.specs.Unread.{of_packages}
 use Rattle.deny_gate.specs.declared.report.Finding.{Finding}
 use Rattle.deny_gate.specs.declared.report.Report.{Report}
+use Rattle.deny_gate.proofs.BuildOrigins.{Origin, OriginIn, origin_of}
 use Rattle.deny_gate.proofs.FindingLaws.{keys_told, severity_told}
 use Rattle.deny_gate.proofs.OneHits.{hits_alike}
-use Rattle.deny_gate.proofs.Severities.{severity_alike}
+use Rattle.deny_gate.proofs.PackagesStay.{seen_without}
+use Rattle.deny_gate.proofs.Placed.{in_place}
+use Rattle.deny_gate.proofs.ScriptSums.{SumsDiffer, mismatch_alike}
+use Rattle.deny_gate.proofs.Severities.{MismatchAlike, severity_alike}
+use Rattle.deny_gate.proofs.SumsApart.{sums_differ}
 
 -- what is dead by the hits of a report is dead by all hits, since they are the same
 dead_by_all : (keys : List Key) (all hits : List Hit) (dead : List EntryId) → AreHits all hits → AreDead keys hits dead
@@ -49,6 +63,12 @@ tells_less : (o : Option Licensing) (taken : List EntryId) (g : Graph) (counts :
     → TellsLicensed o g counts → TellsLicensed (option_map (cut_licensing taken) o) g counts
 tells_less None taken g counts tells = tt
 tells_less (Some l) taken g counts tells = tells
+
+-- nothing hits what is dead
+no_hit : (c : Circumstances) (taken : List EntryId) (report : Report) (is : IsReport c report)
+    → AreAmong report.dead taken → HaveNoHit (both_hits c is.listed.facts is.counts) taken
+no_hit c taken report is among e at h hit same = ((dead_by_all is.keys (both_hits c is.listed.facts is.counts)
+    report.hits report.dead is.hits is.dead).sound e (among e at)).unhit h hit same
 
 module _ (law : DeadCanGo) (c : Circumstances) (taken : List EntryId) (report : Report) (is : IsReport c report)
     (among : AreAmong report.dead taken) (kept : EmptyNone c.policy taken) where
@@ -72,23 +92,6 @@ module _ (law : DeadCanGo) (c : Circumstances) (taken : List EntryId) (report : 
         (unnaming taken keys)) (sym keys_are) gone.listed;
   }
 
-  same_severity : (f : Finding) → Contains report.findings f
-      → (words_told (without_in c taken) f.diag.key).severity ≡ f.diag.diag.severity
-  same_severity f at =
-      let from = from_contains_map (finding_told c) is.keys f (subst (λ (fs : List Finding). Contains fs f) is.told at) in
-      subst (λ (g : Finding). (words_told (without_in c taken) g.diag.key).severity ≡ g.diag.diag.severity) from.2
-      (severity_told c (without_in c taken) from.0 (severity_alike c taken from.0))
-
-  pub tells_the_rest : TellsTheRest c taken report
-  unfolding rest_keys
-  tells_the_rest = record {
-    keys = rest_keys;
-    severities = same_severity;
-    counts = is.counts;
-    tells = tells_less c.licensing taken c.graph is.counts is.tells;
-    hits = subst (λ (all : List Hit). AreHits all report.hits) hits_stay is.hits;
-  }
-
   -- and so a report of the policy without them
   pub loses_only : IsTotalOrder entry_cmp
       → ((d : Circumstances) → (xs ys : List Key) → AreKeys d xs → AreKeys d ys → xs ≡ ys)
@@ -103,10 +106,52 @@ module _ (law : DeadCanGo) (c : Circumstances) (taken : List EntryId) (report : 
         is.hits);
   }
 
-pub without_dead : DeadCanGo → (told : Option Files) (texts : Texts) (report : Report) → IsReportOf told texts report
-    → CanDoWithoutDead told texts report
-without_dead law told texts report is = record {
-  view = is.view;
-  by = is.by;
-  can = λ taken among kept. tells_the_rest law _ taken report is.by.is_report among kept;
-}
+  -- ---- at the severities of the report
+
+  module _ (stay : PackagesStay) (differ : (b : Building) → c.building ≡ Some b → SumsDiffer b) where
+    mismatch_by : (key : Key) (b : Building) → c.building ≡ Some b → key.code ≡ Bans code.ChecksumMismatch
+        → OriginIn c is.listed.facts key → mismatch_severity (cut_building taken b) key ≡ mismatch_severity b key
+    mismatch_by key b said coded of =
+        let one : of.building ≡ b = same_Some of.building b (sym of.is_said ∙ said) in
+        mismatch_alike (looking c is.listed.facts b) taken (stay c is.listed.facts is.counts taken
+        (no_hit c taken report is among) b said)
+        (differ b said) key coded
+        (subst (λ (x : Building). Origin (looking c is.listed.facts x) key) one of.origin)
+
+    mismatches : (key : Key) → Contains is.keys key → MismatchAlike c taken key
+    mismatches key at coded b said = mismatch_by key b said coded (origin_of c is.listed.facts key
+        (subst (λ (d : DiagnosticCode). StandsBy d c is.listed.facts key) coded (is.listed.listed.sound key at)))
+
+    same_severity : (f : Finding) → Contains report.findings f
+        → (words_told (without_in c taken) f.diag.key).severity ≡ f.diag.diag.severity
+    same_severity f at =
+        let from = from_contains_map (finding_told c) is.keys f (subst (λ (fs : List Finding). Contains fs f) is.told at)
+        in subst (λ (g : Finding). (words_told (without_in c taken) g.diag.key).severity ≡ g.diag.diag.severity) from.2
+        (severity_told c (without_in c taken) from.0
+        (severity_alike c taken from.0 (mismatches from.0 from.1)))
+
+    pub tells_the_rest : TellsTheRest c taken report
+    unfolding rest_keys
+    tells_the_rest = record {
+      keys = rest_keys;
+      severities = same_severity;
+      counts = is.counts;
+      tells = tells_less c.licensing taken c.graph is.counts is.tells;
+      hits = subst (λ (all : List Hit). AreHits all report.hits) hits_stay is.hits;
+    }
+
+pub without_dead : DeadCanGo → PackagesStay → (told : Option Files) (texts : Texts) (report : Report)
+    → IsReportOf told texts report → CanDoWithoutDead told texts report
+without_dead law stay told texts report of =
+    let by = of.by in
+    let c = circumstances_of by.said by.graph texts.replacements of.view of.packages in
+    let is = by.is_report in record {
+      view = of.view;
+      packages = of.packages;
+      by = by;
+      can = λ taken among kept. tells_the_rest law c taken report is among kept stay
+          (sums_differ texts.policy by.said by.is_said);
+      sees = λ taken among. seen_without stay told c is.listed.facts is.counts taken texts.home
+          (of_packages report.unread) is.listed.true_facts (in_place texts.metadata by.graph by.is_graph)
+          (no_hit c taken report is among) by.looked_at;
+    }

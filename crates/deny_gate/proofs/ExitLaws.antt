@@ -132,4 +132,4 @@ pub exit_of : (told : Option Files) (texts : Texts) (report : Report) → IsRepo
     → exit_code report.stats ≡ code_of report.verdict
 exit_of told texts report of =
     let by = of.by in
-    code_in (circumstances_of by.said by.graph texts.replacements of.view) report by.is_report
+    code_in (circumstances_of by.said by.graph texts.replacements of.view of.packages) report by.is_report

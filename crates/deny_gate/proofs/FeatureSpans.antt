@@ -25,13 +25,13 @@ use Rattle.deny_tables.specs.Config.{ReadsConfig}
 use Rattle.deny_tables.specs.Features.{ReadsCrateFeatures, ReadsFeatures, lists_in, nowhere}
 use Rattle.deny_tables.specs.declared.bans.cfg.config.Config.{Config}
 use Rattle.deny_tables.specs.declared.bans.cfg.features.CrateFeatures.{CrateFeatures}
-use Rattle.deny_cfg.specs.PolicyText.{ReadsBans, bans_name}
+use Rattle.deny_cfg.specs.PolicyText.{IsPolicyOf, ReadsBans, bans_name}
 use Rattle.deny_cfg.specs.Valid.{features_of}
 use Rattle.deny_cfg.specs.declared.bans.cfg.valid.ValidKrateFeatures.{ValidKrateFeatures}
 use Rattle.deny_cfg.proofs.LabelConfig.{name_stands}
 use Rattle.deny_cfg.proofs.LabelLaws.{EntriesStand, Lie, StandsAt, at_stands, elements_stand, entries_stand}
 use Rattle.deny_cfg.proofs.LabelLaws.{no_entries_stand, stands_itself}
-use Rattle.deny_gate.specs.Gating.{IsBuilt}
+use Rattle.deny_gate.specs.Report.{policy_id}
 use Rattle.deny_cfg.specs.declared.policy.Policy.{Policy}
 
 -- of an entry as it is written, and of one that was read
@@ -126,10 +126,9 @@ taken text [] lie = tt
 taken text (f ∷ fs) lie = (lie.0, (lie.1.0, taken text fs lie.1.1))
 
 -- of the policy of a text
-pub spans_lie : (text : List ℕ) (said : Policy) → IsBuilt text said
+pub spans_lie : (text : List ℕ) (said : Policy) → IsPolicyOf text policy_id said
     → Lie text (flat_map feature_spans said.bans.features)
-spans_lie text said built =
-    let of = built.is_policy in
-    let says = of.says.says in
-    subst (λ (fs : List ValidKrateFeatures). Lie text (flat_map feature_spans fs)) (sym of.valid.features)
-    (taken text of.config.features (tree_lies text says.utf8 says.tree of.config says.is_tree says.reads))
+spans_lie text said is =
+    let says = is.says in
+    subst (λ (fs : List ValidKrateFeatures). Lie text (flat_map feature_spans fs)) (sym is.valid.features)
+    (taken text is.config.features (tree_lies text says.utf8 says.tree is.config says.is_tree says.reads))

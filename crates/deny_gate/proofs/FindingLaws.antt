@@ -15,17 +15,21 @@ use Rattle.deny_lists.proofs.Agreement.{filter_on, map_on}
 use Rattle.deny_lists.proofs.Filters.{filter-none}
 use Rattle.deny_lists.proofs.Members.{no_member}
 use Rattle.deny_cfg.specs.LicensingView.{licensing_of, licensing_view}
-use Rattle.deny_cfg.specs.PolicyView.{policy_view}
+use Rattle.deny_cfg.specs.PolicyText.{policy_files}
+use Rattle.deny_cfg.specs.PolicyView.{AreGlobsRead, building_of, builtin_file_of, policy_view}
 use Rattle.deny_cfg.specs.declared.policy.Policy as cfg
+use Rattle.deny_krates.specs.Read.{IsGraphOf}
 use Rattle.deny_model.specs.Graph.{Crate, Graph}
 use Rattle.deny_model.specs.Licensing.{Licensing}
 use Rattle.deny_model.specs.View.{View}
-use Rattle.deny_outside.specs.Disk.{Files}
+use Rattle.deny_build_model.specs.declared.package.Package.{Package}
+use Rattle.deny_outside.specs.Disk.{Disk}
+use Rattle.deny_rules.specs.Packages.{AreSeenBy, HaveCauses}
 use Rattle.deny_spans.specs.Ranges.{ViewLies}
-use Rattle.deny_spans.specs.Seen.{IsSeen}
+use Rattle.deny_spans.specs.Seen.{IsSeen, lock_file}
+use Rattle.deny_unread.specs.Unread.{unread_cmp}
 use Rattle.deny_unread.specs.declared.unread.Unread.{Unread}
-use Rattle.deny_workspace.specs.declared.registries.Registry.{Registry}
-use Rattle.deny_codes.specs.Circumstances.{Circumstances, licensed, seen_by, tabled}
+use Rattle.deny_codes.specs.Circumstances.{Circumstances, built, licensed, seen_by, tabled, with_packages}
 use Rattle.deny_codes.specs.Codes.{is_of_bans, is_of_licenses}
 use Rattle.deny_codes.specs.Facts.{Facts}
 use Rattle.deny_codes.specs.Hits.{TellsLicensed, both_hits, hits_in, licence_hits_in}
@@ -37,11 +41,12 @@ use Rattle.deny_rules.specs.Check.{IsChecked}
 use Rattle.deny_rules.specs.declared.check.BansEnd.{BansEnd}
 use Rattle.deny_dup_edges.specs.declared.dup_edges.DupEdges.{DupEdges}
 use Rattle.deny_laws.specs.Dead.{AreDead}
-use Rattle.deny_gate.specs.Gating.{AreEntriesApart, IsLicensedIf, IsReportSeen, IsTold, IsToldOn, circumstances_of}
+use Rattle.deny_gate.specs.Gating.{AreEntriesApart, Extras, IsLicensedIf, IsReportOn, IsReportSeen, IsTableFor, IsTold}
+use Rattle.deny_gate.specs.Gating.{IsToldOn, Texts, circumstances_of, extras_of, first_files}
 use Rattle.deny_gate.specs.Hits.{AreHits, IsOneEach}
-use Rattle.deny_gate.specs.Report.{finding_told, findings_of, keys_in, lock_file_id, policy_id}
-use Rattle.deny_gate.specs.Report.{verdict_of}
+use Rattle.deny_gate.specs.Report.{finding_told, findings_of, keys_in, lock_id, policy_id, verdict_of}
 use Rattle.deny_gate.specs.Stats.{all_stats}
+use Rattle.deny_gate.specs.Unread.{of_manifests, of_packages}
 use Rattle.deny_gate.specs.declared.checks.Looked.{Looked}
 use Rattle.deny_gate.specs.declared.checks.Told.{Told}
 use Rattle.deny_gate.specs.declared.report.Finding.{Finding}
@@ -142,6 +147,12 @@ licence_keys c (Some l) facts old new hits of = record {
   hits_are = of.hits_are;
 }
 
+-- the circumstances of the bans check, where the policy and the lock text have these numbers
+abbrev pub checked_by : cfg.Policy → Graph → List ℕ → ℕ → ℕ → View → List Package → Circumstances
+checked_by said g table file lock view packages =
+    tabled (with_packages (built (seen_by (policy_view said.bans) g file lock view) (building_of said.bans))
+    (builtin_file_of said.bans) packages) table
+
 module _ (laws : CheckLaws) where
   -- findings of packs that the bans check put behind none, and the licence check behind these, and the hits of both
   told_by : (c : Circumstances) (licensing : Option Licensing) (none between packs : List Pack) (end : BansEnd)
@@ -170,7 +181,10 @@ module _ (laws : CheckLaws) where
         keys = checked.keys ++ more.keys;
         listed = record {
           facts = facts;
-          true_facts = record { chains = checked.listed.true_facts.chains };
+          true_facts = record {
+            chains = checked.listed.true_facts.chains;
+            reached = checked.listed.true_facts.reached;
+          };
           listed = laws.joined all facts checked.keys more.keys bans more.listed;
         };
         findings = are ∙ (ap (flat_map findings_of) together ∙ all_told all (checked.keys ++ more.keys));
@@ -181,36 +195,36 @@ module _ (laws : CheckLaws) where
         hits = subst (λ (hs : List Hit). AreHits hs told.hits) hits hit;
       }
 
-  -- the same, where the policy is the first file and the lock text the second
+  -- the same, where the policy is the first file and the lock text stands behind the built-in globs
   pub told_on : (said : cfg.Policy) (g : Graph) (replacements : Option (List ℕ)) (file lock : ℕ) (view : View)
-      (none between packs : List Pack) (end : BansEnd) (others : List Hit) (told : Told) → file ≡ policy_id
-      → lock ≡ lock_file_id
-      → IsChecked (tabled (seen_by (policy_view said.bans) g file lock view) (bytes_of replacements)) none between end
+      (packages : List Package) (none between packs : List Pack) (end : BansEnd) (others : List Hit) (told : Told)
+      → file ≡ policy_id → lock ≡ lock_id (builtin_file_of said.bans)
+      → IsChecked (checked_by said g (bytes_of replacements) file lock view packages) none between end
       → none ≡ [] → IsLicensedIf (licensing_of said.licenses) g file between packs others
       → AreHits (end.hits ++ others) told.hits → told.findings ≡ flat_map findings_of packs
-      → told.dup_edges ≡ end.dup_edges → IsTold (circumstances_of said g replacements view) told
-  told_on said g replacements file lock view none between packs end others told first second checked empty tells hit are
-      shown =
+      → told.dup_edges ≡ end.dup_edges → IsTold (circumstances_of said g replacements view packages) told
+  told_on said g replacements file lock view packages none between packs end others told first second checked empty
+      tells hit are shown =
       let l = licensing_of said.licenses in
       let at : ℕ → ℕ → Circumstances =
-      λ m n. licensed (tabled (seen_by (policy_view said.bans) g m n view) (bytes_of replacements)) l in
-      subst (λ (m : ℕ). IsTold (at m lock_file_id) told) first
+      λ m n. licensed (checked_by said g (bytes_of replacements) m n view packages) l in
+      subst (λ (m : ℕ). IsTold (at m (lock_id (builtin_file_of said.bans))) told) first
       (subst (λ (n : ℕ). IsTold (at file n) told) second
-      (told_by (tabled (seen_by (policy_view said.bans) g file lock view) (bytes_of replacements)) l none between packs
+      (told_by (checked_by said g (bytes_of replacements) file lock view packages) l none between packs
       end others told checked empty tells hit are shown))
 
 -- no two hits of both checks are of one entry, where no two entries have one range
 pub hits_differ : (said : cfg.Policy) (g : Graph) (table : List ℕ) (file lock : ℕ) (view : View)
-    (none between packs : List Pack) (end : BansEnd) (others : List Hit) → AreEntriesApart said
-    → IsChecked (tabled (seen_by (policy_view said.bans) g file lock view) table) none between end
+    (packages : List Package) (none between packs : List Pack) (end : BansEnd) (others : List Hit)
+    → AreGlobsRead said.bans → AreEntriesApart said → IsChecked (checked_by said g table file lock view packages) none between end
     → IsLicensedIf (licensing_of said.licenses) g file between packs others → IsOneEach (end.hits ++ others)
-hits_differ said g table file lock view none between packs end others apart checked tells =
-    let c = tabled (seen_by (policy_view said.bans) g file lock view) table in
+hits_differ said g table file lock view packages none between packs end others read apart checked tells =
+    let c = checked_by said g table file lock view packages in
     let more = licence_keys c (licensing_of said.licenses) checked.listed.facts between packs others tells in
     subst (λ (hits : List Hit). IsOneEach hits)
     (sym (ap (λ (hits : List Hit). hits ++ others) checked.hits
     ∙ ap (λ (hits : List Hit). hits_in c checked.listed.facts ++ hits) more.hits_are))
-    (hits_apart said.bans said.licenses g checked.listed.facts.chains (said_by table) more.counts apart.bans
+    (hits_apart said.bans said.licenses g checked.listed.facts (said_by table) packages more.counts read apart.bans
     apart.licences)
 
 -- whether a policy speaks of licences is what its text says
@@ -219,25 +233,33 @@ speaks f None = refl
 speaks f (Some x) = refl
 
 -- with what was seen of files, what is dead, the counts of the findings, and the verdict on them
-pub seen_report : (files : Option Files) (said : cfg.Policy) (g : Graph) (replacements : Option (List ℕ))
-    (registries : List Registry) (first new : List File) (looked : Looked) (report : Report)
-    → IsToldOn files said g replacements registries first new looked → report.files ≡ new → report.krates ≡ g
+pub seen_report : (before after : Disk) (said : cfg.Policy) (g : Graph) (extras : Extras) (first new : List File)
+    (looked : Looked) (report : Report)
+    → IsToldOn before after said g extras first new looked → report.files ≡ new → report.krates ≡ g
     → report.findings ≡ looked.told.findings → report.dup_edges ≡ looked.told.dup_edges
     → report.unread ≡ looked.unread → report.malformed ≡ looked.malformed → report.hits ≡ looked.told.hits
     → AreDead (keys_in report.findings) report.hits report.dead
     → report.stats ≡ all_stats (is_some said.licenses) report.findings → report.verdict ≡ verdict_of report.findings
-    → IsReportSeen files said g replacements registries first report
-seen_report files said g replacements registries first new looked report of in_files graph findings dup_edges unread
-    malformed hits dead stats verdict =
+    → IsReportSeen before after said g extras first report
+seen_report before after said g extras first new looked report of in_files graph findings dup_edges unread malformed
+    hits dead stats verdict =
     let is = of.is_told in
-    let all = circumstances_of said g replacements of.view in
+    let all = circumstances_of said g extras.replacements of.view of.packages in
+    let building = building_of said.bans in
     record {
       view = of.view;
-      seen = subst (λ (fs : List File). IsSeen files g registries first fs report.unread report.malformed of.view)
-          (sym in_files)
-          (subst (λ (us : List Unread). IsSeen files g registries first new us report.malformed of.view) (sym unread)
-          (subst (λ (paths : List (List ℕ)). IsSeen files g registries first new looked.unread paths of.view)
-          (sym malformed) of.seen));
+      packages = of.packages;
+      ascending = subst (IsStrictlySortedBy unread_cmp) (sym unread) of.ascending;
+      seen = subst (λ (fs : List File). IsSeen before.files g extras.registries first fs (of_manifests report.unread)
+          report.malformed of.view) (sym in_files)
+          (subst (λ (us : List Unread). IsSeen before.files g extras.registries first new (of_manifests us)
+          report.malformed of.view) (sym unread)
+          (subst (λ (paths : List (List ℕ)). IsSeen before.files g extras.registries first new
+          (of_manifests looked.unread) paths of.view) (sym malformed) of.seen));
+      looked_at = subst (λ (us : List Unread). AreSeenBy before.files building extras.home g (of_packages us) of.packages)
+          (sym unread) of.looked_at;
+      causes = subst (λ (us : List Unread). HaveCauses before after building extras.home g (of_packages us) of.packages)
+          (sym unread) of.causes;
       ranges = subst (λ (fs : List File). ViewLies fs of.view) (sym in_files) of.ranges;
       lines = of.lines;
       is_report = record {
@@ -255,3 +277,18 @@ seen_report files said g replacements registries first new looked report of in_f
         verdict = verdict;
       };
     }
+
+-- of what texts hand in besides a policy and metadata, behind the files of the policy
+pub report_by_texts : (before after : Disk) (said : cfg.Policy) (texts : Texts) (g : Graph) (extras : Extras)
+    (files : List File) (report : Report) → extras ≡ extras_of texts → files ≡ policy_files texts.policy said.bans
+    → IsGraphOf texts.metadata g → IsTableFor (policy_view said.bans) extras.replacements
+    → IsReportSeen before after said g extras (files ++ lock_file g.root g ∷ []) report
+    → IsReportOn before after said texts report
+report_by_texts before after said texts g extras files report handed first is_graph table seen = record {
+  graph = g;
+  is_graph = is_graph;
+  table = subst (λ (e : Extras). IsTableFor (policy_view said.bans) e.replacements) handed table;
+  seen = subst (λ (e : Extras). IsReportSeen before after said g e (first_files texts.policy said g) report) handed
+      (subst (λ (fs : List File). IsReportSeen before after said g extras (fs ++ lock_file g.root g ∷ []) report) first
+      seen);
+}

@@ -12,8 +12,11 @@ use Rattle.deny_base.specs.declared.code.DiagnosticCode.{DiagnosticCode}
 use Rattle.deny_base.specs.declared.code.DiagnosticCode.TheVariants.{Deprecated, Bans, License}
 use Rattle.deny_base.specs.declared.key.Key.{Key}
 use Rattle.deny_lists.proofs.Members.{Contains-filter, filtered, from_contains_map, passes_filter}
+use Rattle.deny_build_model.specs.Building.{Building}
+use Rattle.deny_build_model.specs.declared.package.Package.{Package}
 use Rattle.deny_cfg.specs.LicensingView.{licensing_of}
-use Rattle.deny_cfg.specs.PolicyView.{policy_view}
+use Rattle.deny_cfg.specs.PolicyText.{IsPolicyOf}
+use Rattle.deny_cfg.specs.PolicyView.{building_of, policy_view}
 use Rattle.deny_cfg.specs.declared.policy.Policy as cfg
 use Rattle.deny_model.specs.Licensing.{Licensing}
 use Rattle.deny_model.specs.Policy.{Policy}
@@ -23,10 +26,11 @@ use Rattle.deny_codes.specs.Circumstances.{Circumstances}
 use Rattle.deny_codes.specs.Facts.{Facts}
 use Rattle.deny_codes.specs.Standing.{Stands}
 use Rattle.deny_codes.specs.Told.{check_told, diag_of, words_told}
-use Rattle.deny_gate.specs.Gating.{IsBuilt, IsReportBy, IsReportOf, Texts, circumstances_of}
+use Rattle.deny_gate.specs.Gating.{IsReportBy, IsReportOf, Texts, circumstances_of}
 use Rattle.deny_gate.specs.Headline.{IsHeadlineOf, IsViolation, KeepsHeadline, WritesRule, WritesRuleOf, is_crate_error}
 use Rattle.deny_gate.specs.Headline.{is_crate_rule, is_failure}
-use Rattle.deny_gate.specs.Report.{IsReport, fails_as, finding_told, has_error, is_error, verdict_by, verdict_of}
+use Rattle.deny_gate.specs.Report.{IsReport, fails_as, finding_told, has_error, is_error, policy_id, verdict_by}
+use Rattle.deny_gate.specs.Report.{verdict_of}
 use Rattle.deny_gate.specs.Stats.{same_check}
 use Rattle.deny_gate.specs.declared.report.Finding.{Finding}
 use Rattle.deny_gate.specs.declared.report.Report.{Report}
@@ -86,16 +90,16 @@ unfolding finding_told diag_of
 code_is c key = refl
 
 -- an error that stands is one of a crate rule, or another that the policy minds
-abbrev IsGraveFinding : Policy → Option Licensing → Finding → Type 0
-IsGraveFinding p licensing f = (is_crate_error f ≡ true)
-    ⊎ ((d : DiagnosticCode) × (f.diag.diag.code ≡ Some d) × (minds d p licensing ≡ true))
+abbrev IsGraveFinding : Policy → Option Licensing → Option Building → Finding → Type 0
+IsGraveFinding p licensing building f = (is_crate_error f ≡ true)
+    ⊎ ((d : DiagnosticCode) × (f.diag.diag.code ≡ Some d) × (minds d p licensing building ≡ true))
 
 grave_finding : (c : Circumstances) (facts : Facts) (key : Key) → Stands c facts key
-    → has_error (finding_told c key) ≡ true → IsGraveFinding c.policy c.licensing (finding_told c key)
+    → has_error (finding_told c key) ≡ true → IsGraveFinding c.policy c.licensing c.building (finding_told c key)
 grave_finding c facts key stands error =
     let severe = sym (severity_is c key) ∙ error in
-    elim (grave key.code c facts key stands severe)
-    as (λ _. IsGraveFinding c.policy c.licensing (finding_told c key)) [
+    elim (grave key.code c facts key refl stands severe)
+    as (λ _. IsGraveFinding c.policy c.licensing c.building (finding_told c key)) [
       | inl rule ↦ inl (error_is c key
           ∙ and_from (is_error (words_told c key).severity) (is_crate_rule (Some key.code)) severe rule)
       | inr minded ↦ inr (key.code, code_is c key, minded)
@@ -160,8 +164,8 @@ module _ (c : Circumstances) (facts : Facts) (keys : List Key)
       subst P of.2 (each of.0 (stand of.0 of.1))
 
   grave_findings : (f : Finding) → Contains findings f → has_error f ≡ true
-      → IsGraveFinding c.policy c.licensing f
-  grave_findings = each_finding (λ (f : Finding). has_error f ≡ true → IsGraveFinding c.policy c.licensing f)
+      → IsGraveFinding c.policy c.licensing c.building f
+  grave_findings = each_finding (λ (f : Finding). has_error f ≡ true → IsGraveFinding c.policy c.licensing c.building f)
       (grave_finding c facts)
 
 -- ---- together
@@ -187,19 +191,20 @@ written_code : (text : List ℕ) (d : DiagnosticCode) (o : Option DiagnosticCode
     → WritesRuleOf text o
 written_code text d o same written = subst (WritesRuleOf text) (sym same) written
 
-other_written : (text : List ℕ) (said : cfg.Policy) (f : Finding) → IsBuilt text said
-    → IsGraveFinding (policy_view said.bans) (licensing_of said.licenses) f → IsTrue (is_crate_error f) ⊎ WritesRuleOf text f.diag.diag.code
-other_written text said f built (inl rule) = inl rule
-other_written text said f built (inr other) = inr
-    (written_code text other.0 f.diag.diag.code other.1 (rule_written text said built other.0 other.2))
+other_written : (text : List ℕ) (said : cfg.Policy) (f : Finding) → IsPolicyOf text policy_id said
+    → IsGraveFinding (policy_view said.bans) (licensing_of said.licenses) (building_of said.bans) f
+    → IsTrue (is_crate_error f) ⊎ WritesRuleOf text f.diag.diag.code
+other_written text said f is (inl rule) = inl rule
+other_written text said f is (inr other) = inr
+    (written_code text other.0 f.diag.diag.code other.1 (rule_written text said is other.0 other.2))
 
-others_of : (told : Option Files) (texts : Texts) (view : View) (report : Report)
-    (by : IsReportBy told texts view report) (f : Finding)
+others_of : (told : Option Files) (texts : Texts) (view : View) (packages : List Package) (report : Report)
+    (by : IsReportBy told texts view packages report) (f : Finding)
     → Contains report.findings f → has_error f ≡ true
     → IsTrue (is_crate_error f) ⊎ WritesRuleOf texts.policy f.diag.diag.code
-others_of told texts view report by f at error =
+others_of told texts view packages report by f at error =
     let is = by.is_report in
-    let c : Circumstances = circumstances_of by.said by.graph texts.replacements view in
+    let c : Circumstances = circumstances_of by.said by.graph texts.replacements view packages in
     other_written texts.policy by.said f by.is_said
     (grave_findings c is.listed.facts is.keys is.listed.listed.sound f
     (subst (λ (fs : List Finding). Contains fs f) is.told at) error)
@@ -209,7 +214,7 @@ pub headline_of : (told : Option Files) (texts : Texts) (report : Report) → Is
 headline_of told texts report of =
     let by = of.by in
     let is = by.is_report in
-    let c : Circumstances = circumstances_of by.said by.graph texts.replacements of.view in
+    let c : Circumstances = circumstances_of by.said by.graph texts.replacements of.view of.packages in
     record {
       said = by.said;
       is_said = by.is_said;
@@ -218,5 +223,5 @@ headline_of told texts report of =
       facts = is.listed.facts.chains;
       true_facts = is.listed.true_facts.chains;
       keeps = keeps c report (are_placed texts.metadata by.graph by.is_graph) is;
-      others = others_of told texts of.view report by;
+      others = others_of told texts of.view of.packages report by;
     }

@@ -1,16 +1,15 @@
 -- No two hits are of one entry, since no two entries have one range.
-use Rattle.std.proofs.Common.{◌≡◌, ◌∙◌, ◌++◌, ◌+◌, ◌<◌, ◌≤◌, ℕ, Bool, List, [], ◌∷◌, Option, None, Some, ap, arith, inl, inr}
+use Rattle.std.proofs.Common.{◌≡◌, ◌∙◌, ◌++◌, ◌+◌, ℕ, Bool, List, [], ◌∷◌, Option, None, Some, ap, arith}
 use Rattle.std.proofs.Common.{refl, subst, sym}
 use Rattle.std.specs.Prelude.{Contains, IfSome, filter_map, find, map, option_and_then, option_map}
 use Rattle.std.specs.List.{flat_map}
 use Rattle.std.specs.Option.{option_map_or}
-use Rattle.std.proofs.lemmas.List.Elements.{Contains-append_cases, Contains-append_right}
+use Rattle.std.proofs.lemmas.List.Elements.{Contains-append_right}
 use Rattle.std.proofs.lemmas.Option.{none-some, same_Some}
 use Rattle.deny_lists.proofs.Members.{Contains-by_cases, Contains-first, Contains-flat_map, Contains-from_flat_map}
 use Rattle.deny_lists.proofs.Members.{Contains-rest, from_contains_map, from_filter_map, no_member}
 use Rattle.deny_base.specs.Entry.{entry_kind_number}
 use Rattle.deny_base.specs.declared.entry.EntryId.{EntryId}
-use Rattle.deny_base.specs.declared.entry.EntryKind.{EntryKind}
 use Rattle.deny_base.specs.declared.entry.EntryKind.TheVariants as kind
 use Rattle.deny_base.specs.declared.entry.Hit.{Hit}
 use Rattle.deny_base.specs.declared.entry.Witness.TheVariants.{Krate, Parent}
@@ -24,11 +23,12 @@ use Rattle.deny_tables.specs.declared.bans.cfg.std_replacements.StdReplacementCo
 use Rattle.deny_tables.specs.declared.bans.cfg.tree_skip.TreeSkipExtended.{TreeSkipExtended}
 use Rattle.deny_tables.specs.declared.licenses.config.Config.{Config}
 use Rattle.deny_tables.specs.declared.licenses.exception.Exception as cfg
-use Rattle.deny_cfg.specs.LabelRanges.{feature_ranges_by, of_some, own_range, spec_range, std_ranges_by, with_spec, word_ranges}
+use Rattle.deny_cfg.specs.LabelRanges.{build_ranges, feature_ranges_by, of_some, own_range, spec_range, std_ranges_by}
+use Rattle.deny_cfg.specs.LabelRanges.{with_spec, word_ranges}
 use Rattle.deny_cfg.specs.Lawful.{IsLawful, IsLawfulLicensing, entry_spans, no_range, wrapper_ranges}
 use Rattle.deny_cfg.specs.LicensingView.{exception_view, licensing_of, licensing_view}
-use Rattle.deny_cfg.specs.PolicyView.{ban_view, entry_view, policy_view, replacing_view, root_view, roots_from}
-use Rattle.deny_cfg.specs.PolicyView.{words_or_none}
+use Rattle.deny_cfg.specs.PolicyView.{AreGlobsRead, ban_view, building_of, entry_view, policy_view, replacing_view}
+use Rattle.deny_cfg.specs.PolicyView.{root_view, roots_from, words_or_none}
 use Rattle.deny_cfg.specs.declared.bans.cfg.valid.KrateBan.{KrateBan}
 use Rattle.deny_cfg.specs.declared.bans.cfg.valid.ValidConfig.{ValidConfig}
 use Rattle.deny_model.specs.Facts as chains
@@ -40,84 +40,17 @@ use Rattle.deny_model.specs.Policy as policy
 use Rattle.deny_model.specs.Policy.{Ban, Entry, Policy, Replacing, Root}
 use Rattle.deny_model.specs.Skips.{is_skipped}
 use Rattle.deny_model.specs.Wrappers.{hits_wrapper, wraps}
+use Rattle.deny_build_model.specs.declared.package.Package.{Package}
+use Rattle.deny_codes.specs.Facts.{Facts}
+use Rattle.deny_codes.specs.Packages.{bypass_hits}
 use Rattle.deny_codes.specs.Licences.{allowance_hit, allowance_range, exception_hit, exception_range, first_hit}
 use Rattle.deny_codes.specs.Licences.{grants_by_allowance, grants_by_exception, licence_hits}
 use Rattle.deny_codes.specs.Saying.{Saying}
 use Rattle.deny_codes.specs.StdReplacements.{hits_ignore, ignore_hit, ignore_hits, ignore_range}
 use Rattle.deny_gate.specs.Hits.{IsOneEach}
+use Rattle.deny_gate.proofs.BypassHitsApart.{bypasses_part, looking_at}
+use Rattle.deny_gate.proofs.HitParts.{Part, by_crate, entry, given_part, joined_parts, no_part, part_turned}
 use Rattle.deny_gate.proofs.ApartLemmas.{AreApart, apart_left, apart_of, apart_right, one_mapped, one_of}
-
-abbrev entry : EntryKind → Span → EntryId
-entry kind range = record { kind = kind; range = range }
-
--- ---- hits of one kind, and of several
-
--- no two of these are of one entry, and their kinds lie between two
-record Part (low high : ℕ) (hits : List Hit) : Type 0 where
-  once : IsOneEach hits
-  kinds : (h : Hit) → Contains hits h → (low ≤ entry_kind_number h.entry.kind) × (entry_kind_number h.entry.kind ≤ high)
-
-no_part : (low high : ℕ) → Part low high []
-no_part low high = record {
-  once = λ h k at_h at_k same. absurd (no_member h at_h);
-  kinds = λ h at. absurd (no_member h at);
-}
-
-joined_parts : (low mid next high : ℕ) (xs ys : List Hit) → Part low mid xs → Part next high ys → mid < next → low ≤ next
-    → mid ≤ high → Part low high (xs ++ ys)
-joined_parts low mid next high xs ys one other past up down = record {
-  once = λ h k at_h at_k same. elim (Contains-append_cases xs ys h at_h) as (λ _. h ≡ k) [
-    | inl left ↦ elim (Contains-append_cases xs ys k at_k) as (λ _. h ≡ k) [
-      | inl here ↦ one.once h k left here same
-      | inr there ↦ absurd (never h k left there same)
-    ]
-    | inr right ↦ elim (Contains-append_cases xs ys k at_k) as (λ _. h ≡ k) [
-      | inl here ↦ absurd (never k h here right (sym same))
-      | inr there ↦ other.once h k right there same
-    ]
-  ];
-  kinds = λ h at. elim (Contains-append_cases xs ys h at)
-      as (λ _. (low ≤ entry_kind_number h.entry.kind) × (entry_kind_number h.entry.kind ≤ high)) [
-        | inl left ↦ let of = one.kinds h left in (of.0, omega (arith, of.1, down))
-        | inr right ↦ let of = other.kinds h right in (omega (arith, of.0, up), of.1)
-      ];
-}
-  where
-    never : (h k : Hit) → Contains xs h → Contains ys k → h.entry ≡ k.entry → ⊥
-    never h k left right same =
-        let of = one.kinds h left in
-        let too = other.kinds k right in
-        let equal : entry_kind_number h.entry.kind ≡ entry_kind_number k.entry.kind =
-        ap (λ (e : EntryId). entry_kind_number e.kind) same in
-        omega (arith, of.1, too.0, equal, past)
-
--- hits of one kind, where two of one range are one
-module _ {X : Type 0} (kind : EntryKind) (range : X → Span) (hit : X → Option Hit)
-    (told : (x : X) (h : Hit) → hit x ≡ Some h → h.entry ≡ entry kind (range x)) where
-  given_range : (x y : X) (h k : Hit) → hit x ≡ Some h → hit y ≡ Some k → h.entry ≡ k.entry → range x ≡ range y
-  given_range x y h k of_x of_y same = ap (λ (e : EntryId). e.range) (sym (told x h of_x) ∙ (same ∙ told y k of_y))
-
-  given_part : (xs : List X)
-      → ((x y : X) → Contains xs x → Contains xs y → range x ≡ range y → hit x ≡ hit y)
-      → Part (entry_kind_number kind) (entry_kind_number kind) (filter_map hit xs)
-  given_part xs once = record {
-    once = λ h k at_h at_k same.
-        let x = from_filter_map hit xs h at_h in
-        let y = from_filter_map hit xs k at_k in
-        same_Some h k
-        (sym x.gives
-        ∙ (once x.from y.from x.member y.member (given_range x.from y.from h k x.gives y.gives same) ∙ y.gives));
-    kinds = λ h at.
-        let from = from_filter_map hit xs h at in
-        let is : entry_kind_number h.entry.kind ≡ entry_kind_number kind =
-        ap (λ (e : EntryId). entry_kind_number e.kind) (told from.from h from.gives) in
-        (omega (arith, is), omega (arith, is));
-  }
-
-by_crate : (kind : EntryKind) (range : Span) (o : Option Crate) (h : Hit)
-    → option_map (λ c. hit_of kind range (Krate (kid_of c))) o ≡ Some h → h.entry ≡ entry kind range
-by_crate kind range None h is = absurd (none-some h is)
-by_crate kind range (Some c) h is = ap (λ (k : Hit). k.entry) (sym (same_Some _ h is))
 
 -- ---- skips
 
@@ -353,13 +286,14 @@ licences_part counts g (Some config) lawful =
 -- ---- all hits
 
 -- the ranges of entries of one kind are among those of all
-record Parts (cfg : ValidConfig) : Type 0 where
-  bans : AreApart (flat_map (with_spec wrapper_ranges) cfg.denied)
-  skips : AreApart (flat_map (with_spec no_range) cfg.skipped)
-  trees : AreApart (flat_map (with_spec no_range) cfg.tree_skipped)
-  std : AreApart (of_some (std_ranges_by no_range) cfg.std_replacements)
+pub record Parts (cfg : ValidConfig) : Type 0 where
+  pub bans : AreApart (flat_map (with_spec wrapper_ranges) cfg.denied)
+  pub skips : AreApart (flat_map (with_spec no_range) cfg.skipped)
+  pub trees : AreApart (flat_map (with_spec no_range) cfg.tree_skipped)
+  pub std : AreApart (of_some (std_ranges_by no_range) cfg.std_replacements)
+  pub build : AreApart (of_some build_ranges cfg.build)
 
-parts_of : (cfg : ValidConfig) → IsLawful cfg → Parts cfg
+pub parts_of : (cfg : ValidConfig) → IsLawful cfg → Parts cfg
 unfolding entry_spans
 parts_of cfg lawful =
     let second = apart_right (flat_map (with_spec wrapper_ranges) cfg.denied
@@ -374,25 +308,37 @@ parts_of cfg lawful =
           (flat_map spec_range cfg.denied_multiple_versions) (apart_left _ _ lawful);
       skips = apart_left (flat_map (with_spec no_range) cfg.skipped) _ sixth;
       trees = apart_left (flat_map (with_spec no_range) cfg.tree_skipped) _ seventh;
-      std = apart_left (of_some (std_ranges_by no_range) cfg.std_replacements) [] eighth;
+      std = apart_left (of_some (std_ranges_by no_range) cfg.std_replacements) _ eighth;
+      build = apart_left (of_some build_ranges cfg.build) []
+          (apart_right (of_some (std_ranges_by no_range) cfg.std_replacements) _ eighth);
     }
 
 -- of both checks, by a configuration whose entries are told apart by their ranges
-pub hits_apart : (cfg : ValidConfig) (licences : Option Config) (g : Graph) (f : chains.Facts) (said : Saying)
-    (counts : Crate → Bool) → IsLawful cfg → IfSome licences IsLawfulLicensing
-    → IsOneEach ((all_hits (policy_view cfg) g f
-    ++ option_map_or (λ r. ignore_hits r g said) (option_map replacing_view cfg.std_replacements) [])
+pub hits_apart : (cfg : ValidConfig) (licences : Option Config) (g : Graph) (f : Facts) (said : Saying)
+    (packages : List Package) (counts : Crate → Bool) → AreGlobsRead cfg → IsLawful cfg
+    → IfSome licences IsLawfulLicensing
+    → IsOneEach ((all_hits (policy_view cfg) g f.chains
+    ++ (option_map_or (λ r. ignore_hits r g said) (option_map replacing_view cfg.std_replacements) []
+    ++ option_map_or (λ b. bypass_hits (looking_at g f packages b)) (building_of cfg) []))
     ++ option_map_or (λ l. licence_hits counts l g) (licensing_of licences) [])
-hits_apart cfg licences g f said counts lawful lawful_too =
+hits_apart cfg licences g f said packages counts read lawful lawful_too =
     let p = policy_view cfg in
     let parts = parts_of cfg lawful in
     let trees = joined_parts 1 1 2 2 (filter_map (root_hit g) p.skip_tree) (wrapper_hits p g cfg.denied parts.bans)
     (roots_part g cfg.tree_skipped parts.trees) (wrappers_part p g cfg.denied parts.bans)
     (omega arith) (omega arith) (omega arith) in
-    let crates = joined_parts 0 0 1 2 (filter_map (skip_hit g f) p.skip) _ (skips_part g f cfg.skipped parts.skips) trees
+    let crates = joined_parts 0 0 1 2 (filter_map (skip_hit g f.chains) p.skip) _
+    (skips_part g f.chains cfg.skipped parts.skips) trees (omega arith) (omega arith) (omega arith) in
+    let ignores : List Hit =
+    option_map_or (λ r. ignore_hits r g said) (option_map replacing_view cfg.std_replacements) [] in
+    let bypasses : List Hit = option_map_or (λ b. bypass_hits (looking_at g f packages b)) (building_of cfg) [] in
+    let granted : List Hit = option_map_or (λ l. licence_hits counts l g) (licensing_of licences) [] in
+    let others : Part 3 6 (ignores ++ bypasses) = part_turned 3 6 bypasses ignores
+    (joined_parts 3 5 6 6 bypasses ignores (bypasses_part g f packages cfg.build read parts.build)
+    (ignores_part cfg.std_replacements g said parts.std) (omega arith) (omega arith) (omega arith)) in
+    let bans : Part 0 6 (all_hits p g f.chains ++ (ignores ++ bypasses)) =
+    joined_parts 0 2 3 6 (all_hits p g f.chains) (ignores ++ bypasses) crates others
     (omega arith) (omega arith) (omega arith) in
-    let bans = joined_parts 0 2 6 6 (all_hits p g f) _ crates (ignores_part cfg.std_replacements g said parts.std)
-    (omega arith) (omega arith) (omega arith) in
-    let all = joined_parts 0 6 7 8 _ _ bans (licences_part counts g licences lawful_too)
-    (omega arith) (omega arith) (omega arith) in
+    let all = joined_parts 0 6 7 8 (all_hits p g f.chains ++ (ignores ++ bypasses)) granted bans
+    (licences_part counts g licences lawful_too) (omega arith) (omega arith) (omega arith) in
     all.once

@@ -1,8 +1,10 @@
 -- The labels of findings mark ranges of the policy, of the lock text and of manifests.
-use Rattle.std.proofs.Common.{◌≡◌, ◌++◌, ℕ, Bool, true, false, List, [], ◌∷◌, All, Contains, Option, None, Some, refl, sym, ap}
+use Rattle.std.proofs.Common.{◌≡◌, ◌++◌, ℕ, Bool, true, false, List, [], ◌∷◌, All, Contains, Option, None, Some, refl}
+use Rattle.std.proofs.Common.{sym, ap}
 use Rattle.std.proofs.Common.{subst, inl, inr}
 use Rattle.std.specs.Prelude.{codes, filter, if◌then◌else◌, map, not, slice_get}
 use Rattle.std.specs.Option.{option_and_then, option_map_or}
+use Rattle.std.proofs.lemmas.Option.{none-some}
 use Rattle.std.proofs.lemmas.List.Elements.{All-nil, All-cons, All-append, All-contains, All-weaker}
 use Rattle.std.proofs.lemmas.List.Elements.{Contains-append_cases, Contains-append_left, Contains-append_right}
 use Rattle.deny_base.specs.declared.files.File.{File}
@@ -18,9 +20,13 @@ use Rattle.deny_base.specs.declared.license_code.LicenseCode.{LicenseCode}
 use Rattle.deny_base.specs.declared.license_code.LicenseCode.TheVariants as license
 use Rattle.deny_base.specs.declared.span.Span.{Span}
 use Rattle.deny_base.specs.declared.span.Spanned.{Spanned}
-use Rattle.deny_lists.proofs.Members.{Contains-by_cases, Contains-first, Contains-from_flat_map, Contains-rest}
+use Rattle.deny_lists.proofs.Members.{Contains-by_cases, Contains-filter, Contains-first, Contains-from_flat_map}
+use Rattle.deny_lists.proofs.Members.{Contains-rest}
 use Rattle.deny_lists.proofs.Members.{contains_map, filtered, from_contains_map, no_member}
 use Rattle.deny_spdx.specs.declared.requirement.Requirement.{Requirement}
+use Rattle.deny_build_cfg.specs.Builtin.{builtin_file}
+use Rattle.deny_build_model.specs.Building.{Building, Bypass, ScriptGlob}
+use Rattle.deny_build_model.specs.declared.package.PackageFile.{PackageFile}
 use Rattle.deny_cfg.specs.PolicyText.{policy_file}
 use Rattle.deny_spans.specs.Ranges.{ViewLies}
 use Rattle.deny_spans.specs.Seen.{lock_file}
@@ -37,22 +43,32 @@ use Rattle.deny_model.specs.Wrappers.{is_hit_wrapper, same_span, unused_wrapper_
 use Rattle.deny_toml.specs.Ranges.{IsRange}
 use Rattle.deny_codes.specs.AllowList.{allowed_told, not_allowed_told}
 use Rattle.deny_codes.specs.Bans.{allowed_by_wrapper_told, banned_told, unmatched_wrapper_told}
+use Rattle.deny_codes.specs.BuildScripts.{required_enabled, required_of, used}
 use Rattle.deny_codes.specs.Circumstances.{Circumstances}
 use Rattle.deny_codes.specs.Duplicates.{duplicate_told}
 use Rattle.deny_codes.specs.Facts.{Facts}
 use Rattle.deny_codes.specs.Features.{banned_features, default_enabled_keys, default_enabled_keys_at}
 use Rattle.deny_codes.specs.Features.{default_enabled_keys_of, default_enabled_told, default_level, feature_banned_keys}
 use Rattle.deny_codes.specs.Features.{feature_banned_keys_at, feature_banned_keys_of, feature_banned_told}
-use Rattle.deny_codes.specs.Features.{feature_not_allowed_told, has_feature, is_default_told, is_enabled, mismatch_labels}
+use Rattle.deny_codes.specs.Features.{feature_not_allowed_told, has_feature, is_default_told, is_enabled}
+use Rattle.deny_codes.specs.Features.{mismatch_labels}
 use Rattle.deny_codes.specs.Features.{mismatched_told, missing, spoken_of, tells_unknown, unknown_feature_keys}
 use Rattle.deny_codes.specs.Features.{unknown_feature_keys_at, unknown_feature_keys_of, unknown_feature_told}
 use Rattle.deny_codes.specs.Features.{unknown_features}
 use Rattle.deny_codes.specs.Licences.{IsOfLicences, accepted_told, exception_not_encountered_keys}
-use Rattle.deny_codes.specs.Licences.{exception_not_encountered_told, grants_by_allowance, grants_by_exception, is_hit_by}
+use Rattle.deny_codes.specs.Licences.{exception_not_encountered_told, grants_by_allowance, grants_by_exception}
+use Rattle.deny_codes.specs.Licences.{is_hit_by}
 use Rattle.deny_codes.specs.Licences.{license_key, not_encountered_keys, not_encountered_told, not_encountered_told_in}
 use Rattle.deny_codes.specs.Licences.{parse_error_told, rejected_told, rejected_told_in, skipped_private_told}
 use Rattle.deny_codes.specs.Licences.{unlicensed_told}
 use Rattle.deny_codes.specs.Members.{is_member}
+use Rattle.deny_codes.specs.PackageFiles.{globs_of, is_decided_by}
+use Rattle.deny_codes.specs.PackagesTold.{bypassed_by_glob_told, checksum_match_told, checksum_mismatch_told}
+use Rattle.deny_codes.specs.PackagesTold.{denied_by_extension_told, deprecated_told, detected_told, enabled_by_key}
+use Rattle.deny_codes.specs.PackagesTold.{extension_labels, features_enabled_told, file_of_key, glob_label, glob_labels}
+use Rattle.deny_codes.specs.PackagesTold.{own_globs, path_bypassed_told, script_denied_told, script_glob_label}
+use Rattle.deny_codes.specs.PackagesTold.{script_globs, script_told, unable_to_check_told, unmatched_bypass_told}
+use Rattle.deny_codes.specs.PackagesTold.{unmatched_glob_told, unmatched_path_told, used_by_key}
 use Rattle.deny_codes.specs.Saying.{Saying, said_by}
 use Rattle.deny_codes.specs.SkippedTrees.{skipped_by_root_told, unmatched_skip_root_told}
 use Rattle.deny_codes.specs.Skips.{skipped_told, unmatched_skip_told, unnecessary_skip_told}
@@ -61,11 +77,15 @@ use Rattle.deny_codes.specs.StdReplacements.{ignore_labels, ignore_range, replac
 use Rattle.deny_codes.specs.Telling.{not_built}
 use Rattle.deny_codes.specs.Told.{diag_of, words_as, words_by, words_licensed, words_told}
 use Rattle.deny_codes.specs.Wrappers.{unused_wrapper_keys, unused_wrapper_told}
-use Rattle.deny_gate.specs.Labels.{AreLabelled, AreLockLines, ArePlaced, IsPlaced, feature_ranges, level_ranges, licence_ranges}
+use Rattle.deny_codes.specs.declared.words.Words as finding
+use Rattle.deny_laws.proofs.Asking.{used_member}
+use Rattle.deny_gate.specs.Labels.{AreLabelled, AreLockLines, ArePlaced, IsPlaced, build_ranges, building_ranges}
+use Rattle.deny_gate.specs.Labels.{built_in_globs, built_in_ranges, feature_ranges, level_ranges, licence_ranges}
 use Rattle.deny_gate.specs.Labels.{own_range, range_of, ranges_of}
-use Rattle.deny_gate.specs.Report.{IsReport, finding_told, lock_file_id, policy_id}
+use Rattle.deny_gate.specs.Report.{IsReport, finding_told, lock_id, policy_id}
 use Rattle.deny_gate.specs.declared.report.Finding.{Finding}
 use Rattle.deny_gate.specs.declared.report.Report.{Report}
+use Rattle.deny_gate.proofs.BuildEntries.{entry_known, feature_there, glob_there, of_bypass, of_extension, older_known}
 use Rattle.deny_gate.proofs.Found.{found_in, of_found}
 use Rattle.deny_gate.proofs.LockLabels.{lock_placed}
 use Rattle.deny_gate.proofs.ManifestLabels.{duplicate_placed, no_labels, unresolved_placed, unused_placed}
@@ -405,22 +425,34 @@ told_labels c key = refl
 
 -- ---- code by code
 
--- The files are the policy's text, the lock text and what more there is: the ranges of what the policy says lie in the
--- first, the lines of the graph's crates in the second, and what was seen of manifests in theirs.
+-- the built-in globs have a number, and stand in the file there
+pub record HasGlobsFile (c : Circumstances) (files : List File) : Type 0 where
+  pub number : ℕ
+  pub is : c.files.globs ≡ Some number
+  pub there : slice_get files number ≡ Some builtin_file
+
+-- The files are the policy's text, the built-in globs where there are some, the lock text and what more there is: the
+-- ranges of what the policy says lie in the first, those of built-in globs in theirs, the lines of the graph's crates in
+-- the lock text, and what was seen of manifests in theirs.
 pub record AreRanges (c : Circumstances) (text : List ℕ) (files : List File) : Type 0 where
   pub first : c.files.policy ≡ policy_id
-  pub second : c.files.lock ≡ Some lock_file_id
+  pub second : c.files.lock ≡ Some (lock_id c.files.globs)
   pub of_policy : All (IsRange text) (ranges_of c.policy)
   pub of_licences : All (IsRange text) (licence_ranges c.licensing)
+  pub of_builds : All (IsRange text) (build_ranges c.building)
+  pub of_globs : All (IsRange builtin_file.source) (built_in_ranges c.building)
   pub of_manifests : ViewLies files c.view
   pub policy_there : slice_get files policy_id ≡ Some (policy_file text)
-  pub lock_there : slice_get files lock_file_id ≡ Some (lock_file c.graph.root c.graph)
+  pub globs_there : (b : Building) → c.building ≡ Some b → (e : ScriptGlob) → Contains (built_in_globs b) e
+      → HasGlobsFile c files
+  pub lock_there : slice_get files (lock_id c.files.globs) ≡ Some (lock_file c.graph.root c.graph)
   pub lines : AreLockLines c.graph
   pub places : AtPlaces c.graph c.graph.crates
 
 -- where ranges lie in the policy's text, so do the labels that mark them in its file
 placed_in : (files : List File) (ranges : List Span) (text : List ℕ)
-    → slice_get files policy_id ≡ Some (policy_file text) → All (IsRange text) ranges → (label : Label) → IsOf ranges policy_id label → IsPlaced files label
+    → slice_get files policy_id ≡ Some (policy_file text) → All (IsRange text) ranges → (label : Label)
+    → IsOf ranges policy_id label → IsPlaced files label
 placed_in files ranges text there lie label of = record {
   file = policy_file text;
   there = subst (λ (n : ℕ). slice_get files n ≡ Some (policy_file text)) (sym of.in_file) there;
@@ -449,8 +481,8 @@ module _ (c : Circumstances) (facts : Facts) (text : List ℕ) (files : List Fil
       → ArePlaced files (duplicate_told c.policy c.graph c.files.lock key).labels
   of_duplicate key is =
       subst (λ (lock : Option ℕ). ArePlaced files (duplicate_told c.policy c.graph lock key).labels) (sym are.second)
-      (lock_placed c.graph are.lines are.places files lock_file_id (lock_file c.graph.root c.graph) are.lock_there refl
-      c.policy facts.chains key is)
+      (lock_placed c.graph are.lines are.places files (lock_id c.files.globs) (lock_file c.graph.root c.graph)
+      are.lock_there refl c.policy facts.chains key is)
 
   -- a label at the entry of a key
   at_entry : (key : Key) (message : List ℕ) → Contains (ranges_of c.policy) key.entry
@@ -459,78 +491,233 @@ module _ (c : Circumstances) (facts : Facts) (text : List ℕ) (files : List Fil
       let label = primary c.files.policy key.entry message in
       in_policy (label ∷ []) (one_more c.policy c.files.policy label [] refl known (none c.policy c.files.policy))
 
-  -- the last line is that of the codes whose rules are not there
-  of_code : (d : Code) (key : Key) → StandsAs d c facts key → ArePlaced files (words_as d c key).labels
+  -- ---- of builds
+
+  in_builds : (labels : List Label) → AreOf (build_ranges c.building) c.files.policy labels → ArePlaced files labels
+  in_builds labels of = all_placed files (build_ranges c.building) text c.files.policy labels are.policy_there are.first
+      are.of_builds of
+
+  at_build_entry : (key : Key) (message : List ℕ) → Contains (build_ranges c.building) key.entry
+      → ArePlaced files (primary c.files.policy key.entry message ∷ [])
+  at_build_entry key message known = in_builds (primary c.files.policy key.entry message ∷ [])
+      (one_label (build_ranges c.building) c.files.policy key.entry message known)
+
+  -- a range of what is said
+  said_range : (b : Building) (r : Span) → c.building ≡ Some b → Contains (building_ranges b) r
+      → Contains (build_ranges c.building) r
+  said_range b r said at = subst (λ (o : Option Building). Contains (build_ranges o) r) (sym said) at
+
+  words_labelled : (ws : List Words) → ((w : Words) → Contains ws w → Contains (build_ranges c.building) w.span)
+      → AreOf (build_ranges c.building) c.files.policy (map (glob_label c.files.policy) ws)
+  words_labelled [] known = All-nil (IsOf (build_ranges c.building) c.files.policy)
+  words_labelled (w ∷ ws) known = All-cons (IsOf (build_ranges c.building) c.files.policy)
+      (glob_label c.files.policy w) (map (glob_label c.files.policy) ws)
+      (record { in_file = refl; known = known w (Contains-first w ws) })
+      (words_labelled ws (λ v at. known v (Contains-rest w ws v at)))
+
+  built : (told : Building → finding.Words) (o : Option Building) → c.building ≡ o
+      → ((b : Building) → c.building ≡ Some b → ArePlaced files (told b).labels)
+      → ArePlaced files (option_map_or told o not_built).labels
+  built told None said each = unlabelled
+  built told (Some b) said each = each b said
+
+  module _ (b : Building) (said : c.building ≡ Some b) (key : Key) where
+    used_written : (o : Option Crate) (y : Bypass) → option_and_then (used b) o ≡ Some y → Contains b.bypass y
+    used_written None y is = absurd (none-some y is)
+    used_written (Some k) y is = used_member b k y is
+
+    glob_known : (o : Option Bypass) → used_by_key b c key ≡ o → (w : Words) → Contains (globs_of o) w
+        → Contains (build_ranges c.building) w.span
+    glob_known None is w at = absurd (no_member w at)
+    glob_known (Some y) is w at = said_range b w.span said (of_bypass b y w.span
+        (used_written (crate_at c.graph key.place) y is) (glob_there y w at))
+
+    globs_placed : (o : Option PackageFile) → ArePlaced files (option_map_or (glob_labels b c key) o [])
+    globs_placed None = unlabelled
+    globs_placed (Some f) = in_builds (glob_labels b c key f) (words_labelled (own_globs (used_by_key b c key) f)
+        (λ w at. glob_known (used_by_key b c key) refl w
+        (filtered (λ w. is_decided_by f w.value) (globs_of (used_by_key b c key)) w at)))
+
+    extension_by : (e : ScriptGlob) (o : Bool) → e.built_in ≡ o → Contains b.extensions e
+        → IsPlaced files (if o then secondary (option_map_or (λ number. number) c.files.globs 0) e.range (codes "builtin")
+        else secondary c.files.policy e.range [])
+    extension_by e true is written =
+        let mine = Contains-filter (λ (g : ScriptGlob). g.built_in) b.extensions e written is in
+        let of = are.globs_there b said e mine in record {
+          file = builtin_file;
+          there = subst (λ (o : Option ℕ). slice_get files (option_map_or (λ number. number) o 0) ≡ Some builtin_file)
+              (sym of.is) of.there;
+          range = All-contains (IsRange builtin_file.source) (built_in_ranges c.building) e.range are.of_globs
+              (subst (λ (o : Option Building). Contains (built_in_ranges o) e.range) (sym said)
+              (contains_map (λ (g : ScriptGlob). g.range) (built_in_globs b) e mine));
+        }
+    extension_by e false is written = placed_in files (build_ranges c.building) text are.policy_there are.of_builds
+        (secondary c.files.policy e.range [])
+        (record {
+          in_file = are.first;
+          known = said_range b e.range said (of_extension b e
+              (Contains-filter (λ (g : ScriptGlob). not g.built_in) b.extensions e written (ap not is)));
+        })
+
+    extension_placed : (e : ScriptGlob) → Contains b.extensions e → IsPlaced files (script_glob_label c.files e)
+    extension_placed e written = extension_by e e.built_in refl written
+
+    extensions_labelled : (es : List ScriptGlob) → ((e : ScriptGlob) → Contains es e → Contains b.extensions e)
+        → ArePlaced files (map (script_glob_label c.files) es)
+    extensions_labelled [] each = unlabelled
+    extensions_labelled (e ∷ es) each = All-cons (IsPlaced files) (script_glob_label c.files e)
+        (map (script_glob_label c.files) es) (extension_placed e (each e (Contains-first e es)))
+        (extensions_labelled es (λ g at. each g (Contains-rest e es g at)))
+
+    extensions_placed : (o : Option PackageFile) → ArePlaced files (option_map_or (extension_labels b c) o [])
+    extensions_placed None = unlabelled
+    extensions_placed (Some f) = extensions_labelled (script_globs b f)
+        (λ e at. filtered (λ g. is_decided_by f g.text) b.extensions e at)
+
+    feature_in : (o : Option Bypass) → ((y : Bypass) → o ≡ Some y → Contains b.bypass y) → (w : Words)
+        → Contains (required_of o) w → Contains (build_ranges c.building) w.span
+    feature_in None written w at = absurd (no_member w at)
+    feature_in (Some y) written w at =
+        said_range b w.span said (of_bypass b y w.span (written y refl) (feature_there y w at))
+
+    enabled_known : (k : Crate) (w : Words) → Contains (required_enabled b k) w
+        → Contains (build_ranges c.building) w.span
+    unfolding required_enabled
+    enabled_known k w at = feature_in (used b k) (λ y is. used_member b k y is) w
+        (filtered (λ w. is_enabled k w.value) (required_of (used b k)) w at)
+
+    enabled_in : (o : Option Crate) (w : Words) → Contains (option_map_or (required_enabled b) o []) w
+        → Contains (build_ranges c.building) w.span
+    enabled_in None w at = absurd (no_member w at)
+    enabled_in (Some k) w at = enabled_known k w at
+
+    enabled_placed : ArePlaced files (map (glob_label c.files.policy) (enabled_by_key b c key))
+    enabled_placed = in_builds (map (glob_label c.files.policy) (enabled_by_key b c key))
+        (words_labelled (enabled_by_key b c key) (enabled_in (crate_at c.graph key.place)))
+
+    by_glob_placed : ArePlaced files (bypassed_by_glob_told b c key).labels
+    unfolding bypassed_by_glob_told
+    by_glob_placed = globs_placed (file_of_key c key)
+
+    by_extension_placed : ArePlaced files (denied_by_extension_told b c key).labels
+    unfolding denied_by_extension_told
+    by_extension_placed = extensions_placed (file_of_key c key)
+
+    features_placed : ArePlaced files (features_enabled_told b c key).labels
+    unfolding features_enabled_told
+    features_placed = enabled_placed
+
+    mismatch_placed : Contains (build_ranges c.building) key.entry
+        → ArePlaced files (checksum_mismatch_told b c key).labels
+    unfolding checksum_mismatch_told
+    mismatch_placed known = at_build_entry key (codes "expected checksum") known
+
+    script_placed : ArePlaced files (script_told b c key).labels
+    unfolding detected_told
+    script_placed = unlabelled
+
+  -- ---- code by code
+
+  of_code : (d : Code) (key : Key) → key.code ≡ Bans d → StandsAs d c facts key
+      → ArePlaced files (words_as d c key).labels
   unfolding words_as banned_told allowed_told not_allowed_told skipped_told unmatched_skip_told
       unnecessary_skip_told allowed_by_wrapper_told unmatched_wrapper_told skipped_by_root_told unmatched_skip_root_told
       unused_wrapper_told mismatched_told feature_not_allowed_told feature_banned_told unknown_feature_told
-      default_enabled_told
-  of_code code.Banned key is = in_policy _ (of_found LabelsOf (ban_labels c.files.policy (codes "banned here"))
+      default_enabled_told script_denied_told path_bypassed_told checksum_match_told detected_told unable_to_check_told
+      unmatched_bypass_told unmatched_path_told unmatched_glob_told
+  of_code code.Banned key coded is = in_policy _ (of_found LabelsOf (ban_labels c.files.policy (codes "banned here"))
       (λ ban. same_span ban.spec.range key.entry) c.policy.deny (none c.policy c.files.policy)
       (λ ban written. of_ban_entry c.policy c.files.policy (codes "banned here") ban written))
-  of_code code.Allowed key is = in_policy _ (of_found LabelsOf (entry_labels c.files.policy (codes "allowed here"))
+  of_code code.Allowed key coded is = in_policy _ (of_found LabelsOf (entry_labels c.files.policy (codes "allowed here"))
       (λ e. same_span e.spec.range key.entry) c.policy.allow (none c.policy c.files.policy)
       (λ e written. of_allowed c.policy c.files.policy (codes "allowed here") e written))
-  of_code code.NotAllowed key is = unlabelled
-  of_code code.Duplicate key is = of_duplicate key is
-  of_code code.Skipped key is = in_policy _ (of_found LabelsOf (entry_labels c.files.policy (codes "skipped here"))
+  of_code code.NotAllowed key coded is = unlabelled
+  of_code code.Duplicate key coded is = of_duplicate key is
+  of_code code.Skipped key coded is = in_policy _ (of_found LabelsOf (entry_labels c.files.policy (codes "skipped here"))
       (λ e. same_span e.spec.range key.entry) c.policy.skip (none c.policy c.files.policy)
       (λ e written. of_skip c.policy c.files.policy (codes "skipped here") e written))
-  of_code code.UnmatchedSkip key is = in_policy _ (of_found LabelsOf
+  of_code code.UnmatchedSkip key coded is = in_policy _ (of_found LabelsOf
       (entry_labels c.files.policy (codes "unmatched skip configuration"))
       (λ e. same_span e.spec.range key.entry) c.policy.skip (none c.policy c.files.policy)
       (λ e written. of_skip c.policy c.files.policy (codes "unmatched skip configuration") e written))
-  of_code code.UnnecessarySkip key is = in_policy _ (of_found LabelsOf
+  of_code code.UnnecessarySkip key coded is = in_policy _ (of_found LabelsOf
       (entry_labels c.files.policy (codes "unnecessary skip configuration"))
       (λ e. same_span e.spec.range key.entry) c.policy.skip (none c.policy c.files.policy)
       (λ e written. of_skip c.policy c.files.policy (codes "unnecessary skip configuration") e written))
-  of_code code.AllowedByWrapper key is = in_policy _ (
+  of_code code.AllowedByWrapper key coded is = in_policy _ (
       let by : Ban → Option Words = λ ban. option_and_then (wrapper_of ban.wrappers) (crate_at c.graph key.other) in
       of_found LabelsOf (λ ban. wrapper_labels c.files.policy ban (by ban))
       (λ ban. same_span ban.spec.range key.entry) c.policy.deny (none c.policy c.files.policy)
       (λ ban written. of_wrapper c.policy c.files.policy ban (by ban) written
       (wrapper_in c.policy c.files.policy ban (crate_at c.graph key.other))))
-  of_code code.UnmatchedWrapper key is = in_policy _ (
+  of_code code.UnmatchedWrapper key coded is = in_policy _ (
       of_found LabelsOf (ban_labels c.files.policy (codes "banned here"))
       (λ ban. same_span ban.spec.range key.entry) c.policy.deny (none c.policy c.files.policy)
       (λ ban written. of_ban_entry c.policy c.files.policy (codes "banned here") ban written))
-  of_code code.SkippedByRoot key is = in_policy _ (
+  of_code code.SkippedByRoot key coded is = in_policy _ (
       of_found LabelsOf (root_labels c.files.policy (codes "matched skip root"))
       (λ t. same_span t.spec.range key.entry) c.policy.skip_tree (none c.policy c.files.policy)
       (λ t written. of_root c.policy c.files.policy (codes "matched skip root") t written))
-  of_code code.UnmatchedSkipRoot key is =
+  of_code code.UnmatchedSkipRoot key coded is =
       at_entry key (codes "no crate matched these criteria") (of_unmatched_root c.policy c.files.policy c.graph key is)
-  of_code code.UnusedWrapper key is =
+  of_code code.UnusedWrapper key coded is =
       at_entry key (codes "unmatched wrapper") (of_unused_wrapper c.policy c.files.policy c.graph key is)
-  of_code code.ExactFeaturesMismatch key is = in_policy _ (
+  of_code code.ExactFeaturesMismatch key coded is = in_policy _ (
       let at = crate_at c.graph key.place in
       of_found LabelsOf (λ e. option_map_or (mismatch_labels c.files.policy e) at [])
       (λ e. same_span e.spec.range key.entry) c.policy.features (none c.policy c.files.policy)
       (λ e written. of_mismatch c.policy c.files.policy e at written))
-  of_code code.FeatureNotExplicitlyAllowed key is = in_policy _ (
+  of_code code.FeatureNotExplicitlyAllowed key coded is = in_policy _ (
       of_found LabelsOf (λ e. primary c.files.policy e.allow.span (codes "allowed features") ∷ [])
       (λ e. same_span e.spec.range key.entry) c.policy.features (none c.policy c.files.policy)
       (λ e written. of_list c.policy c.files.policy e written))
-  of_code code.FeatureBanned key is =
+  of_code code.FeatureBanned key coded is =
       at_entry key (codes "feature denied here") (of_feature_banned c.policy c.files.policy c.graph key is)
-  of_code code.UnknownFeature key is =
+  of_code code.UnknownFeature key coded (inl is) =
       at_entry key (codes "unknown feature") (of_unknown_feature c.policy c.files.policy c.graph key is)
-  of_code code.DefaultFeatureEnabled key is =
+  of_code code.UnknownFeature key coded (inr is) =
+      at_build_entry key (codes "unknown feature") (entry_known c facts code.UnknownFeature key is coded refl)
+  of_code code.DefaultFeatureEnabled key coded is =
       at_entry key (codes "lint level") (of_default c.policy c.files.policy c.graph key is)
-  of_code code.ReplacedInStd key is = in_policy _ (
+  of_code code.ReplacedInStd key coded is = in_policy _ (
       of_replaced c.policy c.files.policy c.policy.replacing c.graph (said_by c.table) key)
-  of_code code.UnmatchedReplacementIgnore key is = in_policy _ (
+  of_code code.UnmatchedReplacementIgnore key coded is = in_policy _ (
       of_unmatched_ignore c.policy c.files.policy c.policy.replacing key refl)
-  of_code code.Wildcard key is = wildcard_placed files c.view are.of_manifests c.policy c.graph key
-  of_code code.UnresolvedWorkspaceDependency key is = unresolved_placed files c.view are.of_manifests c.graph key
-  of_code code.WorkspaceDuplicate key is = duplicate_placed files c.view are.of_manifests c.policy c.graph key
-  of_code code.UnusedWorkspaceDependency key is = unused_placed files c.view are.of_manifests c.policy key
-  of_code _ key is = absurd is
+  of_code code.Wildcard key coded is = wildcard_placed files c.view are.of_manifests c.policy c.graph key
+  of_code code.UnresolvedWorkspaceDependency key coded is = unresolved_placed files c.view are.of_manifests c.graph key
+  of_code code.WorkspaceDuplicate key coded is = duplicate_placed files c.view are.of_manifests c.policy c.graph key
+  of_code code.UnusedWorkspaceDependency key coded is = unused_placed files c.view are.of_manifests c.policy key
+  of_code code.BuildScriptNotAllowed key coded is = unlabelled
+  of_code code.PathBypassed key coded is =
+      at_build_entry key (codes "allowed path") (entry_known c facts code.PathBypassed key is coded refl)
+  of_code code.PathBypassedByGlob key coded is =
+      built (λ b. bypassed_by_glob_told b c key) c.building refl (λ b said. by_glob_placed b said key)
+  of_code code.ChecksumMatch key coded is =
+      at_build_entry key (codes "checksum") (entry_known c facts code.ChecksumMatch key is coded refl)
+  of_code code.ChecksumMismatch key coded is =
+      built (λ b. checksum_mismatch_told b c key) c.building refl
+      (λ b said. mismatch_placed b said key (entry_known c facts code.ChecksumMismatch key is coded refl))
+  of_code code.DeniedByExtension key coded is =
+      built (λ b. denied_by_extension_told b c key) c.building refl (λ b said. by_extension_placed b said key)
+  of_code code.DetectedExecutable key coded is = unlabelled
+  of_code code.DetectedExecutableScript key coded is =
+      built (λ b. script_told b c key) c.building refl (λ b said. script_placed b said key)
+  of_code code.UnableToCheckPath key coded is = unlabelled
+  of_code code.FeaturesEnabled key coded is =
+      built (λ b. features_enabled_told b c key) c.building refl (λ b said. features_placed b said key)
+  of_code code.UnmatchedBypass key coded is =
+      at_build_entry key (codes "unmatched bypass") (entry_known c facts code.UnmatchedBypass key is coded refl)
+  of_code code.UnmatchedPathBypass key coded is =
+      at_build_entry key [] (entry_known c facts code.UnmatchedPathBypass key is coded refl)
+  of_code code.UnmatchedGlob key coded is =
+      at_build_entry key [] (entry_known c facts code.UnmatchedGlob key is coded refl)
 
-  labels_of_key : (d : DiagnosticCode) (key : Key) → StandsBy d c facts key → ArePlaced files (words_by d c key).labels
-  labels_of_key Deprecated key is = absurd is
-  labels_of_key (Bans d) key is = of_code d key is
-  labels_of_key (License d) key is =
+  labels_of_key : (d : DiagnosticCode) (key : Key) → key.code ≡ d → StandsBy d c facts key
+      → ArePlaced files (words_by d c key).labels
+  unfolding deprecated_told
+  labels_of_key Deprecated key coded is = at_build_entry key [] (older_known c key is)
+  labels_of_key (Bans d) key coded is = of_code d key coded is
+  labels_of_key (License d) key coded is =
       all_placed files (licence_ranges c.licensing) text c.files.policy (words_by (License d) c key).labels
       are.policy_there are.first are.of_licences (of_licence d c.licensing c.graph c.files.policy key is)
 
@@ -540,7 +727,7 @@ module _ (c : Circumstances) (facts : Facts) (text : List ℕ) (files : List Fil
   are_labelled (key ∷ keys) stand =
       All-cons (λ (f : Finding). ArePlaced files f.diag.diag.labels) (finding_told c key) (map (finding_told c) keys)
       (subst (λ (ls : List Label). ArePlaced files ls) (sym (told_labels c key))
-      (labels_of_key key.code key (stand key (Contains-first key keys))))
+      (labels_of_key key.code key refl (stand key (Contains-first key keys))))
       (are_labelled keys (λ k is. stand k (Contains-rest key keys k is)))
 
 -- so those of a report do

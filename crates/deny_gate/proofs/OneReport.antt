@@ -1,52 +1,63 @@
--- Texts have one report on a disk that tells its files; by one view they are told alike on every disk, and what asks
--- nothing of files by whatever view.
-use Rattle.std.proofs.Common.{◌≡◌, ◌∙◌, ◌<◌, ℕ, Bool, true, false, List, [], ◌∷◌, Option, None, Some, map, ap, refl}
+-- Texts have one report on a disk that tells its files; by what was seen they are told alike on every disk, and what asks
+-- nothing of files whatever was seen.
+use Rattle.std.proofs.Common.{◌≡◌, ◌∙◌, ◌++◌, ◌<◌, ℕ, Bool, true, false, List, [], ◌∷◌, Option, None, Some, map, ap}
+use Rattle.std.proofs.Common.{refl}
 use Rattle.std.proofs.Common.{sym, subst, arith}
-use Rattle.std.specs.Prelude.{IsTrue, filter, filter_map, is_some}
+use Rattle.std.specs.Prelude.{Contains, IsTrue, filter, is_some}
 use Rattle.std.specs.Cmp.{nat_cmp_total, on_total}
 use Rattle.std.specs.List.{AllZip}
+use Rattle.std.proofs.lemmas.List.Kept.{IsStrictlySortedBy-filter}
 use Rattle.deny_base.specs.declared.edge.Edge.{Edge}
 use Rattle.deny_base.specs.declared.entry.Hit.{Hit}
+use Rattle.deny_base.specs.declared.files.File.{File}
 use Rattle.deny_base.specs.declared.key.Key.{Key}
-use Rattle.deny_lists.proofs.Sorted.{one_list}
 use Rattle.deny_base.proofs.EdgeEqual.{edge_cmp-total}
 use Rattle.deny_base.proofs.EntryEqual.{entry_cmp-total}
+use Rattle.deny_lists.proofs.Agreement.{filter_on, map_on}
+use Rattle.deny_lists.proofs.Filters.{filter-map}
+use Rattle.deny_lists.proofs.Members.{Contains-filter, filtered, passes_filter}
+use Rattle.deny_lists.proofs.Sorted.{one_ascending, one_list}
+use Rattle.deny_build_model.specs.Building.{Building}
+use Rattle.deny_build_model.specs.declared.package.Package.{Package}
 use Rattle.deny_cfg.specs.LicensingView.{licensing_of}
-use Rattle.deny_cfg.specs.PolicyText.{IsPolicyOf}
-use Rattle.deny_cfg.specs.PolicyView.{policy_view}
+use Rattle.deny_cfg.specs.PolicyText.{IsPolicyOf, globs_files, policy_file}
+use Rattle.deny_cfg.specs.PolicyView.{building_of, builtin_file_of, policy_view}
 use Rattle.deny_cfg.specs.declared.policy.Policy as cfg
 use Rattle.deny_model.specs.Graph.{Graph}
-use Rattle.deny_model.specs.Licensing.{Licensing}
 use Rattle.deny_model.specs.Policy.{Policy}
+use Rattle.deny_model.specs.View.{View}
+use Rattle.deny_outside.specs.Disk.{Files}
 use Rattle.deny_dup_edges.specs.DupEdges.{AreEdgesOf, IsSetOf, IsSimplest, ShowsEach, Simplest, is_of_duplicate}
 use Rattle.deny_dup_edges.specs.declared.dup_edges.DupEdges.{DupEdges}
 use Rattle.deny_dup_edges.specs.declared.dup_edges.DupSet.{DupSet}
-use Rattle.deny_gate.specs.declared.report.Report.{Report}
-use Rattle.deny_model.specs.View.{View}
-use Rattle.deny_outside.specs.Disk.{Files}
-use Rattle.deny_codes.specs.Circumstances.{Circumstances, viewed}
+use Rattle.deny_codes.specs.Circumstances.{Circumstances, seen_anew}
 use Rattle.deny_codes.specs.Codes.{asks_no_file, unseeing}
+use Rattle.deny_codes.specs.Hits.{both_hits}
 use Rattle.deny_codes.specs.Standing.{AreKeys}
 use Rattle.deny_codes.specs.Told.{check_told, diag_of, words_told}
 use Rattle.deny_codes.specs.declared.words.Words.{Words}
-use Rattle.deny_lists.proofs.Agreement.{filter_on, map_on}
-use Rattle.deny_lists.proofs.Filters.{filter-map}
-use Rattle.deny_lists.proofs.Members.{passes_filter}
-use Rattle.deny_laws.specs.Dead.{AreDead, unused_entry}
-use Rattle.deny_spans.specs.Seen.{IsSeen}
+use Rattle.deny_laws.specs.Dead.{AreDead}
+use Rattle.deny_packages.specs.Failures.{failures_in}
+use Rattle.deny_packages.specs.OneSight.{HasOneSight}
+use Rattle.deny_rules.specs.Packages.{AreSeenBy}
+use Rattle.deny_spans.specs.Seen.{IsSeen, lock_file}
 use Rattle.deny_spans.proofs.OneViewLemmas.{same_seen}
 use Rattle.deny_unread.specs.declared.unread.Unread.{Unread}
-use Rattle.deny_gate.specs.Hits.{AreHits, entry_of}
-use Rattle.deny_gate.specs.Gating.{AreAlikeUnseen, AreToldAlike, IsBuilt, IsReportBy, IsReportOf, Texts}
-use Rattle.deny_gate.specs.Gating.{circumstances_of, circumstances_on, first_files}
-use Rattle.deny_gate.specs.Report.{IsReport, finding_told, policy_id, unseeing_findings, verdict_of}
+use Rattle.deny_gate.specs.Gating.{AreAlikeUnseen, AreToldAlike, IsReportBy, IsReportOf, Saying, Texts}
+use Rattle.deny_gate.specs.Gating.{circumstances_of, circumstances_on, first_files, saying_of}
+use Rattle.deny_gate.specs.Hits.{AreHits, entry_of, hit_cmp}
+use Rattle.deny_gate.specs.Report.{IsReport, finding_told, policy_id, verdict_of}
 use Rattle.deny_gate.specs.Stats.{all_stats}
+use Rattle.deny_gate.specs.Unread.{of_manifests, of_packages}
+use Rattle.deny_gate.specs.Unseeing.{is_free_kind, unseeing_findings, unseeing_hits}
 use Rattle.deny_gate.specs.declared.report.Finding.{Finding}
+use Rattle.deny_gate.specs.declared.report.Report.{Report}
+use Rattle.deny_gate.proofs.FindingLaws.{key_told}
 use Rattle.deny_gate.proofs.IdsApart.{ids_apart}
 use Rattle.deny_gate.proofs.OneGraph.{one_graph}
-use Rattle.deny_gate.proofs.OneHits.{hits_alike}
-use Rattle.deny_gate.proofs.FindingLaws.{key_told}
-use Rattle.deny_gate.proofs.Standing.{dead_by, duplicates_seen, unused_seen}
+use Rattle.deny_gate.proofs.OneHits.{hits_alike, unseeing_alike}
+use Rattle.deny_gate.proofs.Standing.{duplicates_seen}
+use Rattle.deny_gate.proofs.Unseeing.{dead_unseen}
 
 -- what determines each of its items determines the list
 one_zip : {A B : Type 0} (R : A → B → Type 0) → ((x : A) (y z : B) → R x y → R x z → y ≡ z)
@@ -109,14 +120,19 @@ one_shown p g key s t this that =
 -- what is known of reports, policies and what is seen of files
 pub record ReportLaws : Type 0 where
   pub keys : (c : Circumstances) → (xs ys : List Key) → AreKeys c xs → AreKeys c ys → xs ≡ ys
-  pub unseen : (c : Circumstances) → (view : View) → (xs ys : List Key) → AreKeys c xs → AreKeys (viewed c view) ys
-      → unseeing xs ≡ unseeing ys
-  pub words : (c : Circumstances) → (view : View) → (key : Key) → IsTrue (asks_no_file key.code)
-      → words_told (viewed c view) key ≡ words_told c key
+  pub unseen : (c : Circumstances) → (view : View) → (packages : List Package) → (xs ys : List Key) → AreKeys c xs
+      → AreKeys (seen_anew c view packages) ys → unseeing xs ≡ unseeing ys
+  pub words : (c : Circumstances) → (view : View) → (packages : List Package) → (key : Key)
+      → IsTrue (asks_no_file key.code) → words_told (seen_anew c view packages) key ≡ words_told c key
   pub policies : (text : List ℕ) → (file : ℕ) → (a b : cfg.Policy) → IsPolicyOf text file a → IsPolicyOf text file b
-      → (policy_view a.bans ≡ policy_view b.bans) × (a.not_built ≡ b.not_built)
+      → policy_view a.bans ≡ policy_view b.bans
+  pub buildings : (text : List ℕ) → (file : ℕ) → (a b : cfg.Policy) → IsPolicyOf text file a → IsPolicyOf text file b
+      → building_of a.bans ≡ building_of b.bans
+  pub globs : (text : List ℕ) → (file : ℕ) → (a b : cfg.Policy) → IsPolicyOf text file a → IsPolicyOf text file b
+      → builtin_file_of a.bans ≡ builtin_file_of b.bans
   pub licences : (text : List ℕ) → (file : ℕ) → (a b : cfg.Policy) → IsPolicyOf text file a → IsPolicyOf text file b
       → licensing_of a.licenses ≡ licensing_of b.licenses
+  pub sight : (b : Building) → (g : Graph) → HasOneSight b g
 
 -- the finding of a key by its words
 abbrev finding_by : Key → Words → Finding
@@ -137,21 +153,19 @@ one_dup_edges c xs ys a b same this that =
     one_zip (AreEdgesOf c.policy c.graph) (one_shown c.policy c.graph) (filter is_of_duplicate ys) a b
     (subst (λ (ks : List Key). ShowsEach c.policy c.graph ks a) same this) that
 
--- the hits, which look at no file
-one_hits : (c : Circumstances) (view : View) (a b : Report) → IsReport c a → IsReport (viewed c view) b
-    → a.hits ≡ b.hits
-one_hits c view a b this that =
+one_hits : (c : Circumstances) (a b : Report) → IsReport c a → IsReport c b → a.hits ≡ b.hits
+one_hits c a b this that =
     one_list (on_total entry_of entry_cmp-total) a.hits b.hits
     (subst (λ (all : List Hit). AreHits all a.hits)
     (hits_alike c this.listed.facts that.listed.facts this.counts that.counts this.listed.true_facts
-    (record { chains = that.listed.true_facts.chains }) this.tells that.tells) this.hits) that.hits
+    that.listed.true_facts this.tells that.tells) this.hits) that.hits
 
 -- reports of the same keys
 told_alike : (c : Circumstances) (a b : Report) (this : IsReport c a) (that : IsReport c b) → this.keys ≡ that.keys
     → AreToldAlike a b
 told_alike c a b this that keys =
     let findings : a.findings ≡ b.findings = this.told ∙ (ap (map (finding_told c)) keys ∙ sym that.told) in
-    let hits : a.hits ≡ b.hits = one_hits c c.view a b this that in
+    let hits : a.hits ≡ b.hits = one_hits c a b this that in
     record {
       krates = this.graph ∙ sym that.graph;
       findings = findings;
@@ -180,40 +194,67 @@ one_of a b alike files unread malformed = λ i. record {
   verdict = alike.verdict i;
 }
 
+-- ---- by whatever view
+
+abbrev is_free : Hit → Bool
+is_free h = is_free_kind h.entry.kind
+
+-- the hits that ask nothing of files
+free_hits : (c : Circumstances) (view : View) (packages : List Package) (a b : Report) → IsReport c a
+    → IsReport (seen_anew c view packages) b → unseeing_hits a.hits ≡ unseeing_hits b.hits
+free_hits c view packages a b this that =
+    let d = seen_anew c view packages in
+    let same : unseeing_hits (both_hits c this.listed.facts this.counts)
+    ≡ unseeing_hits (both_hits d that.listed.facts that.counts) =
+    unseeing_alike c view packages this.listed.facts this.counts
+    ∙ ap unseeing_hits (hits_alike d this.listed.facts that.listed.facts this.counts that.counts
+    (record { chains = this.listed.true_facts.chains; reached = this.listed.true_facts.reached })
+    that.listed.true_facts this.tells that.tells) in
+    one_ascending (on_total entry_of entry_cmp-total) (unseeing_hits a.hits) (unseeing_hits b.hits)
+    (IsStrictlySortedBy-filter hit_cmp is_free a.hits this.hits.ascending)
+    (IsStrictlySortedBy-filter hit_cmp is_free b.hits that.hits.ascending)
+    (moved a.hits b.hits _ _ this.hits that.hits same) (moved b.hits a.hits _ _ that.hits this.hits (sym same))
+  where
+    moved : (xs ys all others : List Hit) → AreHits all xs → AreHits others ys
+        → unseeing_hits all ≡ unseeing_hits others → (h : Hit) → Contains (unseeing_hits xs) h
+        → Contains (unseeing_hits ys) h
+    moved xs ys all others these those same h at =
+        let free = passes_filter is_free xs h at in
+        let there : Contains (unseeing_hits others) h = subst (λ (hits : List Hit). Contains hits h) same
+        (Contains-filter is_free all h (these.sound h (filtered is_free xs h at)) free) in
+        Contains-filter is_free ys h (those.whole h (filtered is_free others h there)) free
+
 module _ (laws : ReportLaws) where
   -- ---- in the same circumstances
 
-  of_policies : (texts : Texts) (a b : cfg.Policy) → IsBuilt texts.policy a → IsBuilt texts.policy b
-      → (policy_view a.bans ≡ policy_view b.bans) × (licensing_of a.licenses ≡ licensing_of b.licenses)
-  of_policies texts a b this that = (
-    (laws.policies texts.policy policy_id a b this.is_policy that.is_policy).0,
-    laws.licences texts.policy policy_id a b this.is_policy that.is_policy,
-  )
+  same_saying : (texts : Texts) (a b : cfg.Policy) → IsPolicyOf texts.policy policy_id a
+      → IsPolicyOf texts.policy policy_id b → saying_of a ≡ saying_of b
+  same_saying texts a b this that =
+      let policies = laws.policies texts.policy policy_id a b this that in
+      let licences = laws.licences texts.policy policy_id a b this that in
+      let buildings = laws.buildings texts.policy policy_id a b this that in
+      let globs = laws.globs texts.policy policy_id a b this that in
+      λ i. record { policy = policies i; licensing = licences i; building = buildings i; globs = globs i }
 
-  -- the first report in the circumstances of the second, but by its own view
-  moved : (told other : Option Files) (texts : Texts) (view otherwise : View) (a b : Report)
-      (this : IsReportBy told texts view a) (that : IsReportBy other texts otherwise b)
-      → IsReport (circumstances_of that.said that.graph texts.replacements view) a
-  moved told other texts view otherwise a b this that =
-      let said = of_policies texts this.said that.said this.is_said that.is_said in
-      let graphs : this.graph ≡ that.graph =
-      one_graph texts.metadata this.graph that.graph this.is_graph that.is_graph in
-      let at : Policy → Option Licensing → Graph → Circumstances =
-      λ p l g. circumstances_on p l g texts.replacements view in
-      subst (λ (p : Policy). IsReport (at p (licensing_of that.said.licenses) that.graph) a) said.0
-      (subst (λ (l : Option Licensing). IsReport (at (policy_view this.said.bans) l that.graph) a) said.1
-      (subst (λ (g : Graph). IsReport (at (policy_view this.said.bans) (licensing_of this.said.licenses) g) a) graphs
-      this.is_report))
+  -- the first report in the circumstances of the second, but by what was seen for it
+  moved : (told other : Option Files) (texts : Texts) (view otherwise : View) (packages others : List Package)
+      (a b : Report) (this : IsReportBy told texts view packages a) (that : IsReportBy other texts otherwise others b)
+      → IsReport (circumstances_of that.said that.graph texts.replacements view packages) a
+  moved told other texts view otherwise packages others a b this that =
+      subst (λ (said : Saying). IsReport (circumstances_on said that.graph texts.replacements view packages) a)
+      (same_saying texts this.said that.said this.is_said that.is_said)
+      (subst (λ (g : Graph). IsReport (circumstances_of this.said g texts.replacements view packages) a)
+      (one_graph texts.metadata this.graph that.graph this.is_graph that.is_graph) this.is_report)
 
-  pub by_view : (told other : Option Files) (texts : Texts) (view : View) (a b : Report) → IsReportBy told texts view a
-      → IsReportBy other texts view b → AreToldAlike a b
-  by_view told other texts view a b this that =
-      let c = circumstances_of that.said that.graph texts.replacements view in
-      let first : IsReport c a = moved told other texts view view a b this that in
+  pub by_view : (told other : Option Files) (texts : Texts) (view : View) (packages : List Package) (a b : Report)
+      → IsReportBy told texts view packages a → IsReportBy other texts view packages b → AreToldAlike a b
+  by_view told other texts view packages a b this that =
+      let c = circumstances_of that.said that.graph texts.replacements view packages in
+      let first : IsReport c a = moved told other texts view view packages packages a b this that in
       told_alike c a b first that.is_report
       (laws.keys c first.keys that.is_report.keys first.listed that.is_report.listed)
 
-  -- ---- by whatever view
+  -- ---- by whatever was seen
 
   kept_findings : (c : Circumstances) (keys : List Key)
       → unseeing_findings (map (finding_told c) keys) ≡ map (finding_told c) (unseeing keys)
@@ -223,62 +264,97 @@ module _ (laws : ReportLaws) where
       (λ (key : Key). asks_no_file key.code) keys
       (λ key at. ap (λ (k : Key). asks_no_file k.code) (key_told c key)))
 
-  words_alike : (c : Circumstances) (view : View) (keys : List Key)
-      → map (finding_told c) (unseeing keys) ≡ map (finding_told (viewed c view)) (unseeing keys)
-  words_alike c view keys =
-      map_on (finding_told c) (finding_told (viewed c view)) (unseeing keys)
+  words_alike : (c : Circumstances) (view : View) (packages : List Package) (keys : List Key)
+      → map (finding_told c) (unseeing keys) ≡ map (finding_told (seen_anew c view packages)) (unseeing keys)
+  words_alike c view packages keys =
+      map_on (finding_told c) (finding_told (seen_anew c view packages)) (unseeing keys)
       (λ key at. finding_is c key
       ∙ (ap (finding_by key)
-      (sym (laws.words c view key (passes_filter (λ (k : Key). asks_no_file k.code) keys key at)))
-      ∙ sym (finding_is (viewed c view) key)))
+      (sym (laws.words c view packages key (passes_filter (λ (k : Key). asks_no_file k.code) keys key at)))
+      ∙ sym (finding_is (seen_anew c view packages) key)))
 
-  unseen_alike : (c : Circumstances) (view : View) (a b : Report) → IsReport c a → IsReport (viewed c view) b
-      → AreAlikeUnseen a b
-  unseen_alike c view a b this that =
+  unseen_alike : (c : Circumstances) (view : View) (packages : List Package) (a b : Report) → IsReport c a
+      → IsReport (seen_anew c view packages) b → AreAlikeUnseen a b
+  unseen_alike c view packages a b this that =
+      let d = seen_anew c view packages in
       let free : unseeing this.keys ≡ unseeing that.keys =
-      laws.unseen c view this.keys that.keys this.listed that.listed in
-      let hits : a.hits ≡ b.hits = one_hits c view a b this that in
-      let unused : filter_map unused_entry this.keys ≡ filter_map unused_entry that.keys =
-      unused_seen c this.listed.facts this.keys this.listed.listed.sound
-      ∙ (ap (filter_map unused_entry) free
-      ∙ sym (unused_seen (viewed c view) that.listed.facts that.keys that.listed.listed.sound)) in
+      laws.unseen c view packages this.keys that.keys this.listed that.listed in
+      let hits : unseeing_hits a.hits ≡ unseeing_hits b.hits = free_hits c view packages a b this that in
       record {
         krates = this.graph ∙ sym that.graph;
         findings = ap unseeing_findings this.told ∙ (kept_findings c this.keys
-            ∙ (ap (map (finding_told c)) free ∙ (words_alike c view that.keys
-            ∙ (sym (kept_findings (viewed c view) that.keys) ∙ ap unseeing_findings (sym that.told)))));
+            ∙ (ap (map (finding_told c)) free ∙ (words_alike c view packages that.keys
+            ∙ (sym (kept_findings d that.keys) ∙ ap unseeing_findings (sym that.told)))));
         dup_edges = one_dup_edges c this.keys that.keys a.dup_edges b.dup_edges
             (duplicates_seen this.keys ∙ (ap (filter is_of_duplicate) free ∙ sym (duplicates_seen that.keys)))
             this.shown that.shown;
         hits = hits;
-        dead = one_list entry_cmp-total a.dead b.dead
-            (subst (λ (hs : List Hit). AreDead that.keys hs a.dead) hits
-            (dead_by this.keys that.keys a.hits a.dead unused this.dead)) that.dead;
+        dead = dead_unseen this.keys that.keys a.hits b.hits a.dead b.dead free hits this.dead that.dead;
       }
 
   pub by_any : (told other : Option Files) (texts : Texts) (a b : Report) → IsReportOf told texts a
       → IsReportOf other texts b → AreAlikeUnseen a b
   by_any told other texts a b this that =
-      unseen_alike (circumstances_of that.by.said that.by.graph texts.replacements this.view) that.view a b
-      (moved told other texts this.view that.view a b this.by that.by) that.by.is_report
+      unseen_alike (circumstances_of that.by.said that.by.graph texts.replacements this.view this.packages) that.view
+      that.packages a b
+      (moved told other texts this.view that.view this.packages that.packages a b this.by that.by) that.by.is_report
 
   -- ---- on a disk that tells its files
 
-  pub by_told : (files : Files) (texts : Texts) (a b : Report) → IsReportOf (Some files) texts a
-      → IsReportOf (Some files) texts b → a.unread ≡ b.unread → a ≡ b
-  by_told files texts a b this that unread =
+  -- what was seen of packages is one, where what could not be read is, and how that failed
+  same_packages : (files : Files) (building : Option Building) (home : Option (List ℕ)) (g : Graph)
+      (unread : List Unread) (packages others : List Package) → AreSeenBy (Some files) building home g unread packages
+      → AreSeenBy (Some files) building home g unread others → failures_in packages ≡ failures_in others
+      → packages ≡ others
+  same_packages files None home g unread packages others this that failures = this.1 ∙ sym that.1
+  same_packages files (Some b) home g unread packages others this that failures =
+      laws.sight b g files this.reached that.reached home unread packages others this.tells that.tells this.seen
+      that.seen failures
+
+  pub by_told : (files : Files) (texts : Texts) (a b : Report) (this : IsReportOf (Some files) texts a)
+      (that : IsReportOf (Some files) texts b) → a.unread ≡ b.unread
+      → failures_in this.packages ≡ failures_in that.packages → a ≡ b
+  by_told files texts a b this that unread failures =
       let graphs : this.by.graph ≡ that.by.graph =
       one_graph texts.metadata this.by.graph that.by.graph this.by.is_graph that.by.is_graph in
-      let seen : IsSeen (Some files) that.by.graph texts.registries (first_files texts.policy that.by.graph) a.files
-      b.unread a.malformed this.view =
+      let saying = same_saying texts this.by.said that.by.said this.by.is_said that.by.is_said in
+      let first : first_files texts.policy this.by.said this.by.graph
+      ≡ first_files texts.policy that.by.said that.by.graph =
+      λ i. (policy_file texts.policy ∷ globs_files (saying i).globs) ++ lock_file (graphs i).root (graphs i) ∷ [] in
+      let seen : IsSeen (Some files) that.by.graph texts.registries
+      (first_files texts.policy that.by.said that.by.graph) a.files (of_manifests b.unread) a.malformed this.view =
       subst (λ (us : List Unread). IsSeen (Some files) that.by.graph texts.registries
-      (first_files texts.policy that.by.graph) a.files us a.malformed this.view) unread
-      (subst (λ (g : Graph). IsSeen (Some files) g texts.registries (first_files texts.policy g) a.files a.unread
-      a.malformed this.view) graphs this.by.seen) in
+      (first_files texts.policy that.by.said that.by.graph) a.files (of_manifests us) a.malformed this.view) unread
+      (subst (λ (fs : List File). IsSeen (Some files) that.by.graph texts.registries fs a.files
+      (of_manifests a.unread) a.malformed this.view) first
+      (subst (λ (g : Graph). IsSeen (Some files) g texts.registries
+      (first_files texts.policy this.by.said this.by.graph) a.files (of_manifests a.unread) a.malformed this.view)
+      graphs this.by.seen)) in
       let same = same_seen files that.by.graph texts.registries
-      (ids_apart texts.metadata that.by.graph that.by.is_graph) (first_files texts.policy that.by.graph) b.unread
+      (ids_apart texts.metadata that.by.graph that.by.is_graph)
+      (first_files texts.policy that.by.said that.by.graph) (of_manifests b.unread)
       a.files b.files a.malformed b.malformed this.view that.view seen that.by.seen in
+      let looked : AreSeenBy (Some files) (building_of that.by.said.bans) texts.home that.by.graph
+      (of_packages b.unread) this.packages =
+      subst (λ (us : List Unread). AreSeenBy (Some files) (building_of that.by.said.bans) texts.home that.by.graph
+      (of_packages us) this.packages) unread
+      (subst (λ (said : Saying). AreSeenBy (Some files) said.building texts.home that.by.graph (of_packages a.unread)
+      this.packages) saying
+      (subst (λ (g : Graph). AreSeenBy (Some files) (building_of this.by.said.bans) texts.home g
+      (of_packages a.unread) this.packages) graphs this.by.looked_at)) in
+      let packages = same_packages files (building_of that.by.said.bans) texts.home that.by.graph
+      (of_packages b.unread) this.packages that.packages looked that.by.looked_at failures in
       one_of a b
-      (by_view (Some files) (Some files) texts that.view a b
-      (subst (λ (view : View). IsReportBy (Some files) texts view a) same.seen this.by) that.by)
+      (by_view (Some files) (Some files) texts that.view that.packages a b
+      (subst (λ (ps : List Package). IsReportBy (Some files) texts that.view ps a) packages
+      (subst (λ (view : View). IsReportBy (Some files) texts view this.packages a) same.seen this.by)) that.by)
       same.files unread same.paths
+
+-- without what a policy says of builds no package is looked at, and so nothing failed there
+pub nothing_failed : (told : Option Files) (texts : Texts) (report : Report) (of : IsReportOf told texts report)
+    → building_of of.by.said.bans ≡ None → failures_in of.packages ≡ []
+nothing_failed told texts report of none =
+    let seen : AreSeenBy told None texts.home of.by.graph (of_packages report.unread) of.packages =
+    subst (λ (o : Option Building). AreSeenBy told o texts.home of.by.graph (of_packages report.unread) of.packages) none
+    of.by.looked_at in
+    ap failures_in seen.1

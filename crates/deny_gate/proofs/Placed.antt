@@ -37,6 +37,15 @@ are_placed bytes g of = λ c is.
     let same : at.0 ≡ c.place = omega (arith, place) in
     subst (λ (n : ℕ). slice_get g.crates n ≡ Some c) same at.1
 
+-- and bears the number of that place
+abbrev pub AreInPlace : Graph → Type 0
+AreInPlace g = (k : ℕ) (c : Crate) → slice_get g.crates k ≡ Some c → c.place ≡ k
+
+pub in_place : (bytes : List ℕ) (g : Graph) → IsGraphOf bytes g → AreInPlace g
+in_place bytes g of = λ k c at.
+    let place : c.place ≡ 0 + k = place_at of.read.document 0 of.graph.packages g.crates k c of.graph.crates at in
+    omega (arith, place)
+
 -- the crates at the places of some crates
 pub at_places : (g : Graph) (crates : List Crate) → ArePlaced g crates
     → filter_map (crate_at g) (map (λ c. c.place) crates) ≡ crates

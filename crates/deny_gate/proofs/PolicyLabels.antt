@@ -1,9 +1,10 @@
 -- The ranges of a policy are those of the configuration that it is seen from, and so lie in the text where those do.
 use Rattle.std.proofs.Common.{◌≡◌, ◌++◌, ◌+◌, ℕ, List, [], ◌∷◌, Option, None, Some, Result, Ok, Err, map}
-use Rattle.std.proofs.Common.{ap, refl, subst}
-use Rattle.std.specs.Prelude.{IfOk, slice_get, option_map, option_and_then}
+use Rattle.std.proofs.Common.{ap, refl, subst, sym, ◌∙◌}
+use Rattle.std.specs.Prelude.{All, Contains, IfOk, IfSome, slice_get, option_map, option_and_then}
 use Rattle.std.specs.List.{flat_map}
 use Rattle.std.proofs.lemmas.List.Elements.{All-from_recursion, recursion_from_All}
+use Rattle.std.proofs.lemmas.Option.{none-some, same_Some}
 use Rattle.deny_base.specs.declared.files.File.{File}
 use Rattle.deny_base.specs.declared.level.LintLevel.{LintLevel}
 use Rattle.deny_base.specs.declared.span.Span.{Span}
@@ -12,7 +13,14 @@ use Rattle.deny_cfg.specs.LabelRanges.{AreLabels, exception_range, licence_label
 use Rattle.deny_cfg.specs.LabelRanges.{std_ranges, with_spec, word_labels, word_ranges}
 use Rattle.deny_cfg.specs.LabelRanges as written
 use Rattle.deny_cfg.specs.LicensingView.{exception_view, licensing_of}
-use Rattle.deny_cfg.specs.PolicyView.{ban_view, entry_view, feature_view, policy_view, reason_words, replacing_view, root_view}
+use Rattle.deny_build_cfg.specs.BuildingView.{building_view, globs_file}
+use Rattle.deny_build_cfg.specs.Builtin.{builtin_file}
+use Rattle.deny_build_cfg.specs.declared.valid.ValidBuildConfig.{ValidBuildConfig}
+use Rattle.deny_build_model.specs.Building.{Building, ScriptGlob}
+use Rattle.deny_cfg.specs.PolicyText.{IsPolicyOf, globs_files, policy_file}
+use Rattle.deny_cfg.specs.PolicyView.{building_of, builtin_file_of}
+use Rattle.deny_cfg.specs.PolicyView.{ban_view, entry_view, feature_view, policy_view, reason_words, replacing_view}
+use Rattle.deny_cfg.specs.PolicyView.{root_view}
 use Rattle.deny_cfg.specs.PolicyView.{roots_from, words_or_none}
 use Rattle.deny_cfg.specs.StdReplacementConfig.{StdReplacementConfig}
 use Rattle.deny_cfg.specs.TreeSkipExtended.{TreeSkipExtended}
@@ -22,8 +30,9 @@ use Rattle.deny_cfg.specs.declared.bans.cfg.valid.ValidKrateFeatures.{ValidKrate
 use Rattle.deny_cfg.specs.declared.policy.Policy.{Policy}
 use Rattle.deny_cfg.specs.Reason.{Reason}
 use Rattle.deny_cfg.specs.PackageSpecOrExtended.{PackageSpecOrExtended}
+use Rattle.deny_cfg.proofs.Among.{lie_prefix, lie_rest}
+use Rattle.deny_cfg.proofs.BuiltLaws.{globs_read, next_file}
 use Rattle.deny_cfg.proofs.LabelLaws.{Lie, lie_append}
-use Rattle.deny_cfg.proofs.LabelValid.{lie_rest, lie_prefix}
 use Rattle.deny_tables.specs.declared.licenses.config.Config as licenses
 use Rattle.deny_tables.specs.declared.licenses.exception.Exception.{Exception}
 use Rattle.deny_spdx.specs.declared.requirement.Requirement.{Requirement}
@@ -31,18 +40,47 @@ use Rattle.deny_model.specs.Graph.{Graph}
 use Rattle.deny_model.specs.Licensing as model
 use Rattle.deny_model.specs.Policy.{Words}
 use Rattle.deny_krates.specs.Read.{IsGraphOf}
-use Rattle.deny_outside.specs.Disk.{Files}
+use Rattle.deny_outside.specs.Disk.{Disk}
+use Rattle.deny_spans.specs.Seen.{lock_file}
 use Rattle.deny_toml.specs.Ranges.{IsRange}
-use Rattle.deny_workspace.specs.declared.registries.Registry.{Registry}
-use Rattle.deny_gate.specs.Gating.{IsBuilt, IsReportOn, IsReportSeen, Texts, circumstances_of, first_files}
-use Rattle.deny_gate.specs.Labels.{AreLabelled, ban_ranges, entry_ranges, feature_ranges, ignore_ranges, licence_ranges}
-use Rattle.deny_gate.specs.Labels.{own_range, range_of, ranges_of, root_ranges}
-use Rattle.deny_gate.specs.Report.{lock_file_id, policy_id}
+use Rattle.deny_gate.specs.Gating.{Extras, IsReportOn, IsReportSeen, Texts, circumstances_of, extras_of, first_files}
+use Rattle.deny_gate.specs.Labels.{AreLabelled, ban_ranges, build_ranges, built_in_globs, built_in_ranges, entry_ranges}
+use Rattle.deny_gate.specs.Labels.{feature_ranges, ignore_ranges, licence_ranges, own_range, range_of, ranges_of}
+use Rattle.deny_gate.specs.Labels.{root_ranges}
+use Rattle.deny_gate.specs.Report.{lock_id, policy_id}
 use Rattle.deny_gate.specs.declared.report.GateError.{GateError}
 use Rattle.deny_gate.specs.declared.report.Report.{Report}
 use Rattle.deny_gate.proofs.FeatureSpans.{feature_spans, spans_lie}
 use Rattle.deny_gate.proofs.LabelLaws.{AreRanges, report_labelled}
 use Rattle.deny_gate.proofs.Placed.{are_placed}
+use Rattle.deny_gate.proofs.PolicyBuildRanges.{built_in_lie, builds_lie, glob_numbered}
+
+-- ---- where the files stand
+
+-- the built-in globs have the number behind the policy's, where they are there
+abbrev AreNext : Option ℕ → Type 0
+AreNext globs = IfSome globs (λ n. n ≡ policy_id + 1)
+
+module _ (first lock : File) (others : List File) where
+  abbrev files_by : Option ℕ → List File
+  files_by globs = ((first ∷ globs_files globs) ++ lock ∷ []) ++ others
+
+  lock_at : (globs : Option ℕ) → AreNext globs → slice_get (files_by globs) (lock_id globs) ≡ Some lock
+  lock_at None next = refl
+  lock_at (Some n) next = ap (λ (m : ℕ). slice_get (files_by (Some n)) (m + 1)) next
+
+  globs_at : (globs : Option ℕ) (number : ℕ) → globs ≡ Some number → AreNext globs
+      → slice_get (files_by globs) number ≡ Some builtin_file
+  globs_at None number is next = absurd (none-some number is)
+  globs_at (Some n) number is next =
+      ap (λ (m : ℕ). slice_get (files_by (Some n)) m) (sym (same_Some n number is) ∙ next)
+
+-- what is said of builds, and the file of its built-in globs
+globs_said : (build : Option ValidBuildConfig) (b : Building) → option_map building_view build ≡ Some b
+    → (e : ScriptGlob) → Contains (built_in_globs b) e → (number : ℕ) × (option_and_then globs_file build ≡ Some number)
+globs_said None b said e at = absurd (none-some b said)
+globs_said (Some valid) b said e at = glob_numbered valid e
+    (subst (λ (x : Building). Contains (built_in_globs x) e) (sym (same_Some (building_view valid) b said)) at)
 
 module _ (text : List ℕ) where
   words_lie : (words : List Words) → Lie text (word_ranges words) → Lie text (map (λ (w : Words). w.span) words)
@@ -210,6 +248,21 @@ module _ (text : List ℕ) where
       (level_lies cfg.workspace_default_features (lie_prefix text workspace _ from_workspace))
       (level_lies cfg.external_default_features (lie_prefix text external _ from_external))))))))
 
+  -- what is said of builds stands last
+  build_lies : (cfg : ValidConfig) → Lie text (word_labels cfg) → Lie text (of_some written.build_ranges cfg.build)
+  unfolding word_labels
+  build_lies cfg lie =
+      let denied = flat_map (with_spec written.ban_ranges) cfg.denied ++ flat_map spec_range cfg.denied_multiple_versions in
+      let from_allowed = lie_rest text denied _ lie in
+      let from_external = lie_rest text (flat_map (with_spec reason_range) cfg.allowed) _ from_allowed in
+      let from_workspace = lie_rest text (of_some written.own_range cfg.external_default_features) _ from_external in
+      let from_features = lie_rest text (of_some written.own_range cfg.workspace_default_features) _ from_workspace in
+      let from_skipped = lie_rest text (flat_map written.feature_ranges cfg.features) _ from_features in
+      let from_trees = lie_rest text (flat_map (with_spec reason_range) cfg.skipped) _ from_skipped in
+      let from_std = lie_rest text (flat_map (with_spec written.root_ranges) cfg.tree_skipped) _ from_trees in
+      lie_prefix text (of_some written.build_ranges cfg.build) []
+      (lie_rest text (of_some std_ranges cfg.std_replacements) _ from_std)
+
   -- ---- licences
 
   allowances_lie : (allow : List (Spanned Requirement)) → Lie text (flat_map written.own_range allow)
@@ -237,37 +290,55 @@ module _ (text : List ℕ) where
 
   -- ---- together
 
-  all_ranges : (told : Option Files) (metadata : List ℕ) (replacements : Option (List ℕ)) (registries : List Registry)
-      (said : Policy) (report : Report) → (built : IsBuilt text said) → (g : Graph) → IsGraphOf metadata g
+  all_ranges : (old new : Disk) (metadata : List ℕ) (extras : Extras) (said : Policy) (report : Report)
+      → (is : IsPolicyOf text policy_id said) → (g : Graph) → IsGraphOf metadata g
       → AreLabels text (word_labels said.bans) → AreLabels text (written.licence_ranges said.licenses)
-      → (on : IsReportSeen told said g replacements registries (first_files text g) report)
-      → AreRanges (circumstances_of said g replacements on.view) text report.files
-  all_ranges told metadata replacements registries said report built g is_graph bans licences on = record {
-    first = refl;
-    second = refl;
-    of_policy = All-from_recursion (IsRange text) (ranges_of (policy_view said.bans))
-        (ranges_lie said.bans (recursion_from_All (IsRange text) (word_labels said.bans) bans.placed)
-        (spans_lie text said built));
-    of_licences = All-from_recursion (IsRange text) (licence_ranges (licensing_of said.licenses))
-        (licences_lie said.licenses
-        (recursion_from_All (IsRange text) (written.licence_ranges said.licenses) licences.placed));
-    of_manifests = on.ranges;
-    policy_there = ap (λ (files : List File). slice_get files policy_id) on.seen.files;
-    lock_there = ap (λ (files : List File). slice_get files lock_file_id) on.seen.files;
-    lines = on.lines;
-    places = are_placed metadata g is_graph;
-  }
+      → All (IsRange text) (written.older_range said.bans)
+      → (on : IsReportSeen old new said g extras (first_files text said g) report)
+      → AreRanges (circumstances_of said g extras.replacements on.view on.packages) text report.files
+  all_ranges old new metadata extras said report is g is_graph bans licences older on =
+      let read = globs_read text policy_id said is in
+      let next = next_file text policy_id said is in
+      let words = recursion_from_All (IsRange text) (word_labels said.bans) bans.placed in record {
+        first = refl;
+        second = refl;
+        of_policy = All-from_recursion (IsRange text) (ranges_of (policy_view said.bans))
+            (ranges_lie said.bans words (spans_lie text said is));
+        of_licences = All-from_recursion (IsRange text) (licence_ranges (licensing_of said.licenses))
+            (licences_lie said.licenses
+            (recursion_from_All (IsRange text) (written.licence_ranges said.licenses) licences.placed));
+        of_builds = All-from_recursion (IsRange text) (build_ranges (building_of said.bans))
+            (builds_lie text said.bans.build read (build_lies said.bans words)
+            (recursion_from_All (IsRange text) (written.older_range said.bans) older));
+        of_globs = All-from_recursion (IsRange builtin_file.source) (built_in_ranges (building_of said.bans))
+            (built_in_lie said.bans.build read);
+        of_manifests = on.ranges;
+        policy_there = ap (λ (files : List File). slice_get files policy_id) on.seen.files;
+        globs_there = λ b of e at. let numbered = globs_said said.bans.build b of e at in record {
+          number = numbered.0;
+          is = numbered.1;
+          there = ap (λ (files : List File). slice_get files numbered.0) on.seen.files
+              ∙ globs_at (policy_file text) (lock_file g.root g) _ (builtin_file_of said.bans) numbered.0 numbered.1
+              next;
+        };
+        lock_there = ap (λ (files : List File). slice_get files (lock_id (builtin_file_of said.bans))) on.seen.files
+            ∙ lock_at (policy_file text) (lock_file g.root g) _ (builtin_file_of said.bans) next;
+        lines = on.lines;
+        places = are_placed metadata g is_graph;
+      }
 
 -- so the labels of the report of the policy that was read lie in its files
-pub labels_then : (told : Option Files) (texts : Texts) (said : Policy) (read : List ℕ)
-    (result : Result Report GateError) → read ≡ texts.policy → IsBuilt read said → AreLabels read (word_labels said.bans)
-    → AreLabels read (written.licence_ranges said.licenses) → IfOk result (IsReportOn told said texts)
+pub labels_then : (old new : Disk) (texts : Texts) (said : Policy) (read : List ℕ)
+    (result : Result Report GateError) → read ≡ texts.policy → IsPolicyOf read policy_id said
+    → AreLabels read (word_labels said.bans) → AreLabels read (written.licence_ranges said.licenses)
+    → All (IsRange read) (written.older_range said.bans) → IfOk result (IsReportOn old new said texts)
     → IfOk result (λ report. AreLabelled report.files report.findings)
-labels_then told texts said read (Ok report) same built bans licences on =
-    report_labelled (circumstances_of said on.graph texts.replacements on.seen.view) texts.policy report
-    (all_ranges texts.policy told texts.metadata texts.replacements texts.registries said report
-    (subst (λ (text : List ℕ). IsBuilt text said) same built) on.graph on.is_graph
+labels_then old new texts said read (Ok report) same is bans licences older on =
+    report_labelled (circumstances_of said on.graph texts.replacements on.seen.view on.seen.packages) texts.policy report
+    (all_ranges texts.policy old new texts.metadata (extras_of texts) said report
+    (subst (λ (text : List ℕ). IsPolicyOf text policy_id said) same is) on.graph on.is_graph
     (subst (λ (text : List ℕ). AreLabels text (word_labels said.bans)) same bans)
-    (subst (λ (text : List ℕ). AreLabels text (written.licence_ranges said.licenses)) same licences) on.seen)
+    (subst (λ (text : List ℕ). AreLabels text (written.licence_ranges said.licenses)) same licences)
+    (subst (λ (text : List ℕ). All (IsRange text) (written.older_range said.bans)) same older) on.seen)
     on.seen.is_report
-labels_then told texts said read (Err error) same built bans licences on = tt
+labels_then old new texts said read (Err error) same is bans licences older on = tt

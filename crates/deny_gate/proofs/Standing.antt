@@ -1,36 +1,28 @@
--- What is known of keys that stand: of which codes those are that name something as unused, and duplicates; and what
--- stands in the sections of the licence check is of a licence, and of no duplicate.
-use Rattle.std.proofs.Common.{◌≡◌, ◌⊎◌, ◌∙◌, Bool, true, false, List, [], ◌∷◌, Contains, Option, None, Some, ap, refl}
-use Rattle.std.proofs.Common.{inl, inr, subst, sym}
-use Rattle.std.specs.Prelude.{◌&&◌, IsTrue, filter, filter_map, option_map}
-use Rattle.std.specs.List.{cons_option}
-use Rattle.std.proofs.lemmas.Bool.{both_ways, cases_Bool, cond-true, cond-false}
+-- What is known of keys that stand: those of duplicates ask nothing of files; and what stands in the sections of the
+-- licence check is of a licence, and of no duplicate.
+use Rattle.std.proofs.Common.{◌≡◌, ◌∙◌, Bool, false, List, Option, None, Some, refl}
+use Rattle.std.proofs.Common.{sym}
+use Rattle.std.specs.Prelude.{◌&&◌, IsTrue, filter}
 use Rattle.deny_lists.proofs.Agreement.{filter_on}
 use Rattle.deny_lists.proofs.Filters.{filter-filter}
-use Rattle.deny_lists.proofs.Members.{Contains-first, Contains-rest}
 use Rattle.deny_base.specs.declared.code.Code.{Code}
 use Rattle.deny_base.specs.declared.code.Code.TheVariants as code
 use Rattle.deny_base.specs.declared.code.DiagnosticCode.{DiagnosticCode}
 use Rattle.deny_base.specs.declared.code.DiagnosticCode.TheVariants.{Deprecated, Bans, License}
-use Rattle.deny_base.specs.declared.entry.EntryId.{EntryId}
-use Rattle.deny_base.specs.declared.entry.EntryKind.{EntryKind}
-use Rattle.deny_base.specs.declared.entry.Hit.{Hit}
 use Rattle.deny_base.specs.declared.key.Key.{Key}
 use Rattle.deny_base.specs.declared.key.Section.{Section}
 use Rattle.deny_base.specs.declared.key.Section.TheVariants as section
 use Rattle.deny_base.specs.declared.license_code.LicenseCode.{LicenseCode}
-use Rattle.deny_base.specs.declared.span.Span.{Span}
 use Rattle.deny_base.specs.declared.license_code.LicenseCode.TheVariants as license
 use Rattle.deny_model.specs.Graph.{Graph}
 use Rattle.deny_model.specs.Licensing.{Licensing}
 use Rattle.deny_codes.specs.Circumstances.{Circumstances}
-use Rattle.deny_codes.specs.Codes.{asks_no_file, bans_unused_kind, is_free, is_of_bans, is_of_licenses}
-use Rattle.deny_codes.specs.Codes.{unseeing, unused_kind}
+use Rattle.deny_codes.specs.Codes.{asks_no_file, is_free, is_of_bans, is_of_licenses}
+use Rattle.deny_codes.specs.Codes.{unseeing}
 use Rattle.deny_codes.specs.Facts.{Facts}
-use Rattle.deny_codes.specs.Standing.{Stands, StandsAs, StandsBy, StandsIn, StandsLicensed}
-use Rattle.deny_codes.proofs.Sections.{as_code}
+use Rattle.deny_codes.specs.Standing.{StandsBy, StandsIn, StandsLicensed}
+use Rattle.deny_codes.proofs.Sections.{as_code, as_deprecated}
 use Rattle.deny_dup_edges.specs.DupEdges.{is_duplicate, is_of_duplicate}
-use Rattle.deny_laws.specs.Dead.{AreDead, unused_entry}
 
 -- ---- what asks nothing of files
 
@@ -53,73 +45,6 @@ pub duplicates_seen : (keys : List Key) → filter is_of_duplicate keys ≡ filt
 unfolding is_of_duplicate
 duplicates_seen keys =
     filter_within (λ (key : Key). asks_no_file key.code) is_of_duplicate keys (λ key. free_duplicate key.code)
-
--- what stands as unused asks nothing of files
-unused_code : (d : Code) (c : Circumstances) (facts : Facts) (key : Key) → StandsAs d c facts key
-    → (is_free d ≡ true) ⊎ (bans_unused_kind d ≡ None)
-unused_code code.UnmatchedBypass c facts key is = absurd is
-unused_code code.UnmatchedPathBypass c facts key is = absurd is
-unused_code code.UnmatchedGlob c facts key is = absurd is
-unused_code code.UnmatchedSkip c facts key is = inl refl
-unused_code code.UnmatchedSkipRoot c facts key is = inl refl
-unused_code code.UnusedWrapper c facts key is = inl refl
-unused_code code.UnmatchedReplacementIgnore c facts key is = inl refl
-unused_code _ c facts key is = inr refl
-
-unused_by : (d : DiagnosticCode) (c : Circumstances) (facts : Facts) (key : Key) → StandsBy d c facts key
-    → (asks_no_file d ≡ true) ⊎ (unused_kind d ≡ None)
-unused_by Deprecated c facts key is = absurd is
-unused_by (Bans d) c facts key is = unused_code d c facts key is
-unused_by (License d) c facts key is = inl refl
-
--- what is given of those that pass a test, where nothing is given of others
-nothing_given : {Y : Type 0} (b : Bool) (o : Option Y) → b ≡ false → (b ≡ true) ⊎ (o ≡ None) → o ≡ None
-nothing_given b o fails (inl passes) = absurd (both_ways b fails passes)
-nothing_given b o fails (inr none) = none
-
-filter_map_within : {X Y : Type 0} (q : X → Bool) (h : X → Option Y) (xs : List X)
-    → ((x : X) → Contains xs x → (q x ≡ true) ⊎ (h x ≡ None)) → filter_map h xs ≡ filter_map h (filter q xs)
-filter_map_within q h [] each = refl
-filter_map_within {X} {Y} q h (x ∷ xs) each =
-    let rest : filter_map h xs ≡ filter_map h (filter q xs) =
-    filter_map_within q h xs (λ y at. each y (Contains-rest x xs y at)) in
-    elim (cases_Bool (q x)) as (λ _. filter_map h (x ∷ xs) ≡ filter_map h (filter q (x ∷ xs))) [
-      | inl e ↦ ap (λ (ys : List Y). cons_option (h x) ys) rest
-          ∙ sym (ap (filter_map h) (cond-true (q x) (x ∷ filter q xs) (filter q xs) e))
-      | inr e ↦ ap (λ (o : Option Y). cons_option o (filter_map h xs))
-          (nothing_given (q x) (h x) e (each x (Contains-first x xs)))
-          ∙ (rest ∙ sym (ap (filter_map h) (cond-false (q x) (x ∷ filter q xs) (filter q xs) e)))
-    ]
-
-abbrev entry_id : EntryKind → Span → EntryId
-entry_id kind range = record { kind = kind; range = range }
-
-names_none : (key : Key) → (asks_no_file key.code ≡ true) ⊎ (unused_kind key.code ≡ None)
-    → (asks_no_file key.code ≡ true) ⊎ (unused_entry key ≡ None)
-unfolding unused_entry
-names_none key (inl free) = inl free
-names_none key (inr none) = inr (ap (λ (o : Option EntryKind).
-    option_map (λ (kind : EntryKind). entry_id kind key.entry) o) none)
-
--- so the entries that are named as unused are those that such keys name
-pub unused_seen : (c : Circumstances) (facts : Facts) (keys : List Key)
-    → ((key : Key) → Contains keys key → Stands c facts key)
-    → filter_map unused_entry keys ≡ filter_map unused_entry (unseeing keys)
-unused_seen c facts keys stand =
-    filter_map_within (λ (key : Key). asks_no_file key.code) unused_entry keys
-    (λ key at. names_none key (unused_by key.code c facts key (stand key at)))
-
-pub dead_by : (xs ys : List Key) (hits : List Hit) (dead : List EntryId)
-    → filter_map unused_entry xs ≡ filter_map unused_entry ys → AreDead xs hits dead → AreDead ys hits dead
-dead_by xs ys hits dead same are = record {
-  ascending = are.ascending;
-  whole = λ e is. are.whole e (record {
-    reported = subst (λ (es : List EntryId). Contains es e) (sym same) is.reported;
-    unhit = is.unhit;
-  });
-  sound = λ e at. let is = are.sound e at in
-      record { reported = subst (λ (es : List EntryId). Contains es e) same is.reported; unhit = is.unhit };
-}
 
 -- ---- the sections of the licence check
 
@@ -148,7 +73,7 @@ none_licensed _ (Some l) g key none is = absurd (cc none)
 
 none_by : (d : DiagnosticCode) (c : Circumstances) (facts : Facts) (key : Key) → c.licensing ≡ None
     → IsTrue (is_of_licenses key.section) → StandsBy d c facts key → ⊥
-none_by Deprecated c facts key none mine is = is
+none_by Deprecated c facts key none mine is = one_check key.section (as_deprecated c key is) mine
 none_by (Bans d) c facts key none mine is = one_check key.section (as_code d c facts key is) mine
 none_by (License d) c facts key none mine is = none_licensed d c.licensing c.graph key none is
 

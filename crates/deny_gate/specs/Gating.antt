@@ -1,8 +1,7 @@
 -- What the gate promises of the texts that it is handed.
-use Rattle.std.specs.Prelude.{◌≡◌, ◌≢◌, ◌⊎◌, ◌<◌, ◌^◌, ℕ, Bool, true, false, IsTrue, List, [], ◌∷◌, length, map}
-use Rattle.std.specs.Prelude.{filter}
-use Rattle.std.specs.Prelude.{Option, None, Some, Ok, Err, IfSome, option_map}
-use Rattle.deny_base.specs.declared.check.Which.TheVariants as which
+use Rattle.std.specs.Prelude.{◌≡◌, ◌≢◌, ◌⊎◌, ◌<◌, ◌^◌, ◌++◌, ℕ, Bool, IsTrue, List, [], ◌∷◌, length, map, filter}
+use Rattle.std.specs.Prelude.{Option, None, Some, Ok, Err, IfSome, option_copied, option_map}
+use Rattle.std.specs.List.Sorted.{IsStrictlySortedBy}
 use Rattle.deny_base.specs.declared.entry.Hit.{Hit}
 use Rattle.deny_base.specs.declared.files.File.{File}
 use Rattle.deny_base.specs.declared.finding.Pack.{Pack}
@@ -10,8 +9,8 @@ use Rattle.deny_base.specs.declared.key.Key.{Key}
 use Rattle.deny_base.specs.declared.span.Span.{Span}
 use Rattle.deny_cfg.specs.Lawful.{IsLawful, IsLawfulLicensing}
 use Rattle.deny_cfg.specs.LicensingView.{licensing_of}
-use Rattle.deny_cfg.specs.PolicyText.{IsPolicyOf, ListsFaults, TellsClashes, policy_file}
-use Rattle.deny_cfg.specs.PolicyView.{policy_view}
+use Rattle.deny_cfg.specs.PolicyText.{IsPolicyOf, ListsFaults, TellsClashes, policy_files}
+use Rattle.deny_cfg.specs.PolicyView.{building_of, builtin_file_of, policy_view}
 use Rattle.deny_cfg.specs.declared.policy.Policy.{Policy}
 use Rattle.deny_krates.specs.Checked.{Resolved, checked}
 use Rattle.deny_krates.specs.Read.{IsGraphOf}
@@ -21,36 +20,48 @@ use Rattle.deny_model.specs.Graph.{Crate, Graph}
 use Rattle.deny_model.specs.Licensing.{Licensing}
 use Rattle.deny_model.specs.Policy as model
 use Rattle.deny_model.specs.View.{View}
-use Rattle.deny_outside.specs.Disk.{Files}
-use Rattle.deny_codes.specs.Circumstances.{Circumstances, licensed, seen_by, tabled}
+use Rattle.deny_outside.specs.Disk.{Disk, Files}
+use Rattle.deny_build_model.specs.Building.{Building}
+use Rattle.deny_build_model.specs.declared.package.Package.{Package}
+use Rattle.deny_codes.specs.Circumstances.{Circumstances, FileNumbers, built, licensed, seen_anew, seen_in, tabled}
 use Rattle.deny_codes.specs.Hits.{TellsLicensed, both_hits}
 use Rattle.deny_codes.specs.Saying.{HasTable, IsBreakIn, bytes_of}
 use Rattle.deny_codes.specs.Standing.{AreKeys}
 use Rattle.deny_codes.specs.StdReplacements.{asks_for_table}
 use Rattle.deny_dup_edges.specs.DupEdges.{ShowsEach, is_of_duplicate}
 use Rattle.deny_licenses.specs.Check.{IsLicensed}
+use Rattle.deny_packages.specs.Why.{AreFoldersOf}
+use Rattle.deny_rules.specs.Packages.{AreSeenBy, HaveCauses}
 use Rattle.deny_spans.specs.Ranges.{ViewLies}
 use Rattle.deny_spans.specs.Seen.{IsSeen, lock_file}
 use Rattle.deny_toml.specs.Faults.{fault_at}
 use Rattle.deny_toml.specs.declared.error.FaultKind.TheVariants.{Grammar}
+use Rattle.deny_unread.specs.Bound.{Folders}
+use Rattle.deny_unread.specs.Causes.{AreCaused}
+use Rattle.deny_unread.specs.Unread.{unread_cmp}
 use Rattle.deny_gate.specs.Hits.{AreHits}
 use Rattle.deny_workspace.specs.declared.registries.Registry.{Registry}
 use Rattle.deny_gate.specs.Labels.{AreLockLines}
-use Rattle.deny_gate.specs.Report.{IsReport, finding_told, lock_file_id, policy_id, unseeing_findings}
+use Rattle.deny_gate.specs.Report.{IsReport, finding_told, lock_id, policy_id}
+use Rattle.deny_gate.specs.Unread.{of_manifests, of_packages}
+use Rattle.deny_gate.specs.Unseeing.{unseeing_entries, unseeing_findings, unseeing_hits}
+use Rattle.deny_gate.specs.declared.checks.Checked.{Checked}
+use Rattle.deny_gate.specs.declared.checks.Extras as handed
 use Rattle.deny_gate.specs.declared.checks.Looked.{Looked}
 use Rattle.deny_gate.specs.declared.checks.Told.{Told}
 use Rattle.deny_gate.specs.declared.report.GateError.{GateError}
-use Rattle.deny_gate.specs.declared.report.GateError.TheVariants.{Config, Invalid, NotBuilt, Metadata, Replacement}
+use Rattle.deny_gate.specs.declared.report.GateError.TheVariants.{Config, Invalid, Metadata, Replacement}
 use Rattle.deny_gate.specs.declared.report.GateError.TheVariants.{Memory}
 use Rattle.deny_gate.specs.declared.report.Inputs.{Inputs}
 use Rattle.deny_gate.specs.declared.report.Report.{Report}
 
 -- the texts that the gate is handed: of a policy, of metadata, and bytes of a table of replacements, if there are any;
--- beside them the registries that manifests can name
+-- beside them the folder that paths are shown from, if one is named, and the registries that manifests can name
 pub record Texts : Type 0 where
   pub policy : List ℕ
   pub metadata : List ℕ
   pub replacements : Option (List ℕ)
+  pub home : Option (List ℕ)
   pub registries : List Registry
 
 abbrev pub texts_in : Inputs → Texts
@@ -58,6 +69,7 @@ texts_in inputs = record {
   policy = inputs.policy.items;
   metadata = inputs.metadata.items;
   replacements = option_map (λ bytes. bytes.items) inputs.replacements;
+  home = inputs.home;
   registries = inputs.registries;
 }
 
@@ -67,47 +79,77 @@ pub record AreShort (texts : Texts) : Type 0 where
   pub metadata : length texts.metadata < 2 ^ 28
   pub replacements : IfSome texts.replacements (λ bytes. length bytes < 2 ^ 28)
 
--- the text is this policy, and each rule that it writes is there
-pub record IsBuilt (text : List ℕ) (policy : Policy) : Type 0 where
-  pub is_policy : IsPolicyOf text policy_id policy
-  pub is_built : policy.not_built ≡ false
+-- what rules see of a policy: what it says of crates, licences and builds, and the number of the built-in globs among
+-- the files, where they are there
+pub record Saying : Type 0 where
+  pub policy : model.Policy
+  pub licensing : Option Licensing
+  pub building : Option Building
+  pub globs : Option ℕ
 
--- a policy, and what it says of licences, on a graph, with these bytes of a table and what was seen of files
-abbrev pub circumstances_on : model.Policy → Option Licensing → Graph → Option (List ℕ) → View → Circumstances
-circumstances_on p licensing g replacements view =
-    licensed (tabled (seen_by p g policy_id lock_file_id view) (bytes_of replacements)) licensing
+abbrev pub saying_of : Policy → Saying
+saying_of said = record {
+  policy = policy_view said.bans;
+  licensing = licensing_of said.licenses;
+  building = building_of said.bans;
+  globs = builtin_file_of said.bans;
+}
+
+-- the policy's text is the first file, and the lock text stands behind the built-in globs
+abbrev pub numbers_of : Option ℕ → FileNumbers
+numbers_of globs = record { policy = policy_id; lock = Some (lock_id globs); globs = globs }
+
+-- what a policy says on a graph, with these bytes of a table, and what was seen of manifests and of packages
+abbrev pub circumstances_on : Saying → Graph → Option (List ℕ) → View → List Package → Circumstances
+circumstances_on said g replacements view packages =
+    let seen = seen_anew (seen_in (numbers_of said.globs) said.policy g view) view packages in
+    licensed (tabled (built seen said.building) (bytes_of replacements)) said.licensing
 
 -- the same of a policy that was read
-abbrev pub circumstances_of : Policy → Graph → Option (List ℕ) → View → Circumstances
-circumstances_of said g replacements view =
-    circumstances_on (policy_view said.bans) (licensing_of said.licenses) g replacements view
+abbrev pub circumstances_of : Policy → Graph → Option (List ℕ) → View → List Package → Circumstances
+circumstances_of said g replacements view packages = circumstances_on (saying_of said) g replacements view packages
 
 -- where a policy asks for a table of replacements, one was handed in
 abbrev pub IsTableFor : model.Policy → Option (List ℕ) → Type 0
 IsTableFor p replacements = IsTrue (asks_for_table p) → HasTable replacements
 
--- the files that stand before those of manifests: the text of a policy, and the lock text of a graph
-abbrev pub first_files : List ℕ → Graph → List File
-first_files policy g = policy_file policy ∷ (lock_file g.root g ∷ [])
+-- the files that stand before those of manifests: the text of a policy, the built-in globs where it asks for them, and
+-- the lock text of a graph
+abbrev pub first_files : List ℕ → Policy → Graph → List File
+first_files text said g = policy_files text said.bans ++ lock_file g.root g ∷ []
 
--- The policy is one whose rules are there, the metadata has a graph, there is the table that the policy asks for, and
--- this is the report of the one on the other, by this view of manifests. It is what was seen of the graph's manifests
--- on a disk that may tell its files: the files of the report are the policy's text, the lock text and what was read of
--- manifests, and it says what was not read and what is malformed.
-pub record IsReportBy (told : Option Files) (texts : Texts) (view : View) (report : Report) : Type 0 where
+-- The metadata has a graph, there is the table that the policy asks for, and this is the report of the one on the other,
+-- by this view of manifests and these packages. They are what was seen on a disk that may tell its files: the files of
+-- the report are those of the policy, the lock text and what was read of manifests, and it says what is malformed, and
+-- what was not read, ascending, each once: of manifests exactly those that are missing of what was seen of them, and
+-- besides exactly what is missing of packages.
+pub record IsReportBy (told : Option Files) (texts : Texts) (view : View) (packages : List Package) (report : Report)
+    : Type 0 where
   pub said : Policy
-  pub is_said : IsBuilt texts.policy said
+  pub is_said : IsPolicyOf texts.policy policy_id said
   pub graph : Graph
   pub is_graph : IsGraphOf texts.metadata graph
   pub table : IsTableFor (policy_view said.bans) texts.replacements
-  pub seen : IsSeen told graph texts.registries (first_files texts.policy graph) report.files report.unread
-      report.malformed view
-  pub is_report : IsReport (circumstances_of said graph texts.replacements view) report
+  pub ascending : IsStrictlySortedBy unread_cmp report.unread
+  pub seen : IsSeen told graph texts.registries (first_files texts.policy said graph) report.files
+      (of_manifests report.unread) report.malformed view
+  pub looked_at : AreSeenBy told (building_of said.bans) texts.home graph (of_packages report.unread) packages
+  pub is_report : IsReport (circumstances_of said graph texts.replacements view packages) report
 
--- by the view that was seen
+-- by what was seen
 pub record IsReportOf (told : Option Files) (texts : Texts) (report : Report) : Type 0 where
   pub view : View
-  pub by : IsReportBy told texts view report
+  pub packages : List Package
+  pub by : IsReportBy told texts view packages report
+
+-- What the report says was not read has its causes between two disks: those entries that no bound explains are at most
+-- as many as calls failed. So have the failures that it tells of packages.
+pub record IsCausedReport (old new : Disk) (texts : Texts) (report : Report) : Type 0 where
+  pub view : View
+  pub packages : List Package
+  pub by : IsReportBy old.files texts view packages report
+  pub caused : (folder : Folders) → AreFoldersOf report.krates folder → AreCaused folder old new report.unread
+  pub causes : HaveCauses old new (building_of by.said.bans) texts.home by.graph (of_packages report.unread) packages
 
 -- the reports of the same texts tell the same of them; what they say of files that could not be read may differ
 pub record AreToldAlike (a b : Report) : Type 0 where
@@ -119,24 +161,18 @@ pub record AreToldAlike (a b : Report) : Type 0 where
   pub stats : a.stats ≡ b.stats
   pub verdict : a.verdict ≡ b.verdict
 
--- the same, of findings of those alone whose codes ask nothing of files
+-- the same, of findings of those alone whose codes ask nothing of files, and of such entries
 pub record AreAlikeUnseen (a b : Report) : Type 0 where
   pub krates : a.krates ≡ b.krates
   pub findings : unseeing_findings a.findings ≡ unseeing_findings b.findings
   pub dup_edges : a.dup_edges ≡ b.dup_edges
-  pub hits : a.hits ≡ b.hits
-  pub dead : a.dead ≡ b.dead
+  pub hits : unseeing_hits a.hits ≡ unseeing_hits b.hits
+  pub dead : unseeing_entries a.dead ≡ unseeing_entries b.dead
 
--- the text is a policy whose rules are there
+-- the text is a policy
 pub record HasPolicy (policy : List ℕ) : Type 0 where
   pub said : Policy
-  pub is_said : IsBuilt policy said
-
--- the text is a policy that writes a rule that is not there yet
-pub record IsUnbuilt (policy : List ℕ) : Type 0 where
-  pub said : Policy
-  pub is_policy : IsPolicyOf policy policy_id said
-  pub is_unbuilt : said.not_built ≡ true
+  pub is_said : IsPolicyOf policy policy_id said
 
 -- the bytes are metadata without fault, and so have a graph
 pub record HasGraph (metadata : List ℕ) : Type 0 where
@@ -148,10 +184,10 @@ pub record IsFirstFault (metadata : List ℕ) (f : MetadataFault) : Type 0 where
   pub is_theirs : f ≢ fault.Memory
   pub is : checked metadata ≡ Err f
 
--- the text is a policy whose rules are there, and which asks for a table of replacements
+-- the text is a policy, which asks for a table of replacements
 pub record AsksForTable (policy : List ℕ) : Type 0 where
   pub said : Policy
-  pub is_said : IsBuilt policy said
+  pub is_said : IsPolicyOf policy policy_id said
   pub asks : IsTrue (asks_for_table (policy_view said.bans))
 
 -- when an answer may come that speaks of the policy alone, or of the metadata alone; want of memory
@@ -159,9 +195,6 @@ pub record AsksForTable (policy : List ℕ) : Type 0 where
 abbrev pub IsPolicyCause : List ℕ → GateError → Type 0
 IsPolicyCause policy (Config faults) = ListsFaults policy faults
 IsPolicyCause policy (Invalid told) = TellsClashes policy policy_id told
-IsPolicyCause policy (NotBuilt which.Policy) = IsUnbuilt policy
-IsPolicyCause policy (NotBuilt which.Metadata) = ⊥
-IsPolicyCause policy (NotBuilt which.Replacements) = ⊥
 IsPolicyCause policy (Metadata f) = ⊥
 IsPolicyCause policy (Replacement at) = ⊥
 IsPolicyCause policy Memory = Unit {0}
@@ -169,7 +202,6 @@ IsPolicyCause policy Memory = Unit {0}
 abbrev pub IsMetadataCause : List ℕ → GateError → Type 0
 IsMetadataCause metadata (Config faults) = ⊥
 IsMetadataCause metadata (Invalid told) = ⊥
-IsMetadataCause metadata (NotBuilt text) = ⊥
 IsMetadataCause metadata (Metadata f) = IsFirstFault metadata f
 IsMetadataCause metadata (Replacement at) = ⊥
 IsMetadataCause metadata Memory = Unit {0}
@@ -178,7 +210,6 @@ IsMetadataCause metadata Memory = Unit {0}
 abbrev pub IsCause : Texts → GateError → Type 0
 IsCause texts (Config faults) = ListsFaults texts.policy faults
 IsCause texts (Invalid told) = TellsClashes texts.policy policy_id told
-IsCause texts (NotBuilt text) = IsPolicyCause texts.policy (NotBuilt text)
 IsCause texts (Metadata f) = HasPolicy texts.policy × IsFirstFault texts.metadata f
 IsCause texts (Replacement at) = AsksForTable texts.policy × HasGraph texts.metadata × IsBreakIn texts.replacements at
 IsCause texts Memory = Unit {0}
@@ -194,27 +225,50 @@ AreOneCause a b = (a ≡ b) ⊎ (IsOutsideGrammar a × IsOutsideGrammar b)
 
 -- ---- for private clauses
 
--- the report of a policy on a graph by a view of files, which is what was seen behind these
-pub record IsReportSeen (told : Option Files) (said : Policy) (g : Graph) (replacements : Option (List ℕ))
-    (registries : List Registry) (first : List File) (report : Report) : Type 0 where
+-- what the gate is handed besides a policy and metadata
+pub record Extras : Type 0 where
+  pub replacements : Option (List ℕ)
+  pub home : Option (List ℕ)
+  pub registries : List Registry
+
+abbrev pub extras_in : handed.Extras → Extras
+extras_in extras = record {
+  replacements = option_copied extras.table;
+  home = option_copied extras.home;
+  registries = extras.registries.now;
+}
+
+abbrev pub extras_of : Texts → Extras
+extras_of texts = record {
+  replacements = texts.replacements;
+  home = texts.home;
+  registries = texts.registries;
+}
+
+-- the report of a policy on a graph, by what was seen between two disks, behind these files
+pub record IsReportSeen (old new : Disk) (said : Policy) (g : Graph) (extras : Extras) (first : List File)
+    (report : Report) : Type 0 where
   pub view : View
-  pub seen : IsSeen told g registries first report.files report.unread report.malformed view
+  pub packages : List Package
+  pub ascending : IsStrictlySortedBy unread_cmp report.unread
+  pub seen : IsSeen old.files g extras.registries first report.files (of_manifests report.unread) report.malformed view
+  pub looked_at : AreSeenBy old.files (building_of said.bans) extras.home g (of_packages report.unread) packages
+  pub causes : HaveCauses old new (building_of said.bans) extras.home g (of_packages report.unread) packages
   pub ranges : ViewLies report.files view
   pub lines : AreLockLines g
-  pub is_report : IsReport (circumstances_of said g replacements view) report
+  pub is_report : IsReport (circumstances_of said g extras.replacements view packages) report
 
 -- the metadata has a graph, there is the table that a policy asks for, and this is the report of the policy on it
-pub record IsReportOn (told : Option Files) (said : Policy) (texts : Texts) (report : Report) : Type 0 where
+pub record IsReportOn (old new : Disk) (said : Policy) (texts : Texts) (report : Report) : Type 0 where
   pub graph : Graph
   pub is_graph : IsGraphOf texts.metadata graph
   pub table : IsTableFor (policy_view said.bans) texts.replacements
-  pub seen : IsReportSeen told said graph texts.replacements texts.registries (first_files texts.policy graph) report
+  pub seen : IsReportSeen old new said graph (extras_of texts) (first_files texts.policy said graph) report
 
 -- when an answer may come that speaks of the bytes of a table alone
 abbrev pub IsTableCause : Option (List ℕ) → GateError → Type 0
 IsTableCause replacements (Config faults) = ⊥
 IsTableCause replacements (Invalid told) = ⊥
-IsTableCause replacements (NotBuilt text) = ⊥
 IsTableCause replacements (Metadata f) = ⊥
 IsTableCause replacements (Replacement at) = IsBreakIn replacements at
 IsTableCause replacements Memory = Unit {0}
@@ -227,7 +281,6 @@ IsTableCauseFor p replacements error = IsTrue (asks_for_table p) × IsTableCause
 abbrev pub IsCauseBehind : model.Policy → Texts → GateError → Type 0
 IsCauseBehind p texts (Config faults) = ⊥
 IsCauseBehind p texts (Invalid told) = ⊥
-IsCauseBehind p texts (NotBuilt text) = ⊥
 IsCauseBehind p texts (Metadata f) = IsFirstFault texts.metadata f
 IsCauseBehind p texts (Replacement at) =
     HasGraph texts.metadata × IsTableCauseFor p texts.replacements (Replacement at)
@@ -248,14 +301,26 @@ pub record IsTold (c : Circumstances) (told : Told) : Type 0 where
   pub tells : TellsLicensed c.licensing c.graph counts
   pub hits : AreHits (both_hits c listed.facts counts) told.hits
 
--- the same by what was seen of files, behind these
-pub record IsToldOn (files : Option Files) (said : Policy) (g : Graph) (replacements : Option (List ℕ))
-    (registries : List Registry) (first new : List File) (looked : Looked) : Type 0 where
+-- the same by what was seen between two disks of packages
+pub record IsCheckedBy (old new : Disk) (said : Policy) (g : Graph) (replacements home : Option (List ℕ)) (view : View)
+    (checked : Checked) : Type 0 where
+  pub packages : List Package
+  pub looked_at : AreSeenBy old.files (building_of said.bans) home g checked.unread packages
+  pub causes : HaveCauses old new (building_of said.bans) home g checked.unread packages
+  pub is_told : IsTold (circumstances_of said g replacements view packages) checked.told
+
+-- the same by what was seen of manifests too, behind these files
+pub record IsToldOn (old new : Disk) (said : Policy) (g : Graph) (extras : Extras) (first files : List File)
+    (looked : Looked) : Type 0 where
   pub view : View
-  pub seen : IsSeen files g registries first new looked.unread looked.malformed view
-  pub ranges : ViewLies new view
+  pub packages : List Package
+  pub ascending : IsStrictlySortedBy unread_cmp looked.unread
+  pub seen : IsSeen old.files g extras.registries first files (of_manifests looked.unread) looked.malformed view
+  pub looked_at : AreSeenBy old.files (building_of said.bans) extras.home g (of_packages looked.unread) packages
+  pub causes : HaveCauses old new (building_of said.bans) extras.home g (of_packages looked.unread) packages
+  pub ranges : ViewLies files view
   pub lines : AreLockLines g
-  pub is_told : IsTold (circumstances_of said g replacements view) looked.told
+  pub is_told : IsTold (circumstances_of said g extras.replacements view packages) looked.told
 
 -- what the licence check tells and hands out by what a policy says of licences: nothing where it does not speak of them
 abbrev pub IsLicensedIf : Option Licensing → Graph → ℕ → List Pack → List Pack → List Hit → Type 0

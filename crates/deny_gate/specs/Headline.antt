@@ -17,6 +17,7 @@ use Rattle.deny_base.specs.declared.key.Key.{Key}
 use Rattle.deny_base.specs.declared.level.LintLevel.TheVariants.{Deny}
 use Rattle.deny_base.specs.declared.license_code.LicenseCode.{LicenseCode}
 use Rattle.deny_base.specs.declared.license_code.LicenseCode.TheVariants as license
+use Rattle.deny_cfg.specs.PolicyText.{IsPolicyOf}
 use Rattle.deny_cfg.specs.PolicyView.{policy_view}
 use Rattle.deny_cfg.specs.declared.policy.Policy as cfg
 use Rattle.deny_krates.specs.Read.{IsGraphOf}
@@ -29,8 +30,8 @@ use Rattle.deny_model.specs.VersionOrder.{version_cmp}
 use Rattle.deny_toml.specs.Calls.{array_in, below_name, text_in}
 use Rattle.deny_toml.specs.Parser.{IsTreeOf}
 use Rattle.deny_toml.specs.declared.value.Value.{Value}
-use Rattle.deny_gate.specs.Gating.{IsBuilt, Texts}
-use Rattle.deny_gate.specs.Report.{has_error, verdict_of}
+use Rattle.deny_gate.specs.Gating.{Texts}
+use Rattle.deny_gate.specs.Report.{has_error, policy_id, verdict_of}
 use Rattle.deny_gate.specs.declared.report.Finding.{Finding}
 use Rattle.deny_gate.specs.declared.report.Report.{Report}
 use Rattle.deny_gate.specs.declared.report.Verdict.{Verdict}
@@ -285,7 +286,7 @@ pub record KeepsHeadline (p : Policy) (g : Graph) (facts : Facts) (report : Repo
 -- of the policy and the graph of texts, by true facts
 pub record IsHeadlineOf (texts : Texts) (report : Report) : Type 0 where
   pub said : cfg.Policy
-  pub is_said : IsBuilt texts.policy said
+  pub is_said : IsPolicyOf texts.policy policy_id said
   pub graph : Graph
   pub is_graph : IsGraphOf texts.metadata graph
   pub facts : Facts

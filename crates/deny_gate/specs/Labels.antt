@@ -1,10 +1,12 @@
 -- Where labels lie.
-use Rattle.std.specs.Prelude.{◌≡◌, ◌++◌, ◌∷◌, [], ℕ, List, Option, None, Some, All, Contains, map, slice_get}
+use Rattle.std.specs.Prelude.{◌≡◌, ◌++◌, ◌∷◌, [], ℕ, List, Option, None, Some, All, Contains, filter, map, not}
+use Rattle.std.specs.Prelude.{slice_get}
 use Rattle.std.specs.List.{flat_map}
 use Rattle.deny_base.specs.declared.files.File.{File}
 use Rattle.deny_base.specs.declared.finding.Diagnostic.{Diagnostic}
 use Rattle.deny_base.specs.declared.label.Label.{Label}
 use Rattle.deny_base.specs.declared.span.Span.{Span}
+use Rattle.deny_build_model.specs.Building.{AllowedPath, Building, Bypass, ScriptGlob}
 use Rattle.deny_cfg.specs.PolicyText.{policy_file}
 use Rattle.deny_base.specs.declared.span.Spanned.{Spanned}
 use Rattle.deny_lock.specs.Text.{IsLineOf, LinesAscend, lock_span_at, lock_text}
@@ -14,7 +16,7 @@ use Rattle.deny_model.specs.Policy.{Ban, Entry, FeatureEntry, Policy, Replacing,
 use Rattle.deny_toml.specs.Ranges.{IsRange}
 use Rattle.deny_gate.specs.declared.report.Finding.{Finding}
 use Rattle.deny_gate.specs.declared.report.GateError.{GateError}
-use Rattle.deny_gate.specs.declared.report.GateError.TheVariants.{Config, Invalid, NotBuilt, Metadata, Replacement}
+use Rattle.deny_gate.specs.declared.report.GateError.TheVariants.{Config, Invalid, Metadata, Replacement}
 use Rattle.deny_gate.specs.declared.report.GateError.TheVariants.{Memory}
 
 -- a label marks a range of its file, on character boundaries
@@ -37,7 +39,6 @@ AreLabelledClashes text told = All (λ d. ArePlaced (policy_file text ∷ []) d.
 abbrev pub IsLabelledCause : List ℕ → GateError → Type 0
 IsLabelledCause text (Config faults) = Unit {0}
 IsLabelledCause text (Invalid told) = AreLabelledClashes text told
-IsLabelledCause text (NotBuilt which) = Unit {0}
 IsLabelledCause text (Metadata f) = Unit {0}
 IsLabelledCause text (Replacement at) = Unit {0}
 IsLabelledCause text Memory = Unit {0}
@@ -87,6 +88,44 @@ ranges_of p = flat_map ban_ranges p.deny
     ++ (flat_map entry_ranges p.skip
     ++ (flat_map root_ranges p.skip_tree
     ++ (ignore_ranges p.replacing ++ (flat_map feature_ranges p.features ++ level_ranges p)))))
+
+-- of what a policy says of builds: its crates, checksums, features, globs and paths, the globs of scripts that it
+-- writes, and the older key for it
+abbrev pub sum_range : Option (Spanned (List ℕ)) → List Span
+sum_range None = []
+sum_range (Some sum) = sum.span ∷ []
+
+unfoldable pub path_ranges : AllowedPath → List Span
+path_ranges a = a.path.span ∷ sum_range a.checksum
+
+unfoldable pub bypass_ranges : Bypass → List Span
+bypass_ranges y = y.spec.range
+    ∷ (sum_range y.script
+    ++ (map (λ w. w.span) y.required ++ (map (λ w. w.span) y.globs ++ flat_map path_ranges y.allow)))
+
+-- of the globs of scripts those that a policy writes, and those that are built in
+abbrev pub written_globs : Building → List ScriptGlob
+written_globs b = filter (λ e. not e.built_in) b.extensions
+
+abbrev pub built_in_globs : Building → List ScriptGlob
+built_in_globs b = filter (λ e. e.built_in) b.extensions
+
+abbrev pub older_range : Option Span → List Span
+older_range None = []
+older_range (Some range) = range ∷ []
+
+unfoldable pub building_ranges : Building → List Span
+building_ranges b = flat_map bypass_ranges b.bypass
+    ++ (map (λ e. e.range) (written_globs b) ++ older_range b.older_key)
+
+abbrev pub build_ranges : Option Building → List Span
+build_ranges None = []
+build_ranges (Some b) = building_ranges b
+
+-- those in the file of the built-in globs
+abbrev pub built_in_ranges : Option Building → List Span
+built_in_ranges None = []
+built_in_ranges (Some b) = map (λ e. e.range) (built_in_globs b)
 
 -- of what a policy says of licences: those that every crate may ask for, and the names of exceptions
 abbrev pub licence_ranges : Option Licensing → List Span

@@ -5,3 +5,5 @@ pub mod Hits
 pub mod Labels
 pub mod Report
 pub mod Stats
+pub mod Unread
+pub mod Unseeing

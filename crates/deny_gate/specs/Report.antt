@@ -1,6 +1,6 @@
 -- The report in circumstances: one finding for each key that stands, what is shown of duplicates, which entries are hit
 -- and which are dead, and the verdict.
-use Rattle.std.specs.Prelude.{◌≡◌, ◌&&◌, ℕ, Bool, true, false, List, Option, is_some, map, filter}
+use Rattle.std.specs.Prelude.{◌≡◌, ◌&&◌, ◌+◌, ℕ, Bool, true, false, List, Option, None, Some, is_some, map, filter}
 use Rattle.std.specs.List.{list_any}
 use Rattle.deny_base.specs.declared.check.Check.{Check}
 use Rattle.deny_base.specs.declared.check.Check.TheVariants.{Bans, Licenses}
@@ -11,7 +11,6 @@ use Rattle.deny_base.specs.declared.level.Severity.{Severity}
 use Rattle.deny_base.specs.declared.level.Severity.TheVariants.{Bug, Error, Warning, Note, Help}
 use Rattle.deny_base.specs.declared.span.Kid.{Kid}
 use Rattle.deny_codes.specs.Circumstances.{Circumstances}
-use Rattle.deny_codes.specs.Codes.{asks_no_file}
 use Rattle.deny_codes.specs.Hits.{TellsLicensed, both_hits}
 use Rattle.deny_codes.specs.Standing.{AreKeys}
 use Rattle.deny_codes.specs.Told.{check_told, diag_told, words_told}
@@ -25,12 +24,14 @@ use Rattle.deny_gate.specs.declared.report.Report.{Report}
 use Rattle.deny_gate.specs.declared.report.Verdict.{Verdict}
 use Rattle.deny_gate.specs.declared.report.Verdict.TheVariants.{Pass, Fail}
 
--- the numbers of the policy and of the lock text among the files
+-- the numbers of the policy among the files, and of the lock text, which stands behind the built-in globs where these
+-- have a number
 abbrev pub policy_id : ℕ
 policy_id = 0
 
-abbrev pub lock_file_id : ℕ
-lock_file_id = 1
+abbrev pub lock_id : Option ℕ → ℕ
+lock_id None = 1
+lock_id (Some globs) = globs + 1
 
 -- the finding of a key
 unfoldable pub finding_told : Circumstances → Key → Finding
@@ -70,10 +71,6 @@ verdict_by true true = Fail 6
 
 abbrev pub verdict_of : List Finding → Verdict
 verdict_of findings = verdict_by (list_any (fails_as Bans) findings) (list_any (fails_as Licenses) findings)
-
--- those whose codes ask nothing of files
-abbrev pub unseeing_findings : List Finding → List Finding
-unseeing_findings findings = filter (λ f. asks_no_file f.diag.key.code) findings
 
 -- the keys of what is told
 abbrev pub keys_in : List Finding → List Key

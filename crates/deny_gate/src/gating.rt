@@ -1,58 +1,61 @@
-ghost use Rattle.std.specs.Prelude.{◌≡◌, ◌≢◌, ◌<◌, ◌^◌, ◌++◌, [], ◌∷◌, length, IfOk, IfErr, OnOk};
+ghost use Rattle.std.specs.Prelude.{◌≡◌, ◌≢◌, ◌<◌, ◌^◌, ◌++◌, [], ◌∷◌, All, length, IfOk, IfErr, OnOk};
 ghost use Rattle.std.specs.Prelude.{option_copied};
-ghost use Rattle.deny_cfg.specs.LabelRanges.{AreLabels, licence_ranges, word_labels};
-ghost use Rattle.deny_cfg.specs.PolicyText.{policy_file};
-ghost use Rattle.deny_cfg.specs.PolicyView.{policy_view};
+ghost use Rattle.deny_cfg.specs.LabelRanges.{AreLabels, licence_ranges, older_range, word_labels};
+ghost use Rattle.deny_cfg.specs.PolicyText.{IsPolicyOf, policy_files};
+ghost use Rattle.deny_cfg.specs.PolicyView.{AreGlobsRead, builtin_file_of, policy_view};
 ghost use Rattle.deny_krates.specs.Read.{IsGraphOf};
 ghost use Rattle.deny_outside.specs.Disk.{IsLater};
 ghost use Rattle.deny_codes.specs.Saying.{HasTable};
 ghost use Rattle.deny_codes.specs.StdReplacements.{asks_for_table};
+ghost use Rattle.deny_packages.specs.Why.{AreFoldersOf};
 ghost use Rattle.deny_spans.specs.Seen.{lock_file};
 ghost use Rattle.deny_spans.specs.Wanted.{AreWanted};
+ghost use Rattle.deny_toml.specs.Ranges.{IsRange};
 ghost use Rattle.deny_unread.specs.Bound.{Folders};
 ghost use Rattle.deny_unread.specs.Causes.{AreCaused};
-ghost use Rattle.deny_gate.specs.Gating.{AreEntriesApart, AreShort, IsBuilt, IsCause, IsCauseBehind};
+ghost use Rattle.deny_gate.specs.Gating.{AreEntriesApart, AreShort, IsCause, IsCauseBehind, IsCausedReport};
 ghost use Rattle.deny_gate.specs.Gating.{IsMetadataCause, IsPolicyCause, IsReportOf, IsReportOn};
 ghost use Rattle.deny_gate.specs.Gating.{IsReportSeen, IsTableCause, IsTableCauseFor, IsTableFor};
-ghost use Rattle.deny_gate.specs.Gating.{texts_in};
+ghost use Rattle.deny_gate.specs.Gating.{extras_in, extras_of, texts_in};
 ghost use Rattle.deny_gate.specs.Dead.{CanDoWithoutDead};
 ghost use Rattle.deny_gate.specs.Headline.{IsHeadlineOf};
 ghost use Rattle.deny_gate.specs.Labels.{AreLabelled, IsLabelledCause};
+ghost use Rattle.deny_gate.specs.Report.{lock_id, policy_id};
 ghost use Rattle.deny_gate.specs.Stats.{code_of, exit_code};
+ghost use Rattle.deny_gate.specs.Unread.{of_manifests};
 ghost use Rattle.deny_gate.specs.declared.report.GateError.TheVariants.{Memory};
 
-use crate::checks::{Looked, looked_at};
+use crate::checks::{Extras, Looked, looked_at};
 use crate::dead::dead_of;
 use crate::findings::verdict_of;
 use crate::report::{GateError, Inputs, Report};
 use crate::stats::all_stats;
-use deny_base::{Files, Which};
+use deny_base::Files;
 use deny_cfg::bans::cfg::ValidConfig;
 use deny_cfg::{Policy, PolicyError, Scope, read_policy};
 use deny_krates::{Krates, MetadataFault};
 use deny_lists::NoMemory;
 use deny_outside::PackageFiles;
-use deny_spans::Registry;
 use deny_std::{ReplacementData, ReplacementError};
 use std::alloc::Global;
 
-/// The policy of a text, each of whose rules has to be there.
-fn built_policy(alloc: Global, text: &[u8], files: &mut Files) -> Result<Policy, GateError>
+/// The policy of a text.
+#[tactic(auto, using(crate::proofs::PolicyFiles::lock_stands, crate::proofs::PolicyFiles::read_there))]
+fn policy_of(alloc: Global, text: &[u8], files: &mut Files) -> Result<Policy, GateError>
     requires small { length text.now < 2 ^ 28 }
     requires first { files.old ≡ [] }
-    ensures ok { IfOk result (IsBuilt text.now) }
+    ensures ok { IfOk result (IsPolicyOf text.now policy_id) }
     ensures labels { IfOk result (λ policy. AreLabels text.now (word_labels policy.bans)) }
     ensures licence_labels { IfOk result (λ policy. AreLabels text.now (licence_ranges policy.licenses)) }
+    ensures older_key { IfOk result (λ policy. All (IsRange text.now) (older_range policy.bans)) }
+    ensures read { IfOk result (λ policy. AreGlobsRead policy.bans) }
     ensures apart { IfOk result AreEntriesApart }
     ensures err { IfErr result (IsPolicyCause text.now) }
-    ensures files { OnOk result (files.new ≡ policy_file text.now ∷ []) }
+    ensures files { IfOk result (λ policy. files.new ≡ policy_files text.now policy.bans) }
+    ensures lock { IfOk result (λ policy. length files.new ≡ lock_id (builtin_file_of policy.bans)) }
 {
     match read_policy(alloc, text, files) {
-        Ok(policy) => if policy.not_built {
-            Err(GateError::NotBuilt(Which::Policy))
-        } else {
-            Ok(policy)
-        },
+        Ok(policy) => Ok(policy),
         Err(PolicyError::Config(faults)) => Err(GateError::Config(faults)),
         Err(PolicyError::Invalid(told)) => Err(GateError::Invalid(told)),
         Err(PolicyError::Memory) => Err(GateError::Memory),
@@ -109,30 +112,31 @@ fn check_table_for(alloc: Global, cfg: &ValidConfig, table: Option<&[u8]>) -> Re
     }
 }
 
-/// The report of a policy on a graph, with the policy's text as the one file.
+/// The report of a policy on a graph, with the files of the policy.
 #[tactic(auto, using(crate::proofs::FindingLaws::seen_report))]
 fn report_on<D: PackageFiles>(
     alloc: Global,
     files: Files,
     policy: &Policy,
     krates: Krates,
-    table: Option<&[u8]>,
-    registries: &[Registry],
+    extras: &Extras<'_>,
     disk: &mut D,
 ) -> Result<Report, NoMemory>
     requires file { policy.now.bans.file_id ≡ 0 }
+    requires read { AreGlobsRead policy.now.bans }
     requires apart { AreEntriesApart policy.now }
-    requires table { IsTableFor (policy_view policy.now.bans) (option_copied table) }
-    requires one { length files ≡ 1 }
-    ensures report { IfOk result (IsReportSeen (D.seen disk.old).files policy.now krates (option_copied table.entry)
-        registries.now (files ++ lock_file krates.root krates ∷ [])) }
-    ensures wanted { IfOk result (λ report. AreWanted report.krates report.unread) }
-    ensures caused { IfOk result (λ report. (folder : Folders) →
+    requires table { IsTableFor (policy_view policy.now.bans) (option_copied extras.now.table) }
+    requires few { length files < 2 ^ 31 }
+    requires before { length files ≡ lock_id (builtin_file_of policy.now.bans) }
+    ensures report { IfOk result (IsReportSeen (D.seen disk.old) (D.seen disk.new) policy.now krates
+        (extras_in extras.now) (files ++ lock_file krates.root krates ∷ [])) }
+    ensures wanted { IfOk result (λ report. AreWanted report.krates (of_manifests report.unread)) }
+    ensures caused { IfOk result (λ report. (folder : Folders) → AreFoldersOf report.krates folder →
         AreCaused folder (D.seen disk.old) (D.seen disk.new) report.unread) }
     ensures later { IsLater (D.seen disk.old) (D.seen disk.new) }
 {
     let mut files = files;
-    let looked = looked_at(alloc, policy, &krates, table, registries, disk, &mut files)?;
+    let looked = looked_at(alloc, policy, &krates, extras, disk, &mut files)?;
     let Looked {
         told,
         unread,
@@ -155,7 +159,19 @@ fn report_on<D: PackageFiles>(
     })
 }
 
+/// What is handed in besides a policy and metadata.
+fn extras_of(inputs: &Inputs) -> Extras<'_>
+    ensures { extras_in result ≡ extras_of (texts_in inputs.now) }
+{
+    Extras {
+        table: inputs.replacements.as_deref(),
+        home: inputs.home.as_ref().map(|home| home.as_str()),
+        registries: inputs.registries.as_slice(),
+    }
+}
+
 /// The report of a policy on the graph of metadata, with the table that it asks for.
+#[tactic(auto, using(crate::proofs::FindingLaws::report_by_texts, crate::proofs::PolicyFiles::few_files))]
 fn report_of<D: PackageFiles>(
     alloc: Global,
     files: Files,
@@ -164,41 +180,43 @@ fn report_of<D: PackageFiles>(
     disk: &mut D,
 ) -> Result<Report, GateError>
     requires file { policy.now.bans.file_id ≡ 0 }
+    requires read { AreGlobsRead policy.now.bans }
     requires apart { AreEntriesApart policy.now }
     requires small { length inputs.now.metadata.items < 2 ^ 28 }
-    requires first { files ≡ policy_file inputs.now.policy.items ∷ [] }
-    ensures report { IfOk result (IsReportOn (D.seen disk.old).files policy.now (texts_in inputs.now)) }
+    requires first { files ≡ policy_files inputs.now.policy.items policy.now.bans }
+    requires lock { length files ≡ lock_id (builtin_file_of policy.now.bans) }
+    ensures report { IfOk result (IsReportOn (D.seen disk.old) (D.seen disk.new) policy.now (texts_in inputs.now)) }
     ensures cause { IfErr result (IsCauseBehind (policy_view policy.now.bans) (texts_in inputs.now)) }
-    ensures wanted { IfOk result (λ report. AreWanted report.krates report.unread) }
-    ensures caused { IfOk result (λ report. (folder : Folders) →
+    ensures wanted { IfOk result (λ report. AreWanted report.krates (of_manifests report.unread)) }
+    ensures caused { IfOk result (λ report. (folder : Folders) → AreFoldersOf report.krates folder →
         AreCaused folder (D.seen disk.old) (D.seen disk.new) report.unread) }
     ensures untouched { IfErr result (λ error. error ≢ Memory → disk.new ≡ disk.old) }
     ensures later { IsLater (D.seen disk.old) (D.seen disk.new) }
 {
     let krates = read_graph(alloc, inputs.metadata.as_slice())?;
-    let table = inputs.replacements.as_deref();
-    check_table_for(alloc, &policy.bans, table)?;
-    let registries = inputs.registries.as_slice();
-    Ok(report_on(alloc, files, policy, krates, table, registries, disk)?)
+    let extras = extras_of(inputs);
+    check_table_for(alloc, &policy.bans, extras.table)?;
+    Ok(report_on(alloc, files, policy, krates, &extras, disk)?)
 }
 
 /// Reads a policy, cargo's metadata and, where the policy asks for one, a table of replacements, and
-/// then the manifests of the graph from the disk. It reports what stands: what the bans check finds,
-/// and behind it, where the policy writes `licenses`, what the licence check finds. The report fails by
-/// a bit for each check that has an error. It names the entries of the policy that are hit, and those
-/// that are dead: a finding calls them unused, and nothing hits them.
+/// then the manifests of the graph and what the policy asks of its packages from the disk. It reports
+/// what stands: what the bans check finds, and behind it, where the policy writes `licenses`, what the
+/// licence check finds. The report fails by a bit for each check that has an error. It names the
+/// entries of the policy that are hit, and those that are dead: a finding calls them unused, and
+/// nothing hits them.
 ///
 /// Each text has to be under 2^28 bytes. `Config` comes exactly where the policy's text has faults,
-/// `Invalid` exactly where it has none and entries clash, `NotBuilt` exactly where there is a policy
-/// and it writes a rule that is not there yet, `Metadata` exactly where none of these stands, and
+/// `Invalid` exactly where it has none and entries clash, `Metadata` exactly where neither stands, and
 /// this is the first fault of the metadata, and `Replacement` exactly where none of them stands, the
 /// policy asks for a table, and no bytes came (0) or they first break at this offset. `Memory` can
 /// come at any point. Each label, be it of a finding or of a clash, lies on character boundaries in
 /// its file.
 ///
-/// A manifest that is not read, or is malformed, stops no report: the report says so, and tells what
-/// stands by the others. A manifest is not read only where a call failed or it has 2^28 bytes or more.
-/// Where the texts have a cause that there is no report, nothing is read from the disk.
+/// A manifest that is not read, or is malformed, stops no report, nor does a folder or a file of a
+/// package: the report says so, and tells what stands by the others. Something is not read only where
+/// a call failed or it is too large. Where the texts have a cause that there is no report, nothing is
+/// read from the disk.
 pub fn gate<D: PackageFiles>(
     alloc: Global,
     inputs: &Inputs,
@@ -214,18 +232,19 @@ pub fn gate<D: PackageFiles>(
     ensures exit_code { IfOk result (λ report. exit_code report.stats ≡ code_of report.verdict) }
     ensures labels { IfOk result (λ report. AreLabelled report.files report.findings) }
     ensures clash_labels { IfErr result (IsLabelledCause inputs.now.policy.items) }
-    // Each entry is for a manifest that was to be read: of a crate without a source, or of the workspace.
-    ensures wanted { IfOk result (λ report. AreWanted report.krates report.unread) }
+    // Each entry for a manifest is for one that was to be read: of a crate without a source, or of the
+    // workspace. Those for packages are for what the policy asks of them, as the report says.
+    ensures wanted { IfOk result (λ report. AreWanted report.krates (of_manifests report.unread)) }
     // What was not read has its causes, and those that no bound explains are at most as many as calls
     // failed.
-    ensures caused { IfOk result (λ report. (folder : Folders) →
-        AreCaused folder (D.seen disk.old) (D.seen disk.new) report.unread) }
+    ensures caused { IfOk result (IsCausedReport (D.seen disk.old) (D.seen disk.new) (texts_in inputs.now)) }
     // Where the texts have a cause that there is no report, nothing was read.
     ensures untouched { IfErr result (λ error. error ≢ Memory → disk.new ≡ disk.old) }
     ensures later { IsLater (D.seen disk.old) (D.seen disk.new) }
 {
     deny_laws::dead_can_go();
+    deny_laws::packages_stay();
     let mut files = Files::new(alloc);
-    let policy = built_policy(alloc, inputs.policy.as_slice(), &mut files)?;
+    let policy = policy_of(alloc, inputs.policy.as_slice(), &mut files)?;
     report_of(alloc, files, &policy, inputs, disk)
 }

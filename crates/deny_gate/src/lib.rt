@@ -10,6 +10,7 @@ mod laws;
 pub mod licenses;
 mod report;
 mod stats;
+mod unread;
 
 /// Trees of the graph, by cargo-deny's names.
 pub mod grapher {

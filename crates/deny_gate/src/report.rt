@@ -1,7 +1,7 @@
 ghost use Rattle.std.proofs.Common.{rules};
 
 use crate::stats::AllStats;
-use deny_base::{Check, Diag, Diagnostic, EntryId, Files, Hit, Kid, Which};
+use deny_base::{Check, Diag, Diagnostic, EntryId, Files, Hit, Kid};
 use deny_krates::{Krates, MetadataFault};
 use deny_lists::{List, NoMemory, Plain, Text};
 use deny_rules::DupEdges;
@@ -17,6 +17,8 @@ pub struct Inputs {
     pub metadata: Vec<u8>,
     /// A table of what the standard library replaces, for policies that ask for one.
     pub replacements: Option<Vec<u8>>,
+    /// The folder that the paths of package files are shown from, where they lie in it.
+    pub home: Option<Text>,
     /// The registries that manifests can name; of one name the first counts.
     pub registries: List<Registry>,
 }
@@ -48,7 +50,8 @@ impl Plain for Verdict {
 /// What the gate finds.
 #[derive(Drop)]
 pub struct Report {
-    /// The files that labels point into: the policy as `deny.toml`, the lock text of the graph as
+    /// The files that labels point into: the policy as `deny.toml`, the built-in globs of scripts as
+    /// `builtin_globs.toml` where the policy asks for them, the lock text of the graph as
     /// `Cargo.lock` in the folder of the workspace, and each manifest that was read and is UTF-8, at
     /// its path: those of crates in the order of the graph, and behind them that of the workspace
     /// where it is no crate's.
@@ -59,14 +62,14 @@ pub struct Report {
     pub findings: List<Finding>,
     /// What is shown of each duplicate, in the order of their findings.
     pub dup_edges: List<DupEdges>,
-    /// What could not be read of manifests, by crate, path and purpose: its entry has the id of the
-    /// crate, and none for the workspace's manifest where it is no crate's.
+    /// What could not be read of manifests and packages, by crate, path and purpose, each once: its
+    /// entry has the id of the crate, and none for the workspace's manifest where it is no crate's.
     pub unread: List<Unread>,
     /// The paths of manifests that were read and are no TOML in UTF-8 within its limits, in byte
     /// order, each once.
     pub malformed: List<Text>,
     /// One for each entry of the policy that is hit, by range and kind: by its first crate in graph
-    /// order, and then that crate's first dependent.
+    /// order, and then that crate's first dependent or file.
     pub hits: List<Hit>,
     /// The entries that a finding names as unused and that have no hit, by range and kind.
     pub dead: List<EntryId>,
@@ -83,8 +86,6 @@ pub enum GateError {
     Config(List<ConfigFault>),
     /// Entries of the policy clash. Labels lie in the policy's text, which is file 0.
     Invalid(List<Diagnostic>),
-    /// The policy writes a rule that is not there yet.
-    NotBuilt(Which),
     /// The metadata has no graph: its first fault, which is never want of memory.
     Metadata(MetadataFault),
     /// The policy asks for a table of replacements, and there is none: no bytes came, and this is 0,

@@ -1,7 +1,8 @@
 -- What is made of lists whose elements are made anew.
 use Rattle.std.proofs.Common.{◌≡◌, ◌∙◌, ◌++◌, ◌∷◌, ◌||◌, Bool, List, None, Option, Some, [], ap, inl, inr, map}
-use Rattle.std.proofs.Common.{refl, sym}
-use Rattle.std.specs.Prelude.{Contains, filter, filter_map, is_none, option_and_then, option_map}
+use Rattle.std.proofs.Common.{false, refl, sym, true}
+use Rattle.std.specs.Prelude.{Contains, filter, filter_map, if◌then◌else◌, is_none, is_some, option_and_then}
+use Rattle.std.specs.Prelude.{option_map}
 use Rattle.std.specs.List.{flat_map, list_any}
 use Rattle.std.proofs.lemmas.Bool.{cases_Bool}
 use Rattle.std.proofs.lemmas.List.{map-append}
@@ -46,6 +47,23 @@ told_anew u t anew l k h (x ∷ xs) same told =
       | inr e ↦ rw (same x (Contains-first x xs), e, rest) refl
     ]
 
+-- what is told of each
+pub made_alike : {X K : Type 0} (l k : X → K) (h : K → K) (xs : List X) → ((x : X) → l x ≡ h (k x))
+    → map l xs ≡ map h (map k xs)
+made_alike l k h [] told = refl
+made_alike l k h (x ∷ xs) told = rw (told x, made_alike l k h xs told) refl
+
+pub made_anew : {X K : Type 0} (anew : X → X) (l k : X → K) (h : K → K) (xs : List X)
+    → ((x : X) → l (anew x) ≡ h (k x)) → map l (map anew xs) ≡ map h (map k xs)
+made_anew anew l k h [] told = refl
+made_anew anew l k h (x ∷ xs) told = rw (told x, made_anew anew l k h xs told) refl
+
+-- what is told under a guard
+pub when_anew : {K : Type 0} (h : K → K) (guard : Bool) (xs ys : List K) → xs ≡ map h ys
+    → (if guard then xs else []) ≡ map h (if guard then ys else [])
+when_anew h true xs ys told = told
+when_anew h false xs ys told = refl
+
 pub flat_map_alike : {X K : Type 0} (f' f : X → List K) (h : K → K) (xs : List X)
     → ((x : X) → Contains xs x → f' x ≡ map h (f x)) → flat_map f' xs ≡ map h (flat_map f xs)
 flat_map_alike f' f h [] same = refl
@@ -82,6 +100,10 @@ pub none_anew : {X : Type 0} (f : X → X) (o : Option X) → is_none (option_ma
 none_anew f None = refl
 none_anew f (Some x) = refl
 
+pub some_anew : {X : Type 0} (f : X → X) (o : Option X) → is_some (option_map f o) ≡ is_some o
+some_anew f None = refl
+some_anew f (Some x) = refl
+
 -- ---- keys and hits of another range
 
 -- of an entry that a crate hits
@@ -94,13 +116,20 @@ crate_hit_anew r kind range (Some c) = refl
 abbrev pub ranged : Renaming → Key → Key
 ranged r key = record key { entry = r.range key.entry }
 
+pub made_there : (h : Key → Key) (xs ys : List Key) (key : Key) → ys ≡ map h xs → Contains xs key
+    → Contains ys (h key)
+made_there h xs ys key same is = moved (map h xs) ys (h key) (sym same) (contains_map h xs key is)
+
+pub made_back : (h : Key → Key) (xs ys : List Key) (key : Key) → ys ≡ map h xs → Contains ys key
+    → (old : Key) × Contains xs old × (key ≡ h old)
+made_back h xs ys key same is =
+    let from = Contains-from_map h xs key (moved ys (map h xs) key same is) in
+    (from.from, from.member, sym from.is)
+
 pub keys_there : (r : Renaming) (xs ys : List Key) (key : Key) → ys ≡ map (ranged r) xs → Contains xs key
     → Contains ys (ranged r key)
-keys_there r xs ys key same is = moved (map (ranged r) xs) ys (ranged r key) (sym same)
-    (contains_map (ranged r) xs key is)
+keys_there r xs ys key same is = made_there (ranged r) xs ys key same is
 
 pub keys_back : (r : Renaming) (xs ys : List Key) (key : Key) → ys ≡ map (ranged r) xs → Contains ys key
     → (old : Key) × Contains xs old × (key ≡ ranged r old)
-keys_back r xs ys key same is =
-    let from = Contains-from_map (ranged r) xs key (moved ys (map (ranged r) xs) key same is) in
-    (from.from, from.member, sym from.is)
+keys_back r xs ys key same is = made_back (ranged r) xs ys key same is

@@ -5,6 +5,7 @@ use Rattle.std.specs.FinMap.{IsAntisymmetric}
 use Rattle.deny_base.specs.Entry.{entry_cmp}
 use Rattle.deny_base.specs.declared.entry.EntryId.{EntryId}
 use Rattle.deny_base.specs.declared.entry.EntryKind.{EntryKind}
+use Rattle.deny_base.specs.declared.entry.EntryKind.TheVariants as kind
 use Rattle.deny_base.specs.declared.entry.EntryKind.TheVariants.{LicenseAllow, LicenseException, ReplacementIgnore}
 use Rattle.deny_base.specs.declared.entry.EntryKind.TheVariants.{Skip, SkipRoot, Wrapper}
 use Rattle.deny_base.specs.declared.entry.Hit.{Hit}
@@ -14,19 +15,31 @@ use Rattle.deny_model.specs.Graph.{Crate}
 use Rattle.deny_codes.specs.Circumstances.{Circumstances}
 use Rattle.deny_codes.specs.Facts.{Facts}
 use Rattle.deny_codes.specs.Hits.{TellsLicensed, both_hits, hits_in}
-use Rattle.deny_laws.specs.Dead.{AreAmong, AreDead, AreDeadIgnores, AreDeadLicences, AreDeadSkips}
-use Rattle.deny_laws.specs.Dead.{AreDeadWrappers}
+use Rattle.deny_laws.specs.Dead.{AreAmong, AreDead, AreDeadBypasses, AreDeadIgnores, AreDeadLicences}
+use Rattle.deny_laws.specs.Dead.{AreDeadSkips, AreDeadWrappers}
+use Rattle.deny_laws.specs.BypassRemoval.{AreUnhitBypasses}
 use Rattle.deny_laws.specs.IgnoreRemoval.{AreUnhitIgnores}
 use Rattle.deny_laws.specs.LicenceRemoval.{AreUnhitLicences}
 use Rattle.deny_laws.specs.Removal.{HaveNoHit, is_taken}
 use Rattle.deny_laws.specs.SkipRemoval.{AreUnhit}
 use Rattle.deny_laws.specs.WrapperRemoval.{AreUnhitWrappers}
 use Rattle.deny_laws.proofs.Taken.{entry, not_taken}
-use Rattle.deny_laws.proofs.UnhitLemmas.{ignore_stays, licences_stay, of_bans, root_stays, skip_stays, wrapper_stays}
+use Rattle.deny_laws.proofs.UnhitLemmas.{bypasses_stay, ignore_stays, licences_stay, of_bans, root_stays}
+use Rattle.deny_laws.proofs.UnhitLemmas.{skip_stays, wrapper_stays}
 
 pub dead_unhit : (keys : List Key) (hits : List Hit) (dead taken : List EntryId) → AreDead keys hits dead
     → AreAmong dead taken → HaveNoHit hits taken
 dead_unhit keys hits dead taken are among = λ e is. (are.sound e (among e is)).unhit
+
+-- the kinds of what is said of builds
+abbrev bypass : EntryKind
+bypass = kind.Bypass
+
+abbrev path : EntryKind
+path = kind.BypassPath
+
+abbrev glob : EntryKind
+glob = kind.BypassGlob
 
 -- entries of two kinds are of no third
 none_of_other : IsAntisymmetric entry_cmp → (taken : List EntryId) (one other kind : EntryKind) → kind ≢ one
@@ -52,6 +65,16 @@ module _ (exact : IsAntisymmetric entry_cmp) (c : Circumstances) (facts : Facts)
       → (range : Span) → is_taken taken kind range ≡ false
   none_of_two = none_of_other exact taken Skip SkipRoot
 
+  none_of_three : (kind : EntryKind) → kind ≢ bypass → kind ≢ path → kind ≢ glob → AreDeadBypasses dead taken
+      → (range : Span) → is_taken taken kind range ≡ false
+  none_of_three kind first second third these range = not_taken exact taken kind range (λ is.
+      neither (these.kind (entry kind range) is))
+    where
+      neither : (kind ≡ bypass) ⊎ ((kind ≡ path) ⊎ (kind ≡ glob)) → ⊥
+      neither (inl e) = first e
+      neither (inr (inl e)) = second e
+      neither (inr (inr e)) = third e
+
   pub dead_skips : AreDeadSkips dead taken → AreUnhit c.policy c.graph facts.chains taken
   dead_skips these = let none = none_hit these.dead_each in record {
     skips = skip_stays exact c facts taken none;
@@ -61,6 +84,11 @@ module _ (exact : IsAntisymmetric entry_cmp) (c : Circumstances) (facts : Facts)
     no_licence = record {
       allowances = none_of_two LicenseAllow (λ e. absurd (cc e)) (λ e. absurd (cc e)) these.kind;
       exceptions = none_of_two LicenseException (λ e. absurd (cc e)) (λ e. absurd (cc e)) these.kind;
+    };
+    no_bypass = record {
+      bypasses = none_of_two bypass (λ e. absurd (cc e)) (λ e. absurd (cc e)) these.kind;
+      paths = none_of_two path (λ e. absurd (cc e)) (λ e. absurd (cc e)) these.kind;
+      globs = none_of_two glob (λ e. absurd (cc e)) (λ e. absurd (cc e)) these.kind;
     };
   }
 
@@ -78,6 +106,14 @@ module _ (exact : IsAntisymmetric entry_cmp) (c : Circumstances) (facts : Facts)
       exceptions = λ range. not_taken exact taken LicenseException range (λ is.
           absurd (cc (these.kind (entry LicenseException range) is)));
     };
+    no_bypass = record {
+      bypasses = λ range. not_taken exact taken bypass range (λ is.
+          absurd (cc (these.kind (entry bypass range) is)));
+      paths = λ range. not_taken exact taken path range (λ is.
+          absurd (cc (these.kind (entry path range) is)));
+      globs = λ range. not_taken exact taken glob range (λ is.
+          absurd (cc (these.kind (entry glob range) is)));
+    };
   }
 
   pub dead_ignores : AreDeadIgnores dead taken → AreUnhitIgnores c taken
@@ -92,6 +128,14 @@ module _ (exact : IsAntisymmetric entry_cmp) (c : Circumstances) (facts : Facts)
       exceptions = λ range. not_taken exact taken LicenseException range (λ is.
           absurd (cc (these.kind (entry LicenseException range) is)));
     };
+    no_bypass = record {
+      bypasses = λ range. not_taken exact taken bypass range (λ is.
+          absurd (cc (these.kind (entry bypass range) is)));
+      paths = λ range. not_taken exact taken path range (λ is.
+          absurd (cc (these.kind (entry path range) is)));
+      globs = λ range. not_taken exact taken glob range (λ is.
+          absurd (cc (these.kind (entry glob range) is)));
+    };
   }
 
   pub dead_licences : TellsLicensed c.licensing c.graph counts → AreDeadLicences dead taken → AreUnhitLicences c taken
@@ -105,4 +149,25 @@ module _ (exact : IsAntisymmetric entry_cmp) (c : Circumstances) (facts : Facts)
         (λ e. absurd (cc e)) these.kind;
     no_ignore = none_of_other exact taken LicenseAllow LicenseException ReplacementIgnore (λ e. absurd (cc e))
         (λ e. absurd (cc e)) these.kind;
+    no_bypass = record {
+      bypasses = none_of_other exact taken LicenseAllow LicenseException bypass (λ e. absurd (cc e))
+          (λ e. absurd (cc e)) these.kind;
+      paths = none_of_other exact taken LicenseAllow LicenseException path (λ e. absurd (cc e))
+          (λ e. absurd (cc e)) these.kind;
+      globs = none_of_other exact taken LicenseAllow LicenseException glob (λ e. absurd (cc e))
+          (λ e. absurd (cc e)) these.kind;
+    };
+  }
+
+  pub dead_bypasses : AreDeadBypasses dead taken → AreUnhitBypasses c facts taken
+  dead_bypasses these = record {
+    bypasses = bypasses_stay exact c facts taken (none_hit these.dead_each);
+    no_skip = none_of_three Skip (λ e. absurd (cc e)) (λ e. absurd (cc e)) (λ e. absurd (cc e)) these;
+    no_root = none_of_three SkipRoot (λ e. absurd (cc e)) (λ e. absurd (cc e)) (λ e. absurd (cc e)) these;
+    no_wrapper = none_of_three Wrapper (λ e. absurd (cc e)) (λ e. absurd (cc e)) (λ e. absurd (cc e)) these;
+    no_ignore = none_of_three ReplacementIgnore (λ e. absurd (cc e)) (λ e. absurd (cc e)) (λ e. absurd (cc e)) these;
+    no_licence = record {
+      allowances = none_of_three LicenseAllow (λ e. absurd (cc e)) (λ e. absurd (cc e)) (λ e. absurd (cc e)) these;
+      exceptions = none_of_three LicenseException (λ e. absurd (cc e)) (λ e. absurd (cc e)) (λ e. absurd (cc e)) these;
+    };
   }

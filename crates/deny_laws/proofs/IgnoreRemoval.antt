@@ -34,6 +34,7 @@ use Rattle.deny_codes.specs.Circumstances.{Circumstances}
 use Rattle.deny_codes.specs.Facts.{Facts, AreFacts}
 use Rattle.deny_codes.specs.FirstMatch.{first_of, is_first}
 use Rattle.deny_codes.specs.Hits.{hits_in}
+use Rattle.deny_codes.specs.Packages.{bypass_hits_in}
 use Rattle.deny_codes.specs.Saying.{Saying, said_by}
 use Rattle.deny_codes.specs.SkippedTrees.{skipped_by_root_keys}
 use Rattle.deny_codes.specs.Standing.{StandsAs, StandsBy, Stands}
@@ -247,9 +248,9 @@ module _ (c : Circumstances) (taken : List EntryId) (unhit : AreUnhitIgnores c t
 
   all_hits_stay : (f : Facts) → hits_in (without_ignores_in c taken) f ≡ hits_in c f
   all_hits_stay f =
-      ap (λ (hits : List Hit). hits ++ ignore_hits_in (without_ignores_in c taken))
+      ap (λ (hits : List Hit). hits ++ (ignore_hits_in (without_ignores_in c taken) ++ bypass_hits_in c f))
       (crate_hits_stay c.policy c.graph f.chains taken)
-      ∙ ap (λ (hits : List Hit). all_hits c.policy c.graph f.chains ++ hits) ignore_hits_stay
+      ∙ ap (λ (hits : List Hit). all_hits c.policy c.graph f.chains ++ (hits ++ bypass_hits_in c f)) ignore_hits_stay
 
 -- the crates that are asked for wildcards
 asked_stays : (p : Policy) (f : chains.Facts) (taken : List EntryId) (k : Crate)
@@ -328,7 +329,7 @@ module _ (c : Circumstances) (facts : Facts) (taken : List EntryId) (unhit : Are
   there_as code.WorkspaceDuplicate unnamed is = manifests_stay code.WorkspaceDuplicate refl is
   there_as code.UnresolvedWorkspaceDependency unnamed is = manifests_stay code.UnresolvedWorkspaceDependency refl is
   there_as code.UnusedWorkspaceDependency unnamed is = manifests_stay code.UnusedWorkspaceDependency refl is
-  there_as _ unnamed is = absurd is
+  there_as _ unnamed is = is
 
   back_as : (d : Code) → StandsAs d (without_ignores_in c taken) facts key → StandsAs d c facts key
       × (names_as taken (Bans d) key ≡ false)
@@ -398,17 +399,20 @@ module _ (c : Circumstances) (facts : Facts) (taken : List EntryId) (unhit : Are
   back_as code.WorkspaceDuplicate is = (manifests_from code.WorkspaceDuplicate refl is, refl)
   back_as code.UnresolvedWorkspaceDependency is = (manifests_from code.UnresolvedWorkspaceDependency refl is, refl)
   back_as code.UnusedWorkspaceDependency is = (manifests_from code.UnusedWorkspaceDependency refl is, refl)
-  back_as _ is = absurd is
+  back_as code.UnmatchedBypass is = (is, unhit.no_bypass.bypasses key.entry)
+  back_as code.UnmatchedPathBypass is = (is, unhit.no_bypass.paths key.entry)
+  back_as code.UnmatchedGlob is = (is, unhit.no_bypass.globs key.entry)
+  back_as _ is = (is, refl)
 
   there_by : (d : DiagnosticCode) → names_as taken d key ≡ false → StandsBy d c facts key
       → StandsBy d (without_ignores_in c taken) facts key
-  there_by Deprecated unnamed is = absurd is
+  there_by Deprecated unnamed is = is
   there_by (Bans d) unnamed is = there_as d unnamed is
   there_by (License d) unnamed is = is
 
   back_by : (d : DiagnosticCode) → StandsBy d (without_ignores_in c taken) facts key → StandsBy d c facts key
       × (names_as taken d key ≡ false)
-  back_by Deprecated is = absurd is
+  back_by Deprecated is = (is, refl)
   back_by (Bans d) is = back_as d is
   back_by (License d) is = (is, no_licence_named taken key unhit.no_licence d)
 
@@ -422,7 +426,10 @@ module _ (c : Circumstances) (facts : Facts) (taken : List EntryId) (unhit : Are
 
 facts_hold : (c : Circumstances) (facts : Facts) (taken : List EntryId) → AreFacts c facts
     → AreFacts (without_ignores_in c taken) facts
-facts_hold c facts taken are = record { chains = record { counts = are.chains.counts; in_tree = are.chains.in_tree } }
+facts_hold c facts taken are = record {
+  chains = record { counts = are.chains.counts; in_tree = are.chains.in_tree };
+  reached = are.reached;
+}
 
 pub ignores_gone : (c : Circumstances) (facts : Facts) (taken : List EntryId) (keys : List Key) → AreFacts c facts
     → AreUnhitIgnores c taken

@@ -1,7 +1,8 @@
 -- Keys of lists that are one, or of which one is a part of the other, and keys that name none of what goes.
-use Rattle.std.proofs.Common.{◌≡◌, Bool, List, ap, false, not, refl, subst, sym}
-use Rattle.std.specs.Prelude.{◌↔◌, Contains, IsTrue, filter}
+use Rattle.std.proofs.Common.{◌≡◌, ◌++◌, ◌∙◌, ◌∷◌, Bool, List, [], ap, false, map, not, refl, subst, sym, true}
+use Rattle.std.specs.Prelude.{◌↔◌, Contains, IsTrue, filter, if◌then◌else◌}
 use Rattle.std.proofs.lemmas.Bool.{not-true}
+use Rattle.std.proofs.lemmas.List.Elements.{filter-append}
 use Rattle.deny_lists.proofs.Members.{Contains-filter, Contains-from_filter}
 use Rattle.deny_base.specs.declared.code.DiagnosticCode.TheVariants.{License}
 use Rattle.deny_base.specs.declared.entry.EntryId.{EntryId}
@@ -12,7 +13,35 @@ use Rattle.deny_model.specs.Counting.{Counts}
 use Rattle.deny_model.specs.Graph.{Crate, Graph}
 use Rattle.deny_model.specs.Licensing.{Licensing}
 use Rattle.deny_codes.specs.Licences.{IsByCounting, TellsCounting}
-use Rattle.deny_laws.specs.Removal.{NoLicences, names_as}
+use Rattle.deny_laws.specs.Removal.{NoLicences, names, names_as, unnaming}
+
+-- ---- keys that name none of these
+
+abbrev pub AllStay : List EntryId → List Key → Type 0
+AllStay taken keys = unnaming taken keys ≡ keys
+
+pub both_stay : (taken : List EntryId) (xs ys : List Key) → AllStay taken xs → AllStay taken ys
+    → AllStay taken (xs ++ ys)
+both_stay taken xs ys one other = filter-append (λ key. not (names taken key)) xs ys
+    ∙ (ap (λ (keys : List Key). keys ++ unnaming taken ys) one ∙ ap (λ (keys : List Key). xs ++ keys) other)
+
+pub all_made_stay : {X : Type 0} (taken : List EntryId) (k : X → Key) (xs : List X)
+    → ((x : X) → names taken (k x) ≡ false) → AllStay taken (map k xs)
+all_made_stay taken k [] none = refl
+all_made_stay taken k (x ∷ xs) none = rw (none x, all_made_stay taken k xs none) refl
+
+-- what stands under a guard
+pub stay_when : (taken : List EntryId) (guard : Bool) (xs : List Key) → AllStay taken xs
+    → AllStay taken (if guard then xs else [])
+stay_when taken true xs stay = stay
+stay_when taken false xs stay = refl
+
+pub when_guarded : (guard : Bool) (xs ys : List Key) → (guard ≡ true → xs ≡ ys)
+    → (if guard then xs else []) ≡ (if guard then ys else [])
+when_guarded true xs ys same = same refl
+when_guarded false xs ys same = refl
+
+-- ---- keys of two lists
 
 pub moved : (xs ys : List Key) (key : Key) → xs ≡ ys → Contains xs key → Contains ys key
 moved xs ys key same is = subst (λ (keys : List Key). Contains keys key) same is

@@ -1,5 +1,11 @@
 pub mod Anew
+pub mod Asking
 pub mod BanRenaming
+pub mod BypassCases
+pub mod BypassHits
+pub mod BypassRemoval
+pub mod BypassRenaming
+pub mod BypassRows
 pub mod DeadLemmas
 pub mod FeatureRemoval
 pub mod FeatureRenaming
@@ -11,6 +17,7 @@ pub mod KeyParts
 pub mod LicenceRemoval
 pub mod LicenceRenaming
 pub mod ManifestRemoval
+pub mod PackageRemoval
 pub mod PremiseRows
 pub mod Removal
 pub mod RemovalRows

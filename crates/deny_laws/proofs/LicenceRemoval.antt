@@ -414,20 +414,20 @@ module _ (c : Circumstances) (facts : Facts) (taken : List EntryId) (unhit : Are
   none_named code.UnmatchedSkipRoot is = unhit.no_root key.entry
   none_named code.UnusedWrapper is = unhit.no_wrapper key.entry
   none_named code.UnmatchedReplacementIgnore is = unhit.no_ignore key.entry
-  none_named code.UnmatchedBypass is = absurd is
-  none_named code.UnmatchedPathBypass is = absurd is
-  none_named code.UnmatchedGlob is = absurd is
+  none_named code.UnmatchedBypass is = unhit.no_bypass.bypasses key.entry
+  none_named code.UnmatchedPathBypass is = unhit.no_bypass.paths key.entry
+  none_named code.UnmatchedGlob is = unhit.no_bypass.globs key.entry
   none_named _ is = refl
 
   there_by : (d : DiagnosticCode) → names_as taken d key ≡ false → StandsBy d c facts key
       → StandsBy d (without_licences_in c taken) facts key
-  there_by Deprecated unnamed is = absurd is
+  there_by Deprecated unnamed is = is
   there_by (Bans d) unnamed is = code_there d c (option_map (cut_licensing taken) c.licensing) facts key is
   there_by (License d) unnamed is = licensed_there c.licensing c.graph taken key unhit.licences d unnamed is
 
   back_by : (d : DiagnosticCode) → StandsBy d (without_licences_in c taken) facts key → StandsBy d c facts key
       × (names_as taken d key ≡ false)
-  back_by Deprecated is = absurd is
+  back_by Deprecated is = (is, refl)
   back_by (Bans d) is =
       let old = code_back d c (option_map (cut_licensing taken) c.licensing) facts key is in (old, none_named d old)
   back_by (License d) is = licensed_back c.licensing c.graph taken key unhit.licences d is
@@ -444,7 +444,10 @@ pub licences_gone : (c : Circumstances) (facts : Facts) (taken : List EntryId) (
     → AreUnhitLicences c taken
     → Lists key_cmp (Stands c facts) keys → AreGone c (without_licences_in c taken) facts taken keys
 licences_gone c facts taken keys are unhit listed = record {
-  facts_hold = record { chains = record { counts = are.chains.counts; in_tree = are.chains.in_tree } };
+  facts_hold = record {
+    chains = record { counts = are.chains.counts; in_tree = are.chains.in_tree };
+    reached = are.reached;
+  };
   listed = record {
     ascending = IsStrictlySortedBy-filter key_cmp (λ key. not (names taken key)) keys listed.ascending;
     whole = λ key is. let old = back_key c facts taken unhit key is in

@@ -1,5 +1,5 @@
 -- What stands of a policy without entries of any kind that nothing hits: the wrappers go first, then the ignores,
--- then the skips and skipped trees, and then licences and exceptions.
+-- then the skips and skipped trees, then what is said of builds, and then licences and exceptions.
 use Rattle.std.proofs.Common.{◌≡◌, ◌&&◌, ◌∙◌, Bool, List, None, Option, Some, ap, false, inl, inr, map, not, refl}
 use Rattle.std.proofs.Common.{subst, true}
 use Rattle.std.specs.Prelude.{filter, option_map}
@@ -14,6 +14,7 @@ use Rattle.deny_base.specs.Entry.{entry_cmp}
 use Rattle.deny_base.specs.KeyOrder.{key_cmp}
 use Rattle.deny_base.specs.declared.entry.EntryId.{EntryId}
 use Rattle.deny_base.specs.declared.entry.EntryKind.{EntryKind}
+use Rattle.deny_base.specs.declared.entry.EntryKind.TheVariants as kind
 use Rattle.deny_base.specs.declared.entry.EntryKind.TheVariants.{LicenseAllow, LicenseException, ReplacementIgnore}
 use Rattle.deny_base.specs.declared.entry.EntryKind.TheVariants.{Skip, SkipRoot, Wrapper}
 use Rattle.deny_base.specs.declared.entry.Hit.{Hit}
@@ -21,31 +22,38 @@ use Rattle.deny_base.specs.declared.key.Key.{Key}
 use Rattle.deny_base.specs.declared.span.Span.{Span}
 use Rattle.deny_base.specs.declared.span.Spanned.{Spanned}
 use Rattle.deny_spdx.specs.declared.requirement.Requirement.{Requirement}
+use Rattle.deny_build_model.specs.Building.{AllowedPath, Building, Bypass}
 use Rattle.deny_model.specs.Bans.{has_wrappers}
 use Rattle.deny_model.specs.Graph.{Crate}
 use Rattle.deny_model.specs.Licensing.{Exception, Licensing}
 use Rattle.deny_model.specs.Policy as policy
 use Rattle.deny_model.specs.Policy.{Ban, Entry, Policy, Replacing, Root}
+use Rattle.deny_codes.specs.BuildScripts.{bypass_range}
 use Rattle.deny_codes.specs.Circumstances.{Circumstances}
 use Rattle.deny_codes.specs.Codes.{unused_kind}
 use Rattle.deny_codes.specs.Facts.{Facts, AreFacts}
 use Rattle.deny_codes.specs.Hits.{TellsLicensed, both_hits}
 use Rattle.deny_codes.specs.Licences.{allowance_range, exception_range}
+use Rattle.deny_codes.specs.PackageFiles.{path_range}
 use Rattle.deny_codes.specs.Standing.{Stands}
 use Rattle.deny_codes.specs.StdReplacements.{ignore_range}
+use Rattle.deny_laws.specs.BypassRemoval.{AreUnhitBypasses, without_bypasses_in}
 use Rattle.deny_laws.specs.IgnoreRemoval.{AreUnhitIgnores, without_ignores, without_ignores_in}
 use Rattle.deny_laws.specs.LicenceRemoval.{AreUnhitLicences, without_licences_in}
-use Rattle.deny_laws.specs.Removal.{AreGone, EmptyNone, HaveNoHit, cut, cut_licensing}
-use Rattle.deny_laws.specs.Removal.{cut_replacing, is_taken, names, stays_allowance, stays_exception, stays_ignore}
-use Rattle.deny_laws.specs.Removal.{stays_root, stays_skip, stays_wrapper, unnaming, without, without_in}
+use Rattle.deny_laws.specs.Removal.{AreGone, EmptyNone, HaveNoHit, NoBypasses, NoLicences, cut, cut_building}
+use Rattle.deny_laws.specs.Removal.{cut_bypass, cut_licensing, cut_replacing, is_taken, names, stays_allowance}
+use Rattle.deny_laws.specs.Removal.{stays_bypass, stays_exception, stays_glob, stays_ignore, stays_path, stays_root}
+use Rattle.deny_laws.specs.Removal.{stays_skip, stays_wrapper, unnaming, without, without_in}
 use Rattle.deny_laws.specs.SkipRemoval.{AreUnhit, without_skips, without_skips_in}
 use Rattle.deny_laws.specs.WrapperRemoval.{AreUnhitWrappers, without_wrappers, without_wrappers_in}
+use Rattle.deny_laws.proofs.BypassRemoval.{bypasses_gone}
 use Rattle.deny_laws.proofs.FeatureRemoval.{with_lists}
 use Rattle.deny_laws.proofs.IgnoreRemoval.{ignores_gone}
 use Rattle.deny_laws.proofs.LicenceRemoval.{licences_gone}
 use Rattle.deny_laws.proofs.SkipRemoval.{skips_gone}
 use Rattle.deny_laws.proofs.Taken.{none_among, taken_among}
-use Rattle.deny_laws.proofs.UnhitLemmas.{ignore_stays, licences_stay, of_bans, root_stays, skip_stays, wrapper_stays}
+use Rattle.deny_laws.proofs.UnhitLemmas.{bypasses_stay, ignore_stays, licences_stay, of_bans, root_stays, skip_stays}
+use Rattle.deny_laws.proofs.UnhitLemmas.{wrapper_stays}
 use Rattle.deny_laws.proofs.WrapperRemoval.{wrappers_gone}
 
 -- ---- a part of them, by kind, and the rest
@@ -80,6 +88,21 @@ module _ (exact : IsAntisymmetric entry_cmp) (of_kind : EntryKind → Bool) (tak
   not_in_rest : (kind : EntryKind) (range : Span) → of_kind kind ≡ true
       → is_taken (rest_of of_kind taken) kind range ≡ false
   not_in_rest kind range is = none_among exact (λ e. not (of_kind e.kind)) taken kind range (ap (λ b. not b) is)
+
+  no_licence_in_part : of_kind LicenseAllow ≡ false → of_kind LicenseException ≡ false
+      → NoLicences (part_of of_kind taken)
+  no_licence_in_part one two = record {
+    allowances = λ range. not_in_part LicenseAllow range one;
+    exceptions = λ range. not_in_part LicenseException range two;
+  }
+
+  no_bypass_in_part : of_kind kind.Bypass ≡ false → of_kind kind.BypassPath ≡ false → of_kind kind.BypassGlob ≡ false
+      → NoBypasses (part_of of_kind taken)
+  no_bypass_in_part one two three = record {
+    bypasses = λ range. not_in_part kind.Bypass range one;
+    paths = λ range. not_in_part kind.BypassPath range two;
+    globs = λ range. not_in_part kind.BypassGlob range three;
+  }
 
   -- by the kind that a finding names
   named_by : (o : Option EntryKind) (range : Span)
@@ -117,7 +140,7 @@ in_turn exact of_kind c mid rest facts taken keys tells_too first second = recor
   licence_hits = λ counts tells. second.licence_hits counts (tells_too counts tells) ∙ first.licence_hits counts tells;
 }
 
--- ---- the wrappers, then the ignores, then the skips and skipped trees, then the others
+-- ---- the wrappers, then the ignores, then the skips and skipped trees, then what is said of builds, then the others
 
 abbrev is_wrapper_kind : EntryKind → Bool
 is_wrapper_kind Wrapper = true
@@ -132,6 +155,12 @@ is_skip_kind Skip = true
 is_skip_kind SkipRoot = true
 is_skip_kind _ = false
 
+abbrev is_bypass_kind : EntryKind → Bool
+is_bypass_kind kind.Bypass = true
+is_bypass_kind kind.BypassPath = true
+is_bypass_kind kind.BypassGlob = true
+is_bypass_kind _ = false
+
 abbrev wrappers_of : List EntryId → List EntryId
 wrappers_of taken = part_of is_wrapper_kind taken
 
@@ -145,8 +174,14 @@ left_of taken = rest_of is_ignore_kind (rest_of is_wrapper_kind taken)
 abbrev skips_of : List EntryId → List EntryId
 skips_of taken = part_of is_skip_kind (left_of taken)
 
+abbrev late_of : List EntryId → List EntryId
+late_of taken = rest_of is_skip_kind (left_of taken)
+
+abbrev bypasses_of : List EntryId → List EntryId
+bypasses_of taken = part_of is_bypass_kind (late_of taken)
+
 abbrev others_of : List EntryId → List EntryId
-others_of taken = rest_of is_skip_kind (left_of taken)
+others_of taken = rest_of is_bypass_kind (late_of taken)
 
 same_lists : (p : Policy) (d e : List Ban) (s r : List Entry) (t u : List Root) (m n : Option Replacing) → d ≡ e
     → s ≡ r → t ≡ u → m ≡ n → with_lists p d s t m ≡ with_lists p e r u n
@@ -171,10 +206,33 @@ module _ (exact : IsAntisymmetric entry_cmp) (taken : List EntryId) where
   same_skip kind range one two is = in_part exact is_skip_kind (left_of taken) kind range is
       ∙ same_left kind range one two
 
-  same_other : (kind : EntryKind) (range : Span) → is_wrapper_kind kind ≡ false → is_ignore_kind kind ≡ false
-      → is_skip_kind kind ≡ false → is_taken (others_of taken) kind range ≡ is_taken taken kind range
-  same_other kind range one two other = in_rest exact is_skip_kind (left_of taken) kind range other
+  same_late : (kind : EntryKind) (range : Span) → is_wrapper_kind kind ≡ false → is_ignore_kind kind ≡ false
+      → is_skip_kind kind ≡ false → is_taken (late_of taken) kind range ≡ is_taken taken kind range
+  same_late kind range one two other = in_rest exact is_skip_kind (left_of taken) kind range other
       ∙ same_left kind range one two
+
+  same_bypass : (range : Span) → is_taken (bypasses_of taken) kind.Bypass range ≡ is_taken taken kind.Bypass range
+  same_bypass range = in_part exact is_bypass_kind (late_of taken) kind.Bypass range refl
+      ∙ same_late kind.Bypass range refl refl refl
+
+  same_path : (range : Span)
+      → is_taken (bypasses_of taken) kind.BypassPath range ≡ is_taken taken kind.BypassPath range
+  same_path range = in_part exact is_bypass_kind (late_of taken) kind.BypassPath range refl
+      ∙ same_late kind.BypassPath range refl refl refl
+
+  same_glob : (range : Span)
+      → is_taken (bypasses_of taken) kind.BypassGlob range ≡ is_taken taken kind.BypassGlob range
+  same_glob range = in_part exact is_bypass_kind (late_of taken) kind.BypassGlob range refl
+      ∙ same_late kind.BypassGlob range refl refl refl
+
+  same_allowance : (range : Span) → is_taken (others_of taken) LicenseAllow range ≡ is_taken taken LicenseAllow range
+  same_allowance range = in_rest exact is_bypass_kind (late_of taken) LicenseAllow range refl
+      ∙ same_late LicenseAllow range refl refl refl
+
+  same_exception : (range : Span)
+      → is_taken (others_of taken) LicenseException range ≡ is_taken taken LicenseException range
+  same_exception range = in_rest exact is_bypass_kind (late_of taken) LicenseException range refl
+      ∙ same_late LicenseException range refl refl refl
 
   -- one after the other they take what is taken
   same_cut : (ban : Ban) → cut (wrappers_of taken) ban ≡ cut taken ban
@@ -212,22 +270,60 @@ module _ (exact : IsAntisymmetric entry_cmp) (taken : List EntryId) where
         exceptions = filter (stays_exception (others_of taken)) l.exceptions;
       }))
       (filter_on (stays_allowance (others_of taken)) (stays_allowance taken) l.allow
-      (λ a is. ap (λ b. not b) (same_other LicenseAllow (allowance_range a) refl refl refl)))
+      (λ a is. ap (λ b. not b) (same_allowance (allowance_range a))))
       ∙ ap (λ (exceptions : List Exception). Some (record l {
         allow = filter (stays_allowance taken) l.allow;
         exceptions = exceptions;
       }))
       (filter_on (stays_exception (others_of taken)) (stays_exception taken) l.exceptions
-      (λ e is. ap (λ b. not b) (same_other LicenseException (exception_range e) refl refl refl)))
+      (λ e is. ap (λ b. not b) (same_exception (exception_range e))))
+
+  same_cut_bypass : (y : Bypass) → cut_bypass (bypasses_of taken) y ≡ cut_bypass taken y
+  same_cut_bypass y =
+      ap (λ (globs : List policy.Words). record y {
+        globs = globs;
+        allow = filter (stays_path (bypasses_of taken)) y.allow;
+      })
+      (filter_on (stays_glob (bypasses_of taken)) (stays_glob taken) y.globs
+      (λ w is. ap (λ b. not b) (same_glob w.span)))
+      ∙ ap (λ (allow : List AllowedPath). record y { globs = filter (stays_glob taken) y.globs; allow = allow })
+      (filter_on (stays_path (bypasses_of taken)) (stays_path taken) y.allow
+      (λ a is. ap (λ b. not b) (same_path (path_range a))))
+
+  same_building : (o : Option Building)
+      → option_map (cut_building (bypasses_of taken)) o ≡ option_map (cut_building taken) o
+  same_building None = refl
+  same_building (Some b) =
+      ap (λ (bypasses : List Bypass). Some (record b { bypass = map (cut_bypass (bypasses_of taken)) bypasses }))
+      (filter_on (stays_bypass (bypasses_of taken)) (stays_bypass taken) b.bypass
+      (λ y is. ap (λ t. not t) (same_bypass (bypass_range y))))
+      ∙ ap (λ (bypasses : List Bypass). Some (record b { bypass = bypasses }))
+      (map_on (cut_bypass (bypasses_of taken)) (cut_bypass taken) (filter (stays_bypass taken) b.bypass)
+      (λ y is. same_cut_bypass y))
 
   same_circumstances : (c : Circumstances)
-      → without_licences_in (without_skips_in (without_ignores_in (without_wrappers_in c (wrappers_of taken))
-      (ignores_of taken)) (skips_of taken)) (others_of taken) ≡ without_in c taken
+      → without_licences_in (without_bypasses_in (without_skips_in (without_ignores_in
+      (without_wrappers_in c (wrappers_of taken)) (ignores_of taken)) (skips_of taken)) (bypasses_of taken))
+      (others_of taken) ≡ without_in c taken
   same_circumstances c =
-      ap (λ (p : Policy). record c { policy = p; licensing = option_map (cut_licensing (others_of taken)) c.licensing })
+      ap (λ (p : Policy). record c {
+        policy = p;
+        licensing = option_map (cut_licensing (others_of taken)) c.licensing;
+        building = option_map (cut_building (bypasses_of taken)) c.building;
+      })
       (same_policy c.policy)
-      ∙ ap (λ (licensing : Option Licensing). record c { policy = without c.policy taken; licensing = licensing })
+      ∙ (ap (λ (licensing : Option Licensing). record c {
+        policy = without c.policy taken;
+        licensing = licensing;
+        building = option_map (cut_building (bypasses_of taken)) c.building;
+      })
       (same_licensing c.licensing)
+      ∙ ap (λ (building : Option Building). record c {
+        policy = without c.policy taken;
+        licensing = option_map (cut_licensing taken) c.licensing;
+        building = building;
+      })
+      (same_building c.building))
 
 -- ---- what is hit stays
 
@@ -245,39 +341,30 @@ module _ (exact : IsAntisymmetric entry_cmp) (c : Circumstances) (facts : Facts)
     no_skip = λ range. not_in_part exact is_wrapper_kind taken Skip range refl;
     no_root = λ range. not_in_part exact is_wrapper_kind taken SkipRoot range refl;
     no_ignore = λ range. not_in_part exact is_wrapper_kind taken ReplacementIgnore range refl;
-    no_licence = record {
-      allowances = λ range. not_in_part exact is_wrapper_kind taken LicenseAllow range refl;
-      exceptions = λ range. not_in_part exact is_wrapper_kind taken LicenseException range refl;
-    };
+    no_licence = no_licence_in_part exact is_wrapper_kind taken refl refl;
+    no_bypass = no_bypass_in_part exact is_wrapper_kind taken refl refl refl;
   }
 
-  no_wrappers : HaveNoHit hits (rest_of is_wrapper_kind taken)
-  no_wrappers = part_unhit (λ e. not (is_wrapper_kind e.kind)) hits taken none
+  abbrev unwrapped : List EntryId
+  unwrapped = rest_of is_wrapper_kind taken
+
+  none_unwrapped : HaveNoHit hits unwrapped
+  none_unwrapped = part_unhit (λ e. not (is_wrapper_kind e.kind)) hits taken none
 
   ignores_unhit : AreUnhitIgnores c (ignores_of taken)
   ignores_unhit = record {
     ignores = ignore_stays exact c facts (ignores_of taken)
         (of_bans c facts counts (ignores_of taken)
-        (part_unhit (λ e. is_ignore_kind e.kind) hits (rest_of is_wrapper_kind taken) no_wrappers));
-    no_skip = λ range. not_in_part exact is_ignore_kind (rest_of is_wrapper_kind taken) Skip range refl;
-    no_root = λ range. not_in_part exact is_ignore_kind (rest_of is_wrapper_kind taken) SkipRoot range refl;
-    no_wrapper = λ range. not_in_part exact is_ignore_kind (rest_of is_wrapper_kind taken) Wrapper range refl;
-    no_licence = record {
-      allowances = λ range. not_in_part exact is_ignore_kind (rest_of is_wrapper_kind taken) LicenseAllow range refl;
-      exceptions = λ range. not_in_part exact is_ignore_kind (rest_of is_wrapper_kind taken) LicenseException range
-          refl;
-    };
+        (part_unhit (λ e. is_ignore_kind e.kind) hits unwrapped none_unwrapped));
+    no_skip = λ range. not_in_part exact is_ignore_kind unwrapped Skip range refl;
+    no_root = λ range. not_in_part exact is_ignore_kind unwrapped SkipRoot range refl;
+    no_wrapper = λ range. not_in_part exact is_ignore_kind unwrapped Wrapper range refl;
+    no_licence = no_licence_in_part exact is_ignore_kind unwrapped refl refl;
+    no_bypass = no_bypass_in_part exact is_ignore_kind unwrapped refl refl refl;
   }
 
   none_left : HaveNoHit hits (left_of taken)
-  none_left = part_unhit (λ e. not (is_ignore_kind e.kind)) hits (rest_of is_wrapper_kind taken) no_wrappers
-
-  no_wrapper_left : (range : Span) → is_taken (left_of taken) Wrapper range ≡ false
-  no_wrapper_left range = in_rest exact is_ignore_kind (rest_of is_wrapper_kind taken) Wrapper range refl
-      ∙ not_in_rest exact is_wrapper_kind taken Wrapper range refl
-
-  no_ignore_left : (range : Span) → is_taken (left_of taken) ReplacementIgnore range ≡ false
-  no_ignore_left range = not_in_rest exact is_ignore_kind (rest_of is_wrapper_kind taken) ReplacementIgnore range refl
+  none_left = part_unhit (λ e. not (is_ignore_kind e.kind)) hits unwrapped none_unwrapped
 
   skips_unhit : AreUnhit c.policy c.graph facts.chains (skips_of taken)
   skips_unhit =
@@ -288,78 +375,137 @@ module _ (exact : IsAntisymmetric entry_cmp) (c : Circumstances) (facts : Facts)
         roots = root_stays exact c facts (skips_of taken) unhit;
         no_wrapper = λ range. not_in_part exact is_skip_kind (left_of taken) Wrapper range refl;
         no_ignore = λ range. not_in_part exact is_skip_kind (left_of taken) ReplacementIgnore range refl;
-        no_licence = record {
-          allowances = λ range. not_in_part exact is_skip_kind (left_of taken) LicenseAllow range refl;
-          exceptions = λ range. not_in_part exact is_skip_kind (left_of taken) LicenseException range refl;
-        };
+        no_licence = no_licence_in_part exact is_skip_kind (left_of taken) refl refl;
+        no_bypass = no_bypass_in_part exact is_skip_kind (left_of taken) refl refl refl;
       }
+
+  none_late : HaveNoHit hits (late_of taken)
+  none_late = part_unhit (λ e. not (is_skip_kind e.kind)) hits (left_of taken) none_left
+
+  bypasses_unhit : AreUnhitBypasses c facts (bypasses_of taken)
+  bypasses_unhit = record {
+    bypasses = bypasses_stay exact c facts (bypasses_of taken) (of_bans c facts counts (bypasses_of taken)
+        (part_unhit (λ e. is_bypass_kind e.kind) hits (late_of taken) none_late));
+    no_skip = λ range. not_in_part exact is_bypass_kind (late_of taken) Skip range refl;
+    no_root = λ range. not_in_part exact is_bypass_kind (late_of taken) SkipRoot range refl;
+    no_wrapper = λ range. not_in_part exact is_bypass_kind (late_of taken) Wrapper range refl;
+    no_ignore = λ range. not_in_part exact is_bypass_kind (late_of taken) ReplacementIgnore range refl;
+    no_licence = no_licence_in_part exact is_bypass_kind (late_of taken) refl refl;
+  }
+
+  -- what is left at last is neither
+  no_skip_left : (range : Span) → is_taken (others_of taken) Skip range ≡ false
+  no_skip_left range = in_rest exact is_bypass_kind (late_of taken) Skip range refl
+      ∙ not_in_rest exact is_skip_kind (left_of taken) Skip range refl
+
+  no_root_left : (range : Span) → is_taken (others_of taken) SkipRoot range ≡ false
+  no_root_left range = in_rest exact is_bypass_kind (late_of taken) SkipRoot range refl
+      ∙ not_in_rest exact is_skip_kind (left_of taken) SkipRoot range refl
+
+  no_wrapper_left : (range : Span) → is_taken (others_of taken) Wrapper range ≡ false
+  no_wrapper_left range = in_rest exact is_bypass_kind (late_of taken) Wrapper range refl
+      ∙ (in_rest exact is_skip_kind (left_of taken) Wrapper range refl
+      ∙ (in_rest exact is_ignore_kind unwrapped Wrapper range refl
+      ∙ not_in_rest exact is_wrapper_kind taken Wrapper range refl))
+
+  no_ignore_left : (range : Span) → is_taken (others_of taken) ReplacementIgnore range ≡ false
+  no_ignore_left range = in_rest exact is_bypass_kind (late_of taken) ReplacementIgnore range refl
+      ∙ (in_rest exact is_skip_kind (left_of taken) ReplacementIgnore range refl
+      ∙ not_in_rest exact is_ignore_kind unwrapped ReplacementIgnore range refl)
 
   others_unhit : AreUnhitLicences c (others_of taken)
   others_unhit = record {
     licences = licences_stay exact c facts counts (others_of taken) tells
-        (part_unhit (λ e. not (is_skip_kind e.kind)) hits (left_of taken) none_left);
-    no_skip = λ range. not_in_rest exact is_skip_kind (left_of taken) Skip range refl;
-    no_root = λ range. not_in_rest exact is_skip_kind (left_of taken) SkipRoot range refl;
-    no_wrapper = λ range. in_rest exact is_skip_kind (left_of taken) Wrapper range refl ∙ no_wrapper_left range;
-    no_ignore = λ range. in_rest exact is_skip_kind (left_of taken) ReplacementIgnore range refl
-        ∙ no_ignore_left range;
+        (part_unhit (λ e. not (is_bypass_kind e.kind)) hits (late_of taken) none_late);
+    no_skip = no_skip_left;
+    no_root = no_root_left;
+    no_wrapper = no_wrapper_left;
+    no_ignore = no_ignore_left;
+    no_bypass = record {
+      bypasses = λ range. not_in_rest exact is_bypass_kind (late_of taken) kind.Bypass range refl;
+      paths = λ range. not_in_rest exact is_bypass_kind (late_of taken) kind.BypassPath range refl;
+      globs = λ range. not_in_rest exact is_bypass_kind (late_of taken) kind.BypassGlob range refl;
+    };
   }
 
-  abbrev mid : Circumstances
-  mid = without_wrappers_in c (wrappers_of taken)
+  -- ---- one after the other
 
-  abbrev late : Circumstances
-  late = without_ignores_in mid (ignores_of taken)
+  abbrev first : Circumstances
+  first = without_wrappers_in c (wrappers_of taken)
 
-  abbrev last : Circumstances
-  last = without_skips_in late (skips_of taken)
+  abbrev second : Circumstances
+  second = without_ignores_in first (ignores_of taken)
+
+  abbrev third : Circumstances
+  third = without_skips_in second (skips_of taken)
+
+  abbrev fourth : Circumstances
+  fourth = without_bypasses_in third (bypasses_of taken)
 
   abbrev end : Circumstances
-  end = without_licences_in last (others_of taken)
+  end = without_licences_in fourth (others_of taken)
 
-  unhit_then : AreUnhitIgnores mid (ignores_of taken)
-  unhit_then = record {
+  ignores_unhit_then : AreUnhitIgnores first (ignores_of taken)
+  ignores_unhit_then = record {
     ignores = ignores_unhit.ignores;
     no_skip = ignores_unhit.no_skip;
     no_root = ignores_unhit.no_root;
     no_wrapper = ignores_unhit.no_wrapper;
     no_licence = ignores_unhit.no_licence;
+    no_bypass = ignores_unhit.no_bypass;
   }
 
-  unhit_late : AreUnhit late.policy late.graph facts.chains (skips_of taken)
-  unhit_late = record {
+  skips_unhit_then : AreUnhit second.policy second.graph facts.chains (skips_of taken)
+  skips_unhit_then = record {
     skips = skips_unhit.skips;
     roots = skips_unhit.roots;
     no_wrapper = skips_unhit.no_wrapper;
     no_ignore = skips_unhit.no_ignore;
     no_licence = skips_unhit.no_licence;
+    no_bypass = skips_unhit.no_bypass;
   }
 
-  unhit_at_last : AreUnhitLicences last (others_of taken)
-  unhit_at_last = record {
+  bypasses_unhit_then : AreUnhitBypasses third facts (bypasses_of taken)
+  bypasses_unhit_then = record {
+    bypasses = bypasses_unhit.bypasses;
+    no_skip = bypasses_unhit.no_skip;
+    no_root = bypasses_unhit.no_root;
+    no_wrapper = bypasses_unhit.no_wrapper;
+    no_ignore = bypasses_unhit.no_ignore;
+    no_licence = bypasses_unhit.no_licence;
+  }
+
+  others_unhit_then : AreUnhitLicences fourth (others_of taken)
+  others_unhit_then = record {
     licences = others_unhit.licences;
     no_skip = others_unhit.no_skip;
     no_root = others_unhit.no_root;
     no_wrapper = others_unhit.no_wrapper;
     no_ignore = others_unhit.no_ignore;
+    no_bypass = others_unhit.no_bypass;
   }
 
   pub entries_gone : (keys : List Key) → AreFacts c facts → Lists key_cmp (Stands c facts) keys
       → AreGone c (without_in c taken) facts taken keys
   entries_gone keys are listed =
-      let named : List Key = unnaming (wrappers_of taken) keys in
-      let named_then : List Key = unnaming (ignores_of taken) named in
-      let named_late : List Key = unnaming (skips_of taken) named_then in
-      let first : AreGone c mid facts (wrappers_of taken) keys =
+      let named_first : List Key = unnaming (wrappers_of taken) keys in
+      let named_second : List Key = unnaming (ignores_of taken) named_first in
+      let named_third : List Key = unnaming (skips_of taken) named_second in
+      let named_fourth : List Key = unnaming (bypasses_of taken) named_third in
+      let one : AreGone c first facts (wrappers_of taken) keys =
       wrappers_gone c facts (wrappers_of taken) keys are wrappers_unhit listed in
-      let second : AreGone mid late facts (ignores_of taken) named =
-      ignores_gone mid facts (ignores_of taken) named first.facts_hold unhit_then first.listed in
-      let third : AreGone late last facts (skips_of taken) named_then =
-      skips_gone late facts (skips_of taken) named_then second.facts_hold unhit_late second.listed in
-      let fourth : AreGone last end facts (others_of taken) named_late =
-      licences_gone last facts (others_of taken) named_late third.facts_hold unhit_at_last third.listed in
+      let two : AreGone first second facts (ignores_of taken) named_first =
+      ignores_gone first facts (ignores_of taken) named_first one.facts_hold ignores_unhit_then one.listed in
+      let three : AreGone second third facts (skips_of taken) named_second =
+      skips_gone second facts (skips_of taken) named_second two.facts_hold skips_unhit_then two.listed in
+      let four : AreGone third fourth facts (bypasses_of taken) named_third =
+      bypasses_gone third facts (bypasses_of taken) named_third three.facts_hold bypasses_unhit_then three.listed in
+      let five : AreGone fourth end facts (others_of taken) named_fourth =
+      licences_gone fourth facts (others_of taken) named_fourth four.facts_hold others_unhit_then four.listed in
       let all : AreGone c end facts taken keys =
-      in_turn exact is_wrapper_kind c mid end facts taken keys (λ test told. told) first
-      (in_turn exact is_ignore_kind mid late end facts (rest_of is_wrapper_kind taken) named (λ test told. told) second
-      (in_turn exact is_skip_kind late last end facts (left_of taken) named_then (λ test told. told) third fourth)) in
+      in_turn exact is_wrapper_kind c first end facts taken keys (λ test told. told) one
+      (in_turn exact is_ignore_kind first second end facts unwrapped named_first (λ test told. told) two
+      (in_turn exact is_skip_kind second third end facts (left_of taken) named_second (λ test told. told) three
+      (in_turn exact is_bypass_kind third fourth end facts (late_of taken) named_third (λ test told. told) four five)))
+      in
       subst (λ (rest : Circumstances). AreGone c rest facts taken keys) (same_circumstances exact taken c) all

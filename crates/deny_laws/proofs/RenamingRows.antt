@@ -21,10 +21,10 @@ use Rattle.deny_codes.proofs.WildcardRows.{minding, wildcards_on_cases}
 use Rattle.deny_laws.specs.Renaming.{Renaming, renamed, renamed_key, renamed_licensing}
 use Rattle.deny_laws.proofs.IgnoreCases.{hit_by_x, hits_by, ignores_on_cases, two_ignores, unmatched_by}
 
-farther : Renaming
+unfoldable pub farther : Renaming
 farther = record { range = λ a. record { start = a.start + 100; end = a.end + 100 }; number = λ n. n }
 
-all_at_once : Renaming
+unfoldable pub all_at_once : Renaming
 all_at_once = record { range = λ a. range 7; number = λ n. n }
 
 x_by_app_app : Policy

@@ -38,6 +38,7 @@ use Rattle.deny_model.specs.Wrappers.{hits_wrapper, is_hit_wrapper, unused_wrapp
 use Rattle.deny_codes.specs.Bans.{allowed_by_wrapper_keys, banned_keys, unmatched_wrapper_keys}
 use Rattle.deny_codes.specs.Circumstances.{Circumstances}
 use Rattle.deny_codes.specs.Facts.{Facts, AreFacts}
+use Rattle.deny_codes.specs.Packages.{bypass_hits_in}
 use Rattle.deny_codes.specs.SkippedTrees.{skipped_by_root_keys}
 use Rattle.deny_codes.specs.Skips.{skipped_keys}
 use Rattle.deny_codes.specs.Standing.{StandsAs, StandsBy, Stands}
@@ -378,7 +379,7 @@ module _ (c : Circumstances) (facts : Facts) (taken : List EntryId)
   there_as code.WorkspaceDuplicate unnamed is = manifests_stay code.WorkspaceDuplicate refl is
   there_as code.UnresolvedWorkspaceDependency unnamed is = manifests_stay code.UnresolvedWorkspaceDependency refl is
   there_as code.UnusedWorkspaceDependency unnamed is = manifests_stay code.UnusedWorkspaceDependency refl is
-  there_as _ unnamed is = absurd is
+  there_as _ unnamed is = is
 
   back_as : (d : Code) → StandsAs d (without_skips_in c taken) facts key → StandsAs d c facts key
       × (names_as taken (Bans d) key ≡ false)
@@ -446,17 +447,20 @@ module _ (c : Circumstances) (facts : Facts) (taken : List EntryId)
   back_as code.WorkspaceDuplicate is = (manifests_from code.WorkspaceDuplicate refl is, refl)
   back_as code.UnresolvedWorkspaceDependency is = (manifests_from code.UnresolvedWorkspaceDependency refl is, refl)
   back_as code.UnusedWorkspaceDependency is = (manifests_from code.UnusedWorkspaceDependency refl is, refl)
-  back_as _ is = absurd is
+  back_as code.UnmatchedBypass is = (is, unhit.no_bypass.bypasses key.entry)
+  back_as code.UnmatchedPathBypass is = (is, unhit.no_bypass.paths key.entry)
+  back_as code.UnmatchedGlob is = (is, unhit.no_bypass.globs key.entry)
+  back_as _ is = (is, refl)
 
   there_by : (d : DiagnosticCode) → names_as taken d key ≡ false → StandsBy d c facts key
       → StandsBy d (without_skips_in c taken) facts key
-  there_by Deprecated unnamed is = absurd is
+  there_by Deprecated unnamed is = is
   there_by (Bans d) unnamed is = there_as d unnamed is
   there_by (License d) unnamed is = is
 
   back_by : (d : DiagnosticCode) → StandsBy d (without_skips_in c taken) facts key → StandsBy d c facts key
       × (names_as taken d key ≡ false)
-  back_by Deprecated is = absurd is
+  back_by Deprecated is = (is, refl)
   back_by (Bans d) is = back_as d is
   back_by (License d) is = (is, no_licence_named taken key unhit.no_licence d)
 
@@ -476,6 +480,7 @@ facts_hold c facts taken are = record {
     in_tree = λ t written k known. are.chains.in_tree t (filtered (stays_root taken) c.policy.skip_tree t written) k
         known;
   };
+  reached = are.reached;
 }
 
 listed_without : (c : Circumstances) (facts : Facts) (taken : List EntryId) (keys : List Key) → AreFacts c facts
@@ -496,7 +501,7 @@ pub skips_gone : (c : Circumstances) (facts : Facts) (taken : List EntryId) (key
 skips_gone c facts taken keys are unhit listed = record {
   facts_hold = facts_hold c facts taken are;
   listed = listed_without c facts taken keys are unhit listed;
-  hits = ap (λ (hits : List Hit). hits ++ ignore_hits_in c)
+  hits = ap (λ (hits : List Hit). hits ++ (ignore_hits_in c ++ bypass_hits_in c facts))
       (hits_stay c.policy c.graph facts.chains taken are.chains unhit);
   licence_hits = λ counts tells. refl;
 }

@@ -8,17 +8,20 @@ use Rattle.std.proofs.lemmas.Bool.{and_parts}
 use Rattle.std.proofs.lemmas.List.Elements.{Contains-append_left, Contains-append_right}
 use Rattle.deny_lists.proofs.Agreement.{list_any_on, same_test}
 use Rattle.deny_lists.proofs.Filters.{find-any}
-use Rattle.deny_lists.proofs.Members.{Contains-filter_map, Contains-flat_map}
+use Rattle.deny_lists.proofs.Members.{Contains-filter_map, Contains-first, Contains-flat_map}
 use Rattle.deny_base.specs.Entry.{entry_cmp}
 use Rattle.deny_base.specs.declared.entry.EntryId.{EntryId}
 use Rattle.deny_base.specs.declared.entry.EntryKind.{EntryKind}
+use Rattle.deny_base.specs.declared.entry.EntryKind.TheVariants as kind
 use Rattle.deny_base.specs.declared.entry.EntryKind.TheVariants.{LicenseAllow, LicenseException, ReplacementIgnore}
 use Rattle.deny_base.specs.declared.entry.EntryKind.TheVariants.{Skip, SkipRoot, Wrapper}
 use Rattle.deny_base.specs.declared.entry.Hit.{Hit}
-use Rattle.deny_base.specs.declared.entry.Witness.TheVariants.{Krate, Parent}
+use Rattle.deny_base.specs.declared.entry.Witness.TheVariants.{File, Krate, Parent}
 use Rattle.deny_base.specs.declared.span.Span.{Span}
 use Rattle.deny_base.specs.declared.span.Spanned.{Spanned}
 use Rattle.deny_spdx.specs.declared.requirement.Requirement.{Requirement}
+use Rattle.deny_build_model.specs.Building.{AllowedPath, Building, Bypass}
+use Rattle.deny_build_model.specs.declared.package.PackageFile.{PackageFile}
 use Rattle.deny_model.specs.Hits.{all_hits, hit_of, root_hit, skip_hit, wrapper_hit, wrapper_hit_at}
 use Rattle.deny_model.specs.Bans.{concerns}
 use Rattle.deny_model.specs.Facts as chains
@@ -29,17 +32,23 @@ use Rattle.deny_model.specs.Policy as policy
 use Rattle.deny_model.specs.Policy.{Ban, Entry, Policy, Replacing, Root}
 use Rattle.deny_model.specs.Skips.{has_root, is_hit_skip, is_skipped}
 use Rattle.deny_model.specs.Wrappers.{hits_wrapper, is_hit_wrapper, wraps}
+use Rattle.deny_codes.specs.BuildScripts.{bypass_range, uses}
 use Rattle.deny_codes.specs.Circumstances.{Circumstances}
 use Rattle.deny_codes.specs.Facts.{Facts}
 use Rattle.deny_codes.specs.Hits.{TellsLicensed, both_hits, hits_in, licence_hits_in}
 use Rattle.deny_codes.specs.Licences.{Asked, TellsCounting, allowance_hit, allowance_range, asked_in, exception_hit}
 use Rattle.deny_codes.specs.Licences.{exception_range, first_hit, grants_by_allowance, grants_by_exception, hits_by}
 use Rattle.deny_codes.specs.Licences.{is_hit_by, is_looked_at, is_passed_over, licence_hits}
+use Rattle.deny_codes.specs.PackageFiles.{hits_glob, hits_path, path_range}
+use Rattle.deny_codes.specs.Packages.{Looking, bypass_hit, bypass_hits, bypass_hits_in, bypass_hits_of, checks}
+use Rattle.deny_codes.specs.Packages.{file_hit, file_hit_at, glob_hit, if_hit, is_used, looking, meets_file, package_of}
+use Rattle.deny_codes.specs.Packages.{path_hit, walks}
 use Rattle.deny_codes.specs.Saying.{Saying, said_by}
 use Rattle.deny_codes.specs.StdReplacements.{hits_ignore, ignore_hit, ignore_hits, ignore_hits_in, ignore_range}
 use Rattle.deny_codes.specs.StdReplacements.{is_hit_ignore}
 use Rattle.deny_codes.specs.Wrappers.{wrapper_hits_of}
 use Rattle.deny_codes.proofs.Kept.{found_passes}
+use Rattle.deny_laws.specs.BypassRemoval.{BypassesStay, is_met}
 use Rattle.deny_laws.specs.LicenceRemoval.{LicencesStay}
 use Rattle.deny_laws.specs.Removal.{HaveNoHit, is_taken, stays_ignore}
 use Rattle.deny_laws.specs.Removal.{stays_root, stays_skip, stays_wrapper}
@@ -134,6 +143,93 @@ unfolding is_hit_wrapper wrapper_hit
 hit_of_wrapper p g ban w is = by_crate p g ban w (find (hits_wrapper p g ban w) g.crates) refl
     (sym (find-any (hits_wrapper p g ban w) g.crates) ∙ is)
 
+-- ---- bypasses by a crate, paths and globs by a file
+
+hit_of_bypass : (l : Looking) (y : Bypass) → is_used l y ≡ true
+    → HasHit (bypass_hit l y) (entry kind.Bypass (bypass_range y))
+unfolding is_used bypass_hit
+hit_of_bypass l y is = by_found kind.Bypass (bypass_range y)
+    (find (λ c. checks l c && uses l.building y c) l.graph.crates)
+    (sym (find-any (λ c. checks l c && uses l.building y c) l.graph.crates) ∙ is)
+
+by_file : (kind : EntryKind) (range : Span) (c : Crate) (o : Option PackageFile) → is_some o ≡ true
+    → HasHit (option_map (λ file. hit_of kind range (File (kid_of c) file.path)) o) (entry kind range)
+by_file kind range c None e = absurd (cc e)
+by_file kind range c (Some file) e = record {
+  hit = hit_of kind range (File (kid_of c) file.path);
+  gives = refl;
+  is = refl;
+}
+
+at_meeting : (l : Looking) (y : Bypass) (test : PackageFile → Bool) (kind : EntryKind) (range : Span) (c : Crate)
+    → meets_file l y test c ≡ true
+    → HasHit (file_hit_at l test (λ path k. hit_of kind range (File (kid_of k) path)) c) (entry kind range)
+unfolding meets_file file_hit_at
+at_meeting l y test kind range c is = by_file kind range c (find test (package_of l c).files)
+    (sym (find-any test (package_of l c).files)
+    ∙ (and_parts (walks l c && uses l.building y c) (list_any test (package_of l c).files) is).1)
+
+by_meeting : (l : Looking) (y : Bypass) (test : PackageFile → Bool) (kind : EntryKind) (range : Span)
+    (o : Option Crate) → find (meets_file l y test) l.graph.crates ≡ o → is_some o ≡ true
+    → HasHit (option_and_then (file_hit_at l test (λ path k. hit_of kind range (File (kid_of k) path))) o)
+    (entry kind range)
+by_meeting l y test kind range None at e = absurd (cc e)
+by_meeting l y test kind range (Some c) at e = at_meeting l y test kind range c
+    (found_passes (meets_file l y test) l.graph.crates c at)
+
+hit_of_file : (l : Looking) (y : Bypass) (test : PackageFile → Bool) (kind : EntryKind) (range : Span)
+    → is_met l y test ≡ true
+    → HasHit (file_hit l y test (λ path k. hit_of kind range (File (kid_of k) path))) (entry kind range)
+unfolding file_hit
+hit_of_file l y test kind range is = by_meeting l y test kind range (find (meets_file l y test) l.graph.crates) refl
+    (sym (find-any (meets_file l y test) l.graph.crates) ∙ is)
+
+hit_of_path : (l : Looking) (y : Bypass) (a : AllowedPath) → is_met l y (hits_path y a) ≡ true
+    → HasHit (path_hit l y a) (entry kind.BypassPath (path_range a))
+unfolding path_hit
+hit_of_path l y a is = hit_of_file l y (hits_path y a) kind.BypassPath (path_range a) is
+
+hit_of_glob : (l : Looking) (y : Bypass) (w : policy.Words) → is_met l y (hits_glob y w) ≡ true
+    → HasHit (glob_hit l y w) (entry kind.BypassGlob w.span)
+unfolding glob_hit
+hit_of_glob l y w is = hit_of_file l y (hits_glob y w) kind.BypassGlob w.span is
+
+module _ (exact : IsAntisymmetric entry_cmp) (l : Looking) (taken : List EntryId)
+    (none : HaveNoHit (bypass_hits l) taken) where
+  stays_in : (kind : EntryKind) (range : Span) (h : Hit) → Contains (bypass_hits l) h → h.entry ≡ entry kind range
+      → not (is_taken taken kind range) ≡ true
+  stays_in kind range h hit is = ap (λ b. not b)
+      (not_taken exact taken kind range (λ gone. none (entry kind range) gone h hit is))
+
+  abbrev of_paths : Bypass → List Hit
+  of_paths y = filter_map (path_hit l y) y.allow
+
+  abbrev of_globs : Bypass → List Hit
+  of_globs y = filter_map (glob_hit l y) y.globs
+
+  of_bypass : (y : Bypass) (h : Hit) → Contains l.building.bypass y
+      → Contains (if_hit (bypass_hit l y) ++ (of_paths y ++ of_globs y)) h → Contains (bypass_hits l) h
+  unfolding bypass_hits_of
+  of_bypass y h written is = Contains-flat_map (bypass_hits_of l) l.building.bypass y h written is
+
+  pub stay_in : BypassesStay l taken
+  stay_in = record {
+    bypasses = λ y written hit. let of = hit_of_bypass l y hit in
+        stays_in kind.Bypass (bypass_range y) of.hit
+        (of_bypass y of.hit written (Contains-append_left (if_hit (bypass_hit l y)) (of_paths y ++ of_globs y) of.hit
+        (subst (λ (o : Option Hit). Contains (if_hit o) of.hit) (sym of.gives) (Contains-first of.hit [])))) of.is;
+    paths = λ y written a within hit. let of = hit_of_path l y a hit in
+        stays_in kind.BypassPath (path_range a) of.hit
+        (of_bypass y of.hit written (Contains-append_right (if_hit (bypass_hit l y)) (of_paths y ++ of_globs y) of.hit
+        (Contains-append_left (of_paths y) (of_globs y) of.hit
+        (Contains-filter_map (path_hit l y) y.allow a of.hit within of.gives)))) of.is;
+    globs = λ y written w within hit. let of = hit_of_glob l y w hit in
+        stays_in kind.BypassGlob w.span of.hit
+        (of_bypass y of.hit written (Contains-append_right (if_hit (bypass_hit l y)) (of_paths y ++ of_globs y) of.hit
+        (Contains-append_right (of_paths y) (of_globs y) of.hit
+        (Contains-filter_map (glob_hit l y) y.globs w of.hit within of.gives)))) of.is;
+  }
+
 -- ---- what is hit stays
 
 module _ (exact : IsAntisymmetric entry_cmp) (c : Circumstances) (facts : Facts) (taken : List EntryId)
@@ -145,7 +241,8 @@ module _ (exact : IsAntisymmetric entry_cmp) (c : Circumstances) (facts : Facts)
 
   -- the hits of the crate rules are among all hits
   of_crates : (h : Hit) → Contains (all_hits c.policy c.graph facts.chains) h → Contains (hits_in c facts) h
-  of_crates h hit = Contains-append_left (all_hits c.policy c.graph facts.chains) (ignore_hits_in c) h hit
+  of_crates h hit = Contains-append_left (all_hits c.policy c.graph facts.chains)
+      (ignore_hits_in c ++ bypass_hits_in c facts) h hit
 
   abbrev of_skips : List Hit
   of_skips = filter_map (skip_hit c.graph facts.chains) c.policy.skip
@@ -185,10 +282,23 @@ module _ (exact : IsAntisymmetric entry_cmp) (c : Circumstances) (facts : Facts)
   unfolding ignore_hits
   ignore_stays s minded e written hit = let of = hit_of_ignore s c.graph (said_by c.table) e hit in
       stays_if_hit ReplacementIgnore (ignore_range e) of.hit
-      (Contains-append_right (all_hits c.policy c.graph facts.chains) (ignore_hits_in c) of.hit
+      (Contains-append_right (all_hits c.policy c.graph facts.chains) (ignore_hits_in c ++ bypass_hits_in c facts)
+      of.hit
+      (Contains-append_left (ignore_hits_in c) (bypass_hits_in c facts) of.hit
       (subst (λ (hits : List Hit). Contains hits of.hit)
       (sym (ap (λ (o : Option Replacing). option_map_or (λ r. ignore_hits r c.graph (said_by c.table)) o []) minded))
-      (Contains-filter_map (ignore_hit s c.graph (said_by c.table)) s.ignore e of.hit written of.gives))) of.is
+      (Contains-filter_map (ignore_hit s c.graph (said_by c.table)) s.ignore e of.hit written of.gives)))) of.is
+
+  -- and so are those of bypasses, of which none is of these then
+  no_bypass_hit : (b : Building) → c.building ≡ Some b → HaveNoHit (bypass_hits (looking c facts b)) taken
+  no_bypass_hit b spoken = λ e is h hit. none e is h
+      (Contains-append_right (all_hits c.policy c.graph facts.chains) (ignore_hits_in c ++ bypass_hits_in c facts) h
+      (Contains-append_right (ignore_hits_in c) (bypass_hits_in c facts) h
+      (subst (λ (hits : List Hit). Contains hits h)
+      (sym (ap (λ (o : Option Building). option_map_or (λ x. bypass_hits (looking c facts x)) o []) spoken)) hit)))
+
+  pub bypasses_stay : (b : Building) → c.building ≡ Some b → BypassesStay (looking c facts b) taken
+  bypasses_stay b spoken = stay_in exact (looking c facts b) taken (no_bypass_hit b spoken)
 
 -- ---- of the hits of both checks
 

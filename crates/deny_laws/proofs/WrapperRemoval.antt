@@ -38,6 +38,7 @@ use Rattle.deny_codes.specs.Bans.{allowed_by_wrapper_keys, banned_keys, bears_na
 use Rattle.deny_codes.specs.Circumstances.{Circumstances}
 use Rattle.deny_codes.specs.Facts.{Facts, AreFacts}
 use Rattle.deny_codes.specs.FirstMatch.{first_of}
+use Rattle.deny_codes.specs.Packages.{bypass_hits_in}
 use Rattle.deny_codes.specs.SkippedTrees.{skipped_by_root_keys}
 use Rattle.deny_codes.specs.Standing.{StandsAs, StandsBy, Stands}
 use Rattle.deny_codes.specs.StdReplacements.{ignore_hits_in}
@@ -400,7 +401,7 @@ module _ (c : Circumstances) (facts : Facts) (taken : List EntryId) (unhit : Are
   there_as code.WorkspaceDuplicate unnamed is = manifests_stay code.WorkspaceDuplicate refl is
   there_as code.UnresolvedWorkspaceDependency unnamed is = manifests_stay code.UnresolvedWorkspaceDependency refl is
   there_as code.UnusedWorkspaceDependency unnamed is = manifests_stay code.UnusedWorkspaceDependency refl is
-  there_as _ unnamed is = absurd is
+  there_as _ unnamed is = is
 
   back_as : (d : Code) → StandsAs d (without_wrappers_in c taken) facts key → StandsAs d c facts key
       × (names_as taken (Bans d) key ≡ false)
@@ -463,17 +464,20 @@ module _ (c : Circumstances) (facts : Facts) (taken : List EntryId) (unhit : Are
   back_as code.WorkspaceDuplicate is = (manifests_from code.WorkspaceDuplicate refl is, refl)
   back_as code.UnresolvedWorkspaceDependency is = (manifests_from code.UnresolvedWorkspaceDependency refl is, refl)
   back_as code.UnusedWorkspaceDependency is = (manifests_from code.UnusedWorkspaceDependency refl is, refl)
-  back_as _ is = absurd is
+  back_as code.UnmatchedBypass is = (is, unhit.no_bypass.bypasses key.entry)
+  back_as code.UnmatchedPathBypass is = (is, unhit.no_bypass.paths key.entry)
+  back_as code.UnmatchedGlob is = (is, unhit.no_bypass.globs key.entry)
+  back_as _ is = (is, refl)
 
   there_by : (d : DiagnosticCode) → names_as taken d key ≡ false → StandsBy d c facts key
       → StandsBy d (without_wrappers_in c taken) facts key
-  there_by Deprecated unnamed is = absurd is
+  there_by Deprecated unnamed is = is
   there_by (Bans d) unnamed is = there_as d unnamed is
   there_by (License d) unnamed is = is
 
   back_by : (d : DiagnosticCode) → StandsBy d (without_wrappers_in c taken) facts key → StandsBy d c facts key
       × (names_as taken d key ≡ false)
-  back_by Deprecated is = absurd is
+  back_by Deprecated is = (is, refl)
   back_by (Bans d) is = back_as d is
   back_by (License d) is = (is, no_licence_named taken key unhit.no_licence d)
 
@@ -487,7 +491,10 @@ module _ (c : Circumstances) (facts : Facts) (taken : List EntryId) (unhit : Are
 
 facts_hold : (c : Circumstances) (facts : Facts) (taken : List EntryId) → AreFacts c facts
     → AreFacts (without_wrappers_in c taken) facts
-facts_hold c facts taken are = record { chains = record { counts = are.chains.counts; in_tree = are.chains.in_tree } }
+facts_hold c facts taken are = record {
+  chains = record { counts = are.chains.counts; in_tree = are.chains.in_tree };
+  reached = are.reached;
+}
 
 pub wrappers_gone : (c : Circumstances) (facts : Facts) (taken : List EntryId) (keys : List Key) → AreFacts c facts
     → AreUnhitWrappers c.policy c.graph taken
@@ -501,7 +508,7 @@ wrappers_gone c facts taken keys are unhit listed = record {
     sound = λ key is. let kept = Contains-from_filter (λ k. not (names taken k)) keys key is in
         there_key c facts taken unhit key (not-true (names taken key) kept.1) (listed.sound key kept.0);
   };
-  hits = ap (λ (hits : List Hit). hits ++ ignore_hits_in c)
+  hits = ap (λ (hits : List Hit). hits ++ (ignore_hits_in c ++ bypass_hits_in c facts))
       (hits_stay c.policy c.graph taken unhit facts.chains);
   licence_hits = λ counts tells. refl;
 }

@@ -4,6 +4,7 @@ use Rattle.deny_lists.specs.Ascending.{Lists}
 use Rattle.deny_base.specs.Entry.{entry_cmp}
 use Rattle.deny_base.specs.KeyOrder.{key_cmp}
 use Rattle.deny_base.specs.declared.entry.EntryId.{EntryId}
+use Rattle.deny_base.specs.declared.entry.EntryKind.TheVariants as kind
 use Rattle.deny_base.specs.declared.entry.EntryKind.TheVariants.{LicenseAllow, LicenseException, ReplacementIgnore}
 use Rattle.deny_base.specs.declared.entry.EntryKind.TheVariants.{Skip, SkipRoot, Wrapper}
 use Rattle.deny_base.specs.declared.entry.Hit.{Hit}
@@ -15,6 +16,7 @@ use Rattle.deny_codes.specs.Codes.{unused_kind}
 use Rattle.deny_codes.specs.Facts.{Facts, AreFacts}
 use Rattle.deny_codes.specs.Hits.{TellsLicensed, both_hits}
 use Rattle.deny_codes.specs.Standing.{Stands}
+use Rattle.deny_laws.specs.BypassRemoval.{without_bypasses_in}
 use Rattle.deny_laws.specs.IgnoreRemoval.{without_ignores_in}
 use Rattle.deny_laws.specs.LicenceRemoval.{without_licences_in}
 use Rattle.deny_laws.specs.Removal.{AreGone, EmptyNone, without_in}
@@ -58,6 +60,12 @@ pub record AreDeadIgnores (dead taken : List EntryId) : Type 0 where
   pub dead_each : AreAmong dead taken
   pub kind : (e : EntryId) → Contains taken e → e.kind ≡ ReplacementIgnore
 
+-- each of these is dead, and a bypass, or a path or a glob of one
+pub record AreDeadBypasses (dead taken : List EntryId) : Type 0 where
+  pub dead_each : AreAmong dead taken
+  pub kind : (e : EntryId) → Contains taken e
+      → (e.kind ≡ kind.Bypass) ⊎ ((e.kind ≡ kind.BypassPath) ⊎ (e.kind ≡ kind.BypassGlob))
+
 -- ---- the laws
 
 abbrev pub DeadCanGo : Type 0
@@ -89,3 +97,9 @@ DeadLicencesCanGo = (c : Circumstances) → (facts : Facts) → (counts : Crate 
     → (dead taken : List EntryId) → AreFacts c facts → TellsLicensed c.licensing c.graph counts
     → Lists key_cmp (Stands c facts) keys → AreDead keys (both_hits c facts counts) dead
     → AreDeadLicences dead taken → AreGone c (without_licences_in c taken) facts taken keys
+
+abbrev pub DeadBypassesCanGo : Type 0
+DeadBypassesCanGo = (c : Circumstances) → (facts : Facts) → (counts : Crate → Bool) → (keys : List Key)
+    → (dead taken : List EntryId) → AreFacts c facts
+    → Lists key_cmp (Stands c facts) keys → AreDead keys (both_hits c facts counts) dead
+    → AreDeadBypasses dead taken → AreGone c (without_bypasses_in c taken) facts taken keys

@@ -12,7 +12,7 @@ use Rattle.deny_codes.specs.Facts.{Facts, AreFacts}
 use Rattle.deny_codes.specs.Saying.{said_by}
 use Rattle.deny_codes.specs.Standing.{Stands}
 use Rattle.deny_codes.specs.StdReplacements.{is_hit_ignore}
-use Rattle.deny_laws.specs.Removal.{AreGone, NoLicences, cut_replacing, is_taken, stays_ignore}
+use Rattle.deny_laws.specs.Removal.{AreGone, NoBypasses, NoLicences, cut_replacing, is_taken, stays_ignore}
 
 -- the policy without the ignores among these
 abbrev pub without_ignores : Policy → List EntryId → Policy
@@ -29,6 +29,7 @@ pub record AreUnhitIgnores (c : Circumstances) (taken : List EntryId) : Type 0 w
   pub no_root : (range : Span) → is_taken taken SkipRoot range ≡ false
   pub no_wrapper : (range : Span) → is_taken taken Wrapper range ≡ false
   pub no_licence : NoLicences taken
+  pub no_bypass : NoBypasses taken
 
 -- ---- the law
 

@@ -1,3 +1,5 @@
+pub mod Asking
+pub mod BypassRemoval
 pub mod Dead
 pub mod IgnoreRemoval
 pub mod LicenceRemoval

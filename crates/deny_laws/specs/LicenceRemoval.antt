@@ -14,7 +14,7 @@ use Rattle.deny_codes.specs.Circumstances.{Circumstances}
 use Rattle.deny_codes.specs.Facts.{Facts, AreFacts}
 use Rattle.deny_codes.specs.Licences.{TellsCounting, grants_by_allowance, grants_by_exception, is_hit_by}
 use Rattle.deny_codes.specs.Standing.{Stands}
-use Rattle.deny_laws.specs.Removal.{AreGone, cut_licensing, is_taken, stays_allowance, stays_exception}
+use Rattle.deny_laws.specs.Removal.{AreGone, NoBypasses, cut_licensing, is_taken, stays_allowance, stays_exception}
 
 abbrev pub without_licences_in : Circumstances → List EntryId → Circumstances
 without_licences_in c taken = record c { licensing = option_map (cut_licensing taken) c.licensing }
@@ -34,6 +34,7 @@ pub record AreUnhitLicences (c : Circumstances) (taken : List EntryId) : Type 0 
   pub no_root : (range : Span) → is_taken taken SkipRoot range ≡ false
   pub no_wrapper : (range : Span) → is_taken taken Wrapper range ≡ false
   pub no_ignore : (range : Span) → is_taken taken ReplacementIgnore range ≡ false
+  pub no_bypass : NoBypasses taken
 
 -- ---- the law
 

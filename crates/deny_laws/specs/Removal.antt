@@ -10,6 +10,7 @@ use Rattle.deny_base.specs.KeyOrder.{key_cmp}
 use Rattle.deny_base.specs.declared.code.DiagnosticCode.{DiagnosticCode}
 use Rattle.deny_base.specs.declared.entry.EntryId.{EntryId}
 use Rattle.deny_base.specs.declared.entry.EntryKind.{EntryKind}
+use Rattle.deny_base.specs.declared.entry.EntryKind.TheVariants as kind
 use Rattle.deny_base.specs.declared.entry.EntryKind.TheVariants.{LicenseAllow, LicenseException, ReplacementIgnore}
 use Rattle.deny_base.specs.declared.entry.EntryKind.TheVariants.{Skip, SkipRoot, Wrapper}
 use Rattle.deny_base.specs.declared.entry.Hit.{Hit}
@@ -17,16 +18,19 @@ use Rattle.deny_base.specs.declared.key.Key.{Key}
 use Rattle.deny_base.specs.declared.span.Span.{Span}
 use Rattle.deny_base.specs.declared.span.Spanned.{Spanned}
 use Rattle.deny_spdx.specs.declared.requirement.Requirement.{Requirement}
+use Rattle.deny_build_model.specs.Building.{AllowedPath, Building, Bypass}
 use Rattle.deny_model.specs.Bans.{has_wrappers}
 use Rattle.deny_model.specs.Graph.{Crate}
 use Rattle.deny_model.specs.Licensing.{Exception, Licensing}
 use Rattle.deny_model.specs.Policy as policy
 use Rattle.deny_model.specs.Policy.{Ban, Entry, Policy, Replacing, Root}
+use Rattle.deny_codes.specs.BuildScripts.{bypass_range}
 use Rattle.deny_codes.specs.Circumstances.{Circumstances}
 use Rattle.deny_codes.specs.Codes.{unused_kind}
 use Rattle.deny_codes.specs.Facts.{Facts, AreFacts}
 use Rattle.deny_codes.specs.Hits.{TellsLicensed, both_hits, hits_in, licence_hits_in}
 use Rattle.deny_codes.specs.Licences.{allowance_range, exception_range}
+use Rattle.deny_codes.specs.PackageFiles.{path_range}
 use Rattle.deny_codes.specs.Standing.{Stands}
 use Rattle.deny_codes.specs.StdReplacements.{ignore_range}
 
@@ -67,6 +71,25 @@ cut_licensing taken l = record l {
   exceptions = filter (stays_exception taken) l.exceptions;
 }
 
+-- what is said of builds, without those among these: bypasses, and paths and globs of bypasses
+abbrev pub stays_bypass : List EntryId → Bypass → Bool
+stays_bypass taken y = not (is_taken taken kind.Bypass (bypass_range y))
+
+abbrev pub stays_path : List EntryId → AllowedPath → Bool
+stays_path taken a = not (is_taken taken kind.BypassPath (path_range a))
+
+abbrev pub stays_glob : List EntryId → policy.Words → Bool
+stays_glob taken w = not (is_taken taken kind.BypassGlob w.span)
+
+abbrev pub cut_bypass : List EntryId → Bypass → Bypass
+cut_bypass taken y = record y {
+  globs = filter (stays_glob taken) y.globs;
+  allow = filter (stays_path taken) y.allow;
+}
+
+abbrev pub cut_building : List EntryId → Building → Building
+cut_building taken b = record b { bypass = map (cut_bypass taken) (filter (stays_bypass taken) b.bypass) }
+
 -- the policy without these; all others keep their ranges and their order
 abbrev pub without : Policy → List EntryId → Policy
 without p taken = record p {
@@ -80,6 +103,7 @@ abbrev pub without_in : Circumstances → List EntryId → Circumstances
 without_in c taken = record c {
   policy = without c.policy taken;
   licensing = option_map (cut_licensing taken) c.licensing;
+  building = option_map (cut_building taken) c.building;
 }
 
 -- a finding of this code names one of these as unused
@@ -105,6 +129,12 @@ EmptyNone p taken = (ban : Ban) → Contains p.deny ban → has_wrappers (cut ta
 pub record NoLicences (taken : List EntryId) : Type 0 where
   pub allowances : (range : Span) → is_taken taken LicenseAllow range ≡ false
   pub exceptions : (range : Span) → is_taken taken LicenseException range ≡ false
+
+-- none of these is a bypass, or a path or a glob of one
+pub record NoBypasses (taken : List EntryId) : Type 0 where
+  pub bypasses : (range : Span) → is_taken taken kind.Bypass range ≡ false
+  pub paths : (range : Span) → is_taken taken kind.BypassPath range ≡ false
+  pub globs : (range : Span) → is_taken taken kind.BypassGlob range ≡ false
 
 -- where these are taken out there stands what stood, but for the keys that name them
 pub record AreGone (c rest : Circumstances) (facts : Facts) (taken : List EntryId) (keys : List Key) : Type 0 where

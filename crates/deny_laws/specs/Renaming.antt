@@ -1,5 +1,5 @@
 -- Ranges of a policy in whose place others stand, as where its text is printed anew, and what that comes to.
-use Rattle.std.specs.Prelude.{◌≡◌, ℕ, Bool, Contains, Option, Some, if◌then◌else◌, map, option_map}
+use Rattle.std.specs.Prelude.{◌≡◌, ℕ, Bool, List, Contains, Option, Some, if◌then◌else◌, map, option_map}
 use Rattle.deny_base.specs.declared.code.DiagnosticCode.{DiagnosticCode}
 use Rattle.deny_base.specs.declared.entry.EntryId.{EntryId}
 use Rattle.deny_base.specs.declared.entry.Hit.{Hit}
@@ -8,15 +8,18 @@ use Rattle.deny_base.specs.declared.level.LintLevel.{LintLevel}
 use Rattle.deny_base.specs.declared.span.Span.{Span}
 use Rattle.deny_base.specs.declared.span.Spanned.{Spanned}
 use Rattle.deny_spdx.specs.declared.requirement.Requirement.{Requirement}
+use Rattle.deny_build_model.specs.Building.{AllowedPath, Building, Bypass, ScriptGlob}
 use Rattle.deny_model.specs.Graph.{Crate}
 use Rattle.deny_model.specs.Licensing.{Exception, Licensing}
 use Rattle.deny_model.specs.Policy as policy
 use Rattle.deny_model.specs.Policy.{Ban, Entry, FeatureEntry, Policy, Replacing, Root, Spec}
+use Rattle.deny_codes.specs.BuildScripts.{bypass_range}
 use Rattle.deny_codes.specs.Circumstances.{Circumstances}
 use Rattle.deny_codes.specs.Codes.{has_entry}
 use Rattle.deny_codes.specs.Facts.{Facts, AreFacts}
 use Rattle.deny_codes.specs.Hits.{hits_in, licence_hits_in}
 use Rattle.deny_codes.specs.Licences.{allowance_range, exception_range}
+use Rattle.deny_codes.specs.PackageFiles.{path_range}
 use Rattle.deny_codes.specs.Standing.{Stands}
 use Rattle.deny_codes.specs.StdReplacements.{ignore_range}
 
@@ -92,8 +95,40 @@ renamed_licensing r l = record l {
   exceptions = map (renamed_exception r) l.exceptions;
 }
 
+abbrev pub renamed_sum : Renaming → Spanned (List ℕ) → Spanned (List ℕ)
+renamed_sum r sum = record sum { span = r.range sum.span }
+
+abbrev pub renamed_path : Renaming → AllowedPath → AllowedPath
+renamed_path r a = record { path = renamed_words r a.path; checksum = option_map (renamed_sum r) a.checksum }
+
+abbrev pub renamed_bypass : Renaming → Bypass → Bypass
+renamed_bypass r y = record {
+  spec = renamed_spec r y.spec;
+  script = option_map (renamed_sum r) y.script;
+  required = map (renamed_words r) y.required;
+  globs = map (renamed_words r) y.globs;
+  allow = map (renamed_path r) y.allow;
+}
+
+-- the globs that are built in stand in no policy
+abbrev pub renamed_script_glob : Renaming → ScriptGlob → ScriptGlob
+renamed_script_glob r e = record e { range = if e.built_in then e.range else r.range e.range }
+
+-- what the policy says of builds, each of whose ranges is another
+abbrev pub renamed_building : Renaming → Building → Building
+renamed_building r b = record b {
+  scripts = option_map (map (renamed_spec r)) b.scripts;
+  extensions = map (renamed_script_glob r) b.extensions;
+  bypass = map (renamed_bypass r) b.bypass;
+  older_key = option_map r.range b.older_key;
+}
+
 abbrev pub renamed_in : Renaming → Circumstances → Circumstances
-renamed_in r c = record c { policy = renamed r c.policy; licensing = option_map (renamed_licensing r) c.licensing }
+renamed_in r c = record c {
+  policy = renamed r c.policy;
+  licensing = option_map (renamed_licensing r) c.licensing;
+  building = option_map (renamed_building r) c.building;
+}
 
 -- the key of the same finding: another range where it shows an entry of the policy
 abbrev pub renamed_as : Renaming → DiagnosticCode → Key → Key
@@ -126,6 +161,15 @@ pub record KeepsLicencesApart (r : Renaming) (licensing : Option Licensing) : Ty
       → (d e : Exception) → Contains l.exceptions d → Contains l.exceptions e
       → r.range (exception_range d) ≡ r.range (exception_range e) → exception_range d ≡ exception_range e
 
+-- and so do ranges of bypasses, and of paths of one bypass
+pub record KeepsBypassesApart (r : Renaming) (building : Option Building) : Type 0 where
+  pub bypasses : (b : Building) → building ≡ Some b
+      → (y z : Bypass) → Contains b.bypass y → Contains b.bypass z
+      → r.range (bypass_range y) ≡ r.range (bypass_range z) → bypass_range y ≡ bypass_range z
+  pub paths : (b : Building) → building ≡ Some b → (y : Bypass) → Contains b.bypass y
+      → (a d : AllowedPath) → Contains y.allow a → Contains y.allow d
+      → r.range (path_range a) ≡ r.range (path_range d) → path_range a ≡ path_range d
+
 -- each finding that stood stands with the new range, and no other; and the hits are those of the same entries
 pub record AreRenamed (r : Renaming) (c : Circumstances) (these those : Facts) : Type 0 where
   pub whole : (key : Key) → Stands c these key → Stands (renamed_in r c) those (renamed_key r key)
@@ -141,4 +185,4 @@ pub record AreRenamed (r : Renaming) (c : Circumstances) (these those : Facts) :
 abbrev pub RangesCanBeReplaced : Type 0
 RangesCanBeReplaced = (r : Renaming) → (c : Circumstances) → (these those : Facts)
     → AreFacts c these → AreFacts (renamed_in r c) those → KeepsApart r c.policy
-    → KeepsLicencesApart r c.licensing → AreRenamed r c these those
+    → KeepsLicencesApart r c.licensing → KeepsBypassesApart r c.building → AreRenamed r c these those

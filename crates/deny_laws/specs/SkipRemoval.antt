@@ -13,7 +13,7 @@ use Rattle.deny_model.specs.Skips.{has_root, is_hit_skip}
 use Rattle.deny_codes.specs.Circumstances.{Circumstances}
 use Rattle.deny_codes.specs.Facts.{Facts, AreFacts}
 use Rattle.deny_codes.specs.Standing.{Stands}
-use Rattle.deny_laws.specs.Removal.{AreGone, NoLicences, is_taken, stays_root, stays_skip}
+use Rattle.deny_laws.specs.Removal.{AreGone, NoBypasses, NoLicences, is_taken, stays_root, stays_skip}
 
 -- the policy without the skips and skipped trees among these
 abbrev pub without_skips : Policy → List EntryId → Policy
@@ -29,10 +29,11 @@ without_skips_in c taken = record c { policy = without_skips c.policy taken }
 pub record AreUnhit (p : Policy) (g : Graph) (facts : chains.Facts) (taken : List EntryId) : Type 0 where
   pub skips : (s : Entry) → Contains p.skip s → is_hit_skip g facts s ≡ true → stays_skip taken s ≡ true
   pub roots : (t : Root) → Contains p.skip_tree t → has_root g t ≡ true → stays_root taken t ≡ true
-  -- and none of these is a wrapper, an ignore, a licence or an exception
+  -- and none of these is of another kind
   pub no_wrapper : (range : Span) → is_taken taken Wrapper range ≡ false
   pub no_ignore : (range : Span) → is_taken taken ReplacementIgnore range ≡ false
   pub no_licence : NoLicences taken
+  pub no_bypass : NoBypasses taken
 
 -- ---- the law
 

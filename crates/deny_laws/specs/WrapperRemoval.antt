@@ -13,7 +13,7 @@ use Rattle.deny_model.specs.Wrappers.{is_hit_wrapper}
 use Rattle.deny_codes.specs.Circumstances.{Circumstances}
 use Rattle.deny_codes.specs.Facts.{Facts, AreFacts}
 use Rattle.deny_codes.specs.Standing.{Stands}
-use Rattle.deny_laws.specs.Removal.{AreGone, EmptyNone, NoLicences, cut, is_taken, stays_wrapper}
+use Rattle.deny_laws.specs.Removal.{AreGone, EmptyNone, NoBypasses, NoLicences, cut, is_taken, stays_wrapper}
 
 -- the policy without the wrappers among these
 abbrev pub without_wrappers : Policy → List EntryId → Policy
@@ -31,6 +31,7 @@ pub record AreUnhitWrappers (p : Policy) (g : Graph) (taken : List EntryId) : Ty
   pub no_root : (range : Span) → is_taken taken SkipRoot range ≡ false
   pub no_ignore : (range : Span) → is_taken taken ReplacementIgnore range ≡ false
   pub no_licence : NoLicences taken
+  pub no_bypass : NoBypasses taken
 
 -- ---- the law
 

@@ -2,7 +2,9 @@
 //! ranges are replaced. Each is a function with an empty body, whose contract is the law.
 #![tactic(auto)]
 
-ghost use Rattle.deny_laws.specs.Dead.{DeadCanGo, DeadIgnoresCanGo, DeadLicencesCanGo};
+ghost use Rattle.deny_laws.specs.Asking.{PackagesStay};
+ghost use Rattle.deny_laws.specs.BypassRemoval.{BypassesCanGo};
+ghost use Rattle.deny_laws.specs.Dead.{DeadBypassesCanGo, DeadCanGo, DeadIgnoresCanGo, DeadLicencesCanGo};
 ghost use Rattle.deny_laws.specs.Dead.{DeadSkipsCanGo, DeadWrappersCanGo};
 ghost use Rattle.deny_laws.specs.IgnoreRemoval.{IgnoresCanGo};
 ghost use Rattle.deny_laws.specs.LicenceRemoval.{LicencesCanGo};
@@ -48,6 +50,20 @@ pub fn licences_can_go()
     ensures { LicencesCanGo }
 {}
 
+/// Bypasses, and paths and globs of bypasses, can go by themselves where nothing hits them.
+pub fn bypasses_can_go()
+    ensures { BypassesCanGo }
+{}
+
+/// Where entries without a hit go, what is asked of packages stays: which crates are checked and
+/// walked, of which scripts a checksum is wanted, and which rule decides of each file. So a run without
+/// them sees the same packages.
+pub fn packages_stay()
+    ensures { PackagesStay }
+{
+    deny_base::entry_order();
+}
+
 /// Dead skips and skipped trees can go by themselves.
 pub fn dead_skips_can_go()
     ensures { DeadSkipsCanGo }
@@ -76,10 +92,17 @@ pub fn dead_licences_can_go()
     deny_base::entry_order();
 }
 
+/// Dead bypasses, and dead paths and globs of bypasses, can go by themselves.
+pub fn dead_bypasses_can_go()
+    ensures { DeadBypassesCanGo }
+{
+    deny_base::entry_order();
+}
+
 /// Where a policy is printed anew, others stand in the place of its ranges, in whatever order: the
 /// same findings stand, each with the new range, and the same entries are hit, as long as two
 /// wrappers of one entry keep two ranges, and so do two ignores, two licences that all crates may ask
-/// for, and two exceptions.
+/// for, two exceptions, two bypasses and two paths of one bypass.
 pub fn ranges_can_be_replaced()
     ensures { RangesCanBeReplaced }
 {}

@@ -36,7 +36,7 @@ use Rattle.deny_codes.specs.Licences.{exception_range, grants_by_allowance, gran
 use Rattle.deny_codes.specs.Licences.{is_looked_at, keys_where, license_key, licensed_key, not_encountered_keys}
 use Rattle.deny_codes.specs.Standing.{ListsOwn, StandsBy, StandsIn, StandsLicensed}
 use Rattle.deny_codes.proofs.Parts.{lists_append, lists_same}
-use Rattle.deny_codes.proofs.Sections.{as_code}
+use Rattle.deny_codes.proofs.Sections.{as_code, as_deprecated}
 use Rattle.deny_facts.specs.Placed.{ArePlaced}
 use Rattle.deny_facts.proofs.PlaceLemmas.{place_of}
 use Rattle.deny_licenses.specs.Check.{of_licences}
@@ -285,7 +285,8 @@ module _ (l : Licensing) (g : Graph) (file : ℕ) (placed : ArePlaced g.crates) 
 
     by-code : (d : DiagnosticCode) (key : Key) → IsTrue (is_of_licenses key.section)
         → StandsBy d (of_licences l g file c) facts key → OfCrate key ⊎ OfEntry key
-    by-code Deprecated key mine is = absurd is
+    by-code Deprecated key mine is =
+        absurd (two_checks key.section (as_deprecated (of_licences l g file c) key is) mine)
     by-code (Bans d) key mine is = absurd (two_checks key.section (as_code d (of_licences l g file c) facts key is) mine)
     by-code (License d) key mine is = by-license d key is
 

@@ -30,6 +30,7 @@ impl Granter {
         }
     }
 
+    /// The range of the entry in the text of the policy.
     pub fn range(self) -> Span
         ensures { result ≡ granter_range self }
     {
@@ -38,6 +39,7 @@ impl Granter {
         }
     }
 
+    /// The kind of the entry.
     pub fn kind(self) -> EntryKind
         ensures { result ≡ granter_kind self }
     {

@@ -34,6 +34,7 @@ pub struct Granting<'c> {
 }
 
 impl<'c> Granting<'c> {
+    /// Gathers the licences that a configuration allows, and the names of its exceptions.
     pub fn new(alloc: Global, cfg: &'c ValidConfig) -> Result<Granting<'c>, NoMemory>
         ensures { IfOk result (λ granting. granting.cfg.now ≡ cfg.entry.now) }
     {

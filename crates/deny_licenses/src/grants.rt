@@ -20,6 +20,7 @@ pub struct Wanted {
 }
 
 impl Wanted {
+    /// What a requirement asks for.
     pub fn of(requirement: &Requirement) -> Result<Wanted, NoMemory>
         ensures { IfOk result (λ wanted. wanted ≡ wanted_of requirement.now) }
     {
@@ -37,6 +38,7 @@ pub struct Grants {
 }
 
 impl Grants {
+    /// Nothing is granted yet.
     pub fn new(alloc: Global) -> Grants
         ensures { FindsFirst same_wanted [] (granter_in result) }
     {

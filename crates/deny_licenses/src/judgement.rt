@@ -33,6 +33,7 @@ pub enum Judgement {
 }
 
 impl Judgement {
+    /// The code of the finding that tells it.
     pub fn code(&self) -> LicenseCode
         ensures { result ≡ code_of self.now }
     {

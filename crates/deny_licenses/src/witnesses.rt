@@ -16,6 +16,7 @@ pub struct Witnesses {
 }
 
 impl Witnesses {
+    /// No entry has a witness yet.
     pub fn new(alloc: Global) -> Witnesses
         ensures { FindsFirst same_granter [] (place_in result) }
     {

@@ -11,13 +11,15 @@ use Rattle.deny_base.specs.KeyOrder.{key_cmp}
 use Rattle.deny_base.specs.declared.code.Code.{Code}
 use Rattle.deny_base.specs.declared.code.Code.TheVariants as code
 use Rattle.deny_base.specs.declared.code.DiagnosticCode.TheVariants.{Bans}
+use Rattle.deny_base.specs.declared.entry.Hit.{Hit}
 use Rattle.deny_base.specs.declared.finding.Pack.{Pack}
 use Rattle.deny_base.specs.declared.key.Key.{Key}
-use Rattle.deny_model.specs.Facts as chains
-use Rattle.deny_model.specs.Graph.{Graph}
-use Rattle.deny_model.specs.Policy.{Policy, Replacing}
-use Rattle.deny_model.specs.View.{View}
+use Rattle.deny_model.specs.Hits.{all_hits}
+use Rattle.deny_model.specs.Policy.{Replacing}
 use Rattle.deny_codes.specs.Circumstances.{Circumstances, tabled}
+use Rattle.deny_codes.specs.Facts.{Facts}
+use Rattle.deny_codes.specs.Hits.{hits_in}
+use Rattle.deny_codes.specs.Packages.{bypass_hits_in}
 use Rattle.deny_codes.specs.Saying.{said_by}
 use Rattle.deny_codes.specs.StdReplacements.{ignore_hits, ignore_hits_in}
 use Rattle.deny_codes.specs.Told.{pack_told}
@@ -37,10 +39,10 @@ use Rattle.deny_rules.specs.private.Replaced.{IsFoundBy, IsFoundOf}
 
 -- ---- what the rules give is told beside them
 
-pub told_by_rules : (p : Policy) (g : Graph) (facts : chains.Facts) (view : View) (keys : List Key)
-    → Lists key_cmp (IsByRule p g facts view) keys → AreToldHere keys
-told_by_rules p g facts view keys listed k d within =
-    rules_here p g facts view _ (listed.sound _ (All-contains_itself keys k d within))
+pub told_by_rules : (c : Circumstances) (facts : Facts) (keys : List Key) → Lists key_cmp (IsByRule c facts) keys
+    → AreToldHere keys
+told_by_rules c facts keys listed k d within =
+    rules_here c facts _ (listed.sound _ (All-contains_itself keys k d within))
 
 -- ---- one after the other
 
@@ -87,6 +89,16 @@ module _ (c : Circumstances) (table : List ℕ) (rules : List Key) (here : AreTo
         ∙ ap (λ (keys : List Key). old ++ map (pack_told (tabled c table)) keys)
         (sym (take-append-add rules std number)),
   )
+
+-- hits one after the other
+pub hits_then : (c : Circumstances) (facts : Facts) (one two all : List Hit)
+    → one ≡ all_hits c.policy c.graph facts.chains → two ≡ one ++ ignore_hits_in c
+    → all ≡ two ++ bypass_hits_in c facts → all ≡ hits_in c facts
+hits_then c facts one two all first second third =
+    third
+    ∙ (ap (λ (hits : List Hit). hits ++ bypass_hits_in c facts)
+    (second ∙ ap (λ (hits : List Hit). hits ++ ignore_hits_in c) first)
+    ∙ append_assoc (all_hits c.policy c.graph facts.chains) (ignore_hits_in c) (bypass_hits_in c facts))
 
 pub on_error : {T E P : Type 0} (r : Result T E) → P → OnErr r P
 on_error (Ok x) is = tt

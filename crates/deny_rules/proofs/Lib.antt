@@ -6,6 +6,7 @@ pub mod SkipLemmas
 pub mod BannedLemmas
 pub mod AllowedLemmas
 pub mod BanKeysLemmas
+pub mod BuildSections
 pub mod StdLastLemmas
 pub mod OwnRuleLemmas
 pub mod OrderedLemmas

@@ -12,16 +12,14 @@ use Rattle.deny_base.specs.declared.key.Key.{Key}
 use Rattle.deny_base.specs.declared.key.Section.{Section}
 use Rattle.deny_base.specs.declared.key.Section.TheVariants as section
 use Rattle.deny_model.specs.Duplicates.{IsDuplicate}
-use Rattle.deny_model.specs.Facts as chains
-use Rattle.deny_model.specs.Graph.{Graph}
-use Rattle.deny_model.specs.Policy.{Policy}
-use Rattle.deny_model.specs.View.{View}
 use Rattle.deny_codes.specs.Circumstances.{Circumstances}
 use Rattle.deny_codes.specs.Codes.{is_of_bans}
 use Rattle.deny_codes.specs.Facts.{Facts}
+use Rattle.deny_codes.specs.Packages.{build_keys_in}
 use Rattle.deny_codes.specs.Standing.{ListsOwn, StandsAs, StandsBy, StandsIn}
 use Rattle.deny_lists.proofs.Adding.{adds_then}
 use Rattle.deny_lists.proofs.Members.{Contains-flat_map, Contains-from_flat_map, at_member}
+use Rattle.deny_codes.proofs.BuildMade.{build_made, deprecated_made}
 use Rattle.deny_codes.proofs.Made.{Made, allowed_by_wrapper_made, allowed_made, banned_made, default_enabled_made}
 use Rattle.deny_codes.proofs.Made.{duplicate_made, feature_banned_made, feature_not_allowed_made, mismatched_made}
 use Rattle.deny_codes.proofs.Made.{not_allowed_made, replaced_made, skipped_by_root_made, skipped_made}
@@ -35,7 +33,7 @@ use Rattle.deny_features.specs.FeatureKeys.{IsOfFeatures}
 use Rattle.deny_manifest_rules.specs.ManifestKeys.{IsOfManifests}
 use Rattle.deny_std.specs.Found.{IsOfStd}
 use Rattle.deny_rules.proofs.StdLastLemmas.{rules_first}
-use Rattle.deny_rules.specs.private.OwnRules.{IsByRule, ban_rules, keys_of_rules, skip_rules}
+use Rattle.deny_rules.specs.private.OwnRules.{IsByRule, IsOfBuilds, ban_rules, keys_of_rules, skip_rules}
 
 module _ (c : Circumstances) (facts : Facts) where
   abbrev IsOwn : Key → Type 0
@@ -43,7 +41,7 @@ module _ (c : Circumstances) (facts : Facts) where
 
   -- what stands by one of the rules
   abbrev ByRule : Key → Type 0
-  ByRule key = IsByRule c.policy c.graph facts.chains c.view key
+  ByRule key = IsByRule c facts key
 
   -- what stands as a code whose keys bear it, in a section of the bans check
   own : (s : Section) (d : Code) (key : Key) → IsTrue (is_of_bans s) → Made s d key → StandsAs d c facts key → IsOwn key
@@ -110,7 +108,7 @@ module _ (c : Circumstances) (facts : Facts) where
   features_sound key (inr (inr (inl is))) = own section.Crates code.FeatureBanned key refl
       (feature_banned_made c.policy c.graph key is) is
   features_sound key (inr (inr (inr (inl is)))) = own section.Crates code.UnknownFeature key refl
-      (unknown_feature_made c.policy c.graph key is) is
+      (unknown_feature_made c.policy c.graph key is) (inl is)
   features_sound key (inr (inr (inr (inr is)))) = own section.Crates code.DefaultFeatureEnabled key refl
       (default_enabled_made c.policy c.graph key is) is
 
@@ -124,20 +122,30 @@ module _ (c : Circumstances) (facts : Facts) where
   manifests_sound key (inr (inr (inr is))) = own section.Workspace code.UnusedWorkspaceDependency key refl
       (unused_entry_made c.policy c.view key is) is
 
+  builds_sound : (key : Key) → IsOfBuilds c facts key → IsOwn key
+  builds_sound key (inl is) =
+      let made = build_made c facts key is in
+      own made.section made.code key made.of_bans made.made (made.stands c facts key is)
+  builds_sound key (inr is) = let made = deprecated_made c key is in (
+    subst (λ (t : Section). IsTrue (is_of_bans t)) (sym made.section_is) refl,
+    subst (λ (e : DiagnosticCode). StandsBy e c facts key) (sym made.code_is) is,
+  )
+
   sound : (key : Key) → ByRule key → IsOwn key
   sound key (inl is) = in_rules (ban_rules c.policy c.graph) bans_sound key is
   sound key (inr (inl is)) = in_rules (skip_rules c.policy c.graph facts.chains) skips_sound key is
   sound key (inr (inr (inl is))) = own section.Groups code.Duplicate key refl
       (duplicate_made c.policy c.graph facts.chains key is) is
   sound key (inr (inr (inr (inl is)))) = features_sound key is
-  sound key (inr (inr (inr (inr is)))) = manifests_sound key is
+  sound key (inr (inr (inr (inr (inl is))))) = manifests_sound key is
+  sound key (inr (inr (inr (inr (inr is))))) = builds_sound key is
 
   std_sound : (key : Key) → IsOfStd c key → IsOwn key
   std_sound key (inl is) = own section.Unused code.UnmatchedReplacementIgnore key refl
       (unmatched_ignore_made c key is) is
   std_sound key (inr is) = own section.Std code.ReplacedInStd key refl (replaced_made c key is) is
 
--- ---- and back: the last line is that of the codes whose rules are not there
+-- ---- and back
 
 -- a key of the rule of a number
 of_rule : (rules : List (List Key)) (n : ℕ) (keys : List Key) (key : Key) → n < length rules
@@ -162,7 +170,10 @@ module _ (c : Circumstances) (facts : Facts) (key : Key) where
   feature is = inl (inr (inr (inr (inl is))))
 
   manifest : IsOfManifests c.policy c.graph facts.chains c.view key → IsEither
-  manifest is = inl (inr (inr (inr (inr is))))
+  manifest is = inl (inr (inr (inr (inr (inl is)))))
+
+  build : Contains (build_keys_in c facts) key → IsEither
+  build is = inl (inr (inr (inr (inr (inr (inl is))))))
 
 whole_as : (d : Code) (c : Circumstances) (facts : Facts) (key : Key) → StandsAs d c facts key → IsEither c facts key
 whole_as code.Banned c facts key is = ban c facts key 0 _ (omega arith) refl is
@@ -180,7 +191,8 @@ whole_as code.Duplicate c facts key is = inl (inr (inr (inl is)))
 whole_as code.ExactFeaturesMismatch c facts key is = feature c facts key (inl is)
 whole_as code.FeatureNotExplicitlyAllowed c facts key is = feature c facts key (inr (inl is))
 whole_as code.FeatureBanned c facts key is = feature c facts key (inr (inr (inl is)))
-whole_as code.UnknownFeature c facts key is = feature c facts key (inr (inr (inr (inl is))))
+whole_as code.UnknownFeature c facts key (inl is) = feature c facts key (inr (inr (inr (inl is))))
+whole_as code.UnknownFeature c facts key (inr is) = build c facts key is
 whole_as code.DefaultFeatureEnabled c facts key is = feature c facts key (inr (inr (inr (inr is))))
 whole_as code.Wildcard c facts key is = manifest c facts key (inl is)
 whole_as code.UnresolvedWorkspaceDependency c facts key is = manifest c facts key (inr (inl is))
@@ -188,41 +200,56 @@ whole_as code.WorkspaceDuplicate c facts key is = manifest c facts key (inr (inr
 whole_as code.UnusedWorkspaceDependency c facts key is = manifest c facts key (inr (inr (inr is)))
 whole_as code.UnmatchedReplacementIgnore c facts key is = inr (inl is)
 whole_as code.ReplacedInStd c facts key is = inr (inr is)
-whole_as _ c facts key is = absurd is
+whole_as code.BuildScriptNotAllowed c facts key is = build c facts key is
+whole_as code.PathBypassed c facts key is = build c facts key is
+whole_as code.PathBypassedByGlob c facts key is = build c facts key is
+whole_as code.ChecksumMatch c facts key is = build c facts key is
+whole_as code.ChecksumMismatch c facts key is = build c facts key is
+whole_as code.DeniedByExtension c facts key is = build c facts key is
+whole_as code.DetectedExecutable c facts key is = build c facts key is
+whole_as code.DetectedExecutableScript c facts key is = build c facts key is
+whole_as code.UnableToCheckPath c facts key is = build c facts key is
+whole_as code.FeaturesEnabled c facts key is = build c facts key is
+whole_as code.UnmatchedBypass c facts key is = build c facts key is
+whole_as code.UnmatchedPathBypass c facts key is = build c facts key is
+whole_as code.UnmatchedGlob c facts key is = build c facts key is
 
 whole_by : (d : DiagnosticCode) (c : Circumstances) (facts : Facts) (key : Key) → IsTrue (is_of_bans key.section)
     → StandsBy d c facts key → IsEither c facts key
-whole_by Deprecated c facts key mine is = absurd is
+whole_by Deprecated c facts key mine is = inl (inr (inr (inr (inr (inr (inr is))))))
 whole_by (Bans d) c facts key mine is = whole_as d c facts key is
 whole_by (License d) c facts key mine is = absurd (not_licensed d c.licensing c.graph key mine is)
 
 -- what all rules add
-pub adds_by_rule : (p : Policy) (g : Graph) (facts : chains.Facts) (view : View) (old one two three four new : List Key)
-    → Adds (Contains (keys_of_rules (ban_rules p g))) old one
-    → Adds (Contains (keys_of_rules (skip_rules p g facts))) one two
-    → Adds (IsDuplicate p g facts) two three
-    → Adds (IsOfFeatures p g) three four
-    → Adds (IsOfManifests p g facts view) four new
-    → Adds (IsByRule p g facts view) old new
-adds_by_rule p g facts view old one two three four new bans skips duplicates features manifests =
-    let banned = Contains (keys_of_rules (ban_rules p g)) in
-    let skipped = Contains (keys_of_rules (skip_rules p g facts)) in
-    let doubled = IsDuplicate p g facts in
-    let featured = IsOfFeatures p g in
-    let written = IsOfManifests p g facts view in
-    adds_then banned (λ key. skipped key ⊎ (doubled key ⊎ (featured key ⊎ written key))) old one new bans
-    (adds_then skipped (λ key. doubled key ⊎ (featured key ⊎ written key)) one two new skips
-    (adds_then doubled (λ key. featured key ⊎ written key) two three new duplicates
-    (adds_then featured written three four new features manifests)))
+pub adds_by_rule : (c : Circumstances) (facts : Facts) (old one two three four five new : List Key)
+    → Adds (Contains (keys_of_rules (ban_rules c.policy c.graph))) old one
+    → Adds (Contains (keys_of_rules (skip_rules c.policy c.graph facts.chains))) one two
+    → Adds (IsDuplicate c.policy c.graph facts.chains) two three
+    → Adds (IsOfFeatures c.policy c.graph) three four
+    → Adds (IsOfManifests c.policy c.graph facts.chains c.view) four five
+    → Adds (IsOfBuilds c facts) five new
+    → Adds (IsByRule c facts) old new
+adds_by_rule c facts old one two three four five new bans skips duplicates features manifests builds =
+    let banned = Contains (keys_of_rules (ban_rules c.policy c.graph)) in
+    let skipped = Contains (keys_of_rules (skip_rules c.policy c.graph facts.chains)) in
+    let doubled = IsDuplicate c.policy c.graph facts.chains in
+    let featured = IsOfFeatures c.policy c.graph in
+    let written = IsOfManifests c.policy c.graph facts.chains c.view in
+    let built = IsOfBuilds c facts in
+    adds_then banned (λ key. skipped key ⊎ (doubled key ⊎ (featured key ⊎ (written key ⊎ built key)))) old one new bans
+    (adds_then skipped (λ key. doubled key ⊎ (featured key ⊎ (written key ⊎ built key))) one two new skips
+    (adds_then doubled (λ key. featured key ⊎ (written key ⊎ built key)) two three new duplicates
+    (adds_then featured (λ key. written key ⊎ built key) three four new features
+    (adds_then written built four five new manifests builds))))
 
 -- the keys that rules give and then those of replaced crates are what stands in the sections of the bans check
 pub lists_own : (c : Circumstances) (facts : Facts) (rules std : List Key)
-    → Lists key_cmp (IsByRule c.policy c.graph facts.chains c.view) rules → Lists key_cmp (IsOfStd c) std
+    → Lists key_cmp (IsByRule c facts) rules → Lists key_cmp (IsOfStd c) std
     → ListsOwn is_of_bans c facts (rules ++ std)
 lists_own c facts rules std these those =
     lists_same key_cmp (IsEither c facts) (StandsIn is_of_bans c facts) (rules ++ std)
     (lists_append key_cmp (ByRule c facts) (IsOfStd c) rules std these those
-    (λ x y is there. rules_first c.policy c.graph facts.chains c.view x is c y there))
+    (λ x y is there. rules_first c facts x is c y there))
     (λ key is. elim is as (λ _. StandsIn is_of_bans c facts key)
     [ inl by_rule ↦ sound c facts key by_rule | inr of_std ↦ std_sound c facts key of_std ])
     (λ key is. whole_by key.code c facts key is.0 is.1)

@@ -1,6 +1,8 @@
 -- What stands of replaced crates comes behind all that the other rules give, whose keys are told beside the rules.
-use Rattle.std.proofs.Common.{List, [], ap, inl, inr, map, refl, subst, sym, ◌∙◌, ◌≡◌}
-use Rattle.std.specs.List.{AllByRecursion}
+use Rattle.std.proofs.Common.{List, [], ap, inl, inr, map, refl, subst, sym, true, ◌∙◌, ◌≡◌}
+use Rattle.std.proofs.lemmas.Bool.{false≢true}
+use Rattle.std.proofs.lemmas.List.Elements.{Contains-append_cases}
+use Rattle.std.specs.List.{AllByRecursion, flat_map}
 use Rattle.std.specs.Option.{option_map_or}
 use Rattle.std.specs.Ordering.{ordering_then}
 use Rattle.std.specs.Prelude.{Contains, IsTrue, None, Option, Some, filter, not}
@@ -16,6 +18,8 @@ use Rattle.deny_base.specs.declared.key.Key.{Key}
 use Rattle.deny_base.specs.declared.key.Section.{Section}
 use Rattle.deny_base.specs.declared.key.Section.TheVariants as section
 use Rattle.deny_base.specs.declared.span.Span.{Span}
+use Rattle.deny_build_model.specs.Building.{Building}
+use Rattle.deny_codes.specs.BuildScripts.{bypass_range}
 use Rattle.deny_model.specs.Duplicates.{IsDuplicate}
 use Rattle.deny_model.specs.Facts as chains
 use Rattle.deny_model.specs.Graph.{Graph}
@@ -27,11 +31,14 @@ use Rattle.deny_model.specs.Skips.{has_root, is_hit_skip, is_needless, unmatched
 use Rattle.deny_model.specs.Skips.{unmatched_skip_root_keys, unnecessary_skip_keys}
 use Rattle.deny_model.specs.Wrappers.{is_hit_wrapper, unused_wrapper_keys_of}
 use Rattle.deny_codes.specs.Circumstances.{Circumstances}
+use Rattle.deny_codes.specs.Facts.{Facts}
+use Rattle.deny_codes.specs.Packages.{Looking, build_keys, is_used, looking, package_keys, unmatched_bypass_keys}
 use Rattle.deny_codes.specs.Saying.{Saying, said_by}
 use Rattle.deny_codes.specs.StdReplacements.{ignore_range, is_unmatched_ignore, unmatched_ignore_keys}
 use Rattle.deny_codes.specs.StdReplacements.{unmatched_ignore_keys_in}
 use Rattle.deny_codes.specs.Wrappers.{unused_wrapper_keys}
 use Rattle.deny_lists.proofs.Members.{Contains-from_flat_map, at_member, from_contains_map, no_member}
+use Rattle.deny_codes.proofs.BuildMade.{MadeDeprecated, MadeOfBuilds, build_made, deprecated_made, is_of_builds}
 use Rattle.deny_codes.proofs.Made.{Made, allowed_by_wrapper_made, allowed_made, banned_made, default_enabled_made}
 use Rattle.deny_codes.proofs.Made.{duplicate_made, feature_banned_made, feature_not_allowed_made, mismatched_made}
 use Rattle.deny_codes.proofs.Made.{not_allowed_made, replaced_made, skipped_by_root_made, skipped_made}
@@ -41,7 +48,8 @@ use Rattle.deny_features.specs.FeatureKeys.{IsOfFeatures}
 use Rattle.deny_manifest_rules.specs.ManifestKeys.{IsOfManifests}
 use Rattle.deny_std.specs.Found.{IsOfStd}
 use Rattle.deny_telling.specs.Here.{is_told_here}
-use Rattle.deny_rules.specs.private.OwnRules.{IsByRule, ban_rules, keys_of_rules, skip_rules}
+use Rattle.deny_rules.proofs.BuildSections.{key_of_crates}
+use Rattle.deny_rules.specs.private.OwnRules.{IsByRule, IsOfBuilds, ban_rules, keys_of_rules, skip_rules}
 
 -- ---- keys of entries that come to nothing have no place
 
@@ -181,6 +189,11 @@ of_entries : (d : Code) (keys : List Key) → IsTrue (is_told_here (Bans d))
 unfolding section_number
 of_entries d keys here below unused key is = of_unused d key here below refl (unused key is)
 
+in_rules : (rules : List (List Key)) → AllByRecursion AreFirst rules → AreFirst (keys_of_rules rules)
+in_rules rules all key is =
+    let from = Contains-from_flat_map (λ (keys : List Key). keys) rules key is in
+    at_member AreFirst rules from.from all from.member key from.of
+
 module _ (p : Policy) (g : Graph) (facts : chains.Facts) where
   bans_first : AllByRecursion AreFirst (ban_rules p g)
   unfolding code_number diagnostic_code_number
@@ -247,22 +260,71 @@ module _ (p : Policy) (g : Graph) (facts : chains.Facts) where
     manifests_first key (inr (inr (inr is))) = of_section section.Workspace code.UnusedWorkspaceDependency key refl refl
         refl (unused_entry_made p view key is)
 
-  in_rules : (rules : List (List Key)) → AllByRecursion AreFirst rules → AreFirst (keys_of_rules rules)
-  in_rules rules all key is =
-      let from = Contains-from_flat_map (λ (keys : List Key). keys) rules key is in
-      at_member AreFirst rules from.from all from.member key from.of
+-- of packages
 
-  module _ (view : View) where
-    each_first : (key : Key) → IsByRule p g facts view key → IsFirst key
-    each_first key (inl is) = in_rules (ban_rules p g) bans_first key is
-    each_first key (inr (inl is)) = in_rules (skip_rules p g facts) skips_first key is
-    each_first key (inr (inr (inl is))) = duplicates_first key is
-    each_first key (inr (inr (inr (inl is)))) = features_first key is
-    each_first key (inr (inr (inr (inr is)))) = manifests_first view key is
+told_of_builds : (d : Code) → is_of_builds d ≡ true → IsTrue (is_told_here (Bans d))
+told_of_builds code.BuildScriptNotAllowed mine = refl
+told_of_builds code.UnknownFeature mine = refl
+told_of_builds code.PathBypassed mine = refl
+told_of_builds code.PathBypassedByGlob mine = refl
+told_of_builds code.ChecksumMatch mine = refl
+told_of_builds code.ChecksumMismatch mine = refl
+told_of_builds code.DeniedByExtension mine = refl
+told_of_builds code.DetectedExecutable mine = refl
+told_of_builds code.DetectedExecutableScript mine = refl
+told_of_builds code.UnableToCheckPath mine = refl
+told_of_builds code.FeaturesEnabled mine = refl
+told_of_builds code.UnmatchedBypass mine = refl
+told_of_builds code.UnmatchedPathBypass mine = refl
+told_of_builds code.UnmatchedGlob mine = refl
+told_of_builds _ mine = absurd (false≢true mine)
 
-    pub rules_here : (key : Key) → IsByRule p g facts view key → IsTrue (is_told_here key.code)
-    rules_here key is = (each_first key is).here
+-- the older key stands before all others
+deprecated_first : (key : Key) → MadeDeprecated key → IsFirst key
+unfolding section_number
+deprecated_first key made = record {
+  here = subst (λ (d : DiagnosticCode). IsTrue (is_told_here d)) (sym made.code_is) refl;
+  first = λ c other is. elim is as (λ _. key_cmp key other ≡ Less) [
+    | inl ignored ↦ in_sections key other section.Deprecated section.Unused made.section_is
+        (unmatched_ignore_made c other ignored).section_is refl
+    | inr replaced ↦ in_sections key other section.Deprecated section.Std made.section_is
+        (replaced_made c other replaced).section_is refl
+  ];
+}
 
-    pub rules_first : (key : Key) → IsByRule p g facts view key → (c : Circumstances) (other : Key) → IsOfStd c other
-        → key_cmp key other ≡ Less
-    rules_first key is = (each_first key is).first
+module _ (c : Circumstances) (facts : Facts) where
+  builds_first : (key : Key) → IsOfBuilds c facts key → IsFirst key
+  unfolding section_number code_number diagnostic_code_number unmatched_bypass_keys
+  builds_first key (inl is) = by_building c.building is
+    where
+      made : MadeOfBuilds key
+      made = build_made c facts key is
+
+      by_building : (o : Option Building)
+          → Contains (option_map_or (λ b. build_keys (looking c facts b)) o []) key → IsFirst key
+      by_building None at = absurd (no_member key at)
+      by_building (Some b) at =
+          let l : Looking = looking c facts b in
+          elim (Contains-append_cases (flat_map (package_keys l) c.graph.crates) (unmatched_bypass_keys l) key at) [
+            | inl here ↦ of_section section.Crates made.code key (told_of_builds made.code made.of_builds) refl refl
+                (record { code_is = made.made.code_is; section_is = key_of_crates l key here })
+            | inr there ↦ of_unused code.UnmatchedBypass key refl refl refl
+                (unused_map code.UnmatchedBypass bypass_range (filter (λ y. not (is_used l y)) b.bypass) key there)
+          ]
+  builds_first key (inr is) = deprecated_first key (deprecated_made c key is)
+
+  each_first : (key : Key) → IsByRule c facts key → IsFirst key
+  each_first key (inl is) = in_rules (ban_rules c.policy c.graph) (bans_first c.policy c.graph facts.chains) key is
+  each_first key (inr (inl is)) =
+      in_rules (skip_rules c.policy c.graph facts.chains) (skips_first c.policy c.graph facts.chains) key is
+  each_first key (inr (inr (inl is))) = duplicates_first c.policy c.graph facts.chains key is
+  each_first key (inr (inr (inr (inl is)))) = features_first c.policy c.graph facts.chains key is
+  each_first key (inr (inr (inr (inr (inl is))))) = manifests_first c.policy c.graph facts.chains c.view key is
+  each_first key (inr (inr (inr (inr (inr is))))) = builds_first key is
+
+  pub rules_here : (key : Key) → IsByRule c facts key → IsTrue (is_told_here key.code)
+  rules_here key is = (each_first key is).here
+
+  pub rules_first : (key : Key) → IsByRule c facts key → (d : Circumstances) (other : Key) → IsOfStd d other
+      → key_cmp key other ≡ Less
+  rules_first key is = (each_first key is).first

@@ -1,6 +1,7 @@
 pub mod Allowed
 pub mod Banned
 pub mod Duplicates
+pub mod OfPackages
 pub mod OwnRules
 pub mod Replaced
 pub mod Skipping

@@ -10,6 +10,7 @@ mod check;
 mod crate_keys;
 mod duplicates;
 mod hits;
+mod packages;
 mod replaced;
 mod skips;
 

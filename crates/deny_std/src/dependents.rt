@@ -32,6 +32,7 @@ pub struct Asked<'c> {
 }
 
 impl<'c> Asked<'c> {
+    /// Marks the members of a graph.
     pub fn new(
         alloc: Global,
         cfg: &'c StdReplacementConfig,

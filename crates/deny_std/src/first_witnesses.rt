@@ -16,6 +16,7 @@ pub struct FirstWitnesses {
 }
 
 impl FirstWitnesses {
+    /// No entry has a witness yet.
     pub fn new(alloc: Global) -> FirstWitnesses
         ensures { FindsFirst same_range [] (place_in result) }
     {

@@ -22,6 +22,7 @@ pub struct Ignored<'c> {
 }
 
 impl<'c> Ignored<'c> {
+    /// Gathers the names that the entries speak of.
     pub fn new(alloc: Global, entries: &'c [SpecAndReason]) -> Result<Ignored<'c>, NoMemory>
         ensures { IfOk result (λ ignored. ignored.entries.now ≡ entries.entry.now) }
     {

@@ -7,6 +7,10 @@ use Rattle.deny_base.specs.declared.code.DiagnosticCode.{DiagnosticCode}
 use Rattle.deny_base.specs.declared.code.DiagnosticCode.TheVariants.{Deprecated, Bans, License}
 use Rattle.deny_base.specs.declared.key.Key.{Key}
 use Rattle.deny_codes.specs.Circumstances.{Circumstances, tabled}
+use Rattle.deny_codes.specs.PackagesTold.{bypassed_by_glob_told, checksum_match_told, checksum_mismatch_told}
+use Rattle.deny_codes.specs.PackagesTold.{denied_by_extension_told, detected_told, features_enabled_told, mismatch_note}
+use Rattle.deny_codes.specs.PackagesTold.{path_bypassed_told, script_denied_told, unable_to_check_told}
+use Rattle.deny_codes.specs.PackagesTold.{unmatched_glob_told, unmatched_path_told}
 use Rattle.deny_codes.specs.Told.{pack_of, pack_told, words_as, words_by}
 use Rattle.deny_lists.proofs.Agreement.{map_on}
 use Rattle.std.proofs.lemmas.List.Elements.{All-contains}
@@ -14,7 +18,7 @@ use Rattle.deny_telling.specs.Here.{AreToldHere, is_told_here}
 
 words_as_untabled : (d : Code) (c : Circumstances) (table : List ℕ) (key : Key) → IsTrue (is_told_here (Bans d))
     → words_as d (tabled c table) key ≡ words_as d c key
-unfolding words_as
+unfolding words_as script_denied_told path_bypassed_told bypassed_by_glob_told checksum_match_told checksum_mismatch_told mismatch_note denied_by_extension_told detected_told unable_to_check_told features_enabled_told unmatched_path_told unmatched_glob_told
 words_as_untabled code.ReplacedInStd c table key here = absurd (cc here)
 words_as_untabled code.UnmatchedReplacementIgnore c table key here = absurd (cc here)
 words_as_untabled _ c table key here = refl

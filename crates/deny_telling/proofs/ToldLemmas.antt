@@ -15,20 +15,10 @@ use Rattle.deny_model.specs.Policy.{Ban, Policy, Root, Words}
 use Rattle.deny_model.specs.Told.{ban_at, crate_at, crates_at, primary, wrapper_labels}
 use Rattle.deny_model.specs.Wrappers.{same_span}
 use Rattle.deny_facts.specs.Wrappers as wrappers
-use Rattle.deny_telling.specs.private.ByRange.{first_of}
+use Rattle.deny_told.specs.ByRange.{first_of}
 use Rattle.deny_facts.specs.Marks.{mark_at}
 use Rattle.deny_telling.specs.private.WrapperRanges.{wrapper_range}
 use Rattle.deny_lists.proofs.Filters.{find-map}
-
-option_map-map : {X Y Z : Type 0} (f : Y → Z) (g : X → Y) (o : Option X)
-    → option_map f (option_map g o) ≡ option_map (λ x. f (g x)) o
-option_map-map f g None = refl
-option_map-map f g (Some x) = refl
-
--- an entry that was found, as it is seen
-pub seen : {X Y : Type 0} (p : Y → Bool) (f : X → Y) (xs : List X) (r : Option (Bor X))
-    → option_map (λ x. x.now) r ≡ find (λ x. p (f x)) xs → option_map (λ x. f x.now) r ≡ find p (map f xs)
-seen p f xs r is = sym (option_map-map f (λ x. x.now) r) ∙ (ap (option_map f) is ∙ sym (find-map p f xs))
 
 -- a skipped tree that was found, at some number
 abbrev name_range : PackageSpecOrExtended TreeSkipExtended → Span

@@ -1,4 +1,3 @@
-pub mod ByRange
 pub mod Features
 pub mod Teller
 pub mod WrapperRanges

@@ -3,11 +3,12 @@ ghost use Rattle.std.specs.Prelude.{◌≡◌, IfOk};
 ghost use Rattle.deny_codes.specs.AllowList.{allowed_told, not_allowed_told};
 ghost use Rattle.deny_telling.specs.private.Teller.{told_from};
 
+use crate::entry_labels::allow_labels_at;
 use crate::teller::Teller;
-use crate::telling::{allow_labels_at, kid_at, of_crate, plainly};
 use deny_base::{Key, Severity};
 use deny_codes::Words;
 use deny_lists::{List, NoMemory};
+use deny_told::{kid_at, of_crate, plainly};
 use std::alloc::Global;
 
 /// What is told of a crate that an entry allows.
@@ -16,9 +17,15 @@ pub fn allowed_told(alloc: Global, teller: &Teller<'_>, key: &Key) -> Result<Wor
     ensures { IfOk result (λ words. let c = told_from teller.now in
         words ≡ allowed_told c.policy c.graph c.files.policy key.now) }
 {
-    let message = of_crate(alloc, teller, "crate '", key, "' is explicitly allowed")?;
+    let message = of_crate(
+        alloc,
+        teller.told.krates,
+        "crate '",
+        key,
+        "' is explicitly allowed",
+    )?;
     let labels = allow_labels_at(alloc, teller, "allowed here", key.entry)?;
-    let krate = kid_at(teller, key.place)?;
+    let krate = kid_at(teller.told.krates, key.place)?;
     Ok(plainly(alloc, Severity::Note, message, labels, krate))
 }
 
@@ -27,7 +34,13 @@ pub fn allowed_told(alloc: Global, teller: &Teller<'_>, key: &Key) -> Result<Wor
 pub fn not_allowed_told(alloc: Global, teller: &Teller<'_>, key: &Key) -> Result<Words, NoMemory>
     ensures { IfOk result (λ words. words ≡ not_allowed_told (told_from teller.now).graph key.now) }
 {
-    let message = of_crate(alloc, teller, "crate '", key, "' is not explicitly allowed")?;
-    let krate = kid_at(teller, key.place)?;
+    let message = of_crate(
+        alloc,
+        teller.told.krates,
+        "crate '",
+        key,
+        "' is not explicitly allowed",
+    )?;
+    let krate = kid_at(teller.told.krates, key.place)?;
     Ok(plainly(alloc, Severity::Error, message, List::new(alloc), krate))
 }

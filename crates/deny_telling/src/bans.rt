@@ -6,12 +6,13 @@ ghost use Rattle.deny_model.specs.Told.{crate_at, crate_text_at, of_crate};
 ghost use Rattle.deny_telling.specs.private.Teller.{told_from};
 ghost use Rattle.deny_telling.specs.private.WrapperRanges.{wrapper_range};
 
+use crate::entry_labels::ban_labels_at;
 use crate::teller::Teller;
-use crate::telling::{Labels, ban_labels_at, kid_at, lone_label, of_crate, plainly, primary};
 use deny_base::{Key, Severity, Span};
 use deny_codes::Words;
 use deny_facts::{krate_at, krate_text};
 use deny_lists::{List, NoMemory, Text};
+use deny_told::{Labels, kid_at, lone_label, of_crate, plainly, primary};
 use std::alloc::Global;
 
 /// What is told of a crate that is banned.
@@ -20,9 +21,15 @@ pub fn banned_told(alloc: Global, teller: &Teller<'_>, key: &Key) -> Result<Word
     ensures { IfOk result (λ words. let c = told_from teller.now in
         words ≡ banned_told c.policy c.graph c.files.policy key.now) }
 {
-    let message = of_crate(alloc, teller, "crate '", key, "' is explicitly banned")?;
+    let message = of_crate(
+        alloc,
+        teller.told.krates,
+        "crate '",
+        key,
+        "' is explicitly banned",
+    )?;
     let labels = ban_labels_at(alloc, teller, "banned here", key.entry)?;
-    let krate = kid_at(teller, key.place)?;
+    let krate = kid_at(teller.told.krates, key.place)?;
     Ok(plainly(alloc, Severity::Error, message, labels, krate))
 }
 
@@ -38,7 +45,7 @@ pub fn allowed_by_wrapper_told(
 {
     let message = allowed_by_wrapper_message(alloc, teller, key)?;
     let labels = wrapper_labels_at(alloc, teller, key)?;
-    let krate = kid_at(teller, key.place)?;
+    let krate = kid_at(teller.told.krates, key.place)?;
     Ok(plainly(alloc, Severity::Note, message, labels, krate))
 }
 
@@ -51,8 +58,8 @@ fn allowed_by_wrapper_message(
         text ≡ of_crate (codes "banned crate '") g key.now
         (codes "' allowed by wrapper '" ++ (crate_text_at g key.now.other ++ codes "'"))) }
 {
-    let krate = krate_text(alloc, teller.krates, key.place)?;
-    let wrapper = krate_text(alloc, teller.krates, key.other)?;
+    let krate = krate_text(alloc, teller.told.krates, key.place)?;
+    let wrapper = krate_text(alloc, teller.told.krates, key.other)?;
     Ok(Text::from_string(format!(in alloc;
         "banned crate '{krate}' allowed by wrapper '{wrapper}'"
     )?))
@@ -80,7 +87,7 @@ fn wrapper_at(teller: &Teller<'_>, range: Span, place: u32) -> Option<Span>
     ensures { let c = told_from teller.now in
         result ≡ option_and_then (λ k. wrapper_range c.policy.deny range k.name) (crate_at c.graph place) }
 {
-    let krate = krate_at(teller.krates, place)?;
+    let krate = krate_at(teller.told.krates, place)?;
     teller.wrapper(range, krate.name.as_str())
 }
 
@@ -96,7 +103,7 @@ pub fn unmatched_wrapper_told(
 {
     let message = unmatched_wrapper_message(alloc, teller, key)?;
     let labels = ban_labels_at(alloc, teller, "banned here", key.entry)?;
-    let krate = kid_at(teller, key.place)?;
+    let krate = kid_at(teller.told.krates, key.place)?;
     Ok(plainly(alloc, Severity::Warning, message, labels, krate))
 }
 
@@ -109,8 +116,8 @@ fn unmatched_wrapper_message(
         text ≡ codes "direct parent '" ++ (crate_text_at g key.now.other
         ++ of_crate (codes "' of banned crate '") g key.now (codes "' was not marked as a wrapper"))) }
 {
-    let krate = krate_text(alloc, teller.krates, key.place)?;
-    let parent = krate_text(alloc, teller.krates, key.other)?;
+    let krate = krate_text(alloc, teller.told.krates, key.place)?;
+    let parent = krate_text(alloc, teller.told.krates, key.other)?;
     Ok(Text::from_string(format!(in alloc;
         "direct parent '{parent}' of banned crate '{krate}' was not marked as a wrapper"
     )?))

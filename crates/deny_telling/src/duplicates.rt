@@ -8,17 +8,17 @@ ghost use Rattle.deny_spans.specs.SpansView.{AreSpansOf};
 ghost use Rattle.deny_telling.specs.private.Teller.{told_from};
 
 use crate::teller::Teller;
-use crate::telling::{Labels, lone_label};
 use deny_base::{GraphNode, Key, LintLevel, Span};
 use deny_codes::Words;
 use deny_facts::{krate_at, krate_name};
 use deny_lists::{List, NoMemory, Text};
+use deny_told::{Labels, lone_label};
 use std::alloc::Global;
 
 /// What is told of crates that stand side by side.
 #[tactic(auto, unfolding(deny_codes::specs::Duplicates::duplicate_told))]
 pub fn duplicate_told(alloc: Global, teller: &Teller<'_>, key: &Key) -> Result<Words, NoMemory>
-    requires spans { AreSpansOf teller.now.krates.now teller.now.spans.now }
+    requires spans { AreSpansOf teller.now.told.krates.now teller.now.told.spans.now }
     ensures { IfOk result (λ words. let c = told_from teller.now in
         words ≡ duplicate_told c.policy c.graph c.files.lock key.now) }
 {
@@ -39,10 +39,10 @@ pub fn duplicate_told(alloc: Global, teller: &Teller<'_>, key: &Key) -> Result<W
 fn duplicate_message(alloc: Global, teller: &Teller<'_>, key: &Key) -> Result<Text, NoMemory>
     ensures { IfOk result (λ text. text ≡ codes "found "
         ++ (decimal (length key.now.places) ++ (codes " duplicate entries for crate '"
-        ++ (crate_name_at teller.now.krates.now key.now.place ++ codes "'")))) }
+        ++ (crate_name_at teller.now.told.krates.now key.now.place ++ codes "'")))) }
 {
     let count = key.places.len();
-    let name = krate_name(alloc, teller.krates, key.place)?;
+    let name = krate_name(alloc, teller.told.krates, key.place)?;
     Ok(Text::from_string(format!(in alloc; "found {count} duplicate entries for crate '{name}'")?))
 }
 
@@ -54,15 +54,15 @@ fn duplicate_level(teller: &Teller<'_>, places: &[u32]) -> LintLevel
     if teller.denies_several(places) {
         LintLevel::Deny
     } else {
-        teller.cfg.multiple_versions
+        teller.told.cfg.multiple_versions
     }
 }
 
 // The lines of the lock text from that of the first of these places to that of the last.
 fn lock_labels(alloc: Global, teller: &Teller<'_>, places: &[u32]) -> Labels
-    requires spans { AreSpansOf teller.now.krates.now teller.now.spans.now }
+    requires spans { AreSpansOf teller.now.told.krates.now teller.now.told.spans.now }
     ensures { IfOk result (λ labels. labels
-        ≡ lock_labels teller.now.krates.now teller.now.spans.now.lock_id places.now) }
+        ≡ lock_labels teller.now.told.krates.now teller.now.told.spans.now.lock_id places.now) }
 {
     let Some(first) = places.first() else {
         return Ok(List::new(alloc));
@@ -75,31 +75,31 @@ fn lock_labels(alloc: Global, teller: &Teller<'_>, places: &[u32]) -> Labels
 
 #[tactic(auto, unfolding(deny_codes::specs::Duplicates::lock_label, deny_codes::specs::Duplicates::lock_lines))]
 fn lock_label(alloc: Global, teller: &Teller<'_>, first: u32, last: u32) -> Labels
-    requires spans { AreSpansOf teller.now.krates.now teller.now.spans.now }
-    ensures { IfOk result (λ labels. let g = teller.now.krates.now in
-        labels ≡ lock_label g teller.now.spans.now.lock_id (crate_at g first) (crate_at g last)) }
+    requires spans { AreSpansOf teller.now.told.krates.now teller.now.told.spans.now }
+    ensures { IfOk result (λ labels. let g = teller.now.told.krates.now in
+        labels ≡ lock_label g teller.now.told.spans.now.lock_id (crate_at g first) (crate_at g last)) }
 {
-    let Some(first) = teller.spans.lock_span_at(first) else {
+    let Some(first) = teller.told.spans.lock_span_at(first) else {
         return Ok(List::new(alloc));
     };
-    let Some(last) = teller.spans.lock_span_at(last) else {
+    let Some(last) = teller.told.spans.lock_span_at(last) else {
         return Ok(List::new(alloc));
     };
     let lines = Span {
         start: first.total.start,
         end: last.total.end,
     };
-    lone_label(alloc, teller.spans.lock_id, lines, "lock entries")
+    lone_label(alloc, teller.told.spans.lock_id, lines, "lock entries")
 }
 
 // The crates at these places, as they are shown.
 #[tactic(auto, unfolding(deny_model::specs::Told::crates_at))]
 fn nodes_at(alloc: Global, teller: &Teller<'_>, places: &[u32]) -> Result<List<GraphNode>, NoMemory>
-    ensures { IfOk result (λ nodes. nodes ≡ map node_of (crates_at teller.now.krates.now places.now)) }
+    ensures { IfOk result (λ nodes. nodes ≡ map node_of (crates_at teller.now.told.krates.now places.now)) }
 {
     let mut nodes = List::new(alloc);
     for place in places {
-        if let Some(krate) = krate_at(teller.krates, *place) {
+        if let Some(krate) = krate_at(teller.told.krates, *place) {
             nodes.push(GraphNode {
                 kid: krate.id.clone()?,
                 feature: None,

@@ -9,20 +9,22 @@ ghost use Rattle.deny_cfg.specs.PolicyView.{feature_view};
 ghost use Rattle.deny_codes.specs.Features.{default_enabled_told, default_severity, entry_and_crate, feature_at};
 ghost use Rattle.deny_codes.specs.Features.{feature_banned_told, feature_entry_at, feature_nodes_at};
 ghost use Rattle.deny_codes.specs.Features.{feature_not_allowed_told, mismatch_labels, mismatch_nodes, mismatched_told};
-ghost use Rattle.deny_codes.specs.Features.{of_feature, unknown_feature_told, unlisted, unlisted_note, with_features};
+ghost use Rattle.deny_codes.specs.Features.{named_at, of_feature, unknown_feature_told, unlisted, unlisted_note};
+ghost use Rattle.deny_codes.specs.Features.{with_features};
+ghost use Rattle.deny_codes.specs.PackagesTold.{required_features};
 ghost use Rattle.deny_model.specs.Text.{same_text};
 ghost use Rattle.deny_model.specs.Told.{crate_at, node_of, primary};
 ghost use Rattle.deny_telling.specs.private.Features.{feature_node};
 ghost use Rattle.deny_telling.specs.private.Teller.{told_from};
 
 use crate::teller::Teller;
-use crate::telling::{Labels, kid_at, lone_label, of_crate, plainly, primary};
 use deny_base::{FileId, GraphNode, Key, Kid, Label, Severity, Span};
 use deny_cfg::bans::cfg::ValidKrateFeatures;
 use deny_codes::Words;
 use deny_facts::{are_placed, krate_at, krate_text, ranges_by_name};
 use deny_features::{default_level_at, enabled_at, has, unlisted};
 use deny_lists::{List, NoMemory, Text};
+use deny_told::{Labels, kid_at, lone_label, of_crate, plainly, primary};
 use std::alloc::Global;
 
 /// What is told of a crate whose features are not exactly those of an entry.
@@ -33,7 +35,7 @@ pub fn mismatched_told(alloc: Global, teller: &Teller<'_>, key: &Key) -> Result<
 {
     let message = of_crate(
         alloc,
-        teller,
+        teller.told.krates,
         "feature set for crate '",
         key,
         "' did not match exactly",
@@ -42,7 +44,7 @@ pub fn mismatched_told(alloc: Global, teller: &Teller<'_>, key: &Key) -> Result<
     let labels = mismatch_labels(alloc, teller, key)?;
     let notes = unlisted_notes(alloc, features.as_slice())?;
     let nodes = mismatch_nodes(alloc, teller, key, features.as_slice())?;
-    let krate = kid_at(teller, key.place)?;
+    let krate = kid_at(teller.told.krates, key.place)?;
     Ok(Words {
         severity: Severity::Error,
         message,
@@ -59,12 +61,19 @@ fn unlisted_of(alloc: Global, teller: &Teller<'_>, key: &Key) -> Result<List<Tex
     ensures { IfOk result (λ features. let c = told_from teller.now in
         features ≡ entry_and_crate c.policy c.graph key.now (unlisted c.policy c.graph) []) }
 {
-    are_placed(teller.krates);
+    are_placed(teller.told.krates);
     let Some(entry) = teller.feature_entry(key.entry) else {
         return Ok(List::new(alloc));
     };
     let allowed = ranges_by_name(alloc, entry.features.allow.value.as_slice())?;
-    unlisted(alloc, teller.cfg, teller.krates, entry, &allowed, key.place)
+    unlisted(
+        alloc,
+        teller.told.cfg,
+        teller.told.krates,
+        entry,
+        &allowed,
+        key.place,
+    )
 }
 
 // The `exact` of the entry of a key, and those of its features that are not enabled.
@@ -75,10 +84,15 @@ fn mismatch_labels(alloc: Global, teller: &Teller<'_>, key: &Key) -> Labels
     let Some(entry) = teller.feature_entry(key.entry) else {
         return Ok(List::new(alloc));
     };
-    let Some(_krate) = krate_at(teller.krates, key.place) else {
+    let Some(_krate) = krate_at(teller.told.krates, key.place) else {
         return Ok(List::new(alloc));
     };
-    missing_labels(alloc, teller, entry, enabled_at(teller.krates, key.place))
+    missing_labels(
+        alloc,
+        teller,
+        entry,
+        enabled_at(teller.told.krates, key.place),
+    )
 }
 
 // By the features that are enabled.
@@ -89,7 +103,7 @@ fn missing_labels(
     enabled: &[Text],
 ) -> Labels
     requires { IsStrictlySortedBy (slice_cmp nat_cmp) enabled.now }
-    ensures { IfOk result (λ labels. let e = feature_view entry.now in let file = teller.now.cfg.now.file_id in
+    ensures { IfOk result (λ labels. let e = feature_view entry.now in let file = teller.now.told.cfg.now.file_id in
         labels ≡ primary file e.exact.span (codes "exact enabled here")
         ∷ map (λ w. primary file w.span (codes "allowed feature not present"))
         (filter (λ w. not (list_any (same_text w.value) enabled.now)) e.allow.value)) }
@@ -147,7 +161,7 @@ fn mismatch_nodes(
     ensures { IfOk result (λ nodes. let c = told_from teller.now in
         nodes ≡ entry_and_crate c.policy c.graph key.now (mismatch_nodes c.policy c.graph) []) }
 {
-    are_placed(teller.krates);
+    are_placed(teller.told.krates);
     if features.len() != 0 {
         return feature_nodes_at(alloc, teller, key.place, features);
     }
@@ -167,7 +181,7 @@ fn crate_nodes_at(
         (crate_at (told_from teller.now).graph place) []) }
 {
     let mut nodes = List::new(alloc);
-    if let Some(krate) = krate_at(teller.krates, place) {
+    if let Some(krate) = krate_at(teller.told.krates, place) {
         nodes.push(GraphNode {
             kid: krate.id.clone()?,
             feature: None,
@@ -186,7 +200,7 @@ fn feature_nodes_at(
 ) -> Result<List<GraphNode>, NoMemory>
     ensures { IfOk result (λ nodes. nodes ≡ feature_nodes_at (told_from teller.now).graph place features.now) }
 {
-    match krate_at(teller.krates, place) {
+    match krate_at(teller.told.krates, place) {
         Some(krate) => feature_nodes(alloc, &krate.id, features),
         None => Ok(List::new(alloc)),
     }
@@ -246,7 +260,7 @@ pub fn feature_not_allowed_told(
         "' was not explicitly allowed",
     )?;
     let labels = allow_labels(alloc, teller, key.entry)?;
-    let krate = kid_at(teller, key.place)?;
+    let krate = kid_at(teller.told.krates, key.place)?;
     let words = plainly(alloc, Severity::Error, message, labels, krate);
     Ok(with_features(words, List::new(alloc)))
 }
@@ -285,7 +299,7 @@ pub fn feature_banned_told(alloc: Global, teller: &Teller<'_>, key: &Key) -> Res
         "' is explicitly denied",
     )?;
     let labels = lone_label(alloc, teller.file(), key.entry, "feature denied here")?;
-    let krate = kid_at(teller, key.place)?;
+    let krate = kid_at(teller.told.krates, key.place)?;
     let nodes = feature_node_at(alloc, teller, key.place, feature)?;
     let words = plainly(alloc, Severity::Error, message, labels, krate);
     Ok(with_features(words, nodes))
@@ -298,20 +312,20 @@ pub fn unknown_feature_told(
     teller: &Teller<'_>,
     key: &Key,
 ) -> Result<Words, NoMemory>
-    ensures { IfOk result (λ words. let c = told_from teller.now in
-        words ≡ unknown_feature_told c.policy c.graph c.files.policy key.now) }
+    ensures { IfOk result (λ words. let c = told_from teller.now in words
+        ≡ unknown_feature_told c.policy (required_features c.building) c.graph c.files.policy key.now) }
 {
     let message = of_feature(
         alloc,
         teller,
         "found unknown feature '",
-        feature_at(teller, key.entry),
+        named_at(teller, key.entry),
         "' for crate '",
         key,
         "'",
     )?;
     let labels = lone_label(alloc, teller.file(), key.entry, "unknown feature")?;
-    let krate = kid_at(teller, key.place)?;
+    let krate = kid_at(teller.told.krates, key.place)?;
     Ok(plainly(alloc, Severity::Warning, message, labels, krate))
 }
 
@@ -327,13 +341,13 @@ pub fn default_enabled_told(
 {
     let message = of_crate(
         alloc,
-        teller,
+        teller.told.krates,
         "'default' feature enabled for crate '",
         key,
         "'",
     )?;
     let labels = lone_label(alloc, teller.file(), key.entry, "lint level")?;
-    let krate = kid_at(teller, key.place)?;
+    let krate = kid_at(teller.told.krates, key.place)?;
     let nodes = feature_node_at(alloc, teller, key.place, "default")?;
     let severity = default_severity(teller, key);
     let words = plainly(alloc, severity, message, labels, krate);
@@ -345,10 +359,10 @@ pub fn default_enabled_told(
 fn default_severity(teller: &Teller<'_>, key: &Key) -> Severity
     ensures { let c = told_from teller.now in result ≡ default_severity c.policy c.graph key.now }
 {
-    let Some(_krate) = krate_at(teller.krates, key.place) else {
+    let Some(_krate) = krate_at(teller.told.krates, key.place) else {
         return Severity::Warning;
     };
-    match default_level_at(teller.cfg, teller.krates, key.place) {
+    match default_level_at(teller.told.cfg, teller.told.krates, key.place) {
         Some(at) => at.value.severity(),
         None => Severity::Warning,
     }
@@ -360,6 +374,18 @@ fn feature_at<'t>(teller: &'t Teller<'_>, range: Span) -> &'t str
     ensures { result.now ≡ feature_at (told_from teller.now).policy range }
 {
     match teller.feature(range) {
+        Some(word) => word.value.as_str(),
+        None => "",
+    }
+}
+
+// The same, of those features and those that bypasses require.
+#[tactic(auto, unfolding(deny_codes::specs::Features::named_at))]
+fn named_at<'t>(teller: &'t Teller<'_>, range: Span) -> &'t str
+    ensures { let c = told_from teller.now in
+        result.now ≡ named_at (required_features c.building) c.policy range }
+{
+    match teller.named_feature(range) {
         Some(word) => word.value.as_str(),
         None => "",
     }
@@ -378,7 +404,7 @@ fn of_feature(
     ensures { IfOk result (λ text. text ≡ of_feature before.now feature.now between.now (told_from teller.now).graph
         key.now after.now) }
 {
-    let krate = krate_text(alloc, teller.krates, key.place)?;
+    let krate = krate_text(alloc, teller.told.krates, key.place)?;
     Ok(Text::from_string(format!(in alloc; "{before}{feature}{between}{krate}{after}")?))
 }
 

@@ -3,11 +3,12 @@ ghost use Rattle.std.specs.Prelude.{◌≡◌, IfOk};
 ghost use Rattle.deny_codes.specs.SkippedTrees.{skipped_by_root_told, unmatched_skip_root_told};
 ghost use Rattle.deny_telling.specs.private.Teller.{told_from};
 
+use crate::entry_labels::root_labels_at;
 use crate::teller::Teller;
-use crate::telling::{kid_at, lone_label, of_crate, plainly, root_labels_at};
 use deny_base::{Key, Severity};
 use deny_codes::Words;
 use deny_lists::{NoMemory, Text};
+use deny_told::{kid_at, lone_label, of_crate, plainly};
 use std::alloc::Global;
 
 /// What is told of a crate that lies in a skipped tree.
@@ -20,9 +21,15 @@ pub fn skipped_by_root_told(
     ensures { IfOk result (λ words. let c = told_from teller.now in
         words ≡ skipped_by_root_told c.policy c.graph c.files.policy key.now) }
 {
-    let message = of_crate(alloc, teller, "skipping crate '", key, "' due to root skip")?;
+    let message = of_crate(
+        alloc,
+        teller.told.krates,
+        "skipping crate '",
+        key,
+        "' due to root skip",
+    )?;
     let labels = root_labels_at(alloc, teller, "matched skip root", key.entry)?;
-    let krate = kid_at(teller, key.place)?;
+    let krate = kid_at(teller.told.krates, key.place)?;
     Ok(plainly(alloc, Severity::Note, message, labels, krate))
 }
 

@@ -5,12 +5,13 @@ ghost use Rattle.deny_codes.specs.Skips.{skipped_told, unmatched_skip_told, unne
 ghost use Rattle.deny_model.specs.Told.{skip_text_at, spec_text};
 ghost use Rattle.deny_telling.specs.private.Teller.{told_from};
 
+use crate::entry_labels::skip_labels_at;
 use crate::teller::Teller;
-use crate::telling::{kid_at, of_crate, plainly, skip_labels_at};
 use deny_base::{Key, Severity, Span};
 use deny_cfg::PackageSpec;
 use deny_codes::Words;
 use deny_lists::{NoMemory, Text};
+use deny_told::{kid_at, of_crate, plainly};
 use std::alloc::Global;
 
 /// What is told of a crate that a skip speaks of.
@@ -20,9 +21,9 @@ pub fn skipped_told(alloc: Global, teller: &Teller<'_>, key: &Key) -> Result<Wor
         words ≡ skipped_told c.policy c.graph c.files.policy key.now) }
 {
     let after = "' skipped when checking for duplicates";
-    let message = of_crate(alloc, teller, "crate '", key, after)?;
+    let message = of_crate(alloc, teller.told.krates, "crate '", key, after)?;
     let labels = skip_labels_at(alloc, teller, "skipped here", key.entry)?;
-    let krate = kid_at(teller, key.place)?;
+    let krate = kid_at(teller.told.krates, key.place)?;
     Ok(plainly(alloc, Severity::Note, message, labels, krate))
 }
 

@@ -4,10 +4,10 @@ ghost use Rattle.deny_codes.specs.Wrappers.{unused_wrapper_told};
 ghost use Rattle.deny_telling.specs.private.Teller.{told_from};
 
 use crate::teller::Teller;
-use crate::telling::{lone_label, plainly};
 use deny_base::{Key, Severity};
 use deny_codes::Words;
 use deny_lists::{NoMemory, Text};
+use deny_told::{lone_label, plainly};
 use std::alloc::Global;
 
 /// What is told of a wrapper that nothing hits.

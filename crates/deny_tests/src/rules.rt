@@ -1,6 +1,6 @@
 //! What the gate shows of duplicates.
 use deny_base::{DepKind, Edge};
-use deny_gate::{GateError, Inputs, Report, gate};
+use deny_gate::{Inputs, gate};
 use deny_lists::{List, NoMemory};
 use deny_outside::MemoryDisk;
 use deny_rules::{DupEdges, DupSet};
@@ -16,16 +16,21 @@ const GRAPH: &[u8] = b"{\"packages\":[\
     {\"id\":\"app\",\"deps\":[{\"pkg\":\"a\"},{\"pkg\":\"c1\"}]},\
     {\"id\":\"c1\"},{\"id\":\"c2\"}]}}";
 
-fn answer(rt: &HostRuntime) -> Result<Result<Report, GateError>, NoMemory> {
+// The edges that the report shows, apart from all else, so that no test holds a report.
+fn edges_shown(rt: &HostRuntime) -> Result<List<DupEdges>, NoMemory> {
     let policy = b"[bans]\nmultiple-versions = \"deny\"\nhighlight = \"all\"\n";
     let inputs = Inputs {
         policy: Vec::from_slice(rt.alloc(), policy)?,
         metadata: Vec::from_slice(rt.alloc(), GRAPH)?,
         replacements: None,
         registries: List::new(rt.alloc()),
+        home: None,
     };
     let mut disk = MemoryDisk::new(rt.alloc(), 1);
-    Ok(gate(rt.alloc(), &inputs, &mut disk))
+    match gate(rt.alloc(), &inputs, &mut disk) {
+        Ok(report) => Ok(report.dup_edges),
+        Err(_) => Ok(List::new(rt.alloc())),
+    }
 }
 
 fn edge(parent: u32, child: u32, kind: DepKind) -> Edge {
@@ -62,18 +67,14 @@ fn is_shown(shown: &DupEdges) -> bool {
 
 #[test]
 fn edges_ascend_by_parent_child_and_kind(rt: HostRuntime) -> Result<(), NoMemory> {
-    let report = answer(&rt)?;
-    assert!(rt;
-        matches!(&report, Ok(report) if matches!(report.dup_edges.as_slice(), [shown] if are_in_order(shown)))
-    );
+    let edges = edges_shown(&rt)?;
+    assert!(rt; matches!(edges.as_slice(), [shown] if are_in_order(shown)));
     Ok(())
 }
 
 #[test]
 fn a_set_has_the_edges_above_its_crate(rt: HostRuntime) -> Result<(), NoMemory> {
-    let report = answer(&rt)?;
-    assert!(rt;
-        matches!(&report, Ok(report) if matches!(report.dup_edges.as_slice(), [shown] if is_shown(shown) && are_sets(shown)))
-    );
+    let edges = edges_shown(&rt)?;
+    assert!(rt; matches!(edges.as_slice(), [shown] if is_shown(shown) && are_sets(shown)));
     Ok(())
 }

@@ -4,6 +4,7 @@ use deny_entries::PackageSpecOrExtended;
 
 mod valid;
 
+pub use deny_build_cfg::{GlobPattern, ValidBuildConfig, ValidBypass, ValidGlobSet};
 pub use deny_tables::bans::cfg::{
     BuildConfig, Bypass, BypassPath, Checksum, ChecksumParseError, Config, CrateAllow, CrateBan,
     CrateBanExtended, CrateFeatures, CrateSkip, GraphHighlight, SpecAndReason,

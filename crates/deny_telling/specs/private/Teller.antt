@@ -1,7 +1,7 @@
--- The circumstances that findings are told from: a configuration, a graph and the spans of its crates.
+-- The circumstances that findings are told from.
 use Rattle.deny_codes.specs.Circumstances.{Circumstances}
-use Rattle.deny_telling.specs.Telling.{told_by}
+use Rattle.deny_told.specs.Told.{told_from as told_by_all}
 use Rattle.deny_telling.specs.declared.teller.Teller.{Teller}
 
 abbrev pub told_from : Teller → Circumstances
-told_from teller = told_by teller.cfg.now teller.krates.now teller.spans.now
+told_from teller = told_by_all teller.told

@@ -13,7 +13,7 @@ returns-clause-faults_alone c =
 
 pub returns-clause-no_policy_with_faults : goal.returns-clause-no_policy_with_faults
 returns-clause-no_policy_with_faults c =
-    λ text file faults policy lists is. says_without_faults text is.config policy.licenses faults is.says.says lists
+    λ text file faults policy lists is. says_without_faults text is.config policy.licenses faults is.says lists
 
 pub returns-clause-no_policy_with_clashes : goal.returns-clause-no_policy_with_clashes
 returns-clause-no_policy_with_clashes c = policy_without_clashes

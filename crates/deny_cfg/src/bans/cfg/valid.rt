@@ -1,17 +1,25 @@
 //! What `[bans]` says once it is known to hold no clash.
-ghost use Rattle.std.specs.Prelude.{◌≡◌, IfOk, filter, map};
-ghost use Rattle.deny_cfg.specs.Clashes.{AreClashes, is_ban};
-ghost use Rattle.deny_cfg.specs.Valid.{IsValidOf, ban_of, features_of, is_multiple, krate_ban};
+ghost use Rattle.std.specs.Prelude.{◌≡◌, ◌++◌, ◌<◌, ◌^◌, [], IfOk, OnErr, OnOk, filter, length, map};
+ghost use Rattle.std.specs.Option.{option_map_or};
+ghost use Rattle.deny_build_cfg.specs.Build.{HasFiles, IsBuildOf, files_of};
+ghost use Rattle.deny_build_cfg.specs.Globs.{OfBoth};
+ghost use Rattle.deny_lists.specs.Prefix.{Gains, GainsPrefixOf};
+ghost use Rattle.deny_cfg.specs.Clashes.{is_ban};
+ghost use Rattle.deny_cfg.specs.Deprecated.{AreTold};
+ghost use Rattle.deny_cfg.specs.Valid.{IsValidOf, ban_of, features_of, files_asked, is_multiple, krate_ban};
+ghost use Rattle.deny_cfg.specs.Validating.{source_in};
 
 use crate::bans::cfg::ValidTreeSkip;
 use crate::clash_told::tell_clashes;
 use crate::clashes::{clashes_of, is_ban};
+use crate::deprecated::tell_deprecated;
 use crate::validate::{UnvalidatedConfig, ValidationContext};
-use deny_base::{FileId, LintLevel, Spanned};
+use deny_base::{Diagnostic, FileId, Files, LintLevel, Span, Spanned};
+use deny_build_cfg::{ValidBuildConfig, build_by, older_key_by, valid_build};
 use deny_entries::{PackageSpec, PackageSpecOrExtended, Reason};
 use deny_lists::{List, NoMemory, Text};
 use deny_tables::bans::cfg::{
-    Config, CrateBan, CrateBanExtended, CrateFeatures, GraphHighlight, SpecAndReason,
+    BuildConfig, Config, CrateBan, CrateBanExtended, CrateFeatures, GraphHighlight, SpecAndReason,
     StdReplacementConfig, WorkspaceDepsConfig,
 };
 use std::alloc::Global;
@@ -87,6 +95,9 @@ pub struct ValidConfig {
     pub workspace_dependencies: Option<WorkspaceDepsConfig>,
     /// How crates that the standard library has replaced are minded; without it, not at all.
     pub std_replacements: Option<StdReplacementConfig>,
+    /// How build scripts and the files of packages are minded: by the table `build`, else by the list of
+    /// crates that may have build scripts, which is its older key; without both, not at all.
+    pub build: Option<ValidBuildConfig>,
 }
 
 /// What an entry that bans says, without its flag.
@@ -156,10 +167,41 @@ fn all_features(
     Ok(all)
 }
 
-fn valid_of(alloc: Global, file_id: FileId, config: Config) -> Result<ValidConfig, NoMemory>
-    ensures { IfOk result (IsValidOf config file_id) }
+/// The table `build`, if there is one, or the one that its older key stands for.
+fn valid_build_of(
+    alloc: Global,
+    build: Option<BuildConfig>,
+    older_key: Option<Span>,
+    files: &mut Files,
+) -> Result<Option<ValidBuildConfig>, NoMemory>
+    requires few { length files.old < 2 ^ 31 }
+    ensures valid { IfOk result (OfBoth (λ build. IsBuildOf build (length files.old) older_key) build) }
+    ensures files { OnOk result (files.new ≡ files.old ++ option_map_or (λ build. files_of build.enable_builtin_globs) build []) }
+    ensures files_too { OnErr result (HasFiles (option_map_or (λ build. files_of build.enable_builtin_globs) build []) files.old files.new) }
 {
+    match build {
+        Some(build) => Ok(Some(valid_build(alloc, build, older_key, files)?)),
+        None => Ok(None),
+    }
+}
+
+/// A configuration without its clashes. Where memory runs out the files are as they were, or hold those that it
+/// asks for.
+fn valid_of(
+    alloc: Global,
+    file_id: FileId,
+    files: &mut Files,
+    config: Config,
+) -> Result<ValidConfig, NoMemory>
+    requires few { length files.old < 2 ^ 31 }
+    ensures valid { IfOk result (IsValidOf config file_id (length files.old)) }
+    ensures files { OnOk result (files.new ≡ files.old ++ files_asked config) }
+    ensures files_too { OnErr result (HasFiles (files_asked config) files.old files.new) }
+{
+    let older_key = older_key_by(&config.build, &config.allow_build_scripts);
     let (denied, denied_multiple_versions) = divided(alloc, config.deny)?;
+    let features = all_features(alloc, config.features)?;
+    let build = build_by(config.build, config.allow_build_scripts);
     Ok(ValidConfig {
         file_id,
         multiple_versions: config.multiple_versions,
@@ -171,14 +213,47 @@ fn valid_of(alloc: Global, file_id: FileId, config: Config) -> Result<ValidConfi
         allow_workspace: config.allow_workspace,
         external_default_features: config.external_default_features,
         workspace_default_features: config.workspace_default_features,
-        features: all_features(alloc, config.features)?,
+        features,
         skipped: config.skip,
         tree_skipped: config.skip_tree,
         wildcards: config.wildcards,
         allow_wildcard_paths: config.allow_wildcard_paths,
         workspace_dependencies: config.workspace_dependencies,
         std_replacements: config.std_replacements,
+        build: valid_build_of(alloc, build, older_key, files)?,
     })
+}
+
+/// The text of the file of a number; nothing where it is not among the files.
+fn source_in(files: &Files, id: FileId) -> &str
+    ensures { result.now ≡ source_in files.now id }
+{
+    match files.source(id) {
+        Some(source) => source,
+        None => "",
+    }
+}
+
+/// Tells what clashes in a configuration that is read from the text, and behind that what is deprecated. Where
+/// memory runs out, a prefix of it was told, or nothing.
+fn tell(
+    alloc: Global,
+    file: FileId,
+    source: &str,
+    config: &Config,
+    told: &mut List<Diagnostic>,
+) -> Result<(), NoMemory>
+    ensures ok { OnOk result (Gains (AreTold source.now config.now file) told.old told.new) }
+    ensures err { OnErr result (GainsPrefixOf (AreTold source.now config.now file) told.old told.new) }
+{
+    let clashes = clashes_of(alloc, source, config)?;
+    tell_clashes(alloc, file, clashes.as_slice(), told)?;
+    tell_deprecated(
+        alloc,
+        file,
+        older_key_by(&config.build, &config.allow_build_scripts),
+        told,
+    )
 }
 
 impl UnvalidatedConfig for Config {
@@ -186,17 +261,18 @@ impl UnvalidatedConfig for Config {
 
     ghost is_valid_of = { IsValidOf };
 
-    ghost are_clashes = { AreClashes };
+    ghost are_told = { λ config source file told. AreTold source config file told };
+
+    ghost files_asked = { files_asked };
 
     fn validate(self, ctx: ValidationContext<'_>) -> Result<ValidConfig, NoMemory> {
         let ValidationContext {
             alloc,
             cfg_id,
-            files: _,
+            files,
             diagnostics,
         } = ctx;
-        let clashes = clashes_of(alloc, &self)?;
-        tell_clashes(alloc, cfg_id, clashes.as_slice(), diagnostics)?;
-        valid_of(alloc, cfg_id, self)
+        tell(alloc, cfg_id, source_in(files, cfg_id), &self, diagnostics)?;
+        valid_of(alloc, cfg_id, files, self)
     }
 }

@@ -17,5 +17,5 @@ returns-clause-report c =
 pub returns-clause-caused : goal.returns-clause-caused
 returns-clause-caused c =
     let disk = c.in-Ok-disk_of.disk in
-    none_of c.report_of.result disk c.report_of.new.disk (has_made_files disk c.in-Ok-disk_of.ensures)
-    c.report_of.ensures.caused
+    none_of c.report_of.result disk c.report_of.new.disk (texts_in c.in-Ok.inputs)
+    (has_made_files disk c.in-Ok-disk_of.ensures) c.report_of.ensures.caused

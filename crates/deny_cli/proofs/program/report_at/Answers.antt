@@ -15,8 +15,8 @@ pub returns-in-Ok-clause-caused : goal.returns-in-Ok-clause-caused
 returns-in-Ok-clause-caused g c =
     let old = g.D.PackageFiles.seen c.args.disk.now in
     let between = g.D.PackageFiles.seen c.read_inputs.new.disk in
-    caused_there c.report_of.result old between _ _ (asked_view c.in-Check.asked) (ap command_view c.in-Check.is)
-    c.in-Ok.ensures.later c.report_of.ensures.caused
+    caused_there c.report_of.result old between _ _ (asked_view c.in-Check.asked) (texts_in c.in-Ok.inputs)
+    (ap command_view c.in-Check.is) c.in-Ok.ensures.later c.in-Ok.ensures.read c.report_of.ensures.caused
 
 pub returns-in-Generate-clause-report : goal.returns-in-Generate-clause-report
 returns-in-Generate-clause-report g c =

@@ -1,10 +1,81 @@
-use Rattle.std.proofs.Common.{subst, sym}
-use Rattle.deny_unread.specs.Causes.{AreCaused}
+use Rattle.std.proofs.Common.{List, Option, ℕ, subst, sym, ◌++◌, ◌∷◌, []}
+use Rattle.std.specs.Option.{option_copied}
+use Rattle.deny_cfg.specs.PolicyView.{building_of}
+use Rattle.deny_outside.specs.Disk.{Files}
+use Rattle.deny_rules.specs.Packages.{AreSeenBy}
+use Rattle.deny_spans.specs.Seen.{IsSeen, lock_file}
+use Rattle.deny_spans.specs.SpansView.{spans_view}
+use Rattle.deny_spans.specs.Wanted.{AreWanted}
+use Rattle.deny_unread.specs.declared.unread.Unread.{Unread}
+use Rattle.deny_gate.specs.Unread.{of_packages}
+use Rattle.deny_gate.proofs.JoinedUnread.{all_for_manifest, caused_by_joined, causes_by_joined, manifests_are}
+use Rattle.deny_gate.proofs.JoinedUnread.{none_for_manifest, seen_by_joined}
+use Rattle.deny_gate.proofs.LockLabels.{lines_of_spans}
 use Rattle.deny_gate.proofs.checks.looked_at.Goals as goal
 
--- the checks leave the disk as it was
+pub returns-clause-told : goal.returns-clause-told
+returns-clause-told g c =
+    let krates = c.args.krates.now in
+    let extras = c.args.extras.now in
+    let policy = c.args.policy.now in
+    let old = g.D.PackageFiles.seen c.args.disk.now in
+    let between = g.D.PackageFiles.seen c.synthesize.new.disk in
+    let new = g.D.PackageFiles.seen c.told_by_checks.new.disk in
+    let spans = c.in_ok-spans.spans in
+    let checked = c.in_ok-checked.ensures.told in
+    let home = option_copied extras.home in
+    let building = building_of policy.bans in
+    let joined = c.in_ok-unread.unread in
+    let listed = c.in_ok-unread.ensures in
+    let others = c.in_ok-checked.checked.unread in
+    let mine = all_for_manifest krates spans.unread c.in_ok-spans.ensures.wanted in
+    let none = none_for_manifest between.files building home krates others checked.packages checked.looked_at in
+    record {
+      view = spans_view spans;
+      packages = checked.packages;
+      ascending = listed.ascending;
+      seen = subst (λ (us : List Unread). IsSeen old.files krates extras.registries.now
+          (c.args.files.now ++ lock_file krates.root krates ∷ []) c.synthesize.new.files us spans.malformed
+          (spans_view spans))
+          (sym (manifests_are spans.unread others joined listed mine none c.in_ok-spans.ensures.seen.missing.ascending))
+          (subst (λ (name : List ℕ). IsSeen old.files krates extras.registries.now
+          (c.args.files.now ++ lock_file name krates ∷ []) c.synthesize.new.files spans.unread spans.malformed
+          (spans_view spans)) c.workspace_root-root.ensures c.in_ok-spans.ensures.seen);
+      looked_at = subst (λ (told : Option Files). AreSeenBy told building home krates (of_packages joined) checked.packages)
+          c.synthesize.ensures.later.files
+          (seen_by_joined spans.unread others joined listed mine none between.files building home krates
+          checked.packages checked.looked_at);
+      causes = causes_by_joined spans.unread others joined listed mine none old between new building home krates
+          checked.packages c.synthesize.ensures.later checked.causes;
+      ranges = c.in_ok-spans.ensures.ranges;
+      lines = lines_of_spans krates spans c.in_ok-spans.ensures.spans c.lines_ascend.ensures;
+      is_told = checked.is_told;
+    }
+
+pub returns-clause-wanted : goal.returns-clause-wanted
+returns-clause-wanted g c =
+    let krates = c.args.krates.now in
+    let spans = c.in_ok-spans.spans in
+    let checked = c.in_ok-checked.ensures.told in
+    let between = g.D.PackageFiles.seen c.synthesize.new.disk in
+    let mine = all_for_manifest krates spans.unread c.in_ok-spans.ensures.wanted in
+    let none = none_for_manifest between.files (building_of c.args.policy.now.bans)
+    (option_copied c.args.extras.now.home) krates c.in_ok-checked.checked.unread checked.packages checked.looked_at in
+    subst (λ (us : List Unread). AreWanted krates us)
+    (sym (manifests_are spans.unread c.in_ok-checked.checked.unread c.in_ok-unread.unread c.in_ok-unread.ensures mine none
+    c.in_ok-spans.ensures.seen.missing.ascending))
+    c.in_ok-spans.ensures.wanted
+
 pub returns-clause-caused : goal.returns-clause-caused
-returns-clause-caused g c = λ folder.
-    subst (λ disk. AreCaused folder (g.D.PackageFiles.seen c.args.disk.now) (g.D.PackageFiles.seen disk)
-    c.in_ok-spans.spans.unread)
-    (sym c.told_by_checks.ensures.untouched) (c.in_ok-spans.ensures.caused folder)
+returns-clause-caused g c = λ folder are.
+    let krates = c.args.krates.now in
+    let checked = c.in_ok-checked.ensures.told in
+    let old = g.D.PackageFiles.seen c.args.disk.now in
+    let between = g.D.PackageFiles.seen c.synthesize.new.disk in
+    let new = g.D.PackageFiles.seen c.told_by_checks.new.disk in
+    let mine = all_for_manifest krates c.in_ok-spans.spans.unread c.in_ok-spans.ensures.wanted in
+    let none = none_for_manifest between.files (building_of c.args.policy.now.bans)
+    (option_copied c.args.extras.now.home) krates c.in_ok-checked.checked.unread checked.packages checked.looked_at in
+    caused_by_joined c.in_ok-spans.spans.unread c.in_ok-checked.checked.unread c.in_ok-unread.unread
+    c.in_ok-unread.ensures mine none folder old between new c.synthesize.ensures.later c.told_by_checks.ensures.later
+    (c.in_ok-spans.ensures.caused folder) (c.in_ok-checked.ensures.caused folder are)

@@ -2,7 +2,7 @@ use Rattle.deny_gate.proofs.DeadLaws.{loses_only, without_dead}
 use Rattle.deny_gate.proofs.laws.dead_can_go.Goals as goal
 
 pub returns-clause-texts : goal.returns-clause-texts
-returns-clause-texts c = without_dead c.dead_can_go.ensures
+returns-clause-texts c = without_dead c.dead_can_go.ensures c.packages_stay.ensures
 
 pub returns-clause-reports : goal.returns-clause-reports
 returns-clause-reports c = λ d taken report other is among kept that.

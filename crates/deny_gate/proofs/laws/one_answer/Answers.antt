@@ -4,7 +4,6 @@ use Rattle.deny_gate.proofs.laws.one_answer.Goals as goal
 pub returns-clause-cause : goal.returns-clause-cause
 returns-clause-cause c =
     let laws : TextLaws = record {
-      policies = c.one_policy.ensures.bans;
       faults = c.one_refusal.ensures.faults;
       clashes = c.one_refusal.ensures.clashes;
       faults_alone = c.one_refusal.ensures.faults_alone;
@@ -16,7 +15,6 @@ returns-clause-cause c =
 pub returns-clause-valid : goal.returns-clause-valid
 returns-clause-valid c =
     let laws : TextLaws = record {
-      policies = c.one_policy.ensures.bans;
       faults = c.one_refusal.ensures.faults;
       clashes = c.one_refusal.ensures.clashes;
       faults_alone = c.one_refusal.ensures.faults_alone;

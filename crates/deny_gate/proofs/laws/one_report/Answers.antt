@@ -1,4 +1,4 @@
-use Rattle.deny_gate.proofs.OneReport.{ReportLaws, by_any, by_told, by_view}
+use Rattle.deny_gate.proofs.OneReport.{ReportLaws, by_any, by_told, by_view, nothing_failed}
 use Rattle.deny_gate.proofs.laws.one_report.Goals as goal
 
 pub returns-clause-told : goal.returns-clause-told
@@ -8,9 +8,12 @@ returns-clause-told c =
       unseen = c.one_unseen.ensures;
       words = c.words_unseen.ensures;
       policies = c.one_policy.ensures.bans;
+      buildings = c.one_policy.ensures.building;
+      globs = c.one_policy.ensures.globs;
       licences = c.one_policy.ensures.licences;
+      sight = c.one_sight.ensures;
     } in
-    λ files texts a b this that unread. by_told laws files texts a b this that unread
+    λ files texts a b this that unread failures. by_told laws files texts a b this that unread failures
 
 pub returns-clause-by_view : goal.returns-clause-by_view
 returns-clause-by_view c =
@@ -19,9 +22,15 @@ returns-clause-by_view c =
       unseen = c.one_unseen.ensures;
       words = c.words_unseen.ensures;
       policies = c.one_policy.ensures.bans;
+      buildings = c.one_policy.ensures.building;
+      globs = c.one_policy.ensures.globs;
       licences = c.one_policy.ensures.licences;
+      sight = c.one_sight.ensures;
     } in
-    λ told other texts view a b this that. by_view laws told other texts view a b this that
+    λ told other texts view packages a b this that. by_view laws told other texts view packages a b this that
+
+pub returns-clause-unbuilt : goal.returns-clause-unbuilt
+returns-clause-unbuilt c = nothing_failed
 
 pub returns-clause-unseen : goal.returns-clause-unseen
 returns-clause-unseen c =
@@ -30,6 +39,9 @@ returns-clause-unseen c =
       unseen = c.one_unseen.ensures;
       words = c.words_unseen.ensures;
       policies = c.one_policy.ensures.bans;
+      buildings = c.one_policy.ensures.building;
+      globs = c.one_policy.ensures.globs;
       licences = c.one_policy.ensures.licences;
+      sight = c.one_sight.ensures;
     } in
     λ told other texts a b this that. by_any laws told other texts a b this that

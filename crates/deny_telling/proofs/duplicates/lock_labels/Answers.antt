@@ -9,12 +9,12 @@ pub returns-in_default : goal.returns-in_default
 returns-in_default c =
     let teller = c.args.teller.now in
     c.new.ensures
-    ∙ no_lines teller.krates.now teller.spans.now.lock_id c.args.places.now c.in_default.ensures.value
+    ∙ no_lines teller.told.krates.now teller.told.spans.now.lock_id c.args.places.now c.in_default.ensures.value
 
 pub returns : goal.returns
 returns c =
-    let g = c.args.teller.now.krates.now in
-    let lock = c.args.teller.now.spans.now.lock_id in
+    let g = c.args.teller.now.told.krates.now in
+    let lock = c.args.teller.now.told.spans.now.lock_id in
     let first = c.in-Some.first.now in
     let last = c.in-Some-last.last.now in
     IfOk-weaker c.lock_label.result

@@ -6,11 +6,11 @@ use Rattle.deny_telling.proofs.features.default_severity.Goals as goal
 pub returns-in-Some-default_level_at : goal.returns-in-Some-default_level_at
 returns-in-Some-default_level_at c =
     let teller = c.args.teller.now in
-    c.severity.ensures ∙ severity_told (policy_view teller.cfg.now) teller.krates.now c.args.key.now
+    c.severity.ensures ∙ severity_told (policy_view teller.told.cfg.now) teller.told.krates.now c.args.key.now
     (Some c.in-Some-default_level_at.at.now) c.in-Some.ensures refl c.in-Some-default_level_at.ensures
 
 pub returns-in-None : goal.returns-in-None
 returns-in-None c =
     let teller = c.args.teller.now in
-    severity_told (policy_view teller.cfg.now) teller.krates.now c.args.key.now None c.in-Some.ensures refl
+    severity_told (policy_view teller.told.cfg.now) teller.told.krates.now c.args.key.now None c.in-Some.ensures refl
     c.in-None.ensures

@@ -11,9 +11,9 @@ use Rattle.deny_telling.proofs.features.mismatch_labels.Goals as goal
 
 pub returns : goal.returns
 returns c =
-    let p = policy_view c.args.teller.now.cfg.now in
-    let g = c.args.teller.now.krates.now in
-    let file = c.args.teller.now.cfg.now.file_id in
+    let p = policy_view c.args.teller.now.told.cfg.now in
+    let g = c.args.teller.now.told.krates.now in
+    let file = c.args.teller.now.told.cfg.now.file_id in
     let key = c.args.key.now in
     let e = feature_view c.in-Some.entry.now in
     IfOk-weaker c.missing_labels.result

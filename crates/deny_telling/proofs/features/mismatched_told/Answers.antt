@@ -9,7 +9,7 @@ pub returns : goal.returns
 unfolding mismatched_told
 returns c =
     let teller = c.args.teller.now in
-    let told = noted (policy_view teller.cfg.now) teller.krates.now c.args.key.now c.as_slice.result.now
+    let told = noted (policy_view teller.told.cfg.now) teller.told.krates.now c.args.key.now c.as_slice.result.now
     c.in_ok-notes.notes (c.as_slice.ensures ∙ c.in_ok-features.ensures) c.in_ok-notes.ensures in
     λ i. record {
       severity = severity.Error;

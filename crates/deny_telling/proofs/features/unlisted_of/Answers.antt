@@ -8,8 +8,8 @@ use Rattle.deny_telling.proofs.features.unlisted_of.Goals as goal
 
 pub returns : goal.returns
 returns c =
-    let p = policy_view c.args.teller.now.cfg.now in
-    let g = c.args.teller.now.krates.now in
+    let p = policy_view c.args.teller.now.told.cfg.now in
+    let g = c.args.teller.now.told.krates.now in
     let key = c.args.key.now in
     let e = feature_view c.in-Some.entry.now in
     IfOk-weaker c.unlisted.result (λ features. features ≡ unlisted_at p g e key.place)

@@ -11,5 +11,5 @@ returns c =
     let self = c.args.self.now in
     c.is_one_marked.ensures
     ∙ (ap (λ (marks : List _). list_any (mark_at marks) c.args.places.now) c.as_slice.ensures
-    ∙ one_marked self.krates.now
-    (is_denied_multiple (policy_view self.cfg.now)) self.several c.args.places.now self.several_marked)
+    ∙ one_marked self.told.krates.now
+    (is_denied_multiple (policy_view self.told.cfg.now)) self.several c.args.places.now self.several_marked)

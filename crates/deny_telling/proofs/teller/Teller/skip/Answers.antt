@@ -1,10 +1,10 @@
 use Rattle.std.proofs.Common.{◌∙◌}
 use Rattle.deny_cfg.specs.PolicyView.{entry_view}
 use Rattle.deny_model.specs.Wrappers.{same_span}
-use Rattle.deny_telling.proofs.ToldLemmas.{seen}
+use Rattle.deny_told.proofs.ByRangeLemmas.{seen}
 use Rattle.deny_telling.proofs.teller.Teller.skip.Goals as goal
 
 pub returns : goal.returns
 returns c =
-    seen (λ e. same_span e.spec.range c.args.range) entry_view c.args.self.now.cfg.now.skipped c.at.result
+    seen (λ e. same_span e.spec.range c.args.range) entry_view c.args.self.now.told.cfg.now.skipped c.at.result
     (c.at.ensures ∙ c.args.self.now.skipped_found.at c.args.range)

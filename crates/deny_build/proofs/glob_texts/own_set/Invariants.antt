@@ -1,0 +1,6 @@
+use Rattle.std.proofs.Common.{map, take}
+use Rattle.deny_build.specs.private.Globs.{IsSetOf, pattern_text}
+use Rattle.deny_build.proofs.glob_texts.own_set.Given as goal
+
+abbrev pub invariant-loop-pattern : goal.invariant-loop-pattern
+invariant-loop-pattern l = IsSetOf (map pattern_text (take l.pattern-index l.globs)) l.set

@@ -1,0 +1,25 @@
+use Rattle.std.proofs.Common.{◌∙◌, ◌++◌, ◌∷◌, [], Bor, List, ap, append_assoc, map}
+use Rattle.std.proofs.lemmas.Result.{on_ok_weaker}
+use Rattle.deny_base.specs.declared.code.Code.TheVariants.{UnknownFeature}
+use Rattle.deny_base.specs.declared.key.Key.{Key}
+use Rattle.deny_model.specs.Keys.{crate_key}
+use Rattle.deny_model.specs.Policy.{Words}
+use Rattle.deny_build.specs.private.Looked.{krate_of, looking_at}
+use Rattle.deny_build.proofs.KeyLemmas.{right_are}
+use Rattle.deny_build.proofs.script_keys.add_right_keys.Goals as goal
+
+pub returns : goal.returns
+returns c =
+    let at = c.args.at.now in
+    let old = c.args.keys.now in
+    let words = c.as_slice.result.now in
+    let unknown = map (λ (w : Bor Words). crate_key UnknownFeature at.place w.now.span) words in
+    on_ok_weaker c.add_words.result
+    (λ added. added
+    ∙ (ap (λ (keys : List Key). keys ++ unknown)
+    (c.in_ok-push.ensures.ok ∙ ap (λ (key : Key). old ++ key ∷ []) c.in_ok-path_key.ensures)
+    ∙ (append_assoc old _ unknown
+    ∙ ap (λ (keys : List Key). old ++ keys)
+    (right_are (looking_at at) (krate_of at) c.args.sum.now.span c.in_ok-shown.shown at.contents.now words c.in_ok-shown.ensures
+    at.seen (ap (map (λ (w : Bor Words). w.now)) c.as_slice.ensures.value ∙ c.in_ok-unknown.ensures at.place)))))
+    c.add_words.ensures

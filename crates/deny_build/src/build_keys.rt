@@ -1,0 +1,102 @@
+//! What stands of builds.
+ghost use Rattle.std.specs.Prelude.{◌≡◌, ◌++◌, Contains, OnOk};
+ghost use Rattle.std.specs.List.{flat_map};
+ghost use Rattle.deny_build_cfg.specs.BuildingView.{bypass_view};
+ghost use Rattle.deny_codes.specs.Packages.{build_keys, is_used, package_keys, unmatched_bypass_keys};
+ghost use Rattle.deny_lists.specs.Ascending.{Adds};
+ghost use Rattle.deny_build.specs.LookingOf.{looking_of};
+ghost use Rattle.deny_build.specs.private.Globs.{IsSetOf, script_texts};
+ghost use Rattle.deny_build.specs.private.Looked.{AreLooked, krate_of, looking_at};
+ghost use Rattle.deny_build.specs.private.UsersOf.{AreUsers};
+
+use crate::ctx::{BuildCtx, unseen_package};
+use crate::file_keys::add_walked_keys;
+use crate::glob_texts::script_set;
+use crate::keys::unused_key;
+use crate::looked::Looked;
+use crate::looking::look_at_each;
+use crate::script_keys::{add_denied_script_keys, add_script_keys};
+use crate::users::{Users, has_user, users_of};
+use deny_base::{Code, Key};
+use deny_build_cfg::ValidBypass;
+use deny_lists::{List, NoMemory, TextMap};
+use std::alloc::Global;
+
+/// Adds the keys of a crate, by the globs of files that count as scripts.
+#[tactic(auto, unfolding(deny_codes::specs::Packages::package_keys))]
+fn add_package_keys(
+    alloc: Global,
+    at: &Looked<'_>,
+    scripts: &TextMap<bool>,
+    keys: &mut List<Key>,
+) -> Result<(), NoMemory>
+    requires { IsSetOf (script_texts (looking_at at.now).building) scripts.now }
+    ensures { OnOk result (keys.new ≡ keys.old ++ package_keys (looking_at at.now) (krate_of at.now)) }
+{
+    add_script_keys(alloc, at, keys)?;
+    add_denied_script_keys(alloc, at, keys)?;
+    if at.walked {
+        add_walked_keys(alloc, at, scripts, keys)?;
+    }
+    Ok(())
+}
+
+/// Adds the keys of all crates.
+fn add_keys_of_each(
+    alloc: Global,
+    ctx: &BuildCtx<'_>,
+    all: &[Looked<'_>],
+    keys: &mut List<Key>,
+) -> Result<(), NoMemory>
+    requires { AreLooked (looking_of ctx.now) all.now }
+    ensures { OnOk result (keys.new
+        ≡ keys.old ++ flat_map (package_keys (looking_of ctx.now)) ctx.now.krates.now.crates) }
+{
+    let scripts = script_set(alloc, ctx.config)?;
+    for at in all {
+        add_package_keys(alloc, at, &scripts, keys)?;
+    }
+    Ok(())
+}
+
+/// Whether a crate that is looked at uses a bypass.
+fn is_used(_ctx: &BuildCtx<'_>, users: &Users<'_, '_>, bypass: &ValidBypass) -> bool
+    requires { AreUsers (looking_of _ctx.now) users.now }
+    ensures { result ≡ is_used (looking_of _ctx.now) (bypass_view bypass.now) }
+{
+    has_user(users, bypass)
+}
+
+/// Adds the keys of the bypasses that no crate uses which is looked at.
+fn add_unmatched_bypass_keys(
+    alloc: Global,
+    ctx: &BuildCtx<'_>,
+    users: &Users<'_, '_>,
+    keys: &mut List<Key>,
+) -> Result<(), NoMemory>
+    requires { AreUsers (looking_of ctx.now) users.now }
+    ensures { OnOk result (keys.new ≡ keys.old ++ unmatched_bypass_keys (looking_of ctx.now)) }
+{
+    let entries = ctx.config.bypass.as_slice();
+    for bypass in entries {
+        if !is_used(ctx, users, bypass) {
+            keys.push(unused_key(alloc, Code::UnmatchedBypass, bypass.spec.name.span))?;
+        }
+    }
+    Ok(())
+}
+
+/// Adds the keys of what stands of build scripts and of the files of packages.
+pub fn add_build_keys(
+    alloc: Global,
+    ctx: &BuildCtx<'_>,
+    keys: &mut List<Key>,
+) -> Result<(), NoMemory>
+    ensures { OnOk result (Adds (Contains (build_keys (looking_of ctx.now))) keys.old keys.new) }
+{
+    let unseen = unseen_package(alloc);
+    let all = look_at_each(alloc, ctx, &unseen)?;
+    add_keys_of_each(alloc, ctx, all.as_slice(), keys)?;
+    let users = users_of(alloc, ctx, all.as_slice())?;
+    add_unmatched_bypass_keys(alloc, ctx, &users, keys)
+}

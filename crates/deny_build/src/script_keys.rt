@@ -1,0 +1,140 @@
+//! What stands of build scripts.
+ghost use Rattle.std.specs.Prelude.{◌≡◌, ◌++◌, ◌∷◌, [], IfOk, OnOk, map};
+ghost use Rattle.deny_base.specs.declared.code.Code.TheVariants.{ChecksumMismatch};
+ghost use Rattle.deny_build_cfg.specs.BuildingView.{checksum_view};
+ghost use Rattle.deny_codes.specs.BuildScripts.{required_enabled, used};
+ghost use Rattle.deny_codes.specs.Packages.{denied_script_keys, features_enabled_keys, path_key, right_script_keys, script_keys, script_shown, sum_keys};
+ghost use Rattle.deny_model.specs.Keys.{crate_key};
+ghost use Rattle.deny_build.specs.private.Looked.{krate_of, looking_at};
+
+use crate::keys::{NO_SPAN, crate_key, path_key};
+use crate::looked::Looked;
+use deny_base::{Code, Key, Spanned};
+use deny_build_model::Package;
+use deny_bypasses::{has_required_enabled, is_script_right, required_unknown, wanted_sum};
+use deny_lists::{List, NoMemory, Text};
+use deny_tables::bans::cfg::Checksum;
+use std::alloc::Global;
+
+fn script_shown(alloc: Global, contents: &Package) -> Result<Text, NoMemory>
+    ensures { IfOk result (λ shown. shown ≡ script_shown contents.now) }
+{
+    match &contents.script {
+        Some(seen) => Ok(seen.shown.clone()?),
+        None => Ok(Text::new(alloc)),
+    }
+}
+
+/// Adds the keys of some words of an entry that speaks of a crate.
+fn add_words(
+    alloc: Global,
+    code: Code,
+    place: u32,
+    words: &[&Spanned<Text>],
+    keys: &mut List<Key>,
+) -> Result<(), NoMemory>
+    ensures { OnOk result (keys.new ≡ keys.old ++ map (λ w. crate_key code place w.now.span) words.now) }
+{
+    for word in words {
+        keys.push(crate_key(alloc, code, place, word.span))?;
+    }
+    Ok(())
+}
+
+/// Adds the keys of a build script that has the checksum which it is to have.
+fn add_right_keys(
+    alloc: Global,
+    at: &Looked<'_>,
+    sum: &Spanned<Checksum>,
+    keys: &mut List<Key>,
+) -> Result<(), NoMemory>
+    ensures { OnOk result (keys.new
+        ≡ keys.old ++ right_script_keys (looking_at at.now) (krate_of at.now) sum.now.span) }
+{
+    let shown = script_shown(alloc, at.contents)?;
+    keys.push(path_key(alloc, Code::ChecksumMatch, at.place, sum.span, &shown)?)?;
+    let unknown = required_unknown(alloc, at.ctx.config, at.krate)?;
+    add_words(
+        alloc,
+        Code::UnknownFeature,
+        at.place,
+        unknown.as_slice(),
+        keys,
+    )
+}
+
+/// Adds the key of the features that a bypass requires, where one of them is enabled.
+fn add_enabled_key(alloc: Global, at: &Looked<'_>, keys: &mut List<Key>) -> Result<(), NoMemory>
+    ensures { OnOk result (keys.new ≡ keys.old ++ features_enabled_keys at.now.place
+        (used (looking_at at.now).building (krate_of at.now))
+        (required_enabled (looking_at at.now).building (krate_of at.now))) }
+{
+    let Some(bypass) = at.bypass else {
+        return Ok(());
+    };
+    if !has_required_enabled(at.ctx.config, at.ctx.krates, at.krate) {
+        return Ok(());
+    }
+    let range = bypass.spec.name.span;
+    keys.push(crate_key(alloc, Code::FeaturesEnabled, at.place, range))
+}
+
+fn add_mismatch_key(
+    alloc: Global,
+    at: &Looked<'_>,
+    sum: &Spanned<Checksum>,
+    keys: &mut List<Key>,
+) -> Result<(), NoMemory>
+    ensures { OnOk result (keys.new
+        ≡ keys.old ++ path_key ChecksumMismatch at.now.place sum.now.span (script_shown at.now.contents.now) ∷ []) }
+{
+    let shown = script_shown(alloc, at.contents)?;
+    keys.push(path_key(alloc, Code::ChecksumMismatch, at.place, sum.span, &shown)?)
+}
+
+/// Adds the keys of a build script of which a checksum is wanted.
+#[tactic(auto, unfolding(deny_codes::specs::Packages::sum_keys))]
+fn add_sum_keys(
+    alloc: Global,
+    at: &Looked<'_>,
+    sum: &Spanned<Checksum>,
+    keys: &mut List<Key>,
+) -> Result<(), NoMemory>
+    ensures { OnOk result (keys.new
+        ≡ keys.old ++ sum_keys (looking_at at.now) (krate_of at.now) (checksum_view sum.now)) }
+{
+    if !is_script_right(at.ctx.config, at.krate, at.contents) {
+        return add_mismatch_key(alloc, at, sum, keys);
+    }
+    add_right_keys(alloc, at, sum, keys)?;
+    add_enabled_key(alloc, at, keys)
+}
+
+/// Adds the keys of what the checksum of a crate's build script says.
+#[tactic(auto, unfolding(deny_codes::specs::Packages::script_keys))]
+pub fn add_script_keys(alloc: Global, at: &Looked<'_>, keys: &mut List<Key>) -> Result<(), NoMemory>
+    ensures { OnOk result (keys.new ≡ keys.old ++ script_keys (looking_at at.now) (krate_of at.now)) }
+{
+    if !at.checked {
+        return Ok(());
+    }
+    match wanted_sum(at.ctx.config, at.krate) {
+        Some(sum) => add_sum_keys(alloc, at, sum, keys),
+        None => Ok(()),
+    }
+}
+
+/// Adds the key of a build script that a crate may not have.
+#[tactic(auto, unfolding(deny_codes::specs::Packages::denied_script_keys))]
+pub fn add_denied_script_keys(
+    alloc: Global,
+    at: &Looked<'_>,
+    keys: &mut List<Key>,
+) -> Result<(), NoMemory>
+    ensures { OnOk result (keys.new ≡ keys.old ++ denied_script_keys (looking_at at.now) (krate_of at.now)) }
+{
+    if !at.denied {
+        return Ok(());
+    }
+    keys.push(crate_key(alloc, Code::BuildScriptNotAllowed, at.place, NO_SPAN))
+}

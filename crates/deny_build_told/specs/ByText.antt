@@ -1,0 +1,24 @@
+-- Items found by texts.
+use Rattle.std.specs.Prelude.{◌≡◌, ◌++◌, ℕ, List, Option, find, option_map}
+use Rattle.std.specs.BTreeMap.{get_by}
+use Rattle.std.specs.Cmp.Lexicographic.{slice_cmp}
+use Rattle.std.specs.Ordering.{nat_cmp}
+use Rattle.deny_model.specs.Text.{same_text}
+use Rattle.deny_build_told.specs.declared.by_text.ByText.{ByText}
+
+-- the first item of a text
+abbrev pub first_of : {T : Type 0} → (T → List ℕ) → List ℕ → List T → Option T
+first_of text_of text items = find (λ item. same_text (text_of item) text) items
+
+-- the item that is found at a text
+abbrev pub found_at : {T : Type 0} → ByText T → List ℕ → Option T
+found_at found text = option_map (λ item. item.now) (get_by (λ k. slice_cmp nat_cmp text k.now) found.tree)
+
+-- at each text its first item is found
+pub record IsByText {T : Type 0} (text_of : T → List ℕ) (items : List T) (found : ByText T) : Type 0 where
+  pub at : (text : List ℕ) → found_at found text ≡ first_of text_of text items
+
+-- these items are found, and behind them what was found before
+abbrev pub PutsBefore : {T : Type 0} → (T → List ℕ) → List T → ByText T → ByText T → Type 0
+PutsBefore text_of items old new = (others : List _) → IsByText text_of others old
+    → IsByText text_of (items ++ others) new

@@ -1,0 +1,4 @@
+pub mod AtHand
+pub mod ByText
+pub mod Sums
+pub mod private

@@ -1,0 +1,159 @@
+//! What is told of the checksums of build scripts and of files.
+ghost use Rattle.std.specs.Prelude.{◌≡◌, ◌++◌, IfOk, Some, codes, option_map, if◌then◌else◌};
+ghost use Rattle.deny_base.specs.declared.level.Severity.TheVariants as severity;
+ghost use Rattle.deny_build_cfg.specs.BuildingView.{building_view};
+ghost use Rattle.deny_build_model.specs.Unseen.{package_at};
+ghost use Rattle.deny_build_told.specs.AtHand.{IsAtHand};
+ghost use Rattle.deny_build_told.specs.Sums.{AreSumsOf};
+ghost use Rattle.deny_build_told.specs.private.Found.{found_or_unasked, script_error};
+ghost use Rattle.deny_codes.specs.BuildScripts.{script_found};
+ghost use Rattle.deny_codes.specs.PackagesTold.{checksum_match_told, checksum_mismatch_told, file_of_key, found_of_file};
+ghost use Rattle.deny_codes.specs.PackagesTold.{mismatch_text, package_of_key, script_failed, told_of_build};
+ghost use Rattle.deny_told.specs.Told.{told_from};
+ghost use Rattle.hex.specs.Hex.{encode_lower};
+
+use crate::at_hand::AtHand;
+use crate::notes::{digits, failure_text, path_notes, quoted};
+use crate::sums::is_script_sum;
+use crate::words::{file_of_key, with_notes};
+use deny_base::{Key, Severity, Spanned};
+use deny_build_cfg::ValidBuildConfig;
+use deny_build_model::{Found, Package};
+use deny_cfg::bans::cfg::Checksum;
+use deny_codes::Words;
+use deny_lists::{NoMemory, Text};
+use deny_told::{ByRange, Told, lone_label, not_built};
+use std::alloc::Global;
+
+/// What is told of a build script or a file that has the checksum that a bypass writes.
+#[tactic(auto, unfolding(deny_codes::specs::PackagesTold::checksum_match_told))]
+pub fn checksum_match_told(alloc: Global, told: &Told<'_>, key: &Key) -> Result<Words, NoMemory>
+    ensures { IfOk result (λ words. words ≡ checksum_match_told (told_from told.now) key.now) }
+{
+    let labels = lone_label(alloc, told.cfg.file_id, key.entry, "checksum")?;
+    let notes = path_notes(alloc, key)?;
+    let message = "file checksum matched";
+    with_notes(alloc, told, key, Severity::Help, message, labels, notes)
+}
+
+/// What is told of one that has not.
+pub fn checksum_mismatch_told(
+    alloc: Global,
+    told: &Told<'_>,
+    sums: &ByRange<'_, Spanned<Checksum>>,
+    at: &AtHand<'_>,
+    key: &Key,
+) -> Result<Words, NoMemory>
+    requires sums { AreSumsOf told.now.cfg.now sums.now }
+    requires at_hand { IsAtHand told.now.packages.now key.now.place at.now }
+    ensures { IfOk result (λ words. words ≡ told_of_build checksum_mismatch_told (told_from told.now) key.now) }
+{
+    match &told.cfg.build {
+        Some(build) => mismatch_told(alloc, told, build, sums, at, key),
+        None => Ok(not_built(alloc)),
+    }
+}
+
+#[tactic(auto, unfolding(deny_codes::specs::PackagesTold::checksum_mismatch_told, deny_codes::specs::PackagesTold::mismatch_note, deny_codes::specs::PackagesTold::mismatch_severity))]
+fn mismatch_told(
+    alloc: Global,
+    told: &Told<'_>,
+    build: &ValidBuildConfig,
+    sums: &ByRange<'_, Spanned<Checksum>>,
+    at: &AtHand<'_>,
+    key: &Key,
+) -> Result<Words, NoMemory>
+    requires build { told.now.cfg.now.build ≡ Some build.now }
+    requires sums { AreSumsOf told.now.cfg.now sums.now }
+    requires at_hand { IsAtHand told.now.packages.now key.now.place at.now }
+    ensures { IfOk result (λ words. words
+        ≡ checksum_mismatch_told (building_view build.now) (told_from told.now) key.now) }
+{
+    let labels = lone_label(alloc, told.cfg.file_id, key.entry, "expected checksum")?;
+    let is_script = is_script_sum(told, build, sums, key.entry);
+    let error = mismatch_error(alloc, told, is_script, at, key)?;
+    let mut notes = path_notes(alloc, key)?;
+    notes.push(quoted(alloc, "error", error.as_str())?)?;
+    let severity = mismatch_severity(is_script);
+    let message = "file did not match the expected checksum";
+    with_notes(alloc, told, key, severity, message, labels, notes)
+}
+
+fn mismatch_severity(is_script: bool) -> Severity
+    ensures { result ≡ (if is_script then severity.Warning else severity.Error) }
+{
+    if is_script {
+        Severity::Warning
+    } else {
+        Severity::Error
+    }
+}
+
+// Why a build script, or a file, has another checksum than is expected.
+fn mismatch_error(
+    alloc: Global,
+    told: &Told<'_>,
+    is_script: bool,
+    at: &AtHand<'_>,
+    key: &Key,
+) -> Result<Text, NoMemory>
+    requires { IsAtHand told.now.packages.now key.now.place at.now }
+    ensures { IfOk result (λ error. let c = told_from told.now in error
+        ≡ (if is_script then script_error (script_found (package_of_key c key.now))
+        else mismatch_text (found_of_file (file_of_key c key.now)))) }
+{
+    if is_script {
+        return script_error(alloc, script_found(told.packages, key.place));
+    }
+    match file_of_key(told, at, key) {
+        Some(file) => mismatch_text(alloc, &file.seen.found),
+        None => Ok(Text::new(alloc)),
+    }
+}
+
+// What was found of the build script of the crate at a place, where it was asked for.
+fn script_found(packages: &[Package], place: u32) -> Option<&Found>
+    ensures { found_or_unasked (option_map (λ found. found.now) result)
+        ≡ script_found (package_at packages.now place) }
+{
+    let seen = packages.get(place as usize)?.script.as_ref()?;
+    Some(&seen.found)
+}
+
+fn script_error(alloc: Global, found: Option<&Found>) -> Result<Text, NoMemory>
+    ensures { IfOk result (λ error. error
+        ≡ script_error (found_or_unasked (option_map (λ f. f.now) found.entry))) }
+{
+    let Some(found) = found else {
+        return Ok(Text::new(alloc));
+    };
+    let failed = script_failed(found);
+    let why = mismatch_text(alloc, found)?;
+    Ok(Text::from_string(format!(in alloc; "{failed}{why}")?))
+}
+
+fn script_failed(found: &Found) -> &'static str
+    ensures { result.now ≡ script_failed found.now }
+{
+    match found {
+        Found::Failed(_) => "build script failed checksum: ",
+        Found::Unasked | Found::Sum(_) | Found::Kind(_) => "",
+    }
+}
+
+fn mismatch_text(alloc: Global, found: &Found) -> Result<Text, NoMemory>
+    ensures { IfOk result (λ text. text ≡ mismatch_text found.now) }
+{
+    match found {
+        Found::Sum(sum) => calculated(alloc, sum),
+        Found::Failed(failure) => Ok(Text::from_str(alloc, failure_text(*failure))?),
+        Found::Unasked | Found::Kind(_) => Ok(Text::new(alloc)),
+    }
+}
+
+fn calculated(alloc: Global, sum: &[u8; 32]) -> Result<Text, NoMemory>
+    ensures { IfOk result (λ text. text ≡ codes "calculated different checksum " ++ encode_lower sum.now) }
+{
+    let digits = digits(alloc, sum)?;
+    Ok(Text::from_string(format!(in alloc; "calculated different checksum {digits}")?))
+}

@@ -1,0 +1,4 @@
+pub mod CrateLemmas
+pub mod NumberLemmas
+pub mod PathLemmas
+pub mod ViewLemmas

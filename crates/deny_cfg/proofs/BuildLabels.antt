@@ -1,0 +1,102 @@
+-- The ranges of the table `build` lie where it writes its words.
+use Rattle.std.proofs.Common.{ℕ, List, [], ◌∷◌, Option, None, Some, refl}
+use Rattle.std.specs.List.{flat_map}
+use Rattle.deny_base.specs.declared.span.Span.{Span}
+use Rattle.deny_base.specs.declared.span.Spanned.{Spanned}
+use Rattle.deny_entries.proofs.RowLaws.{says_of}
+use Rattle.deny_entries.specs.Entry.{ReadsEntryKeys}
+use Rattle.deny_entries.specs.PolicyKey.{name_of}
+use Rattle.deny_entries.specs.Table.{Entries, ReadsTable, ReadsThere, at_key}
+use Rattle.deny_entries.specs.Words.{ReadsList, ReadsSpanned, ReadsText, ReadsTexts}
+use Rattle.deny_entries.specs.declared.policy_key.PolicyKey.TheVariants as key
+use Rattle.deny_tables.specs.Apart.{bypass_entry-apart}
+use Rattle.deny_tables.specs.Build.{ReadsBuild, ReadsBypass, ReadsBypassKeys, ReadsBypassPath, ReadsChecksum, bypass_fields, bypass_rows, keys_in}
+use Rattle.deny_tables.specs.Checksum.{checksum_of}
+use Rattle.deny_entries.specs.Depends.{rows-depend}
+use Rattle.deny_tables.specs.declared.bans.cfg.build.BuildConfig.{BuildConfig}
+use Rattle.deny_tables.specs.declared.bans.cfg.bypass.Bypass.{Bypass}
+use Rattle.deny_tables.specs.declared.bans.cfg.bypass.BypassPath.{BypassPath}
+use Rattle.deny_tables.specs.declared.bans.cfg.checksum.Checksum.{Checksum}
+use Rattle.deny_toml.specs.declared.value.Value.{Value}
+use Rattle.deny_cfg.proofs.LabelLaws.{◌▸◌, Within, WithinKey, WithinKeys, key_at, keys_within, list_within, no_more, optional_within, or_within, table_within}
+use Rattle.deny_cfg.proofs.LabelReads.{entry_keys_within, meaning_within, word_within, words_within}
+use Rattle.deny_cfg.specs.LabelRanges.{joined, of_some, own_range, path_ranges, word_ranges, written_build_ranges, written_bypass_ranges}
+
+checksum_within : (text : List ℕ) (v : Value) (sum : Spanned Checksum) → ReadsSpanned ReadsChecksum v sum
+    → Within text v (own_range sum)
+checksum_within text v sum reads =
+    meaning_within text checksum_of v (record { value = sum.value.0; span = sum.span }) reads
+
+there_within : {T : Type 0} (text : List ℕ) (f : T → List Span) (Reads : Value → T → Type 0)
+    → ((v : Value) (x : T) → Reads v x → Within text v (f x))
+    → (o : Option Value) (x : T) → ReadsThere Reads o x → WithinKey text o (f x)
+there_within text f Reads each None x reads = absurd reads
+there_within text f Reads each (Some v) x reads = key_at text v (f x) (each v x reads)
+
+path_keys_within : (text : List ℕ) (entries : Entries) (file : BypassPath) → ReadsBypassPath entries file
+    → WithinKeys text entries (path_ranges file)
+unfolding name_of
+path_keys_within text entries file reads =
+    keys_within text entries (
+    there_within text own_range (ReadsSpanned ReadsText) (word_within text) (at_key key.Path entries) file.path
+    (says_of key.Path reads)
+    ▸ optional_within text own_range (ReadsSpanned ReadsChecksum) (checksum_within text)
+    (at_key key.Checksum entries) file.checksum (says_of key.Checksum reads)
+    ▸ no_more) refl
+
+path_within : (text : List ℕ) (v : Value) (file : BypassPath) → ReadsTable ReadsBypassPath v file
+    → Within text v (path_ranges file)
+path_within text v file reads =
+    table_within text (path_ranges file) ReadsBypassPath file
+    (λ entries keys. path_keys_within text entries file keys) v reads
+
+abbrev pub besides : Bypass → List Span
+besides bypass = joined (
+    of_some own_range bypass.build_script
+    ∷ word_ranges bypass.required_features
+    ∷ of_some word_ranges bypass.allow_globs
+    ∷ flat_map path_ranges bypass.allow
+    ∷ []
+    )
+
+besides_within : (text : List ℕ) (bypass : Bypass) (entries : Entries) → ReadsBypassKeys entries (keys_in bypass)
+    → WithinKeys text entries (besides bypass)
+unfolding name_of
+besides_within text bypass entries reads =
+    keys_within text entries (
+    optional_within text own_range (ReadsSpanned ReadsChecksum) (checksum_within text)
+    (at_key key.BuildScript entries) bypass.build_script (says_of key.BuildScript reads)
+    ▸ or_within text word_ranges [] ReadsTexts refl (words_within text) (at_key key.RequiredFeatures entries)
+    bypass.required_features (says_of key.RequiredFeatures reads)
+    ▸ optional_within text word_ranges ReadsTexts (words_within text) (at_key key.AllowGlobs entries)
+    bypass.allow_globs (says_of key.AllowGlobs reads)
+    ▸ or_within text (flat_map path_ranges) [] (ReadsList (ReadsTable ReadsBypassPath)) refl
+    (list_within text path_ranges (ReadsTable ReadsBypassPath) (path_within text)) (at_key key.Allow entries)
+    bypass.allow (says_of key.Allow reads)
+    ▸ no_more) refl
+
+bypass_within : (text : List ℕ) (v : Value) (bypass : Bypass) → ReadsBypass v bypass
+    → Within text v (written_bypass_ranges bypass)
+bypass_within text v bypass reads =
+    table_within text (written_bypass_ranges bypass)
+    (λ entries (read : Bypass). ReadsEntryKeys ReadsBypassKeys entries read.spec (keys_in read)) bypass
+    (entry_keys_within text bypass_fields bypass_entry-apart ReadsBypassKeys (rows-depend bypass_rows) (besides bypass)
+    bypass.spec (keys_in bypass) (besides_within text bypass)) v reads
+
+build_keys_within : (text : List ℕ) (entries : Entries) (build : BuildConfig) → ReadsBuild entries build
+    → WithinKeys text entries (written_build_ranges build)
+unfolding name_of
+build_keys_within text entries build reads =
+    keys_within text entries (
+    optional_within text word_ranges ReadsTexts (words_within text) (at_key key.ScriptExtensions entries)
+    build.script_extensions (says_of key.ScriptExtensions reads)
+    ▸ optional_within text (flat_map written_bypass_ranges) (ReadsList ReadsBypass)
+    (list_within text written_bypass_ranges ReadsBypass (bypass_within text)) (at_key key.Bypass entries)
+    build.bypass (says_of key.Bypass reads)
+    ▸ no_more) refl
+
+pub build_within : (text : List ℕ) (v : Value) (build : BuildConfig) → ReadsTable ReadsBuild v build
+    → Within text v (written_build_ranges build)
+build_within text v build reads =
+    table_within text (written_build_ranges build) ReadsBuild build
+    (λ entries keys. build_keys_within text entries build keys) v reads

@@ -1,0 +1,170 @@
+-- What is so of the table `build` of each policy that was read: its globs, their file, and its older key.
+use Rattle.std.proofs.Common.{◌≡◌, ◌++◌, ◌+◌, ◌≤◌, ◌&&◌, ℕ, Bool, true, false, List, [], ◌∷◌, length, map, refl, sym, ap, subst, ◌∙◌, arith}
+use Rattle.std.specs.Prelude.{All, IfSome, Option, None, Some, nat_le, option_and_then}
+use Rattle.std.specs.Char.{is_ascii}
+use Rattle.std.specs.List.{AllByRecursion, flat_map, list_all}
+use Rattle.std.specs.Option.{option_map_or}
+use Rattle.std.proofs.lemmas.Bool.{and_parts}
+use Rattle.std.proofs.lemmas.Bool.Decides.{nat_tests}
+use Rattle.std.proofs.lemmas.List.Elements.{All-from_recursion, recursion_from_All}
+use Rattle.std.proofs.lemmas.Str.{IsCharBoundary-from_ascii}
+use Rattle.deny_base.specs.declared.span.Span.{Span}
+use Rattle.deny_base.specs.declared.span.Spanned.{Spanned}
+use Rattle.deny_build_cfg.proofs.BuiltinLaws.{ascii_from_test, globs_file_of, kept_each}
+use Rattle.deny_build_cfg.specs.Build.{IsBuildOf, IsReadBuild, build_by, builtin_if, files_of, listed, number_of, older_key_by}
+use Rattle.deny_build_cfg.specs.BuildingView.{globs_file}
+use Rattle.deny_build_cfg.specs.Builtin.{builtin_file, builtin_texts, builtin_words}
+use Rattle.deny_build_cfg.specs.Globs.{OfBoth}
+use Rattle.deny_build_cfg.specs.declared.pattern.GlobPattern.{GlobPattern}
+use Rattle.deny_build_cfg.specs.declared.pattern.GlobPattern.TheVariants.{Builtin, User}
+use Rattle.deny_build_cfg.specs.declared.valid.ValidBuildConfig.{ValidBuildConfig}
+use Rattle.deny_entries.specs.declared.package_spec.PackageSpec.{PackageSpec}
+use Rattle.deny_model.specs.Policy.{Words}
+use Rattle.deny_tables.specs.declared.bans.cfg.build.BuildConfig.{BuildConfig}
+use Rattle.deny_tables.specs.declared.bans.cfg.config.Config.{Config}
+use Rattle.deny_toml.specs.Ranges.{IsRange}
+use Rattle.deny_cfg.proofs.Among.{lie_rest}
+use Rattle.deny_cfg.proofs.LabelLaws.{Lie}
+use Rattle.deny_cfg.specs.LabelRanges.{list_ranges, older_range, of_some, own_range, wrapper_list}
+use Rattle.deny_cfg.specs.PolicyText.{IsPolicyOf, globs_files}
+use Rattle.deny_cfg.specs.PolicyView.{AreGlobsRead, builtin_file_of}
+use Rattle.deny_cfg.specs.Valid.{IsValidOf, build_of, files_asked, older_key_of}
+use Rattle.deny_cfg.specs.declared.bans.cfg.valid.ValidConfig.{ValidConfig}
+use Rattle.deny_cfg.specs.declared.policy.Policy.{Policy}
+
+-- ---- the file of the built-in globs
+
+asked_by : (asked : Bool) (number : ℕ) → files_of asked ≡ globs_files (number_of asked number)
+asked_by true number = refl
+asked_by false number = refl
+
+asked_of : (number : ℕ) (older : Option Span) (build : Option BuildConfig) (valid : Option ValidBuildConfig)
+    → OfBoth (λ b. IsBuildOf b number older) build valid
+    → option_map_or (λ b. files_of b.enable_builtin_globs) build [] ≡ globs_files (option_and_then globs_file valid)
+asked_of number older None None is = refl
+asked_of number older None (Some valid) is = absurd is
+asked_of number older (Some build) None is = absurd is
+asked_of number older (Some build) (Some valid) is =
+    asked_by build.enable_builtin_globs number ∙ ap globs_files (sym (globs_file_of build number older valid is))
+
+pub globs_asked : (config : Config) (file number : ℕ) (valid : ValidConfig) → IsValidOf config file number valid
+    → files_asked config ≡ globs_files (builtin_file_of valid)
+globs_asked config file number valid is = asked_of number (older_key_of config) (build_of config) valid.build is.build
+
+next_if : (asked : Bool) (number : ℕ) → IfSome (number_of asked number) (λ n. n ≡ number)
+next_if true number = refl
+next_if false number = tt
+
+next_of : (number : ℕ) (older : Option Span) (build : Option BuildConfig) (valid : Option ValidBuildConfig)
+    → OfBoth (λ b. IsBuildOf b number older) build valid
+    → IfSome (option_and_then globs_file valid) (λ n. n ≡ number)
+next_of number older None None is = tt
+next_of number older None (Some valid) is = absurd is
+next_of number older (Some build) None is = absurd is
+next_of number older (Some build) (Some valid) is =
+    subst (λ o. IfSome o (λ n. n ≡ number)) (sym (globs_file_of build number older valid is))
+    (next_if build.enable_builtin_globs number)
+
+-- it is the file behind that of the policy
+pub next_file : (text : List ℕ) (file : ℕ) (policy : Policy) → IsPolicyOf text file policy
+    → IfSome (builtin_file_of policy.bans) (λ n. n ≡ file + 1)
+next_file text file policy is =
+    next_of (file + 1) (older_key_of is.config) (build_of is.config) policy.bans.build is.valid.build
+
+-- ---- the globs
+
+read_of : (number : ℕ) (older : Option Span) (build : Option BuildConfig) (valid : Option ValidBuildConfig)
+    → OfBoth (λ b. IsBuildOf b number older) build valid → IfSome valid IsReadBuild
+read_of number older None None is = tt
+read_of number older None (Some valid) is = absurd is
+read_of number older (Some build) None is = absurd is
+read_of number older (Some build) (Some valid) is = record {
+  build = build;
+  file = number_of build.enable_builtin_globs number;
+  older_key = older;
+  made = is;
+}
+
+pub globs_read : (text : List ℕ) (file : ℕ) (policy : Policy) → IsPolicyOf text file policy → AreGlobsRead policy.bans
+globs_read text file policy is =
+    read_of (file + 1) (older_key_of is.config) (build_of is.config) policy.bans.build is.valid.build
+
+-- those that are built in stand in their file
+abbrev pub IsPlaced : GlobPattern → Type 0
+IsPlaced (Builtin glob) = IsRange builtin_file.source glob.0.span
+IsPlaced (User word) = Unit {0}
+
+abbrev lies_within : Span → Bool
+lies_within range = nat_le range.start range.end && nat_le range.end (length builtin_file.source)
+
+below : (a b : ℕ) → nat_le a b ≡ true → a ≤ b
+below a b e = grind (arith, nat_tests)
+
+source_ascii : list_all is_ascii builtin_file.source ≡ true
+unfolding builtin_file
+source_ascii = refl
+
+range_by : (range : Span) → lies_within range ≡ true → IsRange builtin_file.source range
+range_by range e =
+    let parts = and_parts (nat_le range.start range.end) (nat_le range.end (length builtin_file.source)) e in
+    let ordered = below range.start range.end parts.0 in
+    let within = below range.end (length builtin_file.source) parts.1 in
+    let ascii = ascii_from_test builtin_file.source source_ascii in
+    record {
+      ordered = ordered;
+      within = within;
+      starts = IsCharBoundary-from_ascii builtin_file.source range.start ascii (omega (arith, ordered, within));
+      ends = IsCharBoundary-from_ascii builtin_file.source range.end ascii within;
+    }
+
+words_placed : (file : ℕ) (words : List Words) → list_all (λ w. lies_within w.span) words ≡ true
+    → AllByRecursion IsPlaced (map (λ (w : Words). Builtin (w, file)) words)
+words_placed file [] e = tt
+words_placed file (w ∷ ws) e =
+    let parts = and_parts (lies_within w.span) (list_all (λ (v : Words). lies_within v.span) ws) e in
+    (range_by w.span parts.0, words_placed file ws parts.1)
+
+all_within : list_all (λ (w : Words). lies_within w.span) builtin_words ≡ true
+unfolding builtin_file builtin_words builtin_texts
+all_within = refl
+
+builtin_placed : (file : Option ℕ) → AllByRecursion IsPlaced (builtin_if file)
+builtin_placed None = tt
+builtin_placed (Some file) = words_placed file builtin_words all_within
+
+wanted_placed : (words : List Words) (file : Option ℕ) → AllByRecursion IsPlaced (map User words ++ builtin_if file)
+wanted_placed [] file = builtin_placed file
+wanted_placed (w ∷ ws) file = (tt, wanted_placed ws file)
+
+pub patterns_placed : (valid : ValidBuildConfig) → IsReadBuild valid
+    → AllByRecursion IsPlaced valid.script_extensions.patterns
+patterns_placed valid read =
+    kept_each IsPlaced read.made.script_extensions
+    (wanted_placed (listed read.build.script_extensions) read.file)
+
+-- ---- the older key
+
+older_lies : (text : List ℕ) (number : ℕ) (build : Option BuildConfig)
+    (scripts : Option (Spanned (List PackageSpec))) (valid : Option ValidBuildConfig)
+    → OfBoth (λ b. IsBuildOf b number (older_key_by build scripts)) (build_by build scripts) valid
+    → Lie text (of_some own_range scripts)
+    → Lie text (of_some (λ b. of_some (λ range. range ∷ []) b.older_key) valid)
+older_lies text number None None None is lie = tt
+older_lies text number None None (Some valid) is lie = absurd is
+older_lies text number None (Some scripts) None is lie = absurd is
+older_lies text number None (Some scripts) (Some valid) is lie =
+    subst (λ o. Lie text (of_some (λ range. range ∷ []) o)) (sym is.older_key) lie
+older_lies text number (Some build) scripts None is lie = absurd is
+older_lies text number (Some build) scripts (Some valid) is lie =
+    subst (λ o. Lie text (of_some (λ range. range ∷ []) o)) (sym is.older_key) tt
+
+pub older_key_lies : (text : List ℕ) (config : Config) (file number : ℕ) (valid : ValidConfig)
+    → IsValidOf config file number valid → All (IsRange text) (list_ranges config)
+    → All (IsRange text) (older_range valid)
+unfolding list_ranges
+older_key_lies text config file number valid is lists =
+    let wrappers = flat_map wrapper_list config.deny in
+    All-from_recursion (IsRange text) (older_range valid)
+    (older_lies text number config.build config.allow_build_scripts valid.build is.build
+    (lie_rest text wrappers (of_some own_range config.allow_build_scripts)
+    (recursion_from_All (IsRange text) (wrappers ++ of_some own_range config.allow_build_scripts) lists)))

@@ -1,0 +1,24 @@
+//! The home that an option names.
+ghost use Rattle.std.specs.Prelude.{◌≡◌};
+ghost use Rattle.std.specs.Option.{option_copied};
+ghost use Rattle.deny_cli.specs.Home.{home_by, home_of};
+
+use crate::options::behind;
+
+/// A home, which is not empty.
+fn home_by(path: &str) -> Option<&str>
+    ensures { option_copied result ≡ home_by path.now }
+{
+    if path.is_empty() { None } else { Some(path) }
+}
+
+/// The home that an option names: `--home=PATH`.
+#[tactic(auto, unfolding(crate::specs::Home::home_of))]
+pub fn home_of(word: &str) -> Option<&str>
+    ensures { option_copied result ≡ home_of word.now }
+{
+    match behind("--home=", word) {
+        Some(path) => home_by(path),
+        None => None,
+    }
+}

@@ -1,0 +1,407 @@
+-- The entry that a key of builds shows is a range of what the policy says of builds.
+use Rattle.std.proofs.Common.{◌≡◌, ◌∙◌, ◌++◌, ◌∷◌, ℕ, Bool, true, false, List, [], Option, None, Some, ap, inl, inr}
+use Rattle.std.proofs.Common.{not, refl}
+use Rattle.std.proofs.Common.{subst, sym}
+use Rattle.std.specs.Prelude.{Contains, filter, is_some, map, option_and_then, if◌then◌else◌}
+use Rattle.std.specs.List.{AllByRecursion, flat_map, list_any}
+use Rattle.std.specs.Option.{option_map_or}
+use Rattle.std.proofs.lemmas.Bool.{false≢true}
+use Rattle.std.proofs.lemmas.List.Elements.{Contains-append_cases, Contains-append_left, Contains-append_right}
+use Rattle.deny_lists.proofs.Each.{all_append, all_flat, all_mapped}
+use Rattle.deny_lists.proofs.Members.{Contains-first, Contains-flat_map, Contains-from_flat_map, Contains-rest}
+use Rattle.deny_lists.proofs.Members.{at_member}
+use Rattle.deny_lists.proofs.Members.{contains_map, filtered, no_member}
+use Rattle.deny_base.specs.declared.code.Code.{Code}
+use Rattle.deny_base.specs.declared.code.Code.TheVariants as code
+use Rattle.deny_base.specs.declared.code.DiagnosticCode.TheVariants.{Bans}
+use Rattle.deny_base.specs.declared.key.Key.{Key}
+use Rattle.deny_base.specs.declared.span.Span.{Span}
+use Rattle.deny_base.specs.declared.span.Spanned.{Spanned}
+use Rattle.deny_build_model.specs.Building.{AllowedPath, Building, Bypass, ScriptGlob}
+use Rattle.deny_build_model.specs.declared.package.ExecutableKind.{ExecutableKind}
+use Rattle.deny_build_model.specs.declared.package.ExecutableKind.TheVariants.{Interpreted, Native}
+use Rattle.deny_build_model.specs.declared.package.Found.{Found}
+use Rattle.deny_build_model.specs.declared.package.Found.TheVariants.{Failed, Kind, Sum, Unasked}
+use Rattle.deny_build_model.specs.declared.package.PackageFile.{PackageFile}
+use Rattle.deny_model.specs.Graph.{Crate}
+use Rattle.deny_model.specs.Keys.{crate_key, key_of, no_span, unused_key}
+use Rattle.deny_model.specs.Policy as policy
+use Rattle.deny_codes.specs.BuildScripts.{bypass_range, has_sum, is_script_denied, is_script_right, required_enabled}
+use Rattle.deny_codes.specs.BuildScripts.{required_of, required_unknown, script_of, used, wanted_sum}
+use Rattle.deny_codes.specs.Circumstances.{Circumstances}
+use Rattle.deny_codes.specs.Codes.{bans_have_entry}
+use Rattle.deny_codes.specs.Facts.{Facts}
+use Rattle.deny_codes.specs.Features.{has_feature}
+use Rattle.deny_codes.specs.PackageFiles.{ByExtension, ByGlob, ByHeader, ByPath, BySum, ChecksumMatch, ChecksumMismatch}
+use Rattle.deny_codes.specs.PackageFiles.{Step, allows, class_by, class_by_header, class_of, class_of_kind, fits_own}
+use Rattle.deny_codes.specs.PackageFiles.{fits_script, hits_glob, hits_path, is_decided_by, path_of, path_of_used}
+use Rattle.deny_codes.specs.PackageFiles.{path_range, step_allowed, step_by, step_of}
+use Rattle.deny_codes.specs.Packages.{Looking, build_keys, build_keys_in, checks, class_keys, denied_script_keys}
+use Rattle.deny_codes.specs.Packages.{deprecated_key, deprecated_keys, deprecated_keys_in, features_enabled_keys}
+use Rattle.deny_codes.specs.Packages.{file_keys}
+use Rattle.deny_codes.specs.Packages.{folder_key, is_used, looking, package_keys, package_of, path_key}
+use Rattle.deny_codes.specs.Packages.{right_script_keys}
+use Rattle.deny_codes.specs.Packages.{script_keys, script_shown, sum_keys, unmatched_bypass_keys, unmatched_glob_keys}
+use Rattle.deny_codes.specs.Packages.{unmatched_keys, unmatched_path_keys, walked_keys, walks}
+use Rattle.deny_codes.proofs.Kept.{found_member}
+use Rattle.deny_codes.proofs.Parts.{each_from}
+use Rattle.deny_laws.proofs.Asking.{used_member}
+use Rattle.deny_gate.specs.Labels.{build_ranges, building_ranges, bypass_ranges, older_range, path_ranges, sum_range}
+use Rattle.deny_gate.specs.Labels.{written_globs}
+
+-- ---- the ranges of a policy
+
+module _ (b : Building) where
+  pub of_bypass : (y : Bypass) (r : Span) → Contains b.bypass y → Contains (bypass_ranges y) r
+      → Contains (building_ranges b) r
+  unfolding building_ranges
+  of_bypass y r written at = Contains-append_left (flat_map bypass_ranges b.bypass) _ r
+      (Contains-flat_map bypass_ranges b.bypass y r written at)
+
+  pub of_extension : (e : ScriptGlob) → Contains (written_globs b) e → Contains (building_ranges b) e.range
+  unfolding building_ranges
+  of_extension e at = Contains-append_right (flat_map bypass_ranges b.bypass) _ e.range
+      (Contains-append_left (map (λ e. e.range) (written_globs b)) (older_range b.older_key) e.range
+      (contains_map (λ (e : ScriptGlob). e.range) (written_globs b) e at))
+
+  pub of_older : (r : Span) → b.older_key ≡ Some r → Contains (building_ranges b) r
+  unfolding building_ranges
+  of_older r is = Contains-append_right (flat_map bypass_ranges b.bypass) _ r
+      (Contains-append_right (map (λ e. e.range) (written_globs b)) (older_range b.older_key) r
+      (subst (λ (o : Option Span). Contains (older_range o) r) (sym is) (Contains-first r [])))
+
+module _ (y : Bypass) where
+  abbrev features : List Span
+  features = map (λ w. w.span) y.required
+
+  abbrev globs : List Span
+  globs = map (λ w. w.span) y.globs
+
+  abbrev paths : List Span
+  paths = flat_map path_ranges y.allow
+
+  pub name_there : Contains (bypass_ranges y) (bypass_range y)
+  unfolding bypass_ranges
+  name_there = Contains-first (bypass_range y) (sum_range y.script ++ (features ++ (globs ++ paths)))
+
+  behind : (r : Span) → Contains (sum_range y.script ++ (features ++ (globs ++ paths))) r → Contains (bypass_ranges y) r
+  unfolding bypass_ranges
+  behind r at = Contains-rest (bypass_range y) (sum_range y.script ++ (features ++ (globs ++ paths))) r at
+
+  pub script_there : (sum : Spanned (List ℕ)) → y.script ≡ Some sum → Contains (bypass_ranges y) sum.span
+  script_there sum is = behind sum.span (Contains-append_left (sum_range y.script) _ sum.span
+      (subst (λ (o : Option (Spanned (List ℕ))). Contains (sum_range o) sum.span) (sym is)
+      (Contains-first sum.span [])))
+
+  pub feature_there : (w : policy.Words) → Contains y.required w → Contains (bypass_ranges y) w.span
+  feature_there w at = behind w.span (Contains-append_right (sum_range y.script) _ w.span
+      (Contains-append_left features _ w.span (contains_map (λ (w : policy.Words). w.span) y.required w at)))
+
+  pub glob_there : (w : policy.Words) → Contains y.globs w → Contains (bypass_ranges y) w.span
+  glob_there w at = behind w.span (Contains-append_right (sum_range y.script) _ w.span
+      (Contains-append_right features _ w.span
+      (Contains-append_left globs paths w.span (contains_map (λ (w : policy.Words). w.span) y.globs w at))))
+
+  of_path : (a : AllowedPath) (r : Span) → Contains y.allow a → Contains (path_ranges a) r
+      → Contains (bypass_ranges y) r
+  of_path a r written at = behind r (Contains-append_right (sum_range y.script) _ r
+      (Contains-append_right features _ r (Contains-append_right globs paths r
+      (Contains-flat_map path_ranges y.allow a r written at))))
+
+  pub path_there : (a : AllowedPath) → Contains y.allow a → Contains (bypass_ranges y) (path_range a)
+  unfolding path_ranges
+  path_there a written = of_path a (path_range a) written (Contains-first (path_range a) (sum_range a.checksum))
+
+  pub sum_there : (a : AllowedPath) (sum : Spanned (List ℕ)) → Contains y.allow a → a.checksum ≡ Some sum
+      → Contains (bypass_ranges y) sum.span
+  unfolding path_ranges
+  sum_there a sum written is = of_path a sum.span written (Contains-rest (path_range a) (sum_range a.checksum) sum.span
+      (subst (λ (o : Option (Spanned (List ℕ))). Contains (sum_range o) sum.span) (sym is)
+      (Contains-first sum.span [])))
+
+-- ---- what a step decides by
+
+-- an allowed path of the bypass of a crate, and maybe its checksum
+record IsPathAt (l : Looking) (c : Crate) (range : Span) : Type 0 where
+  bypass : Bypass
+  is_used : used l.building c ≡ Some bypass
+  within : Contains (bypass_ranges bypass) range
+
+abbrev ranges_of_step : Step → Option Span
+ranges_of_step (ByPath range) = Some range
+ranges_of_step ByGlob = None
+ranges_of_step (BySum sum) = Some sum.span
+ranges_of_step ByExtension = None
+ranges_of_step ByHeader = None
+
+path_written : (y : Bypass) (path : List ℕ) (a : AllowedPath) → path_of y path ≡ Some a → Contains y.allow a
+unfolding path_of
+path_written y path a found = found_member (λ x. allows x path) y.allow a found
+
+module _ (l : Looking) (c : Crate) where
+  by_allowed : (y : Bypass) (a : AllowedPath) (by_glob : Bool) (range : Span) → used l.building c ≡ Some y
+      → Contains y.allow a → (o : Option (Spanned (List ℕ))) → a.checksum ≡ o
+      → ranges_of_step (step_allowed a by_glob o) ≡ Some range → IsPathAt l c range
+  by_allowed y a by_glob range is_used written None at is = record {
+    bypass = y;
+    is_used = is_used;
+    within = subst (Contains (bypass_ranges y)) (cc is) (path_there y a written);
+  }
+  by_allowed y a true range is_used written (Some sum) at is = absurd (cc is)
+  by_allowed y a false range is_used written (Some sum) at is = record {
+    bypass = y;
+    is_used = is_used;
+    within = subst (Contains (bypass_ranges y)) (cc is) (sum_there y a sum written at);
+  }
+
+  by_path : (y : Bypass) (path : List ℕ) (o : Option AllowedPath) (by_glob by_extension : Bool) (range : Span)
+      → used l.building c ≡ Some y → path_of y path ≡ o
+      → ranges_of_step (step_by o by_glob by_extension) ≡ Some range → IsPathAt l c range
+  by_path y path None true by_extension range is_used found is = absurd (cc is)
+  by_path y path None false true range is_used found is = absurd (cc is)
+  by_path y path None false false range is_used found is = absurd (cc is)
+  by_path y path (Some a) by_glob by_extension range is_used found is =
+      by_allowed y a by_glob range is_used (path_written y path a found) a.checksum refl is
+
+  by_used : (o : Option Bypass) (path : List ℕ) (by_glob by_extension : Bool) (range : Span) → used l.building c ≡ o
+      → ranges_of_step (step_by (path_of_used o path) by_glob by_extension) ≡ Some range → IsPathAt l c range
+  by_used None path true by_extension range is_used is = absurd (cc is)
+  by_used None path false true range is_used is = absurd (cc is)
+  by_used None path false false range is_used is = absurd (cc is)
+  by_used (Some y) path by_glob by_extension range is_used is =
+      by_path y path (path_of y path) by_glob by_extension range is_used refl is
+
+  step_path : (path : List ℕ) (fits : List ℕ → Bool) (range : Span)
+      → ranges_of_step (step_of l.building (used l.building c) path fits) ≡ Some range → IsPathAt l c range
+  unfolding step_of
+  step_path path fits range is = by_used (used l.building c) path (fits_own fits (used l.building c))
+      (fits_script fits l.building) range refl is
+
+-- ---- lists of keys
+
+sum_if : (b : Bool) (o : Option Bypass) (sum : Spanned (List ℕ))
+    → (if b then option_and_then (λ y. y.script) o else None) ≡ Some sum
+    → (y : Bypass) × (o ≡ Some y) × (y.script ≡ Some sum)
+sum_if true None sum is = absurd (cc is)
+sum_if true (Some y) sum is = (y, refl, is)
+sum_if false o sum is = absurd (cc is)
+
+same_code : (d e : Code) → Bans d ≡ Bans e → d ≡ e
+same_code d e same = cc same
+
+-- where its code shows an entry, the entry is one of these ranges
+pub IsShown : (l : Looking) → Key → Type 0
+IsShown l key = (d : Code) → key.code ≡ Bans d → bans_have_entry d ≡ true → Contains (building_ranges l.building) key.entry
+
+module _ (l : Looking) where
+  abbrev Show : List Key → Type 0
+  Show keys = AllByRecursion (IsShown l) keys
+
+  abbrev Known : Span → Type 0
+  Known range = Contains (building_ranges l.building) range
+
+  crate_shown : (d : Code) (place : ℕ) (entry : Span) → Known entry → IsShown l (crate_key d place entry)
+  unfolding IsShown key_of
+  crate_shown d place entry known e is has = known
+
+  path_shown : (d : Code) (place : ℕ) (entry : Span) (shown : List ℕ) → Known entry
+      → IsShown l (path_key d place entry shown)
+  unfolding IsShown path_key key_of
+  path_shown d place entry shown known e is has = known
+
+  unused_shown : (entry : Span) → Known entry → IsShown l (unused_key code.UnmatchedBypass entry)
+  unfolding IsShown key_of
+  unused_shown entry known e is has = known
+
+  crate_bare : (d : Code) (place : ℕ) → bans_have_entry d ≡ false → IsShown l (crate_key d place no_span)
+  unfolding IsShown key_of
+  crate_bare d place none e is has = absurd (false≢true (sym none ∙ (ap bans_have_entry (same_code d e is) ∙ has)))
+
+  path_bare : (d : Code) (place : ℕ) (shown : List ℕ) → bans_have_entry d ≡ false
+      → IsShown l (path_key d place no_span shown)
+  unfolding IsShown path_key key_of
+  path_bare d place shown none e is has =
+      absurd (false≢true (sym none ∙ (ap bans_have_entry (same_code d e is) ∙ has)))
+
+  all_of_map : {X : Type 0} (f : X → Key) (xs : List X) → ((x : X) → Contains xs x → IsShown l (f x)) → Show (map f xs)
+  all_of_map f xs each = all_mapped (IsShown l) f xs (each_from (λ x. IsShown l (f x)) xs each)
+
+  all_of_flat : {X : Type 0} (f : X → List Key) (xs : List X) → ((x : X) → Show (f x)) → Show (flat_map f xs)
+  all_of_flat f xs each = all_flat (λ x. Show (f x)) (IsShown l) f (λ x all. all) xs
+      (each_from (λ x. Show (f x)) xs (λ x is. each x))
+
+  all_where : (b : Bool) (these those : List Key) → Show these → Show those → Show (if b then these else those)
+  all_where true these those one other = one
+  all_where false these those one other = other
+
+  all_option : {X : Type 0} (f : X → List Key) (o : Option X) → ((x : X) → o ≡ Some x → Show (f x))
+      → Show (option_map_or f o [])
+  all_option f None each = tt
+  all_option f (Some x) each = each x refl
+
+  module _ (c : Crate) where
+    of_used : (y : Bypass) (r : Span) → used l.building c ≡ Some y → Contains (bypass_ranges y) r → Known r
+    of_used y r is at = of_bypass l.building y r (used_member l.building c y is) at
+
+    -- ---- scripts
+
+    feature_in : (o : Option Bypass) (w : policy.Words) → used l.building c ≡ o → Contains (required_of o) w
+        → Known w.span
+    feature_in None w is at = absurd (no_member w at)
+    feature_in (Some y) w is at = of_used y w.span is (feature_there y w at)
+
+    unknown_known : (w : policy.Words) → Contains (required_unknown l.building c) w → Known w.span
+    unfolding required_unknown
+    unknown_known w at = feature_in (used l.building c) w refl
+        (filtered (λ w. not (has_feature c w.value)) (required_of (used l.building c)) w at)
+
+    right_show : (range : Span) → Known range → Show (right_script_keys l c range)
+    unfolding right_script_keys
+    right_show range known = (
+      path_shown code.ChecksumMatch c.place range (script_shown (package_of l c)) known,
+      all_of_map (λ (w : policy.Words). crate_key code.UnknownFeature c.place w.span) (required_unknown l.building c)
+          (λ w at. crate_shown code.UnknownFeature c.place w.span (unknown_known w at)),
+    )
+
+    enabled_show : (o : Option Bypass) (enabled : List policy.Words) → used l.building c ≡ o
+        → Show (features_enabled_keys c.place o enabled)
+    enabled_show None enabled is = tt
+    enabled_show (Some y) [] is = tt
+    enabled_show (Some y) (w ∷ ws) is =
+        (crate_shown code.FeaturesEnabled c.place (bypass_range y) (of_used y (bypass_range y) is (name_there y)), tt)
+
+    wanted_known : (sum : Spanned (List ℕ)) → wanted_sum l.building c ≡ Some sum → Known sum.span
+    unfolding wanted_sum
+    wanted_known sum wanted =
+        let of = sum_if (is_some (script_of c)) (used l.building c) sum wanted in
+        of_used of.0 sum.span of.1 (script_there of.0 sum of.2)
+
+    sum_show : (sum : Spanned (List ℕ)) → wanted_sum l.building c ≡ Some sum → Show (sum_keys l c sum)
+    unfolding sum_keys
+    sum_show sum wanted = all_where (is_script_right l.building (package_of l c) c)
+        (right_script_keys l c sum.span
+        ++ features_enabled_keys c.place (used l.building c) (required_enabled l.building c))
+        (path_key code.ChecksumMismatch c.place sum.span (script_shown (package_of l c)) ∷ [])
+        (all_append (IsShown l) (right_script_keys l c sum.span)
+        (features_enabled_keys c.place (used l.building c) (required_enabled l.building c))
+        (right_show sum.span (wanted_known sum wanted))
+        (enabled_show (used l.building c) (required_enabled l.building c) refl))
+        (path_shown code.ChecksumMismatch c.place sum.span (script_shown (package_of l c)) (wanted_known sum wanted), tt)
+
+    script_show : Show (script_keys l c)
+    unfolding script_keys
+    script_show = all_where (checks l c) (option_map_or (sum_keys l c) (wanted_sum l.building c) []) []
+        (all_option (sum_keys l c) (wanted_sum l.building c) sum_show) tt
+
+    denied_show : Show (denied_script_keys l c)
+    unfolding denied_script_keys
+    denied_show = all_where (is_script_denied l.building l.graph l.reached (package_of l c) c)
+        (crate_key code.BuildScriptNotAllowed c.place no_span ∷ []) []
+        (crate_bare code.BuildScriptNotAllowed c.place refl, tt) tt
+
+    -- ---- files
+
+    kind_show : (shown : List ℕ) (kind : Option ExecutableKind) → Show (class_keys c.place shown (class_of_kind kind))
+    kind_show shown None = tt
+    kind_show shown (Some (Native kind)) = (path_bare code.DetectedExecutable c.place shown refl, tt)
+    kind_show shown (Some (Interpreted name)) = (path_bare code.DetectedExecutableScript c.place shown refl, tt)
+
+    header_show : (shown : List ℕ) (found : Found) → Show (class_keys c.place shown (class_by_header found))
+    header_show shown Unasked = tt
+    header_show shown (Sum sum) = tt
+    header_show shown (Kind kind) = kind_show shown kind
+    header_show shown (Failed failure) = (path_bare code.UnableToCheckPath c.place shown refl, tt)
+
+    sums_show : (b : Bool) (range : Span) (shown : List ℕ) → Known range
+        → Show (class_keys c.place shown (if b then ChecksumMatch range else ChecksumMismatch range))
+    sums_show true range shown known = (path_shown code.ChecksumMatch c.place range shown known, tt)
+    sums_show false range shown known = (path_shown code.ChecksumMismatch c.place range shown known, tt)
+
+    class_show : (step : Step) (found : Found) (shown : List ℕ)
+        → ((range : Span) → ranges_of_step step ≡ Some range → Known range)
+        → Show (class_keys c.place shown (class_by step found))
+    class_show (ByPath range) found shown known =
+        (path_shown code.PathBypassed c.place range shown (known range refl), tt)
+    class_show ByGlob found shown known = (path_bare code.PathBypassedByGlob c.place shown refl, tt)
+    class_show (BySum sum) found shown known = sums_show (has_sum sum.value found) sum.span shown (known sum.span refl)
+    class_show ByExtension found shown known = (path_bare code.DeniedByExtension c.place shown refl, tt)
+    class_show ByHeader found shown known = header_show shown found
+
+    file_show : (file : PackageFile) → Show (file_keys l c file)
+    unfolding file_keys class_of
+    file_show file = class_show (step_of l.building (used l.building c) file.path (is_decided_by file))
+        file.seen.found file.seen.shown (λ range is.
+        let of = step_path l c file.path (is_decided_by file) range is in
+        of_used of.bypass range of.is_used of.within)
+
+    unmatched_show : (y : Bypass) → used l.building c ≡ Some y → Show (unmatched_keys l c y)
+    unfolding unmatched_keys unmatched_path_keys unmatched_glob_keys
+    unmatched_show y is = all_append (IsShown l) (unmatched_path_keys (package_of l c) c.place y)
+        (unmatched_glob_keys (package_of l c) c.place y)
+        (all_of_map (λ (a : AllowedPath). crate_key code.UnmatchedPathBypass c.place (path_range a))
+        (filter (λ a. not (list_any (hits_path y a) (package_of l c).files)) y.allow)
+        (λ a at. crate_shown code.UnmatchedPathBypass c.place (path_range a) (of_used y (path_range a) is
+        (path_there y a (filtered (λ a. not (list_any (hits_path y a) (package_of l c).files)) y.allow a at)))))
+        (all_of_map (λ (w : policy.Words). crate_key code.UnmatchedGlob c.place w.span)
+        (filter (λ w. not (list_any (hits_glob y w) (package_of l c).files)) y.globs)
+        (λ w at. crate_shown code.UnmatchedGlob c.place w.span (of_used y w.span is
+        (glob_there y w (filtered (λ w. not (list_any (hits_glob y w) (package_of l c).files)) y.globs w at)))))
+
+    walked_show : Show (walked_keys l c)
+    unfolding walked_keys
+    walked_show = all_append (IsShown l) (map (folder_key c.place) (package_of l c).unlisted) _
+        (all_of_map (folder_key c.place) (package_of l c).unlisted
+        (λ seen at. path_bare code.UnableToCheckPath c.place seen.shown refl))
+        (all_append (IsShown l) (flat_map (file_keys l c) (package_of l c).files) _
+        (all_of_flat (file_keys l c) (package_of l c).files file_show)
+        (all_option (unmatched_keys l c) (used l.building c) unmatched_show))
+
+    package_show : Show (package_keys l c)
+    unfolding package_keys
+    package_show = all_append (IsShown l) (script_keys l c) _ script_show
+        (all_append (IsShown l) (denied_script_keys l c) _ denied_show
+        (all_where (walks l c) (walked_keys l c) [] walked_show tt))
+
+  bypasses_show : Show (unmatched_bypass_keys l)
+  unfolding unmatched_bypass_keys
+  bypasses_show = all_of_map (λ (y : Bypass). unused_key code.UnmatchedBypass (bypass_range y))
+      (filter (λ y. not (is_used l y)) l.building.bypass)
+      (λ y at. unused_shown (bypass_range y) (of_bypass l.building y (bypass_range y)
+      (filtered (λ y. not (is_used l y)) l.building.bypass y at) (name_there y)))
+
+  key_shown : (key : Key) → Contains (build_keys l) key → IsShown l key
+  key_shown key at = elim (Contains-append_cases (flat_map (package_keys l) l.graph.crates) (unmatched_bypass_keys l)
+      key at) as (λ _. IsShown l key) [
+        | inl of_crates ↦
+            let from = Contains-from_flat_map (package_keys l) l.graph.crates key of_crates in
+            at_member (IsShown l) (package_keys l from.from) key (package_show from.from) from.of
+        | inr of_bypasses ↦ at_member (IsShown l) (unmatched_bypass_keys l) key bypasses_show of_bypasses
+      ]
+
+-- ---- in circumstances
+
+pub entry_known : (c : Circumstances) (facts : Facts) (d : Code) (key : Key) → Contains (build_keys_in c facts) key
+    → key.code ≡ Bans d → bans_have_entry d ≡ true → Contains (build_ranges c.building) key.entry
+unfolding IsShown
+entry_known c facts d key is coded has = by c.building is
+  where
+    by : (o : Option Building) → Contains (option_map_or (λ b. build_keys (looking c facts b)) o []) key
+        → Contains (build_ranges o) key.entry
+    by None is = absurd (no_member key is)
+    by (Some b) is = key_shown (looking c facts b) key is d coded has
+
+deprecated_in : (b : Building) (o : Option Span) (key : Key) → b.older_key ≡ o
+    → Contains (option_map_or (λ range. deprecated_key range ∷ []) o []) key → Contains (building_ranges b) key.entry
+unfolding deprecated_key
+deprecated_in b None key is at = absurd (no_member key at)
+deprecated_in b (Some range) key is at =
+    at_member (λ k. Contains (building_ranges b) k.entry) (deprecated_key range ∷ []) key (of_older b range is, tt) at
+
+pub older_known : (c : Circumstances) (key : Key) → Contains (deprecated_keys_in c) key
+    → Contains (build_ranges c.building) key.entry
+unfolding deprecated_keys
+older_known c key is = by c.building is
+  where
+    by : (o : Option Building) → Contains (option_map_or deprecated_keys o []) key → Contains (build_ranges o) key.entry
+    by None is = absurd (no_member key is)
+    by (Some b) is = deprecated_in b b.older_key key refl is

@@ -1,0 +1,15 @@
+pub mod Among
+pub mod Checks
+pub mod DecideLemmas
+pub mod FilesLemmas
+pub mod FittingLemmas
+pub mod GraphLemmas
+pub mod OneSightLemmas
+pub mod OrderLemmas
+pub mod PackageLemmas
+pub mod PackagesLemmas
+pub mod ReadLemmas
+pub mod StepLemmas
+pub mod WalkLemmas
+pub mod WantedLemmas
+pub mod Zips

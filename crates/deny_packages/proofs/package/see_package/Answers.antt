@@ -1,0 +1,90 @@
+use Rattle.std.proofs.Common.{◌≡◌, ◌∙◌, [], refl, sym, true}
+use Rattle.std.specs.Option.{option_copied}
+use Rattle.deny_build_cfg.specs.BuildingView.{building_view}
+use Rattle.deny_bypasses.specs.Marks.{reached_by}
+use Rattle.deny_codes.specs.BuildScripts.{is_walked}
+use Rattle.deny_krates.specs.Crates.{crate_view}
+use Rattle.deny_packages.proofs.Checks.{walks_by_script}
+use Rattle.deny_packages.proofs.PackageLemmas.{alone_seen, alone_wanted, walked_seen, walked_wanted}
+use Rattle.deny_packages.proofs.PackagesLemmas.{caused_next}
+use Rattle.deny_packages.proofs.package.see_package.Goals as goal
+use Rattle.deny_unread.proofs.AddedLemmas.{longer_is, longer_then}
+use Rattle.deny_unread.proofs.Later.{later_same}
+
+pub returns-in_ok-walked-clause-seen : goal.returns-in_ok-walked-clause-seen
+returns-in_ok-walked-clause-seen g c = λ folder right.
+    let a = c.args in
+    let seen = g.D.PackageFiles.seen in
+    let cr = crate_view a.place a.krate.now in
+    let b = building_view a.by.now.config.now in
+    let reached = reached_by a.by.now.marks.now in
+    let graph = a.by.now.krates.now in
+    let s = c.in_ok-script.ensures in
+    let w = c.in_ok-walked.ensures in
+    let walks : is_walked b graph reached c.in_ok-walked.walked cr ≡ true =
+    walks_by_script b graph cr reached c.in_ok-walked.walked _ w.script
+    ∙ sym (c.if-is_walked.ensures c.requires.member) in
+    walked_seen cr b reached graph (option_copied a.home) folder (seen a.disk.now) (seen c.see_script.new.disk)
+    (seen c.walk.new.disk) c.see_script.ensures.later c.walk.ensures.later c.in_ok-script.script a.unread.now
+    c.see_script.new.unread s.noted c.walk.new.unread c.in_ok-walked.walked w.longer w.script walks (s.seen folder)
+    (w.seen a.place folder right) (w.wanted a.place)
+
+pub returns-in_ok-walked-clause-wanted : goal.returns-in_ok-walked-clause-wanted
+returns-in_ok-walked-clause-wanted g c =
+    let a = c.args in
+    let seen = g.D.PackageFiles.seen in
+    let cr = crate_view a.place a.krate.now in
+    let b = building_view a.by.now.config.now in
+    let reached = reached_by a.by.now.marks.now in
+    let graph = a.by.now.krates.now in
+    let s = c.in_ok-script.ensures in
+    let w = c.in_ok-walked.ensures in
+    let walks : is_walked b graph reached c.in_ok-walked.walked cr ≡ true =
+    walks_by_script b graph cr reached c.in_ok-walked.walked _ w.script
+    ∙ sym (c.if-is_walked.ensures c.requires.member) in
+    walked_wanted cr b reached graph (option_copied a.home) (λ k. []) (seen a.disk.now) (seen c.see_script.new.disk)
+    (seen c.walk.new.disk) c.see_script.ensures.later c.walk.ensures.later c.in_ok-script.script a.unread.now
+    c.see_script.new.unread s.noted c.walk.new.unread c.in_ok-walked.walked w.longer walks (w.wanted a.place)
+
+pub returns-in_ok-walked-clause-longer : goal.returns-in_ok-walked-clause-longer
+returns-in_ok-walked-clause-longer g c =
+    longer_then c.args.unread.now c.see_script.new.unread c.walk.new.unread
+    (longer_is c.args.unread.now _ c.see_script.new.unread c.in_ok-script.ensures.noted) c.in_ok-walked.ensures.longer
+
+pub returns-in_ok-walked-clause-caused : goal.returns-in_ok-walked-clause-caused
+returns-in_ok-walked-clause-caused g c = λ folder right.
+    let seen = g.D.PackageFiles.seen in
+    caused_next folder (seen c.args.disk.now) (seen c.see_script.new.disk) (seen c.walk.new.disk) c.args.unread.now
+    c.see_script.new.unread c.walk.new.unread c.see_script.ensures.later c.walk.ensures.later
+    (longer_is c.args.unread.now _ c.see_script.new.unread c.in_ok-script.ensures.noted) c.in_ok-walked.ensures.longer
+    (c.in_ok-script.ensures.caused folder) (c.in_ok-walked.ensures.caused c.args.place folder right)
+
+pub returns-else-is_walked-clause-seen : goal.returns-else-is_walked-clause-seen
+returns-else-is_walked-clause-seen g c = λ folder right.
+    let a = c.args in
+    let seen = g.D.PackageFiles.seen in
+    let cr = crate_view a.place a.krate.now in
+    let b = building_view a.by.now.config.now in
+    let reached = reached_by a.by.now.marks.now in
+    let graph = a.by.now.krates.now in
+    let s = c.in_ok-script.ensures in
+    alone_seen cr b reached graph (option_copied a.home) folder (seen a.disk.now) (seen c.see_script.new.disk)
+    (seen c.see_script.new.disk) c.see_script.ensures.later (later_same (seen c.see_script.new.disk))
+    c.in_ok-script.script a.unread.now c.see_script.new.unread s.noted _ refl
+    (record { unlisted = c.new.ensures; files = c.new-2.ensures })
+    (sym (c.if-is_walked.ensures c.requires.member)) (s.seen folder)
+
+pub returns-else-is_walked-clause-wanted : goal.returns-else-is_walked-clause-wanted
+returns-else-is_walked-clause-wanted g c =
+    let a = c.args in
+    let seen = g.D.PackageFiles.seen in
+    let cr = crate_view a.place a.krate.now in
+    let b = building_view a.by.now.config.now in
+    let reached = reached_by a.by.now.marks.now in
+    let graph = a.by.now.krates.now in
+    alone_wanted cr b reached graph (option_copied a.home) (λ k. []) (seen a.disk.now) (seen c.see_script.new.disk)
+    (seen c.see_script.new.disk) c.see_script.ensures.later (later_same (seen c.see_script.new.disk))
+    c.in_ok-script.script a.unread.now c.see_script.new.unread c.in_ok-script.ensures.noted _
+
+pub returns-else-is_walked-clause-caused : goal.returns-else-is_walked-clause-caused
+returns-else-is_walked-clause-caused g c = λ folder right. c.in_ok-script.ensures.caused folder

@@ -1,0 +1,9 @@
+pub mod Deciding
+pub mod Failures
+pub mod Globs
+pub mod OneSight
+pub mod Paths
+pub mod Seen
+pub mod Wanted
+pub mod Why
+pub mod private

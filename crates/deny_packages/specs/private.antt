@@ -1,0 +1,7 @@
+pub mod Deciding
+pub mod Entries
+pub mod Folders
+pub mod Order
+pub mod Reading
+pub mod Scripts
+pub mod Walks

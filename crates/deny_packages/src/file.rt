@@ -1,0 +1,101 @@
+//! What is seen of one file.
+ghost use Rattle.std.specs.Prelude.{◌≡◌, ◌++◌, ℕ, IfOk, Some, not, option_map};
+ghost use Rattle.std.specs.Option.{option_copied};
+ghost use Rattle.deny_outside.specs.Disk.{IsLater};
+ghost use Rattle.deny_unread.specs.Added.{added};
+ghost use Rattle.deny_unread.specs.Bound.{Folders};
+ghost use Rattle.deny_unread.specs.Causes.{AreCaused};
+ghost use Rattle.deny_build_cfg.specs.BuildingView.{building_view, bypass_view};
+ghost use Rattle.deny_build_cfg.specs.Globs.{extension_text};
+ghost use Rattle.deny_codes.specs.BuildScripts.{used};
+ghost use Rattle.deny_krates.specs.Crates.{crate_view};
+ghost use Rattle.deny_packages.specs.Seen.{IsFileSeen, of_crate};
+ghost use Rattle.deny_packages.specs.Why.{IsBecause};
+ghost use Rattle.deny_packages.specs.private.Entries.{IsFoundFor, entries_for, entries_of, gaps_of};
+ghost use Rattle.deny_packages.specs.private.Reading.{AreOwnRead, AreRead};
+
+use crate::decide::{Asks, decide};
+use crate::paths::below;
+use crate::read::{read_header, read_sum};
+use deny_build_cfg::ValidBuildConfig;
+use deny_build_files::home_path;
+use deny_build_model::{Found, PackageFile, Seen};
+use deny_bypasses::Allowed;
+use deny_krates::Krate;
+use deny_lists::{List, NoMemory, Text};
+use deny_outside::PackageFiles;
+use deny_unread::{Purpose, Unread};
+use std::alloc::Global;
+
+/// The file at a path of a crate with the bypass of these allowed paths: what decides of it, and what that asks is read. `indices` is of no
+/// matter before and after.
+pub(crate) fn see_file<D: PackageFiles>(
+    alloc: Global,
+    config: &ValidBuildConfig,
+    allowed: &Allowed<'_>,
+    home: Option<&str>,
+    krate: &Krate,
+    disk: &mut D,
+    path: &str,
+    indices: &mut Vec<usize>,
+    unread: &mut List<Unread>,
+) -> Result<PackageFile, NoMemory>
+    requires scripts { AreRead extension_text config.now.script_extensions }
+    requires own { AreOwnRead (option_copied allowed.now.bypass) }
+    requires used { (place : ℕ) → used (building_view config.now) (crate_view place krate.now)
+        ≡ option_map bypass_view (option_copied allowed.now.bypass) }
+    ensures seen { IfOk result (λ file. (place : ℕ) (folder : Folders) →
+        IsFileSeen (IsBecause folder (D.seen disk.old) (D.seen disk.new)) (D.seen disk.old).files
+        (building_view config.now) (option_copied home.entry) (gaps_of file) (crate_view place krate.now) path.now
+        file) }
+    ensures noted { IfOk result (λ file. (place : ℕ) → unread.new
+        ≡ unread.old ++ entries_of (building_view config.now) (crate_view place krate.now) path.now file) }
+    ensures caused { IfOk result (λ _. (folder : Folders) →
+        AreCaused folder (D.seen disk.old) (D.seen disk.new) (added unread.old unread.new)) }
+    ensures later { IsLater (D.seen disk.old) (D.seen disk.new) }
+{
+    let rest = below(alloc, krate.folder(), path)?;
+    let decision = decide(alloc, config, allowed, rest, indices)?;
+    let found = find(alloc, config, krate, disk, path, decision.asks, unread)?;
+    Ok(PackageFile {
+        path: Text::from_str(alloc, rest)?,
+        globs: decision.globs,
+        seen: Seen {
+            shown: home_path(alloc, path, krate.folder(), home)?,
+            found,
+        },
+    })
+}
+
+/// What is found of the file at a path where this is asked.
+fn find<D: PackageFiles>(
+    alloc: Global,
+    config: &ValidBuildConfig,
+    krate: &Krate,
+    disk: &mut D,
+    path: &str,
+    asks: Asks,
+    unread: &mut List<Unread>,
+) -> Result<Found, NoMemory>
+    ensures found { IfOk result (λ found. (place : ℕ) (folder : Folders) →
+        IsFoundFor (of_crate (IsBecause folder (D.seen disk.old) (D.seen disk.new)) (crate_view place krate.now))
+        (D.seen disk.old).files (not (building_view config.now).with_archives) path.now asks found) }
+    ensures noted { IfOk result (λ found.
+        unread.new ≡ unread.old ++ entries_for asks (Some krate.now.id) path.now found) }
+    ensures caused { IfOk result (λ _. (folder : Folders) →
+        AreCaused folder (D.seen disk.old) (D.seen disk.new) (added unread.old unread.new)) }
+    ensures later { IsLater (D.seen disk.old) (D.seen disk.new) }
+{
+    match asks {
+        Asks::Nothing => Ok(Found::Unasked),
+        Asks::Sum => {
+            let found = read_sum(alloc, disk, &krate.id, Purpose::Sum, path, unread)?;
+            Ok(found)
+        }
+        Asks::Header => {
+            let no_archives = !config.include_archives;
+            let found = read_header(alloc, disk, &krate.id, no_archives, path, unread)?;
+            Ok(found)
+        }
+    }
+}

@@ -1,0 +1,106 @@
+//! The globs that fit a path, by their texts.
+ghost use Rattle.std.specs.Prelude.{◌≡◌, IfOk, map};
+ghost use Rattle.std.specs.Option.{option_copied};
+ghost use Rattle.deny_build_cfg.specs.BuildingView.{globs_view, words_of};
+ghost use Rattle.deny_build_cfg.specs.Globs.{extension_text, own_text};
+ghost use Rattle.deny_packages.specs.Globs.{AreFitting};
+ghost use Rattle.deny_packages.specs.private.Reading.{AreRead, AreReadIf};
+
+use deny_build_cfg::{GlobPattern, ValidGlobSet};
+use deny_lists::{List, NoMemory, Text};
+use std::alloc::Global;
+
+/// Of the globs of an entry those that fit the path. `indices` is of no matter before and after.
+pub(crate) fn fitting_own(
+    alloc: Global,
+    globs: Option<&ValidGlobSet>,
+    path: &str,
+    indices: &mut Vec<usize>,
+) -> Result<List<Text>, NoMemory>
+    requires { AreReadIf (option_copied globs) }
+    ensures { IfOk result (AreFitting path.now (map (λ w. w.value) (globs_view (option_copied globs.entry)))) }
+{
+    match globs {
+        Some(globs) => fitting_in(alloc, globs, path, indices),
+        None => Ok(List::new(alloc)),
+    }
+}
+
+fn fitting_in(
+    alloc: Global,
+    globs: &ValidGlobSet,
+    path: &str,
+    indices: &mut Vec<usize>,
+) -> Result<List<Text>, NoMemory>
+    requires { AreRead own_text globs.now }
+    ensures { IfOk result (AreFitting path.now (map (λ w. w.value) (map words_of globs.now.patterns))) }
+{
+    match globs.matches(path, indices)? {
+        Some(patterns) => {
+            let texts = own_texts(alloc, patterns.as_slice())?;
+            Ok(texts)
+        }
+        None => Ok(List::new(alloc)),
+    }
+}
+
+/// Of the globs of scripts those that fit the path. `indices` is of no matter before and after.
+pub(crate) fn fitting_scripts(
+    alloc: Global,
+    globs: &ValidGlobSet,
+    path: &str,
+    indices: &mut Vec<usize>,
+) -> Result<List<Text>, NoMemory>
+    requires { AreRead extension_text globs.now }
+    ensures { IfOk result (AreFitting path.now (map extension_text globs.now.patterns)) }
+{
+    match globs.matches(path, indices)? {
+        Some(patterns) => {
+            let texts = extension_texts(alloc, patterns.as_slice())?;
+            Ok(texts)
+        }
+        None => Ok(List::new(alloc)),
+    }
+}
+
+fn own_texts(alloc: Global, patterns: &[&GlobPattern]) -> Result<List<Text>, NoMemory>
+    ensures { IfOk result (λ texts. texts ≡ map (λ pattern. own_text pattern.now) patterns.now) }
+{
+    let mut texts = List::new(alloc);
+    for pattern in patterns {
+        texts.push(own_text(alloc, pattern)?)?;
+    }
+    Ok(texts)
+}
+
+fn own_text(alloc: Global, pattern: &GlobPattern) -> Result<Text, NoMemory>
+    ensures { IfOk result (λ text. text ≡ own_text pattern.now) }
+{
+    match pattern {
+        GlobPattern::Builtin((glob, _)) => Ok(glob.value.clone()?),
+        GlobPattern::User(glob) => Ok(glob.value.clone()?),
+    }
+}
+
+fn extension_texts(alloc: Global, patterns: &[&GlobPattern]) -> Result<List<Text>, NoMemory>
+    ensures { IfOk result (λ texts. texts ≡ map (λ pattern. extension_text pattern.now) patterns.now) }
+{
+    let mut texts = List::new(alloc);
+    for pattern in patterns {
+        texts.push(extension_text(alloc, pattern)?)?;
+    }
+    Ok(texts)
+}
+
+fn extension_text(alloc: Global, pattern: &GlobPattern) -> Result<Text, NoMemory>
+    ensures { IfOk result (λ text. text ≡ extension_text pattern.now) }
+{
+    match pattern {
+        GlobPattern::Builtin((glob, _)) => Ok(glob.value.clone()?),
+        GlobPattern::User(extension) => {
+            let mut text = Text::from_str(alloc, "*.")?;
+            text.push_str(extension.value.as_str())?;
+            Ok(text)
+        }
+    }
+}

@@ -1,0 +1,91 @@
+//! Files in the order of the components of their paths.
+ghost use Rattle.std.specs.Prelude.{◌≡◌, Contains, IfOk, Some, map, refl};
+ghost use Rattle.std.specs.Cmp.{eq_by_cmp_equiv, partial_equiv_from_equiv, partial_order_from_total};
+ghost use Rattle.std.specs.Ordering.{eq_by_cmp};
+ghost use Rattle.deny_build_model.specs.Paths.{path_cmp, rank};
+ghost use Rattle.deny_lists.specs.Ascending.{Lists};
+ghost use Rattle.deny_packages.specs.private.Order.{file_cmp, file_cmp_total};
+
+use deny_lists::{List, NoMemory, Text, put_in_order};
+use std::alloc::Global;
+use std::cmp::Ordering;
+
+/// The path of a file. Paths are ordered by their components.
+#[derive(Debug, Drop)]
+pub(crate) struct FilePath {
+    pub path: Text,
+}
+
+impl PartialEq for FilePath {
+    ghost eq = { λ a b. eq_by_cmp file_cmp a b };
+
+    ghost laws = { partial_equiv_from_equiv (eq_by_cmp_equiv file_cmp_total) };
+
+    fn eq(&self, other: &Self) -> bool {
+        self.cmp(other) == Ordering::Equal
+    }
+}
+
+impl Eq for FilePath {
+    ghost laws = { eq_by_cmp_equiv file_cmp_total };
+}
+
+impl PartialOrd for FilePath {
+    ghost partial_cmp = { λ a b. Some (file_cmp a b) };
+
+    ghost laws = { partial_order_from_total file_cmp_total };
+
+    fn partial_cmp(&self, other: &Self) -> Option<Ordering> {
+        Some(self.cmp(other))
+    }
+}
+
+impl Ord for FilePath {
+    ghost cmp = { file_cmp };
+
+    ghost total = { file_cmp_total };
+
+    ghost matches_partial_cmp = { λ a b. refl };
+
+    ghost matches_eq = { λ a b. refl };
+
+    fn cmp(&self, other: &Self) -> Ordering {
+        path_cmp(
+            self.path.as_str().as_bytes(),
+            other.path.as_str().as_bytes(),
+        )
+    }
+}
+
+fn rank(byte: u8) -> u16
+    ensures { result ≡ rank byte }
+{
+    if byte == b'/' { 0 } else { u16::from(byte) + 1 }
+}
+
+fn path_cmp(a: &[u8], b: &[u8]) -> Ordering
+    ensures { result ≡ path_cmp a.now b.now }
+{
+    a.iter()
+        .map(|byte| rank(*byte))
+        .cmp(b.iter().map(|byte| rank(*byte)))
+}
+
+/// Paths in the order of their components.
+pub(crate) fn in_order(alloc: Global, paths: List<Text>) -> Result<List<FilePath>, NoMemory>
+    ensures { IfOk result (λ files. Lists path_cmp (Contains paths) (map (λ file. file.path) files)) }
+{
+    let mut files = files_at(alloc, paths)?;
+    put_in_order(&mut files)?;
+    Ok(files)
+}
+
+fn files_at(alloc: Global, paths: List<Text>) -> Result<List<FilePath>, NoMemory>
+    ensures { IfOk result (λ files. map (λ file. file.path) files ≡ paths) }
+{
+    let mut files = List::new(alloc);
+    'paths: for path in paths.vec {
+        files.push(FilePath { path })?;
+    }
+    Ok(files)
+}

@@ -1,0 +1,124 @@
+//! What is seen of one package.
+ghost use Rattle.std.specs.Prelude.{◌≡◌, ℕ, Contains, IfOk, OnOk, Some, slice_get};
+ghost use Rattle.std.specs.Option.{option_copied};
+ghost use Rattle.deny_outside.specs.Disk.{IsLater};
+ghost use Rattle.deny_unread.specs.Added.{IsLonger, added};
+ghost use Rattle.deny_unread.specs.Bound.{Folders};
+ghost use Rattle.deny_unread.specs.Causes.{AreCaused};
+ghost use Rattle.deny_unread.specs.Unread.{is_unread};
+ghost use Rattle.deny_build_cfg.specs.Build.{IsReadBuild};
+ghost use Rattle.deny_build_cfg.specs.BuildingView.{building_view};
+ghost use Rattle.deny_bypasses.specs.Marks.{reached_by};
+ghost use Rattle.deny_krates.specs.Crates.{crate_view};
+ghost use Rattle.deny_model.specs.Crates as crates;
+ghost use Rattle.deny_packages.specs.Seen.{IsPackageSeen, IsWalkSeen};
+ghost use Rattle.deny_packages.specs.Why.{IsBecause};
+ghost use Rattle.deny_packages.specs.private.Walks.{AreOfWalk, AreWantedOf};
+
+use crate::files::see_files;
+use crate::folders::folders_unseen;
+use crate::order::in_order;
+use crate::script::see_script;
+use deny_build_cfg::ValidBuildConfig;
+use deny_build_model::{Package, Seen};
+use deny_bypasses::{Checking, is_walked, used};
+use deny_krates::Krate;
+use deny_lists::{List, NoMemory};
+use deny_outside::PackageFiles;
+use deny_unread::Unread;
+use deny_walk::walk_package;
+use std::alloc::Global;
+
+/// The package of the crate at a place: its script where that is asked for, and then its files where they are looked
+/// at.
+pub(crate) fn see_package<D: PackageFiles>(
+    alloc: Global,
+    by: &Checking<'_>,
+    home: Option<&str>,
+    place: u32,
+    krate: &Krate,
+    disk: &mut D,
+    unread: &mut List<Unread>,
+) -> Result<Package, NoMemory>
+    requires read { IsReadBuild by.now.config.now }
+    requires member { Contains by.now.krates.now.crates (crate_view place krate.now) }
+    ensures seen { IfOk result (λ contents. (folder : Folders) → folder (Some krate.now.id)
+        ≡ crates.folder (crate_view place krate.now) →
+        IsPackageSeen (IsBecause folder (D.seen disk.old) (D.seen disk.new)) (D.seen disk.old).files
+        (building_view by.now.config.now) (reached_by by.now.marks.now) (option_copied home.entry) by.now.krates.now
+        (added unread.old unread.new) (crate_view place krate.now) contents) }
+    ensures wanted { IfOk result (λ contents. AreWantedOf (D.seen disk.old).files (building_view by.now.config.now)
+        (reached_by by.now.marks.now) by.now.krates.now (added unread.old unread.new) (crate_view place krate.now)
+        contents) }
+    ensures longer { OnOk result (IsLonger unread.old unread.new) }
+    ensures caused { OnOk result ((folder : Folders) → folder (Some krate.now.id)
+        ≡ crates.folder (crate_view place krate.now)
+        → AreCaused folder (D.seen disk.old) (D.seen disk.new) (added unread.old unread.new)) }
+    ensures later { IsLater (D.seen disk.old) (D.seen disk.new) }
+{
+    let script = see_script(alloc, by, home, place, krate, disk, unread)?;
+    let package = Package {
+        script,
+        unlisted: List::new(alloc),
+        files: List::new(alloc),
+    };
+    if is_walked(by, place, krate, &package) {
+        let walked = walk(alloc, by.config, home, krate, package.script, disk, unread)?;
+        Ok(walked)
+    } else {
+        Ok(package)
+    }
+}
+
+/// The package of a crate with this script, whose files are looked at.
+fn walk<D: PackageFiles>(
+    alloc: Global,
+    config: &ValidBuildConfig,
+    home: Option<&str>,
+    krate: &Krate,
+    script: Option<Seen>,
+    disk: &mut D,
+    unread: &mut List<Unread>,
+) -> Result<Package, NoMemory>
+    requires { IsReadBuild config.now }
+    ensures script { IfOk result (λ contents. contents.script ≡ script) }
+    ensures seen { IfOk result (λ contents. (place : ℕ) (folder : Folders) → folder (Some krate.now.id)
+        ≡ crates.folder (crate_view place krate.now) →
+        IsWalkSeen (IsBecause folder (D.seen disk.old) (D.seen disk.new)) (D.seen disk.old).files
+        (building_view config.now) (option_copied home.entry)
+        (is_unread (added unread.old unread.new) (Some krate.now.id)) (crate_view place krate.now) contents) }
+    ensures wanted { IfOk result (λ contents. (place : ℕ) → AreOfWalk (D.seen disk.old).files
+        (building_view config.now) (added unread.old unread.new) (crate_view place krate.now) contents) }
+    ensures longer { OnOk result (IsLonger unread.old unread.new) }
+    ensures caused { OnOk result ((place : ℕ) (folder : Folders) → folder (Some krate.now.id)
+        ≡ crates.folder (crate_view place krate.now)
+        → AreCaused folder (D.seen disk.old) (D.seen disk.new) (added unread.old unread.new)) }
+    ensures later { IsLater (D.seen disk.old) (D.seen disk.new) }
+{
+    let walked = walk_package(
+        alloc,
+        disk,
+        &krate.id,
+        krate.folder(),
+        krate.is_git_source(),
+        unread,
+    )?;
+    let unlisted = folders_unseen(alloc, krate.folder(), home, walked.unlisted.as_slice())?;
+    let paths = in_order(alloc, walked.files)?;
+    let bypass = used(config, krate);
+    let files = see_files(
+        alloc,
+        config,
+        bypass,
+        home,
+        krate,
+        disk,
+        paths.as_slice(),
+        unread,
+    )?;
+    Ok(Package {
+        script,
+        unlisted,
+        files,
+    })
+}

@@ -1,0 +1,77 @@
+//! The features that entries of the policy list, and those that bypasses require, by their ranges.
+ghost use Rattle.std.specs.Prelude.{◌≡◌, IfOk, OnOk, map};
+ghost use Rattle.std.specs.List.{flat_map};
+ghost use Rattle.deny_build_cfg.specs.BuildingView.{bypass_view};
+ghost use Rattle.deny_cfg.specs.PolicyView.{building_of, feature_view};
+ghost use Rattle.deny_codes.specs.Features.{features_of};
+ghost use Rattle.deny_codes.specs.PackagesTold.{required_features};
+ghost use Rattle.deny_told.specs.ByRange.{IsByRange, PutsBefore};
+
+use deny_base::Spanned;
+use deny_build_cfg::ValidBypass;
+use deny_cfg::bans::cfg::{ValidConfig, ValidKrateFeatures};
+use deny_lists::{NoMemory, Text};
+use deny_told::ByRange;
+use std::alloc::Global;
+
+/// Finds the features that entries allow and deny, in the order in which the entries list them.
+pub fn listed_by_range<'c>(
+    alloc: Global,
+    entries: &'c [ValidKrateFeatures],
+) -> Result<ByRange<'c, Spanned<Text>>, NoMemory>
+    ensures { IfOk result (IsByRange (λ w. w.span) (flat_map features_of (map feature_view entries.now))) }
+{
+    let mut found = ByRange::of_none(alloc);
+    for number in (0..entries.len()).rev() {
+        put_features(&mut found, &entries[number])?;
+    }
+    Ok(found)
+}
+
+// Puts the features of an entry before those that are found.
+fn put_features<'c>(
+    found: &mut ByRange<'c, Spanned<Text>>,
+    entry: &'c ValidKrateFeatures,
+) -> Result<(), NoMemory>
+    ensures { OnOk result (PutsBefore (λ w. w.span) (features_of (feature_view entry.entry.now)) found.old
+        found.new) }
+{
+    found.put_before(entry.features.deny.as_slice())?;
+    found.put_before(entry.features.allow.value.as_slice())
+}
+
+/// Finds the features that bypasses require.
+pub fn required_by_range<'c>(
+    alloc: Global,
+    cfg: &'c ValidConfig,
+) -> Result<ByRange<'c, Spanned<Text>>, NoMemory>
+    ensures { IfOk result (IsByRange (λ w. w.span) (required_features (building_of cfg.now))) }
+{
+    match &cfg.build {
+        Some(build) => required_of_each(alloc, build.bypass.as_slice()),
+        None => Ok(ByRange::of_none(alloc)),
+    }
+}
+
+fn required_of_each<'c>(
+    alloc: Global,
+    bypasses: &'c [ValidBypass],
+) -> Result<ByRange<'c, Spanned<Text>>, NoMemory>
+    ensures { IfOk result (IsByRange (λ w. w.span) (flat_map (λ y. y.required) (map bypass_view bypasses.now))) }
+{
+    let mut found = ByRange::of_none(alloc);
+    for number in (0..bypasses.len()).rev() {
+        put_required(&mut found, &bypasses[number])?;
+    }
+    Ok(found)
+}
+
+// Puts the features that a bypass requires before those that are found.
+fn put_required<'c>(
+    found: &mut ByRange<'c, Spanned<Text>>,
+    bypass: &'c ValidBypass,
+) -> Result<(), NoMemory>
+    ensures { OnOk result (PutsBefore (λ w. w.span) (bypass_view bypass.entry.now).required found.old found.new) }
+{
+    found.put_before(bypass.required_features.as_slice())
+}

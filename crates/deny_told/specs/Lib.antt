@@ -1,0 +1,2 @@
+pub mod ByRange
+pub mod Told
