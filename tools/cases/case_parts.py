@@ -4,7 +4,7 @@ import json
 import re
 
 from readings.metadata import Fault, read_metadata
-from readings.manifests import below
+from readings.disks import below
 from readings.report import compact, paths_of
 
 REGISTRY = "registry+https://github.com/rust-lang/crates.io-index"
@@ -129,6 +129,35 @@ def row_graph(text, tables=(), enabled=()):
     return declaring(furnished(value, packages, nodes))
 
 
+def folder_of(word):
+    """The folder of a crate `name` or `name@version` in such a graph."""
+    name, _, version = word.partition("@")
+    return "/w" if word == "app" else "/r/%s-%s" % (name, version or "1.0.0")
+
+
+def target(kinds, path):
+    """What a package builds: its kinds in words, and its file."""
+    return {"kind": kinds.split(), "src_path": path}
+
+
+def built_graph(text, tables=(), enabled=(), sources=(), **targets):
+    """Such a graph whose crates have targets, by their names: lists of these, or the kind of one whose file is
+    `build.rs`. `sources` are those of crates that are not from the registry."""
+    value, sources = row_graph(text, tables, enabled), dict(sources)
+    for one in value["packages"]:
+        word = "%(name)s@%(version)s" % one
+        listed = targets.get(word.replace("@", "_").replace(".", "_"), targets.get(one["name"], []))
+        path = one["manifest_path"].rpartition("/")[0] + "/build.rs"
+        one["targets"] = [target(listed, path)] if isinstance(listed, str) else listed
+        one.update({"source": sources[one["name"]]} if one["name"] in sources else {})
+    return value
+
+
+def in_package(word, files):
+    """Files of a package by their whole paths."""
+    return {below(folder_of(word), path): bytes_text(text) for path, text in files.items()}
+
+
 def declared_graph(declared, members="app", sources=(), folders=(), **more):
     """A graph whose crates need what they declare: `declared` has lists of `asks(..)` by crate, each for the crate `to`
     or the one of its name. A member alone lies at `/w`, several in folders below it; the others are from the registry,
@@ -224,9 +253,9 @@ def dead_line(kind, start, end):
     return compact({"fields": {"end": end, "kind": kind, "start": start}, "type": "dead"}) + "\n"
 
 
-def unread_line(crate, path):
-    """The line of a manifest that could not be read: its crate `name = version`, or None."""
-    return compact({"fields": {"crate": crate, "path": path, "purpose": "manifest"}, "type": "unread"}) + "\n"
+def unread_line(crate, path, purpose="manifest"):
+    """The line of a file or a folder that could not be read: its crate `name = version`, or None."""
+    return compact({"fields": {"crate": crate, "path": path, "purpose": purpose}, "type": "unread"}) + "\n"
 
 
 def malformed_line(path):

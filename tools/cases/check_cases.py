@@ -2,11 +2,13 @@
 """Writes the cases of crates/deny_cases, and what each must print.
 
 The expected output comes from a reading of the rules that is written here anew: it shares nothing with the program
-that the cases try, and stands in tools/readings. The cases stand in dead_cases, declaration_cases, feature_cases,
-licence_check_cases, manifest_cases, metadata_cases, policy_cases, rule_cases, std_cases, tree_cases and
-workspace_cases.
+that the cases try, and stands in tools/readings. The cases stand in build_cases, dead_cases, declaration_cases,
+feature_cases, licence_check_cases, manifest_cases, metadata_cases, package_cases, policy_cases, rule_cases, std_cases,
+tree_cases and workspace_cases.
 
     check_cases.py cases FOLDER                             writes the files stdin and stdout of crates/deny_cases
+    check_cases.py files FOLDER CASE                        writes the files of a case, all of which are named from the
+                                                            folder at hand, and prints what it has to print
     check_cases.py check [OPTIONS] POLICY METADATA [REPLACEMENTS]     does what the program does with these files
 """
 
@@ -17,6 +19,7 @@ from pathlib import Path
 
 sys.path.insert(0, str(Path(__file__).resolve().parent.parent))
 
+from build_cases import build_cases
 from case_parts import ALONE, DENY_X, WITH_X, case, is_free, manifest_of, with_manifests
 from dead_cases import dead_cases
 from feature_cases import feature_cases
@@ -25,15 +28,18 @@ from licence_check_cases import licence_check_cases
 from manifest_cases import long_manifests, manifest_cases
 from readings import toml
 from readings.dead import UNUSED
+from readings.building import Built
+from readings.disks import MadeDisk, RealDisk
 from readings.manifests import Seen
 from readings.metadata import read_metadata
 from readings.policy import read_policy
 from readings.replaced import table_for
 from readings.report import (
-    LIMIT, compact, findings_of, options_of, paths_of, report, run, stop_line, usage_place,
+    LIMIT, Options, compact, findings_of, paths_of, report, run, stop_line, usage_place,
 )
 from readings.trees import Trees, text_of
 from metadata_cases import metadata_cases
+from package_cases import package_cases
 from policy_cases import policy_cases
 from rule_cases import rule_cases
 from std_cases import long_tables, std_cases
@@ -64,10 +70,20 @@ OPTIONS = [
     ["check", "--registries=a=b", "p", "m"], ["check", ONE, "--registry=a", "p", "m"], ["check", "p", ONE, "m"],
     ["check", "p", "m", ONE], ["check", ONE, "--home=/h", "p", "m"], ["check", "--home=/h", ONE, "p", "m"],
     ["generate", ONE, "4"], ["generate", "4", ONE], [ONE, "check", "p", "m"], [ONE],
+    ["check", "--home=/h", "--home=/h", "p", "m"], ["check", "--home=/h", ONE, "--home=/i", "p", "m"],
+    ["check", "--home=", "p", "m"], ["check", "--home", "p", "m"], ["check", "--home", "/h", "p", "m"],
+    ["check", "--Home=/h", "p", "m"], ["check", "-home=/h", "p", "m"], ["check", "--home=\n", "p", "m"],
+    ["check", "--home==", "p", "m"], ["check", "--home=--home=", "p", "m"], ["check", ONE, "--home=ü", ONE, "p", "m"],
+    ["check", "--home=/h", "p", "m", "r"], ["check", "--home=/h"], ["check", "--home=/h", "p"],
+    ["check", "p", "--home=/h", "m"], ["check", "p", "m", "--home=/h"], ["check", "--home:/h", "p", "m"],
+    ["generate", "--home=/h", "4"], ["generate", "4", "--home=/h"], ["--home=/h", "check", "p", "m"],
 ]
 WRONG_AT.update({
     ("check", ONE): 2, ("check", ONE, "p"): 3, ("check", "--registry=a=", "p", "m"): 1, ("check", "p", ONE, "m"): 2,
     ("check", ONE, "p", "m", "r", "s"): 5, ("generate", ONE, "4"): 1,
+    ("check", "--home=/h", "--home=/h", "p", "m"): 2, ("check", "--home=/h", ONE, "--home=/i", "p", "m"): 3,
+    ("check", "--home=", "p", "m"): 1, ("check", "p", "--home=/h", "m"): 2, ("check", "--home=/h"): 2,
+    ("generate", "--home=/h", "4"): 1,
 })
 
 SUMMARY = '{"fields":{"crates":%d,"dead":0,"errors":%d,"generated":%d,"verdict":"%s"},"type":"summary"}\n'
@@ -111,7 +127,7 @@ def outside():
         yield case("pieces of %d bytes" % piece, DENY_X, WITH_X, piece=piece)
     write = '{"fields":{"stop":"write"},"type":"stop"}\n'
     yield case("room for ten bytes", DENY_X, WITH_X, room=10, lines='{"fields":', stop=write)
-    whole = len(report(b"", ALONE.encode(), disk=lambda path: b"")[0])
+    whole = len(report(b"", ALONE.encode(), disk=MadeDisk({"/w/Cargo.toml": bytes}))[0])
     for room in (0, 1, 20, whole // 2, whole - 1, whole, whole + 1):
         yield case("room for %d bytes of %d" % (room, whole), room=room)
     for room in (0, 1, 20, len(stop_line("usage", at=0)) - 1, len(stop_line("usage", at=0))):
@@ -139,7 +155,8 @@ def cases():
     subjects = (rule_cases, feature_cases, licence_check_cases, policy_cases, metadata_cases, std_cases)
     of_manifests = (manifest_cases, declaration_cases, workspace_cases)
     for part in (
-        words, outside, *subjects, tree_cases, dead_cases, *of_manifests, long_texts, long_tables, long_manifests
+        words, outside, *subjects, tree_cases, dead_cases, *of_manifests, build_cases, package_cases, long_texts,
+        long_tables, long_manifests
     ):
         yield from map(with_manifests, filter(is_wanted, part()))
 
@@ -165,11 +182,16 @@ def text_of_case(text):
     return text["repeat"].encode() * text["times"]
 
 
+def disk_of(case):
+    """The disk of a case."""
+    files = {path: lambda text=text: text_of_case(text) for path, text in case.get("files", {}).items()}
+    return MadeDisk(files, case.get("fail", []), case.get("fail_call"), case.get("piece", 2**16))
+
+
 def expected(case):
     """What a run over the case's disk writes, and its status."""
     room, err_room = case.get("room", 1 << 20), case.get("err_room", 1 << 20)
-    texts = {path: lambda text=text: text_of_case(text) for path, text in case.get("files", {}).items()}
-    out, (err, status) = "", run(case["words"], texts, case.get("fail", []))
+    out, (err, status) = "", run(case["words"], disk_of(case))
     if status in DONE:
         out, err = err, ""
         if len(out.encode()) > room:
@@ -200,8 +222,11 @@ def told(answer):
 def told_of(kind, fields):
     if kind in ("verdict", "dead"):
         return []
-    if kind in ("unread", "malformed"):
-        return [" ".join([kind, short(fields["crate"] or "none")] if kind == "unread" else [kind, fields["path"]])]
+    if kind == "unread":
+        of_manifest = fields["purpose"] == "manifest"
+        return [" ".join([kind, short(fields["crate"] or "none")] + ([] if of_manifest else [fields["purpose"]]))]
+    if kind == "malformed":
+        return ["%s %s" % (kind, fields["path"])]
     if kind == "diagnostic":
         return [told_finding(fields)]
     if fields["stop"] == "config":
@@ -217,8 +242,11 @@ def places_of(labels):
 
 def told_finding(fields):
     """The code and the first crate that the message names, 1.0.0 and 0.1.0 left out, `/` and the feature behind it; of
-    a licence what its notes or its label name, and the byte at which it cannot be read."""
+    a licence what its notes or its label name, and the byte at which it cannot be read; of a file its path, and what it
+    is."""
     code, quoted = fields["code"], lambda text: re.findall("'([^']*)'", text)
+    if code in ABOUT_A_FILE:
+        return " ".join([code] + told_of_file(code, fields))
     names = [short(name) for name in quoted(fields["message"])]
     if code in ABOUT_A_FEATURE:
         feature, crate = names
@@ -235,6 +263,27 @@ def told_finding(fields):
     if code == "parse-error":
         names = [names[0] + " " + re.search("[0-9]+$", fields["message"]).group()]
     return " ".join([code] + names[:1])
+
+
+ABOUT_A_FILE = (
+    "path-bypassed", "path-bypassed-by-glob", "checksum-match", "checksum-mismatch", "denied-by-extension",
+    "detected-executable", "detected-executable-script", "unable-to-check-path", "features-enabled",
+    "unmatched-bypass", "unmatched-path-bypass", "unmatched-glob",
+)
+
+
+def told_of_file(code, fields):
+    """The path below the folder of the crate, and what the file is, or how a checksum of a script is told; the text at
+    the label where there is no path."""
+    notes, labels = fields.get("notes", []), [label["span"] for label in fields.get("labels", [])]
+    if not notes:
+        return labels
+    path = re.sub(r"\Apath = '?(\$crate/)?(.*?)'?\Z", r"\2", notes[0], flags=re.DOTALL)
+    if code in ("detected-executable", "detected-executable-script"):
+        return [path, re.search("'(.*)'", notes[1], re.DOTALL)[1]]
+    if code == "checksum-mismatch":
+        return [path] + (["script"] if fields["severity"] == "warning" else [])
+    return [path] + (labels if code == "denied-by-extension" else [])
 
 
 def short(crate):
@@ -259,23 +308,29 @@ def place_of(text, offset):
 
 
 def check_dead(case, answer):
-    """Of the kinds that are judged now, what is reported is dead, but for skips that are unnecessary."""
+    """What is reported is dead, but for skips that are unnecessary, and for what files of another crate may hit."""
     values = values_of(answer)
     told = [one["fields"] for one in values if one["type"] == "diagnostic" and one["fields"]["code"] in UNUSED]
-    reported = [one["labels"][0] for one in told if one["code"] != "unnecessary-skip"]
-    places = sorted((label["line"], label["column"]) for label in reported)
+    places = lambda *codes: {place_of_label(one) for one in told if one["code"] in codes}
     starts = [one["fields"]["start"] for one in values if one["type"] == "dead"]
     policy = text_of_case(case["files"][paths_of(case["words"])[0]]) if starts else b""
-    if places != [place_of(policy, start) for start in starts]:
-        sys.exit("%s: reported at %s, dead at %s" % (answer["name"], places, starts))
+    dead, of_files = {place_of(policy, start) for start in starts}, ("unmatched-path-bypass", "unmatched-glob")
+    others = set(UNUSED) - {"unnecessary-skip", *of_files}
+    if not places(*others) <= dead <= places(*others, *of_files):
+        sys.exit("%s: dead at %s" % (answer["name"], starts))
+
+
+def place_of_label(fields):
+    return fields["labels"][0]["line"], fields["labels"][0]["column"]
 
 
 def trees_told(case, answer):
     """The trees of each finding as text, which is also what the values of its line say."""
     texts = [text_of_case(case["files"][path]) for path in paths_of(case["words"])]
     policy, graph = read_policy(texts[0]), read_metadata(texts[1])
-    disk = lambda path: text_of_case(case["files"][path]) if path in case["files"] else None
-    found = findings_of(policy, graph, table_for(policy, *texts[2:] or [None]), Seen(graph, disk))
+    disk = disk_of(case)
+    seen, built = Seen(graph, disk), Built(policy, graph, disk, Options(case["words"]).home)
+    found = findings_of(policy, graph, table_for(policy, *texts[2:] or [None]), seen, built)
     trees = Trees(graph)
     written = ["".join(text_of(graph, tree) for tree in trees.of_finding(finding)) for finding in found]
     fields = [json.loads(line)["fields"] for line in lines_of(answer["out"])]
@@ -359,17 +414,20 @@ def write_cases(folder):
             stdout.write(compact(answer) + "\n")
 
 
-def read_file(path):
-    """The bytes of a real file, or None where it cannot be read."""
-    try:
-        return Path(path).read_bytes()
-    except OSError:
-        return None
+def write_files(folder, name):
+    """Writes the files of a case into a folder, and gives what its run writes."""
+    case = next(case for case in cases() if case["name"] == name)
+    for path, text in case["files"].items():
+        place = Path(folder) / path
+        place.parent.mkdir(parents=True, exist_ok=True)
+        place.write_bytes(text_of_case(text))
+    return expected(case)["out"]
 
 
-def check(paths, registries):
+def check(words):
     """What the program writes on these files, and its status."""
-    written, status = report(*map(Path.read_bytes, map(Path, paths)), disk=read_file, registries=registries)
+    texts, options = [Path(path).read_bytes() for path in paths_of(words)], Options(words)
+    written, status = report(*texts, disk=RealDisk(), registries=options.registries, home=options.home)
     (sys.stdout if status in DONE else sys.stderr).write(written)
     return status
 
@@ -377,8 +435,10 @@ def check(paths, registries):
 def main():
     if len(sys.argv) == 3 and sys.argv[1] == "cases":
         write_cases(sys.argv[2])
+    elif len(sys.argv) == 4 and sys.argv[1] == "files":
+        sys.stdout.write(write_files(*sys.argv[2:]))
     elif sys.argv[1:2] == ["check"] and usage_place(sys.argv[1:]) is None:
-        sys.exit(check(paths_of(sys.argv[1:]), options_of(sys.argv[1:])))
+        sys.exit(check(sys.argv[1:]))
     else:
         sys.exit(__doc__)
 

@@ -174,7 +174,8 @@ def beside():
     for name, policy, text, by_hand in (
         ("a fault of the policy", "[bans]\nmore = 1\n", ALONE, "unknown 7..11 bans.more"),
         ("what contradicts itself", "[bans]\ndeny = ['x']\nskip = ['x']\n", ALONE, "2:10 3:10"),
-        ("a key that is not judged", "[bans.build]\n", ALONE, "not-built"), ("faulty metadata", "", "{", "metadata"),
+        ("a bad extension", "[bans.build]\nscript-extensions = ['.']\n", ALONE, "2:23 2:23"),
+        ("faulty metadata", "", "{", "metadata"),
         ("a table that is not there", "[bans.std-replacements]\n", ALONE, "replacement 0"),
     ):
         yield manifest("none beside %s" % name, text, policy, by_hand, manifests={})

@@ -1,7 +1,8 @@
-"""Cases of policies: what each key takes, how an entry is written, what contradicts itself, what is not judged yet."""
+"""Cases of policies: what each key takes, how an entry is written, what contradicts itself, and what stops a run."""
 
 from case_parts import (
-    ALONE, PASSED, TREES_OF_APP, TREES_OF_X, TWO_X, WITH_X, case, featured, graph, licensed, public_graph, told,
+    ALONE, PASSED, TREES_OF_APP, TREES_OF_X, TWO_X, WITH_X, built_graph, case, featured, graph, in_package, licensed,
+    public_graph, told,
 )
 from readings.report import compact
 from replacement_cases import WORKED
@@ -10,6 +11,13 @@ BOTH_X = compact(graph("app -> x, app -> x@2.0.0"))
 PUBLIC_X = compact(public_graph("app -> x, app -> x@2.0.0, app -> y", rust={"app": "1.69"}))
 OF_X = {"a": [], "default": ["a"], "t": []}
 FEATURED_X = compact(featured("app -> x", {"app": {"default": []}, "x": OF_X}, {"x": ["a", "default"]}))
+BUILT_X = compact(built_graph(
+    "app -> x, app -> x@2.0.0", {"x": {"a": [], "default": []}}, {"x": ["default"]}, x="custom-build"
+))
+FILES_OF_X = {
+    path: text for word in ("x", "x@2.0.0")
+    for path, text in in_package(word, {"a": "#!/bin/sh\n# a script\n", "b.t": b"!<arch>\n" * 2, "p": ""}).items()
+}
 SOME_LICENCES = {"app": "MIT", "x": "Apache-2.0", "y": "Zlib"}
 LICENSED_X = compact(licensed("app -> x, app -> y dev", SOME_LICENCES, {"app": [], "x": ["a"]}))
 
@@ -107,6 +115,9 @@ TABLES = {
 JUDGED = dict.fromkeys(("bans", "deny entry", "allow entry", "skip entry", "skip-tree entry"), BOTH_X)
 JUDGED.update(dict.fromkeys(("licenses", "licence exception", "private licences", "private registries"), LICENSED_X))
 JUDGED.update({"features entry": FEATURED_X, "std-replacements": PUBLIC_X})
+OF_BUILDS = ("build", "bypass", "path of a bypass")
+JUDGED.update(dict.fromkeys(OF_BUILDS, BUILT_X))
+MORE = {"std-replacements": {"table": WORKED}, **dict.fromkeys(OF_BUILDS, {"files": FILES_OF_X})}
 
 
 def values_of(kind, good, bad):
@@ -116,7 +127,7 @@ def values_of(kind, good, bad):
 def each_key():
     """Each key with each value that it takes, with others of its kind, and with a value of each other kind."""
     for where, (written, keys) in TABLES.items():
-        metadata, more = JUDGED.get(where, ALONE), {"table": WORKED} if where == "std-replacements" else {}
+        metadata, more = JUDGED.get(where, ALONE), MORE.get(where, {})
         for key, takes in keys.items():
             for value in values_of(*takes):
                 short = value if len(value) < 40 else "%s.. %d" % (value[:10], len(value))
@@ -220,9 +231,9 @@ def entries():
         ("an allowance of", BOTH_X, "[bans]\nmultiple-versions = 'allow'\nallow = [\"app\", %s]\n"),
         ("a skipped tree of", BOTH_X, "[bans]\nskip-tree = [%s]\n"),
         ("features of", FEATURED_X, "[bans]\nfeatures = [%s]\n"),
-        ("a build script of", BOTH_X, "[bans]\nallow-build-scripts = [%s]\n"),
-        ("a build script, in its table, of", BOTH_X, "[bans.build]\nallow-build-scripts = [%s]\n"),
-        ("a bypass of", BOTH_X, "[bans.build]\nbypass = [%s]\n"),
+        ("a build script of", BUILT_X, "[bans]\nallow-build-scripts = [%s]\n"),
+        ("a build script, in its table, of", BUILT_X, "[bans.build]\nallow-build-scripts = [%s]\n"),
+        ("a bypass of", BUILT_X, "[bans.build]\nbypass = [%s]\n"),
         ("a licence exception without a list, of", LICENSED_X, "[licenses]\nexceptions = [%s]\n"),
     ):
         for spec in FEW_SPECS:
@@ -409,7 +420,6 @@ def together(text, other):
 
 # ---- what stops a run first
 
-UNBUILT = ["allow-build-scripts = []", "build = {}"]
 # Keys of declarations, which tell nothing of crates without any.
 DECLARATIONS = [
     "wildcards = 'allow'", "wildcards = 'warn'", "wildcards = 'deny'", "allow-wildcard-paths = false",
@@ -418,22 +428,25 @@ DECLARATIONS = [
 ]
 
 
-def unbuilt():
-    """Keys that no rule reads yet."""
-    for key in UNBUILT:
+def judged():
+    """Keys that say nothing of the crates at hand."""
+    for key, by_hand in (("allow-build-scripts = []", "deprecated"), ("build = {}", "")):
         name = key.split(" ")[0]
-        yield case("not judged: %s" % name, "[bans]\n%s\n" % key, by_hand="not-built")
+        yield case("judged: %s" % name, "[bans]\n%s\n" % key, by_hand=by_hand)
         yield case(
-            "not judged: %s after all other keys" % name,
+            "judged: %s after all other keys" % name,
             "[bans]\ndeny = ['x']\nskip = ['y']\nallow = ['app']\nhighlight = 'all'\n%s\n" % key, WITH_X,
-            by_hand="not-built"
+            by_hand=(by_hand + "; " if by_hand else "") + "allowed app; banned x; not-allowed x; unmatched-skip y"
         )
     wanted = "[licenses]\nallow = ['MIT']\n\n[bans]\nallow-build-scripts = ['x']\n"
-    yield case("not judged: build scripts beside licences", wanted, LICENSED_X, by_hand="not-built")
+    yield case(
+        "judged: build scripts beside licences", wanted, LICENSED_X,
+        by_hand="deprecated; accepted: MIT; rejected: Apache-2.0: Apache-2.0"
+    )
     for key in DECLARATIONS:
         yield case("judged: %s" % key, "[bans]\n%s\n" % key, WITH_X, by_hand="")
         yield case("judged: %s beside a ban" % key, "[bans]\n%s\ndeny = ['x']\n" % key, WITH_X, by_hand="banned x")
-    yield case("not judged: [bans.build]", "[bans.build]\n", by_hand="not-built")
+    yield case("judged: [bans.build]", "[bans.build]\n", by_hand="")
     for text in (
         "[license]\n", "[bans]\ndeny = []\n[other.licenses]\n", "[graph]\nbuild = 1\n", "build = 5\nfeatures = 1\n",
         "[bans]\nfeatures = []\n", "[bans]\nexternal-default-features = 'warn'\nworkspace-default-features = 'deny'\n",
@@ -446,10 +459,9 @@ def stops():
     fault, clash, key, bad = "more = 1", "deny = ['x']\nskip = ['x']", "allow-build-scripts = ['x']", "{"
     metadata = {"good": WITH_X, "bad": bad}
     for name, parts in (
-        ("a fault, a clash and a key that is not judged", (fault, clash, key)), ("a fault and a clash", (fault, clash)),
-        ("a fault and a key that is not judged", (fault, key)), ("a clash and a key that is not judged", (clash, key)),
-        ("a fault", (fault,)), ("a clash", (clash,)),
-        ("a key that is not judged", (key,)), ("nothing", ()),
+        ("a fault, a clash and an older key", (fault, clash, key)), ("a fault and a clash", (fault, clash)),
+        ("a fault and an older key", (fault, key)), ("a clash and an older key", (clash, key)),
+        ("a fault", (fault,)), ("a clash", (clash,)), ("an older key", (key,)), ("nothing", ()),
     ):
         for which, text in metadata.items():
             yield case("stop: %s, metadata %s" % (name, which), "[bans]\n%s\n" % "\n".join(parts), text)
@@ -458,7 +470,7 @@ def stops():
             fail=["metadata.json"]
         )
     yield case(
-        "stop: keys that are not judged, of another kind", "[bans]\nbuild = 5\nallow-build-scripts = true\n",
+        "stop: keys of builds, of another kind", "[bans]\nbuild = 5\nallow-build-scripts = true\n",
         by_hand="wrong-kind 15..16 bans.build; wrong-kind 39..43 bans.allow-build-scripts"
     )
     yield case("stop: [licenses] and a fault", "[licenses]\n[bans]\nskip = 1\n", by_hand="wrong-kind 25..26 bans.skip")
@@ -629,6 +641,6 @@ def one_byte_off():
 
 
 def policy_cases():
-    parts = (each_key, elements, roots, entries, written, clashes, unbuilt, stops, licences, outside_toml, template)
+    parts = (each_key, elements, roots, entries, written, clashes, judged, stops, licences, outside_toml, template)
     for part in (*parts, one_byte_off):
         yield from part()

@@ -76,7 +76,7 @@ def without_table():
     for name, policy, text, by_hand in (
         ("a fault", asks + "more = 1\n", WITH_X, "unknown 24..28 bans.std-replacements.more"),
         ("a clash", "[bans]\ndeny = ['x']\nskip = ['x']\n" + asks, WITH_X, "2:10 3:10"),
-        ("a key that is not judged", "[bans]\nbuild = {}\n" + asks, WITH_X, "not-built"),
+        ("an absolute path", "[bans]\nbuild.bypass = [{ name = 'x', allow = [{ path = '/' }] }]\n" + asks, WITH_X, "2:50"),
         ("faulty metadata", ASKS, "{", "metadata"),
     ):
         yield case("%s before a table that is none" % name, policy, text, table=garbage, by_hand=by_hand)

@@ -1,13 +1,15 @@
 """Entries of a policy: those that something hits, and those that are dead, which can be taken out."""
 
+from readings.building import bypass_entries
 from readings.licensing import Licensing, expression_of
 from readings.replaced import is_replaced, replacing_of
 from readings.rules import Rules, wrapper_for, wrappers_of
 
 # The codes that tell of an entry that comes to nothing.
 UNUSED = [
-    "unmatched-skip", "unnecessary-skip", "unmatched-skip-root", "unused-wrapper", "unmatched-replacement-ignore",
-    "license-not-encountered", "license-exception-not-encountered",
+    "unmatched-skip", "unnecessary-skip", "unmatched-skip-root", "unused-wrapper", "unmatched-bypass",
+    "unmatched-path-bypass", "unmatched-glob", "unmatched-replacement-ignore", "license-not-encountered",
+    "license-exception-not-encountered",
 ]
 
 
@@ -20,6 +22,7 @@ def entries(policy):
     specs += [("license-exception", licensing.exceptions)]
     found = [(kind, entry.spec.span) for kind, list_ in specs for entry in list_]
     found += [("wrapper", wrapper.span) for ban in policy.banned() for wrapper in wrappers_of(ban)]
+    found += bypass_entries(policy)
     return found + [("license-allow", licence.span) for licence in licensing.allow]
 
 
@@ -64,19 +67,19 @@ def licence_hits(policy, graph):
                 yield from [granting] if granting else []
 
 
-def hits(policy, graph, table):
+def hits(policy, graph, table, built):
     """The kind and the range of each entry that something hits."""
     rules = Rules(policy, graph)
     parts = [skip_hits(rules), wrapper_hits(rules), ignore_hits(policy, graph, table), licence_hits(policy, graph)]
-    return {entry for part in parts for entry in part}
+    return {entry for part in parts + [built.hits] for entry in part}
 
 
 # ---- dead entries
 
 
-def dead_entries(policy, graph, table, findings):
+def dead_entries(policy, graph, table, built, findings):
     """The entries that are reported and that nothing hits, by their ranges."""
     reported = {finding.entry for finding in findings if finding.code in UNUSED}
-    hit = hits(policy, graph, table) if reported else set()
+    hit = hits(policy, graph, table, built) if reported else set()
     dead = [(kind, span) for kind, span in entries(policy) if span in reported and (kind, span) not in hit]
     return sorted(dead, key=lambda entry: entry[1])

@@ -1,11 +1,12 @@
 """Manifests: what was read of them, which declarations of a crate they write and where, and which could not be read.
 
-A disk is a function from a path to bytes, or to None where they cannot be read.
+A disk is asked by `read` for the bytes at a path, and answers None where they cannot be read.
 """
 
 from collections import namedtuple
 
 from readings import toml
+from readings.disks import below
 from readings.policy import Spanned
 from readings.targets import agree
 from readings.versions import read_requirement
@@ -120,13 +121,10 @@ class Manifest:
 # ---- what was read
 
 
-def below(folder, name):
-    return folder + ("" if folder.endswith("/") else "/") + name
-
-
 class Seen:
     """What was read of a graph's files: the manifests of crates by their places, the text and the tree of the
-    workspace's, each None where it is not there, and what could not be read or is no manifest."""
+    workspace's, each None where it is not there, and what could not be read, its crate, path and purpose, or is no
+    manifest."""
 
     def __init__(self, graph, disk):
         self.disk, self.unread, self.malformed, self.manifests = disk, [], set(), {}
@@ -140,19 +138,11 @@ class Seen:
 
     def read(self, path, crate=None):
         """The text and the tree of a file that is read for a crate, or for none."""
-        text = self.disk(path)
+        text = self.disk.read(path)
         if text is None or len(text) >= LIMIT:
-            self.unread.append((crate, path))
+            self.unread.append((crate, path, "manifest"))
             return None, None
         tree = tree_of(text)
         if tree is None:
             self.malformed.add(path)
         return text, tree
-
-    def lines(self):
-        """The members of the lines on what could not be read, and of those on what is no manifest."""
-        order = lambda one: (one[0] is not None, one[0].id.encode() if one[0] else b"", one[1].encode())
-        for crate, path in sorted(self.unread, key=order):
-            yield "unread", {"crate": crate and str(crate), "path": path, "purpose": "manifest"}
-        for path in sorted(self.malformed, key=str.encode):
-            yield "malformed", {"path": path}

@@ -134,9 +134,12 @@ def read_features(features):
     return {name: features.texts(name) for name in sorted(features.value, key=str.encode)}
 
 
+# What a package builds: of which kinds, and from which file.
+Target = namedtuple("Target", "kinds path")
+
+
 def read_target(target):
-    target.texts("kind")
-    target.text("src_path")
+    return Target(target.texts("kind"), target.text("src_path"))
 
 
 # What a package asks for: by which name, of which version, of which kind and for which target, and which features.
@@ -156,13 +159,14 @@ def read_declaration(declaration):
 
 def read_package(package):
     texts = [package.text(name) for name in ("name", "version", "id", "manifest_path")]
-    more = [package.maybe(package.text, name) for name in ("source", "license", "rust_version")]
+    more_texts = [package.maybe(package.text, name) for name in ("source", "license", "rust_version")]
     publish = package.maybe(package.texts, "publish")
     features = package.maybe(lambda name: package.member(name).object(read_features), "features", {})
-    package.maybe(lambda name: package.objects(name, read_target), "targets")
+    targets = package.maybe(lambda name: package.objects(name, read_target), "targets", [])
     declared = package.maybe(lambda name: package.objects(name, read_declaration), "dependencies", [])
     names = ("name", "version", "id", "manifest_path", "source", "license", "rust_version")
-    return dict(zip(names, texts + more), declarations=declared, publish=publish, features=features)
+    more = {"declarations": declared, "features": features, "publish": publish, "targets": targets}
+    return dict(zip(names, texts + more_texts), **more)
 
 
 def read_dep_kind(dep_kind):
@@ -257,7 +261,7 @@ class Crate:
         self.license, self.publish = package["license"], package["publish"]
         self.features, self.enabled = package["features"], sorted(set(enabled), key=str.encode)
         self.has_enabled = set(enabled).__contains__
-        self.declarations = package["declarations"]
+        self.declarations, self.targets = package["declarations"], package["targets"]
         self.needs, self.dependents, self.edges = set(), set(), set()
 
     def __str__(self):

@@ -6,7 +6,7 @@ A value's range is that of the reading of TOML, in bytes. A table is described b
 import re
 from collections import namedtuple
 
-from readings import toml
+from readings import globs, toml
 from readings.licences import requirement_of
 from readings.versions import matches, read_requirement
 
@@ -283,9 +283,6 @@ BANS = {
     "std-replacements": table(STD_REPLACEMENTS),
 }
 
-# What no rule reads yet: such a policy is not judged.
-UNBUILT = ["allow-build-scripts", "build"]
-
 # ---- `[licenses]`
 
 LICENCES = array(lambda at: at.read("text", requirement_of))
@@ -323,8 +320,14 @@ class Policy:
         """The entries of `deny` that deny several versions."""
         return [e for e in self.entries("deny") if e.get("deny-multiple-versions")]
 
-    def is_built(self):
-        return not any(name in self.bans for name in UNBUILT)
+    def build(self, name, otherwise):
+        """What the table `build` says under a key."""
+        table_ = self.get("build", {})
+        return table_[name].value if name in table_ else otherwise
+
+    def allowed_files(self):
+        """The elements of all `allow` of bypasses."""
+        return [file.value for bypass in self.build("bypass", []) for file in bypass.get("allow", [])]
 
 
 def read_tree(text):
@@ -389,6 +392,43 @@ def features_in_both(policy):
                 yield Diagnostic(message, [at_name, marked(allowed.span, "allow"), marked(denied.span, "deny")])
 
 
+def bad_byte(text, extension, place):
+    """The range of a byte of an extension; that of the whole where escapes write it."""
+    start, end = extension.span
+    written = text[start:end]
+    start += re.match(rb"(\r?\n)?", written).end()
+    is_plain = text[start:end] == extension.value.encode()
+    return (start + place, start + place + 1) if is_plain else extension.span
+
+
+def bad_extensions(policy):
+    """Extensions that are not of ASCII letters and digits alone."""
+    for one in policy.build("script-extensions", []):
+        bad = re.search("[^A-Za-z0-9]", one.value)
+        if not one.value.isascii():
+            yield Diagnostic("non-ascii file extension provided", [Label(one.span, "invalid extension")])
+        elif bad:
+            at_byte = Label(bad_byte(policy.text, one, bad.start()), "invalid character")
+            yield Diagnostic("invalid file extension provided", [Label(one.span, "extension"), at_byte])
+
+
+def bad_globs(policy):
+    """Globs of files that are none, with the byte that is bad."""
+    for bypass in policy.build("bypass", []):
+        for one in bypass.get("allow-globs", []):
+            try:
+                globs.expression(one.value)
+            except globs.Bad as bad:
+                byte = len(one.value[: bad.args[0]].encode())
+                yield Diagnostic("invalid glob pattern: at byte %d" % byte, [Label(one.span, "")])
+
+
+def absolute_paths(policy):
+    for file in policy.allowed_files():
+        if file["path"].value.startswith("/"):
+            yield Diagnostic("absolute paths are not allowed", [Label(file["path"].span, "")])
+
+
 def clashes(policy):
     """What contradicts itself in a policy without faults, kind by kind, and each kind by the places of its labels."""
     bans, allowed, skipped = policy.banned(), policy.entries("allow"), policy.entries("skip")
@@ -398,6 +438,9 @@ def clashes(policy):
         in_two_lists("`skip` and `deny`", "deny", bans, "skip", skipped),
         in_two_lists("`skip` and `allow`", "allow", allowed, "skip", skipped),
         features_in_both(policy),
+        bad_extensions(policy),
+        bad_globs(policy),
+        absolute_paths(policy),
     ]
     by_place = lambda diagnostic: [label.span for label in diagnostic.labels[:2]]
     return [diagnostic for kind in kinds for diagnostic in sorted(kind, key=by_place)]

@@ -3,8 +3,10 @@
 import json
 import re
 
+from readings.building import Built
 from readings.dead import dead_entries
 from readings.dependencies import dependency_rules
+from readings.disks import MadeDisk, NoDisk
 from readings.features import feature_rules
 from readings.licensing import licence_rules
 from readings.manifests import Seen
@@ -18,6 +20,7 @@ from readings.workspace import Workspace
 
 LIMIT = 2**28  # a text that is read has fewer bytes than this
 MOST_MADE = 20000  # crates that can be asked for
+PURPOSES = ["manifest", "script", "list", "header", "sum"]  # for which a path is read, in order
 REGISTRY = "registry+https://github.com/rust-lang/crates.io-index"
 
 
@@ -79,20 +82,25 @@ def fault_value(fault):
 # ---- runs
 
 
-def findings_of(policy, graph, table, seen, registries=()):
+def findings_of(policy, graph, table, seen, built, registries=()):
     """What stands, in order."""
     rules = Rules(policy, graph)
-    parts = [crate_rules(rules), dependency_rules(rules, seen, Workspace(graph, seen, registries))]
+    parts = [crate_rules(rules), dependency_rules(rules, seen, Workspace(graph, seen, registries)), built.found]
     parts += [feature_rules(policy, graph), licence_rules(policy, graph), std_rules(policy, graph, table)]
     return in_order(finding for findings in parts for finding in findings)
 
 
-def no_disk(path):
-    """A disk of which nothing can be read."""
-    return None
+def file_lines(unread, malformed):
+    """The lines on what could not be read, and of those on what is no manifest."""
+    whose = lambda crate: (crate is not None, crate.id.encode() if crate else b"")
+    order = lambda one: (whose(one[0]), one[1].encode(), PURPOSES.index(one[2]))
+    for crate, path, purpose in sorted(unread, key=order):
+        yield line("unread", {"crate": crate and str(crate), "path": path, "purpose": purpose})
+    for path in sorted(malformed, key=str.encode):
+        yield line("malformed", {"path": path})
 
 
-def report(policy_text, metadata_text, replacements=None, disk=no_disk, registries=()):
+def report(policy_text, metadata_text, replacements=None, disk=NoDisk(), registries=(), home=None):
     """The lines of the report on these texts and its status, or the line of a stop and its status."""
     try:
         policy = read_policy(policy_text)
@@ -101,8 +109,6 @@ def report(policy_text, metadata_text, replacements=None, disk=no_disk, registri
     contradictions = clashes(policy)
     if contradictions:
         return stop_line("invalid", diagnostics=[clash_value(one, policy_text) for one in contradictions]), 20
-    if not policy.is_built():
-        return stop_line("not-built", file="policy"), 25
     try:
         graph = read_metadata(metadata_text)
     except Fault as fault:
@@ -111,11 +117,11 @@ def report(policy_text, metadata_text, replacements=None, disk=no_disk, registri
         table = table_for(policy, replacements)
     except Bad as bad:
         return stop_line("replacement", offset=bad.args[0]), 22
-    seen, trees = Seen(graph, disk), Trees(graph)
-    found = findings_of(policy, graph, table, seen, registries)
+    seen, built, trees = Seen(graph, disk), Built(policy, graph, disk, home), Trees(graph)
+    found = findings_of(policy, graph, table, seen, built, registries)
     lines = [finding_line(finding, policy_text, trees) for finding in found]
-    lines += [dead_line(entry) for entry in dead_entries(policy, graph, table, found)]
-    lines += [line(kind, fields) for kind, fields in seen.lines()]
+    lines += [dead_line(entry) for entry in dead_entries(policy, graph, table, built, found)]
+    lines += file_lines(seen.unread + built.unread, seen.malformed)
     bits = sum({finding.bit for finding in found if finding.severity == "error"})
     lines.append(line("verdict", {"bits": bits, "verdict": "fail" if bits else "pass"}))
     return "".join(lines), bits
@@ -130,17 +136,24 @@ def is_number(word):
 
 
 REGISTRY_OPTION = re.compile("--registry=([^=]+)=(.+)", re.DOTALL)
+HOME_OPTION = re.compile("--home=(.+)", re.DOTALL)
 
 
-def options_of(words):
-    """The registries that the words behind a command name, each its name and its address."""
-    found = []
-    for word in words[1:] if words[:1] == ["check"] else []:
-        option = REGISTRY_OPTION.fullmatch(word)
-        if not option:
-            break
-        found.append(option.groups())
-    return found
+class Options:
+    """The options behind a command: the registries, each its name and its address, the folder of cargo, which can be
+    named once, or None, and how many words they are."""
+
+    def __init__(self, words):
+        self.registries, self.home, self.count = [], None, 0
+        for word in words[1:] if words[:1] == ["check"] else []:
+            registry, home = REGISTRY_OPTION.fullmatch(word), HOME_OPTION.fullmatch(word)
+            if registry:
+                self.registries.append(registry.groups())
+            elif home and self.home is None:
+                self.home = home[1]
+            else:
+                break
+            self.count += 1
 
 
 # What a word behind the options has to be, and how many words there are at least.
@@ -152,7 +165,7 @@ def usage_place(words):
     if not words or words[0] not in FORMS:
         return 0
     tests, fewest = FORMS[words[0]]
-    first = 1 + len(options_of(words))
+    first = 1 + Options(words).count
     for number, word in enumerate(words[first:]):
         if number == len(tests) or not tests[number](word):
             return first + number
@@ -161,7 +174,7 @@ def usage_place(words):
 
 def paths_of(words):
     """The paths of the texts that accepted words name."""
-    return words[1 + len(options_of(words)) :]
+    return words[1 + Options(words).count :]
 
 
 def made(number):
@@ -186,27 +199,29 @@ def summary(number):
     """The line that sums up the report on what is made of a number, and the status."""
     policy_text, metadata_text = made(number)
     policy, graph = read_policy(policy_text), read_metadata(metadata_text)
-    found = findings_of(policy, graph, None, Seen(graph, lambda path: b""))
+    disk = MadeDisk({"/w/Cargo.toml": lambda: b""})
+    built = Built(policy, graph, disk)
+    found = findings_of(policy, graph, None, Seen(graph, disk), built)
     bits = sum({finding.bit for finding in found if finding.severity == "error"})
     return line("summary", {
-        "crates": len(graph.crates), "dead": len(dead_entries(policy, graph, None, found)),
+        "crates": len(graph.crates), "dead": len(dead_entries(policy, graph, None, built, found)),
         "errors": sum(finding.severity == "error" for finding in found), "generated": number,
         "verdict": "fail" if bits else "pass",
     }), bits
 
 
-def run(words, texts, failing=()):
-    """What is to be told over these files, and the status, as if the outputs took everything."""
+def run(words, disk):
+    """What is to be told over the files of a disk, and the status, as if the outputs took everything."""
     place = usage_place(words)
     if place is not None:
         return stop_line("usage", at=place), 16
     if words[0] == "generate":
         return summary(int(words[1]))
-    disk, read = lambda path: texts[path]() if path in texts and path not in failing else None, []
+    read, options = [], Options(words)
     for file, path in zip(("policy", "metadata", "replacements"), paths_of(words)):
-        read.append(disk(path))
+        read.append(disk.read(path))
         if read[-1] is None:
             return stop_line("read", file=file), 17
         if len(read[-1]) >= LIMIT:
             return stop_line("long", file=file), 18
-    return report(*read, disk=disk, registries=options_of(words))
+    return report(*read, disk=disk, registries=options.registries, home=options.home)

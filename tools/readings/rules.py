@@ -6,9 +6,13 @@ from readings.trees import crate_node
 
 SECTIONS = ["deprecated", "crates", "groups", "workspace", "unused", "std", "licenses", "licenses-unused"]
 CODES = [
-    "banned", "allowed", "not-allowed", "duplicate", "skipped", "wildcard", "unmatched-skip", "unnecessary-skip",
-    "allowed-by-wrapper", "unmatched-wrapper", "skipped-by-root", "unmatched-skip-root", "exact-features-mismatch",
-    "feature-not-explicitly-allowed", "feature-banned", "unknown-feature", "default-feature-enabled", "unused-wrapper",
+    "deprecated", "banned", "allowed", "not-allowed", "duplicate", "skipped", "wildcard", "unmatched-skip",
+    "unnecessary-skip", "allowed-by-wrapper", "unmatched-wrapper", "skipped-by-root", "unmatched-skip-root",
+    "build-script-not-allowed", "exact-features-mismatch", "feature-not-explicitly-allowed", "feature-banned",
+    "unknown-feature", "default-feature-enabled", "path-bypassed", "path-bypassed-by-glob", "checksum-match",
+    "checksum-mismatch", "denied-by-extension", "detected-executable", "detected-executable-script",
+    "unable-to-check-path", "features-enabled", "unmatched-bypass", "unmatched-path-bypass", "unmatched-glob",
+    "unused-wrapper",
     "workspace-duplicate", "unresolved-workspace-dependency", "unused-workspace-dependency", "replaced-in-std",
     "unmatched-replacement-ignore", "accepted", "rejected", "unlicensed", "parse-error",
     "skipped-private-workspace-crate", "license-not-encountered", "license-exception-not-encountered",

@@ -2,7 +2,8 @@
 
 from collections import namedtuple
 
-from readings.manifests import below, inner, rename_of, requirement_at, text_at, version_of
+from readings.disks import below
+from readings.manifests import inner, rename_of, requirement_at, text_at, version_of
 from readings.sources import is_address, read_address, registry_source, same_repository
 from readings.versions import matches
 

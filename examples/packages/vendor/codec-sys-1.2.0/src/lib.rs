@@ -1,0 +1,1 @@
+//! What libcodec offers.

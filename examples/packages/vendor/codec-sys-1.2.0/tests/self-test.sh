@@ -1,0 +1,2 @@
+#!/bin/sh
+exec ./configure --self-test

@@ -1,0 +1,2 @@
+#![allow(unused)]
+//! Derives it.

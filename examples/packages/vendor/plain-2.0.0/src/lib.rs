@@ -1,0 +1,1 @@
+//! Nothing that runs while others are built.
