@@ -2,6 +2,8 @@
 """Runs `rt ci` (or the command that is given) and prints what each crate cost, in processor seconds.
 
     tools/gate_times.py [COMMAND..]
+    tools/gate_times.py --of PID     of a command that runs already, to its end or to an interrupt, without the provers
+                                     that ended before
 
 Twice a second it reads the times of the provers that the command started: of a crate's own proof, of its tests, and
 of its must-fail edits, which are tried in folders of their own. Compilers, runs of programs and the rest of the
@@ -55,32 +57,60 @@ def prover_of(process):
     return crate, "tests" if "--test" in words else "library"
 
 
-def main(command):
-    child = subprocess.Popen(command, stdout=sys.stderr)
-    seen = {}
-    while child.poll() is None:
-        found = parents_and_times()
-        for process, (parent, seconds) in found.items():
-            if not is_below(process, child.pid, found) or process == child.pid:
-                continue
-            prover = prover_of(process)
-            # A prover's copies are counted with the one that started them.
-            if prover is not None and (parent not in found or prover_of(parent) is None):
-                seen[process] = prover, max(seconds, seen.get(process, (prover, 0))[1])
-        time.sleep(0.5)
+def note_provers(top, seen):
+    """Notes of each prover below a process how long it has run."""
+    found = parents_and_times()
+    for process, (parent, seconds) in found.items():
+        if process == top or not is_below(process, top, found):
+            continue
+        prover = prover_of(process)
+        # A prover's copies are counted with the one that started them.
+        if prover is not None and (parent not in found or prover_of(parent) is None):
+            seen[process] = prover, max(seconds, seen.get(process, (prover, 0))[1])
+
+
+def print_costs(seen):
+    """Prints the table, and gives the sum of all provers."""
     costs = defaultdict(float)
     for prover, seconds in seen.values():
         costs[prover] += seconds
-    usage = resource.getrusage(resource.RUSAGE_CHILDREN)
-    whole = usage.ru_utime + usage.ru_stime
     print("| Crate | " + " | ".join(KINDS) + " |")
     print("|---|" + "---|" * len(KINDS))
     for crate in sorted({crate for crate, _ in costs}):
         print(f"| `{crate}` | " + " | ".join(f"{costs[crate, kind]:.0f}" for kind in KINDS) + " |")
-    print("| all provers | " + " | ".join(f"{sum(s for (_, k), s in costs.items() if k == kind):.0f}" for kind in KINDS) + " |")
-    print(f"| the rest: compilers, programs, `rt` | {whole - sum(costs.values()):.0f} | | |")
+    sums = [sum(seconds for (_, one), seconds in costs.items() if one == kind) for kind in KINDS]
+    print("| all provers | " + " | ".join(f"{seconds:.0f}" for seconds in sums) + " |")
+    return sum(costs.values())
+
+
+def watch(top):
+    seen = {}
+    try:
+        while os.path.exists(f"/proc/{top}"):
+            note_provers(top, seen)
+            time.sleep(0.5)
+    except KeyboardInterrupt:
+        pass
+    print_costs(seen)
+
+
+def run(command):
+    child = subprocess.Popen(command, stdout=sys.stderr)
+    seen = {}
+    while child.poll() is None:
+        note_provers(child.pid, seen)
+        time.sleep(0.5)
+    usage = resource.getrusage(resource.RUSAGE_CHILDREN)
+    proved = print_costs(seen)
+    print(f"| the rest: compilers, programs, `rt` | {usage.ru_utime + usage.ru_stime - proved:.0f} | | |")
     return child.returncode
 
 
+def main(words):
+    if words[:1] == ["--of"]:
+        return watch(int(words[1]))
+    return run(words or ["rt", "ci"])
+
+
 if __name__ == "__main__":
-    sys.exit(main(sys.argv[1:] or ["rt", "ci"]))
+    sys.exit(main(sys.argv[1:]))

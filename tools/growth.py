@@ -1,23 +1,52 @@
 #!/usr/bin/env python3
-"""Says whether runs over many licences, features, trees, dead entries and manifests take time in step with their texts.
+"""Says whether runs over many licences, features, trees, dead entries, manifests and files of packages take time in
+step with these.
 
     tools/growth.py PROGRAM     for each form a line: that it is in step, or the processor time of both sizes
 
-PROGRAM is run with the words of `./deny check`, over texts of one size and of four times that, in turn, until the least
-times are in step or the rounds are over: what else a machine does makes a run longer and never shorter. The larger one
-may take twice as long as four of the smaller one, and that one SECONDS; what is not in step takes sixteen times as long.
+PROGRAM is run with the words of `./deny check`, over the texts of a form and over GROWN times as many. The smaller
+size is the one that stands beside the form below, doubled until a run takes SHORTEST, or LARGEST is reached. A round
+is a run over the smaller texts, one over the larger ones, and one over the smaller ones again. Of each size the least
+processor time counts, since what else a machine does makes a run longer and never shorter. Both are compared after
+FEWEST rounds, and after each further one until they are in step, or MOST are over, or the larger one is twice too
+long.
+
+In step is where the smaller run takes less than SECONDS, and the larger one less than TIMES as long. So eight times
+the texts may take sixteen times as long: n log n passes, and each power of n below 4/3. The power 3/2 takes 23 times
+as long and a square 64 times, and neither passes. Unseen is a square that takes less than a seventh of the smaller
+run's time, and, where LARGEST ends the doubling, all that takes the larger run less than TIMES * SHORTEST.
+
+Forms among SQUARES have as many of one thing as of another, and each may be looked at with each: in step with the
+square is where the larger run takes less than GROWN times that.
 """
 
 import json
+import math
 import os
 import resource
+import signal
 import subprocess
 import sys
 import tempfile
 
-SECONDS, GROWN, TIMES, ROUNDS = 10, 4, 8, 12
-SHORTEST = 0.05  # what is measured below this says nothing
+SECONDS, GROWN, TIMES = 10, 8, 16
+FEWEST, MOST = 3, 12  # rounds
+SHORTEST, LARGEST = 0.02, 20000
+ROOM = 2**31  # bytes
 REGISTRY = "registry+https://github.com/rust-lang/crates.io-index"
+
+
+def memory():
+    """A folder in memory, where files cost no time of a disk, if there is one with room for all."""
+    try:
+        room = os.statvfs("/dev/shm")
+    except OSError:
+        return None
+    has_room = room.f_bavail * room.f_frsize >= ROOM and os.access("/dev/shm", os.W_OK)
+    return "/dev/shm" if has_room else None
+
+
+MEMORY = memory()
 
 
 def crate(name, **more):
@@ -160,18 +189,84 @@ def shared(size):
     return in_workspace({"a": names[::2]}, names[::2], names)
 
 
+def executed(name):
+    """A crate that is executed while others are built, in a folder of its own."""
+    targets = [{"kind": ["proc-macro"], "src_path": name + "/lib.rs"}]
+    return crate(name, manifest_path=name + "/Cargo.toml", targets=targets)
+
+
+def with_package(bypass, paths):
+    """A crate with a package of these files, which are scripts, and what a bypass says of them."""
+    files = {"x/" + path: "#!/bin/sh\n# a script\n" for path in paths}
+    policy = "[bans.build]\ninterpreted = 'warn'\nbypass = [{ crate = 'x', %s }]\n" % bypass
+    return policy, metadata([crate("app"), executed("x")]), files
+
+
+def files(size):
+    """A package of SIZE files, each of which a glob allows."""
+    return with_package("allow-globs = ['d/*']", ["d/f%05d" % number for number in range(size)])
+
+
+def scripts(size):
+    """A package of SIZE files that are told as scripts."""
+    return with_package("allow = []", ["f%05d" % number for number in range(size)])
+
+
+def folders(size):
+    """A package of SIZE folders, each with a file."""
+    return with_package("allow = []", ["d%05d/f" % number for number in range(size)])
+
+
+def depth(size):
+    """A package of folders that are SIZE deep, with a file at their end."""
+    return with_package("allow = []", ["d/" * size + "f"])
+
+
+def paths(size):
+    """A package of SIZE files, each of which is an allowed path."""
+    names = ["f%05d" % number for number in range(size)]
+    allowed = ", ".join("{ path = '%s' }" % name for name in reversed(names))
+    return with_package("allow = [%s]" % allowed, names)
+
+
+def nowhere(size):
+    """SIZE allowed paths and globs that are nowhere."""
+    names = ["q%05d" % number for number in range(size)]
+    allowed = ", ".join("{ path = '%s' }" % name for name in names)
+    return with_package("allow = [%s], allow-globs = %s" % (allowed, quoted("*." + name for name in names)), ["f"])
+
+
+def globs(size):
+    """A package of SIZE files, each of which a glob of its own allows."""
+    names = ["f%05d" % number for number in range(size)]
+    return with_package("allow-globs = %s" % quoted("*." + name for name in names), ["a." + name for name in names])
+
+
+def packages(size):
+    """SIZE packages, each with a bypass for one of its files."""
+    names = ["c%05d" % number for number in range(size)]
+    bypasses = ",\n".join("{ crate = '%s', allow = [{ path = 'f' }] }" % name for name in reversed(names))
+    found = {name + "/f": "#!/bin/sh\n# a script\n" for name in names}
+    made = metadata([crate("app")] + [executed(name) for name in names])
+    return "[bans.build]\nbypass = [\n%s\n]\n" % bypasses, made, found
+
+
 FORMS = [
-    (crates, 10000), (exceptions, 2500), (allowances, 5000), (chain, 10000), (features, 5000), (exact, 10000),
-    (deep, 10000), (wide, 10000), (dead, 10000), (versions, 5000), (members, 1500),
-    (declarations, 10000), (shared, 10000),
+    (crates, 2500), (exceptions, 2500), (allowances, 2500), (chain, 5000), (features, 2500), (exact, 5000),
+    (deep, 2500), (wide, 2500), (dead, 2500), (versions, 1250), (members, 500), (declarations, 2500), (shared, 2500),
+    (files, 1000), (scripts, 1000), (folders, 500), (paths, 500), (nowhere, 500), (depth, 250), (globs, 500),
+    (packages, 500),
 ]
+LONGEST = {depth: 250}  # a path has 4096 bytes at most
+# Of folders and the names in their paths, of files and globs of one bypass, of crates and bypasses.
+SQUARES = {depth, globs, packages}
 
 
 def written(folder, texts):
     """The words of a run over these texts, which are written into a folder."""
-    policy, value, *manifests = texts
+    policy, value, *files_ = texts
     paths = ("deny.toml", "metadata.json")
-    for path, text in {paths[0]: policy, paths[1]: json.dumps(value), **dict(*manifests)}.items():
+    for path, text in {paths[0]: policy, paths[1]: json.dumps(value), **dict(*files_)}.items():
         os.makedirs(os.path.join(folder, os.path.dirname(path)), exist_ok=True)
         with open(os.path.join(folder, path), "w", encoding="utf-8") as file:
             file.write(text)
@@ -186,22 +281,48 @@ def time_of(program, folder, words):
     return after.ru_utime + after.ru_stime - before.ru_utime - before.ru_stime
 
 
+def size_of(program, form, size):
+    """The first size, of this one doubled again and again, at which a run takes long enough to be compared."""
+    while size < LONGEST.get(form, LARGEST):
+        with tempfile.TemporaryDirectory(dir=MEMORY) as folder:
+            if time_of(program, folder, written(folder, form(size))) >= SHORTEST:
+                break
+        size *= 2
+    return size
+
+
+def least_times(program, runs):
+    """The least times of both runs after each round, the rounds and these times."""
+    least = [math.inf, math.inf]
+    for round_ in range(1, MOST + 1):
+        for which in (0, 1, 0):
+            least[which] = min(least[which], time_of(program, *runs[which]))
+        yield round_, *least
+
+
 def said_of(program, form, size):
     """That a form is in step, or its least times."""
-    with tempfile.TemporaryDirectory() as small, tempfile.TemporaryDirectory() as large:
-        runs = [(folder, written(folder, form(times * size))) for folder, times in ((small, 1), (large, GROWN))]
-        least = [float("inf"), float("inf")]
-        for _ in range(ROUNDS):
-            least = [min(time, time_of(program, *run)) for time, run in zip(least, runs)]
-            if least[0] < SECONDS and least[1] < TIMES * max(least[0], SHORTEST):
-                return "in step"
-    return "%.2f s, of %d times as much %.2f s" % (least[0], GROWN, least[1])
+    size = size_of(program, form, size)
+    times, step = (GROWN * TIMES, "in step with the square") if form in SQUARES else (TIMES, "in step")
+    with tempfile.TemporaryDirectory(dir=MEMORY) as small, tempfile.TemporaryDirectory(dir=MEMORY) as large:
+        runs = [(folder, written(folder, form(size * more))) for folder, more in ((small, 1), (large, GROWN))]
+        for round_, shorter, longer in least_times(program, runs):
+            limit = times * max(shorter, SHORTEST)
+            if round_ < FEWEST:
+                continue
+            if shorter < SECONDS and longer < limit:
+                return step
+            if shorter > SECONDS or longer > 2 * limit:
+                break
+    return "%d in %.3f s, %d times as many in %.3f s" % (size, shorter, GROWN, longer)
 
 
 def main():
     if len(sys.argv) != 2:
         sys.exit(__doc__)
     program = os.path.abspath(sys.argv[1])
+    sys.setrecursionlimit(10000)  # folders are made and taken away one in the other
+    signal.signal(signal.SIGTERM, lambda *_: sys.exit(1))  # so that they are taken away then too
     for form, size in FORMS:
         print("%s: %s" % (form.__name__, said_of(program, form, size)), flush=True)
 

@@ -21,13 +21,16 @@ sys.path[:0] = [str(HERE), str(HERE / "cases")]
 from case_parts import draws
 from check_cases import lines_of, place_of, text_of_case
 from dead_cases import some_whole_case
+from package_cases import some_case
 from readings import toml
 from readings.dead import UNUSED
+from readings.disks import MadeDisk
 from readings.policy import read_policy
 from readings.report import line, report
 from readings.rules import BITS, wrappers_of
 
 SEEDS = range(20000, 21000)
+OF_PACKAGES = range(21000, 21500)
 
 # ---- a policy without entries
 
@@ -142,15 +145,29 @@ def verdict_of(findings):
 # ---- runs
 
 
-def run_readings(*texts):
-    return report(*texts)[0].encode()
+class Case:
+    """The texts of a case, and the files of its packages, by their paths from the folder at hand."""
+
+    def __init__(self, case):
+        of_packages = {path[1:]: text for path, text in case["files"].items() if path.startswith("/")}
+        self.files = {path: text_of_case(text) for path, text in of_packages.items()}
+        self.texts = [text_of_case(text) for path, text in case["files"].items() if not path.startswith("/")]
+        self.texts[1] = self.texts[1].replace(b'"/w', b'"w').replace(b'"/r/', b'"r/')
 
 
-def run_program(program, folder, *texts):
-    paths = [Path(folder) / name for name in ("deny.toml", "metadata.json", "std.bin")]
-    for path, text in zip(paths, texts):
-        path.write_bytes(text)
-    done = subprocess.run([program, "check", *paths], capture_output=True)
+def run_readings(texts, files):
+    disk = MadeDisk({path: lambda text=text: text for path, text in files.items()})
+    return report(*texts, disk=disk)[0].encode()
+
+
+def run_program(program, texts, files):
+    names = ("deny.toml", "metadata.json", "std.bin")[: len(texts)]
+    with tempfile.TemporaryDirectory() as folder:
+        for name, text in [*zip(names, texts), *files.items()]:
+            path = Path(folder) / name
+            path.parent.mkdir(parents=True, exist_ok=True)
+            path.write_bytes(text)
+        done = subprocess.run([program, "check", *names], capture_output=True, cwd=folder)
     return done.stdout or done.stderr
 
 
@@ -168,24 +185,30 @@ def choices(seed, ranges):
     return [list_ for list_ in ([ranges] if some == ranges else [ranges, some]) if list_]
 
 
+def cases():
+    """Policies by chance, each with its number: over crates, and over packages."""
+    yield from ((seed, Case(some_whole_case(seed))) for seed in SEEDS)
+    yield from ((seed, Case(some_case(seed))) for seed in OF_PACKAGES)
+
+
 def main():
     if len(sys.argv) > 2:
         sys.exit(__doc__)
     check_by_hand()
     judged = policies = taken = 0
-    with tempfile.TemporaryDirectory() as folder:
-        run = (lambda *texts: run_program(sys.argv[1], folder, *texts)) if sys.argv[1:] else run_readings
-        for seed in SEEDS:
-            texts = [text_of_case(text) for text in some_whole_case(seed)["files"].values()]
-            before = Told(run(*texts))
-            judged += not before.lines["stop"]
-            ranges = removable(read_policy(texts[0]), before.dead()) if before.dead() else []
-            policies += bool(ranges)
-            for list_ in choices(seed, ranges):
-                taken += len(list_)
-                after = Told(run(without(texts[0], list_), *texts[1:])).all()
-                if after != before.without(texts[0], list_):
-                    sys.exit("seed %d without %s: more changes than its reports" % (seed, list_))
+    program = Path(sys.argv[1]).absolute() if sys.argv[1:] else None
+    run = (lambda *told: run_program(program, *told)) if program else run_readings
+    for seed, case in cases():
+        texts = case.texts
+        before = Told(run(texts, case.files))
+        judged += not before.lines["stop"]
+        ranges = removable(read_policy(texts[0]), before.dead()) if before.dead() else []
+        policies += bool(ranges)
+        for list_ in choices(seed, ranges):
+            taken += len(list_)
+            after = Told(run([without(texts[0], list_), *texts[1:]], case.files)).all()
+            if after != before.without(texts[0], list_):
+                sys.exit("seed %d without %s: more changes than its reports" % (seed, list_))
     print("%d policies, %d of them without %d dead entries: the reports of these are gone" % (judged, policies, taken))
 
 
