@@ -1,5 +1,6 @@
 -- The lines of a report are read as what it tells.
-use Rattle.std.proofs.Common.{◌≡◌, ℕ, ◌<◌, ◌^◌, List, [], ◌∷◌, ◌++◌, Option, None, Some, ap, ap₂, refl, sym, ◌∙◌, arith, append-nil, get_or}
+use Rattle.std.proofs.Common.{◌≡◌, ℕ, ◌<◌, ◌^◌, List, [], ◌∷◌, ◌++◌, Option, None, Some, ap, ap₂, refl, sym, ◌∙◌, arith}
+use Rattle.std.proofs.Common.{append-nil, get_or}
 use Rattle.std.specs.Prelude.{All, map}
 use Rattle.std.specs.List.{flat_map}
 use Rattle.std.specs.Option.{option_map_or}
@@ -21,7 +22,8 @@ use Rattle.deny_unread.specs.declared.unread.Unread.{Unread}
 use Rattle.deny_gate.specs.declared.report.Report.{Report}
 use Rattle.deny_gate.specs.declared.report.Verdict.{Verdict}
 use Rattle.deny_cli.specs.Dead.{dead_value}
-use Rattle.deny_cli.specs.Lines.{dead_line, finding_line, lines, malformed_line, unread_line, verdict_line, verdict_value}
+use Rattle.deny_cli.specs.Lines.{dead_line, finding_line, lines, malformed_line, unread_line, verdict_line}
+use Rattle.deny_cli.specs.Lines.{verdict_value}
 use Rattle.deny_cli.specs.Outcome.{bits_of}
 use Rattle.deny_cli.specs.Told.{AreJsonLines, AreNumbers, finding_told, told}
 use Rattle.deny_cli.specs.Unread.{malformed_value, named_crate, unread_value, wanted_for}
