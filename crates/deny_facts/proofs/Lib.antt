@@ -10,3 +10,4 @@ pub mod NeighbourLemmas
 pub mod FactLemmas
 pub mod GroupLemmas
 pub mod ExemptLemmas
+pub mod MatchLemmas
