@@ -244,13 +244,13 @@ impl Krates {
 // More packages or nodes than any text of fewer bytes holds.
 const MANY: usize = 1 << 28;
 
-// The metadata of a text; the value that it was read from is let go, before the graph is made.
+// The metadata of a text; the value that it was read from is let go on the way.
 fn document_at(alloc: Global, bytes: &[u8]) -> Result<Document, MetadataFault>
     ensures ok { IfOk result (λ d. checked bytes.now ≡ resolved d) }
     ensures err { IfErr result (λ e. Fails e (checked bytes.now)) }
 {
     let value = value_of(alloc, bytes)?;
-    document_in(alloc, &value)
+    document_in(alloc, value)
 }
 
 // The graph of a document, or its first fault.

@@ -6,9 +6,9 @@ ghost use Rattle.deny_metadata.specs.Document.{json_at, value_at, target_at, dec
 ghost use Rattle.deny_metadata.specs.Reading.{Fails, Gives};
 
 use crate::elements::{
-    Element, array_of, each_given, each_of, each_text_given, each_text_of, elements, flag_in,
-    given_member, object, object_of, optional_text_in, optional_texts_in, path_of, refuse_member,
-    text_of, texts,
+    Element, array_of, array_taken, each_given, each_of, each_text_given, each_text_of,
+    elements_taken, flag_in, given_member, object, object_of, optional_text_in, optional_texts_in,
+    path_of, refuse_member, text_of, texts,
 };
 use crate::fault::MetadataFault;
 use crate::floats::is_fractional;
@@ -341,21 +341,24 @@ fn resolve_stands(root: &Value) -> Result<(), MetadataFault>
     Ok(())
 }
 
-/// The metadata that a value is, or its first fault.
+/// The metadata that a value is, or its first fault. The value of each package is let go as soon as
+/// the package is read.
 #[tactic(auto, unfolding(crate::specs::Document::document_of, crate::specs::Elements::part_of))]
-pub fn document_in(alloc: Global, root: &Value) -> Result<Document, MetadataFault>
-    ensures { Gives result (document_of (view root.now)) }
+pub fn document_in(alloc: Global, root: Value) -> Result<Document, MetadataFault>
+    ensures { Gives result (document_of (view root)) }
 {
-    object(alloc, "", root)?;
-    resolve_stands(root)?;
-    let packages = array_of(alloc, "", root, Member::Packages)?;
-    let members = each_text_of(alloc, "", root, Member::WorkspaceMembers)?;
-    let workspace_root = text_of(alloc, "", root, Member::WorkspaceRoot)?;
-    let resolve = object_of(alloc, "", root, Member::Resolve)?;
+    object(alloc, "", &root)?;
+    resolve_stands(&root)?;
+    array_of(alloc, "", &root, Member::Packages)?;
+    let members = each_text_of(alloc, "", &root, Member::WorkspaceMembers)?;
+    let workspace_root = text_of(alloc, "", &root, Member::WorkspaceRoot)?;
+    let resolve = object_of(alloc, "", &root, Member::Resolve)?;
+    let nodes = each_of(alloc, Member::Resolve.name(), resolve, Member::Nodes);
+    let packages = array_taken(alloc, "", root, Member::Packages)?;
     Ok(Document {
-        packages: elements(alloc, Member::Packages.name(), packages)?,
+        packages: elements_taken(alloc, Member::Packages.name(), packages)?,
         members,
         workspace_root,
-        nodes: each_of(alloc, Member::Resolve.name(), resolve, Member::Nodes)?,
+        nodes: nodes?,
     })
 }

@@ -1,8 +1,8 @@
-ghost use Rattle.std.specs.Prelude.{◌≡◌, List, ℕ, Result, Ok, Err, IfOk, OnOk, MatchResult, option_map, map};
+ghost use Rattle.std.specs.Prelude.{◌≡◌, ◌<◌, ◌+◌, length, drop, slice_index_or, List, ℕ, Result, Ok, Err, IfOk, OnOk, MatchResult, option_and_then, option_map, map};
 ghost use Rattle.std.specs.Fmt.{decimal};
 ghost use Rattle.serde_json.specs.Data.{Data};
-ghost use Rattle.serde_json.specs.Find.{get};
-ghost use Rattle.serde_json.specs.View.{view, items_view};
+ghost use Rattle.serde_json.specs.Find.{as_array, get, get_member};
+ghost use Rattle.serde_json.specs.View.{view, items_view, members_view};
 ghost use Rattle.deny_metadata.specs.Elements.{part_of, path_to, given, object_at, text_at, text_member, optional_text, optional_text_of, optional_texts, texts_at, flag_member, array_member, object_member, elements_from, each_member, each_optional, required};
 ghost use Rattle.deny_metadata.specs.Member.{name_of};
 ghost use Rattle.deny_metadata.specs.Reading.{Fails, Gives};
@@ -11,8 +11,9 @@ ghost use Rattle.deny_metadata.specs.declared.fault.MetadataFault.{MetadataFault
 use crate::fault::MetadataFault;
 use crate::member::Member;
 use deny_lists::{List, NoMemory, Text};
-use serde_json::Value;
+use serde_json::{Map, Value};
 use std::alloc::Global;
+use std::mem;
 
 /// A type that is read from a value, which stands at a path.
 pub trait Element: Sized + Drop {
@@ -190,6 +191,50 @@ pub fn array_of<'v>(
     }
 }
 
+/// The elements of an array that must stand, taken out of an object; the rest of it is let go.
+pub fn array_taken(
+    alloc: Global,
+    path: &str,
+    object: Value,
+    member: Member,
+) -> Result<Vec<Value>, MetadataFault>
+    ensures { MatchResult result (λ items. array_member path.now member (view object) ≡ Ok (items_view items.items))
+        (λ e. Fails e (array_member path.now member (view object))) }
+{
+    match taken(object, member) {
+        Some(items) => Ok(items),
+        None => refuse_member(alloc, path, member),
+    }
+}
+
+// A member of an object, where it is an array; the rest of the object is let go.
+fn taken(object: Value, member: Member) -> Option<Vec<Value>>
+    ensures { option_map (λ items. items_view items.items) result
+        ≡ option_and_then as_array (get (name_of member) (view object)) }
+{
+    match object {
+        Value::Object(members) => array_in(removed(members, member.name())?),
+        _ => None,
+    }
+}
+
+// A member of an object; its other members are let go.
+fn removed(mut members: Map<String, Value>, name: &str) -> Option<Value>
+    ensures { option_map view result ≡ get_member name.now (members_view members.entries) }
+{
+    members.remove(name)
+}
+
+// The elements of an array.
+fn array_in(value: Value) -> Option<Vec<Value>>
+    ensures { option_map (λ items. items_view items.items) result ≡ as_array (view value) }
+{
+    match value {
+        Value::Array(items) => Some(items),
+        _ => None,
+    }
+}
+
 /// An object that must stand.
 #[tactic(auto, unfolding(crate::specs::Elements::object_member, crate::specs::Elements::object_itself, crate::specs::Elements::required))]
 pub fn object_of<'v>(
@@ -228,6 +273,35 @@ pub fn elements<T: Element>(
         list.push(T::from_value(alloc, at.as_str(), value)?)?;
     }
     Ok(list)
+}
+
+/// The elements of the array at `path`, or the first fault in them. Each value is let go as soon as it
+/// is read.
+pub fn elements_taken<T: Element>(
+    alloc: Global,
+    path: &str,
+    mut items: Vec<Value>,
+) -> Result<List<T>, MetadataFault>
+    ensures { Gives result (elements_from T.read_at path.now 0 (items_view items.items)) }
+{
+    let mut list = List::new(alloc);
+    let mut at = Text::new(alloc);
+    for place in 0..items.len() {
+        write_element_path(alloc, &mut at, path, place)?;
+        let value = take_element(&mut items, place);
+        list.push(T::from_value(alloc, at.as_str(), &value)?)?;
+    }
+    Ok(list)
+}
+
+// Takes an element out of an array, and leaves null there.
+fn take_element(items: &mut Vec<Value>, index: usize) -> Value
+    requires { index < length items.old.items }
+    ensures taken { result ≡ slice_index_or items.old.items index result }
+    ensures left { drop (index + 1) items.new.items ≡ drop (index + 1) items.old.items }
+    ensures long { length items.new.items ≡ length items.old.items }
+{
+    mem::replace(&mut items[index], Value::Null)
 }
 
 /// The elements of an array that must stand, or the first fault in them.
