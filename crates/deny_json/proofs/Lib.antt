@@ -3,6 +3,7 @@ pub mod GraphLemmas
 pub mod GraphRows
 pub mod LineLemmas
 pub mod LineRows
+pub mod NewlineLemmas
 pub mod PlainLemmas
 pub mod QuoteLemmas
 pub mod ReadingLemmas

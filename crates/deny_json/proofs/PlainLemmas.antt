@@ -1,8 +1,9 @@
 -- Findings and their trees are plain values.
-use Rattle.std.proofs.Common.{ℕ, zero, suc, ◌+◌, ◌-◌, ◌*◌, ◌<◌, ◌≤◌, ◌^◌, inl, inr, Bool, true, false, List, [], ◌∷◌, length, Option, None, Some, refl, subst, sym, arith, take, length-take, length-drop}
-use Rattle.std.specs.Prelude.{IfSome, codes, map, slice_get, ⊤, if◌then◌else◌}
+use Rattle.std.proofs.Common.{◌≡◌, ℕ, zero, suc, ◌+◌, ◌-◌, ◌*◌, ◌<◌, ◌≤◌, ◌^◌, inl, inr, Bool, true, false, List, [], ◌∷◌, length, Option, None, Some, refl, subst, sym, arith, take, get_or, length-take, length-drop}
+use Rattle.std.specs.Prelude.{All, IfSome, codes, map, slice_get, ⊤, if◌then◌else◌}
 use Rattle.std.specs.Str.{chars, chars_after, continuation_len, lead_bits}
 use Rattle.std.proofs.lemmas.Option.{slice_get_cases}
+use Rattle.std.proofs.lemmas.List.Elements.{All-head, All-tail, All-weaker}
 use Rattle.std.proofs.lemmas.List.Sums.{count_by-le-length}
 use Rattle.serde_json.specs.Data.{Data, Members, member, no_members, string}
 use Rattle.serde_json.specs.View.{items_of}
@@ -21,7 +22,7 @@ use Rattle.deny_json.specs.Diagnostics.{code_member, diagnostic_value, fields_af
 use Rattle.deny_json.specs.Findings.{finding_fields, finding_value, graphs_member}
 use Rattle.deny_json.specs.Graphs.{graph_value, krate_value, node_value, parents_member, repeat_member}
 use Rattle.deny_json.specs.Labels.{column_of, label_value, line_of}
-use Rattle.deny_json.specs.Reading.{AreShort, IsBeforeNext, IsPlain, ItemsArePlain, MembersArePlain}
+use Rattle.deny_json.specs.Reading.{AreCounted, AreShort, IsBeforeNext, IsCounted, IsPlain, ItemsArePlain, MembersArePlain}
 use Rattle.deny_json.proofs.GraphLemmas.{value_of_node}
 
 -- ---- lines and columns
@@ -91,12 +92,28 @@ column_fits (Some at) near = omega (arith, near.1)
 
 -- ---- diagnostics
 
-label_plain : (files : List File) → AreShort files → (label : Label) → IsPlain (label_value files label)
-unfolding label_value
-label_plain files short label =
+-- a label is told by its line and column
+pub label_told : (files : List File) (label : Label) (at : Option Location)
+    → at ≡ location_in files label.file_id label.span.start → column_of at < 2 ^ 64 → line_of at < 2 ^ 64
+    → IsCounted files label
+unfolding label_value IsCounted
+label_told files label at is column line =
+    let here = λ (o : Option Location). (column_of o < 2 ^ 64) × (line_of o < 2 ^ 64) in
+    let fits = subst here is (column, line) in
+    (refl, fits.0, (refl, fits.1, (refl, tt, (tt, tt, tt))))
+
+label_short : (files : List File) → AreShort files → (label : Label) → IsCounted files label
+label_short files short label =
     let at = location_in files label.file_id label.span.start in
     let near : IfNear at = near_in (slice_get files label.file_id) label.span.start (short_at files label.file_id short)
-    in (refl, column_fits at near, (refl, line_fits at near, (refl, tt, (tt, tt, tt))))
+    in label_told files label at refl (column_fits at near) (line_fits at near)
+
+pub each_told : {X : Type 0} (f : X → Data) (xs : List X) → All (λ x. IsPlain (f x)) xs → ItemsArePlain (items_of (map f xs))
+each_told f [] are = tt
+each_told f (x ∷ xs) are = (
+  All-head (λ x. IsPlain (f x)) x xs are,
+  each_told f xs (All-tail (λ x. IsPlain (f x)) x xs are),
+)
 
 each_plain : {X : Type 0} (f : X → Data) → ((x : X) → IsPlain (f x)) → (xs : List X) → ItemsArePlain (items_of (map f xs))
 each_plain f each [] = tt
@@ -120,11 +137,20 @@ after_message (note ∷ notes) word = refl
 message_plain : (d : Diagnostic) → MembersArePlain (fields_after_labels d)
 message_plain d = (after_message d.notes (severity_word d.severity), tt, notes_plain d.notes (severity_word d.severity))
 
-labels_plain : (files : List File) → AreShort files → (labels : List Label) (d : Diagnostic)
+pub labels_counted : (files : List File) → AreShort files → (labels : List Label) → AreCounted files labels
+labels_counted files short labels k label within = label_short files short (get_or labels k label)
+
+label_plain : (files : List File) (label : Label) → IsCounted files label → IsPlain (label_value files label)
+unfolding IsCounted
+label_plain files label counted = counted
+
+labels_plain : (files : List File) (labels : List Label) (d : Diagnostic) → AreCounted files labels
     → MembersArePlain (labels_member files labels (fields_after_labels d))
-labels_plain files short [] d = message_plain d
-labels_plain files short (label ∷ labels) d =
-    (refl, each_plain (label_value files) (label_plain files short) (label ∷ labels), message_plain d)
+labels_plain files [] d counted = message_plain d
+labels_plain files (label ∷ labels) d counted =
+    let plain = All-weaker (IsCounted files) (λ l. IsPlain (label_value files l)) (label_plain files) (label ∷ labels)
+    counted in
+    (refl, each_told (label_value files) (label ∷ labels) plain, message_plain d)
 
 after_code : (files : List File) (labels : List Label) (d : Diagnostic)
     → IsBeforeNext (codes "code") (labels_member files labels (fields_after_labels d))
@@ -141,10 +167,13 @@ code_plain : (code : Option DiagnosticCode) (others : Members) → IsBeforeNext 
 code_plain None others next are = are
 code_plain (Some code) others next are = (next, tt, are)
 
-pub diagnostic_plain : (files : List File) (d : Diagnostic) → AreShort files → IsPlain (diagnostic_value files d)
+diagnostic_told : (files : List File) (d : Diagnostic) → AreCounted files d.labels → IsPlain (diagnostic_value files d)
 unfolding diagnostic_value
-diagnostic_plain files d short = tells_plain (fields_of files d)
-    (code_plain d.code (fields_after_code files d) (after_code files d.labels d) (labels_plain files short d.labels d))
+diagnostic_told files d counted = tells_plain (fields_of files d)
+    (code_plain d.code (fields_after_code files d) (after_code files d.labels d) (labels_plain files d.labels d counted))
+
+pub diagnostic_plain : (files : List File) (d : Diagnostic) → AreShort files → IsPlain (diagnostic_value files d)
+diagnostic_plain files d short = diagnostic_told files d (labels_counted files short d.labels)
 
 -- ---- trees
 
@@ -209,9 +238,13 @@ graph_plain : (graph : GraphNode) → GraphIsPlain graph
 graph_plain = ind-GraphNode GraphIsPlain (λ x y is.
     subst (λ z. GraphIsPlain (roll-GraphNode z)) is (made_plain y))
 
-pub finding_plain : (files : List File) (d : Diagnostic) (graphs : List GraphNode) → AreShort files
+pub finding_told : (files : List File) (d : Diagnostic) (graphs : List GraphNode) → AreCounted files d.labels
     → IsPlain (finding_value files d graphs)
 unfolding finding_value
-finding_plain files d graphs short = tells_plain (finding_fields files d graphs)
+finding_told files d graphs counted = tells_plain (finding_fields files d graphs)
     (code_plain d.code (graphs_member graphs (fields_after_code files d)) refl
-    (after_graphs files d.labels d, each_plain graph_value graph_plain graphs, labels_plain files short d.labels d))
+    (after_graphs files d.labels d, each_plain graph_value graph_plain graphs, labels_plain files d.labels d counted))
+
+pub finding_plain : (files : List File) (d : Diagnostic) (graphs : List GraphNode) → AreShort files
+    → IsPlain (finding_value files d graphs)
+finding_plain files d graphs short = finding_told files d graphs (labels_counted files short d.labels)

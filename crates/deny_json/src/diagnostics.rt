@@ -1,8 +1,9 @@
 //! Diagnostics as JSON, member by member. A member that may be left out is put in front of those behind it.
-ghost use Rattle.std.specs.Prelude.{◌≡◌, IfOk, codes, map};
+ghost use Rattle.std.specs.Prelude.{◌≡◌, IfOk, OnOk, codes, map};
 ghost use Rattle.serde_json.specs.Data.{member, no_members, object, string};
 ghost use Rattle.serde_json.specs.View.{members_view, view};
 ghost use Rattle.deny_json.specs.Diagnostics.{diagnostic_value, fields_after_code, fields_after_labels, fields_of, notes_of, severity_word};
+ghost use Rattle.deny_json.specs.Reading.{AreCounted};
 
 use crate::labels::label_values;
 use deny_base::{Diagnostic, Files, Severity};
@@ -74,7 +75,8 @@ pub(crate) fn fields_from_labels(
     files: &Files,
     diagnostic: &Diagnostic,
 ) -> Result<Map<String, Value>, AllocError>
-    ensures { IfOk result (λ fields. members_view fields.entries ≡ fields_after_code files.now diagnostic.now) }
+    ensures fields { IfOk result (λ fields. members_view fields.entries ≡ fields_after_code files.now diagnostic.now) }
+    ensures counted { OnOk result (AreCounted files.now diagnostic.now.labels) }
 {
     let mut fields = fields_from_message(alloc, diagnostic)?;
     if diagnostic.labels.as_slice().is_empty() {

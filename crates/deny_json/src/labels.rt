@@ -1,9 +1,10 @@
 //! Labels as JSON: where they lie, and what they mark.
-ghost use Rattle.std.specs.Prelude.{◌≡◌, IsTrue, IfOk, map};
+ghost use Rattle.std.specs.Prelude.{◌≡◌, ◌<◌, ◌^◌, IsTrue, IfOk, OnOk, map};
 ghost use Rattle.std.specs.Str.{IsCharBoundary};
 ghost use Rattle.serde_json.specs.View.{view};
 ghost use Rattle.deny_base.specs.Files.{is_boundary, location_in};
 ghost use Rattle.deny_json.specs.Labels.{column_of, label_value, line_of, marked, range_in, trimmed, without_end, without_front};
+ghost use Rattle.deny_json.specs.Reading.{AreCounted, IsCounted};
 
 use deny_base::{Files, Label, Location, Span};
 use serde_json::{Value, json};
@@ -11,7 +12,8 @@ use std::alloc::{AllocError, Global};
 
 /// The line of a location, from 1; 0 where there is none.
 fn line_of(at: Option<Location>) -> u64
-    ensures { result ≡ line_of at }
+    ensures line { result ≡ line_of at }
+    ensures fits { line_of at < 2 ^ 64 }
 {
     match at {
         Some(at) => u64::from(at.line) + 1,
@@ -21,7 +23,8 @@ fn line_of(at: Option<Location>) -> u64
 
 /// The column of a location, from 1; 0 where there is none.
 fn column_of(at: Option<Location>) -> u64
-    ensures { result ≡ column_of at }
+    ensures column { result ≡ column_of at }
+    ensures fits { column_of at < 2 ^ 64 }
 {
     match at {
         Some(at) => u64::from(at.column) + 1,
@@ -91,9 +94,10 @@ fn marked<'f>(files: &'f Files, label: &Label) -> &'f str
 }
 
 /// A label as JSON.
-#[tactic(auto, unfolding(crate::specs::Labels::label_value))]
+#[tactic(auto, unfolding(crate::specs::Labels::label_value), using(crate::proofs::PlainLemmas::label_told))]
 fn label_value(alloc: Global, files: &Files, label: &Label) -> Result<Value, AllocError>
-    ensures { IfOk result (λ value. view value ≡ label_value files.now label.now) }
+    ensures value { IfOk result (λ value. view value ≡ label_value files.now label.now) }
+    ensures counted { OnOk result (IsCounted files.now label.now) }
 {
     let at = files.location(label.file_id, label.span.start);
     let message = label.message.as_str();
@@ -112,7 +116,8 @@ pub fn label_values(
     files: &Files,
     labels: &[Label],
 ) -> Result<Vec<Value>, AllocError>
-    ensures { IfOk result (λ values. map view values.items ≡ map (label_value files.now) labels.now) }
+    ensures values { IfOk result (λ values. map view values.items ≡ map (label_value files.now) labels.now) }
+    ensures counted { OnOk result (AreCounted files.now labels.now) }
 {
     let mut values = Vec::new(alloc);
     for label in labels {

@@ -1,5 +1,6 @@
 //! Laws on what the lines are read as. The bodies are empty; what they ensure is proved.
-ghost use Rattle.std.specs.Prelude.{List};
+ghost use Rattle.std.specs.Prelude.{All, List};
+ghost use Rattle.std.specs.List.{flat_map};
 ghost use Rattle.serde_json.specs.Data.{Data};
 ghost use Rattle.serde_json.specs.Written.{compact_text};
 ghost use Rattle.deny_base.specs.declared.files.File.{File};
@@ -7,11 +8,18 @@ ghost use Rattle.deny_base.specs.declared.finding.Diagnostic.{Diagnostic};
 ghost use Rattle.deny_trees.specs.declared.node.GraphNode.{GraphNode};
 ghost use Rattle.deny_json.specs.Diagnostics.{diagnostic_value};
 ghost use Rattle.deny_json.specs.Findings.{finding_value};
-ghost use Rattle.deny_json.specs.Reading.{AreShort, IsJsonOf, IsPlain};
+ghost use Rattle.deny_json.specs.Lines.{line};
+ghost use Rattle.deny_json.specs.Reading.{AreJsonLines, AreShort, IsJsonOf, IsPlain};
 
 /// The text of a value whose keys ascend, with whole numbers of 64 bits alone, is that value in JSON.
 pub fn text_is_json()
     ensures { (value : Data) → IsPlain value → IsJsonOf (compact_text value) value }
+{}
+
+/// The lines of such values are split at their newlines into the texts of these values, each of which is
+/// its value in JSON: no text holds a newline.
+pub fn lines_are_json()
+    ensures { (values : List Data) → All IsPlain values → AreJsonLines (flat_map line values) values }
 {}
 
 /// A diagnostic and a finding with its trees have such values, where labels lie in files of less than

@@ -11,5 +11,5 @@ mod lines;
 
 pub use diagnostics::{CsDiag, cs_diag_to_json, diagnostic_value};
 pub use findings::diag_to_json;
-pub use laws::{findings_are_plain, text_is_json};
+pub use laws::{findings_are_plain, lines_are_json, text_is_json};
 pub use lines::{diag_line, line};

@@ -5,6 +5,7 @@ ghost use Rattle.serde_json.specs.View.{view};
 ghost use Rattle.serde_json.specs.Written.{has_float, members_text};
 ghost use Rattle.deny_json.specs.Diagnostics.{fields_after_code};
 ghost use Rattle.deny_json.specs.Lines.{diag_line, line, line_with};
+ghost use Rattle.deny_json.specs.Reading.{AreCounted};
 ghost use Rattle.deny_json.specs.private.Writing.{code_text};
 
 use crate::diagnostics::fields_from_labels;
@@ -56,7 +57,9 @@ fn write_rest(
     diagnostic: &Diagnostic,
     out: &mut Text,
 ) -> Result<(), NoMemory>
-    ensures { OnOk result (out.new ≡ out.old ++ members_text true (fields_after_code files.now diagnostic.now)) }
+    ensures text { OnOk result
+        (out.new ≡ out.old ++ members_text true (fields_after_code files.now diagnostic.now)) }
+    ensures counted { OnOk result (AreCounted files.now diagnostic.now.labels) }
 {
     let fields = Value::from(fields_from_labels(alloc, files, diagnostic)?);
     let mut text = Text::new(alloc);
@@ -73,7 +76,8 @@ pub(crate) fn line_with(
     diagnostic: &Diagnostic,
     graphs: &[GraphNode],
 ) -> Result<Text, NoMemory>
-    ensures { IfOk result (λ text. text ≡ line_with files.now diagnostic.now graphs.now) }
+    ensures text { IfOk result (λ text. text ≡ line_with files.now diagnostic.now graphs.now) }
+    ensures counted { OnOk result (AreCounted files.now diagnostic.now.labels) }
 {
     let mut text = Text::from_str(alloc, "{\"fields\":{")?;
     write_code(alloc, diagnostic.code, &mut text)?;
@@ -85,8 +89,8 @@ pub(crate) fn line_with(
 }
 
 /// The line of a finding of this crate, or of no single one, with the trees that it shows of the graph,
-/// `[]` where it shows none. They are made for the line, and let go behind it. `NoMemory` where an
-/// allocation fails.
+/// `[]` where it shows none. They are made for the line, and let go behind it. The lines and columns that it
+/// tells are numbers of 64 bits. `NoMemory` where an allocation fails.
 #[tactic(auto, unfolding(crate::specs::Lines::diag_line))]
 pub fn diag_line(
     alloc: Global,
@@ -95,8 +99,9 @@ pub fn diag_line(
     kid: Option<&Kid>,
     diag: &Diag,
 ) -> Result<Text, NoMemory>
-    ensures { IfOk result (λ text. text
+    ensures text { IfOk result (λ text. text
         ≡ diag_line files.now grapher.now.krates.now (option_copied kid.entry) diag.now) }
+    ensures counted { OnOk result (AreCounted files.now diag.now.diag.labels) }
 {
     let graphs = graphs_of(alloc, grapher, kid, diag)?;
     let text = line_with(alloc, files, &diag.diag, graphs.as_slice());
