@@ -5,6 +5,7 @@ pub mod OptionLemmas
 pub mod ReadingLemmas
 pub mod ReportLemmas
 pub mod Rows
+pub mod StopLemmas
 pub mod ToldLemmas
 pub mod UnreadLemmas
 pub mod WordsLemmas

@@ -4,27 +4,32 @@ use Rattle.std.specs.Prelude.{All, map}
 use Rattle.std.specs.List.{flat_map}
 use Rattle.std.specs.Option.{option_map_or}
 use Rattle.std.proofs.lemmas.List.Concat.{flat_map-append, flat_map-cons}
-use Rattle.std.proofs.lemmas.List.Elements.{All-append, All-cons, All-map}
+use Rattle.std.proofs.lemmas.List.Elements.{All-append, All-cons, All-map, All-nil, All-weaker}
 use Rattle.serde_json.specs.Data.{Data, null}
-use Rattle.serde_json.specs.Written.{compact_text}
 use Rattle.deny_base.specs.declared.entry.EntryId.{EntryId}
 use Rattle.deny_base.specs.declared.files.File.{File}
-use Rattle.deny_base.specs.declared.finding.Diagnostic.{Diagnostic}
 use Rattle.deny_base.specs.declared.span.Kid.{Kid}
 use Rattle.deny_krates.specs.Ids.{crate_of}
 use Rattle.deny_model.specs.Graph.{Crate, Graph}
-use Rattle.deny_trees.specs.declared.node.GraphNode.{GraphNode}
-use Rattle.deny_json.specs.Findings.{finding_value}
+use Rattle.deny_trees.specs.Shown.{graphs_shown}
 use Rattle.deny_json.specs.Lines.{diag_line, line, line_with}
-use Rattle.deny_json.specs.Reading.{AreShort, IsJsonOf, IsPlain}
+use Rattle.deny_json.specs.Reading.{AreJsonLines, AreShort, IsPlain}
+use Rattle.deny_json.proofs.NewlineLemmas.{json_lines}
+use Rattle.deny_json.proofs.PlainLemmas.{labels_counted}
+use Rattle.deny_json.proofs.PlainLemmas.{finding_told as finding_plain}
 use Rattle.deny_unread.specs.declared.unread.Unread.{Unread}
+use Rattle.deny_gate.specs.declared.report.Finding.{Finding}
 use Rattle.deny_gate.specs.declared.report.Report.{Report}
 use Rattle.deny_gate.specs.declared.report.Verdict.{Verdict}
 use Rattle.deny_cli.specs.Dead.{dead_value}
 use Rattle.deny_cli.specs.Lines.{dead_line, finding_line, lines, malformed_line, unread_line, verdict_line, verdict_value}
-use Rattle.deny_cli.specs.Outcome.{bits_of}
-use Rattle.deny_cli.specs.Told.{AreJsonLines, AreNumbers, finding_told, told}
+use Rattle.deny_cli.specs.Outcome.{IfReported, bits_of}
+use Rattle.deny_cli.specs.Summary.{lines_for, report_summary, summary_line, summary_value}
+use Rattle.deny_cli.specs.Told.{AreNumbers, HasNumbers, IsCounted, answer_told, finding_told, told, told_for}
 use Rattle.deny_cli.specs.Unread.{malformed_value, named_crate, unread_value, wanted_for}
+use Rattle.deny_cli.specs.Words.{Command, check, generate}
+use Rattle.deny_cli.specs.declared.outcome.Outcome.{Outcome}
+use Rattle.deny_cli.specs.declared.outcome.Outcome.TheVariants.{Done, Usage, Read, Long, Gate, Write, Memory}
 
 lines_of : {X : Type 0} (f : X → Data) (xs : List X) → flat_map line (map f xs) ≡ flat_map (λ x. line (f x)) xs
 lines_of f [] = refl
@@ -48,7 +53,7 @@ told_by report =
     (lines_and (unread_value report.krates) report.unread _ _
     (lines_and malformed_value report.malformed _ _ (one_line (verdict_value report.verdict))))))
 
-dead_plain : (e : EntryId) → (e.range.start < 2 ^ 64) × (e.range.end < 2 ^ 64) → IsPlain (dead_value e)
+dead_plain : (e : EntryId) → HasNumbers e → IsPlain (dead_value e)
 dead_plain e fits = (refl, (refl, fits.1, (refl, tt, (tt, fits.0, tt))), (tt, tt, tt))
 
 named_plain : (c : Option Crate) → IsPlain (option_map_or named_crate c null)
@@ -68,29 +73,77 @@ malformed_plain path = (refl, (tt, tt, tt), (tt, tt, tt))
 verdict_plain : (verdict : Verdict) → bits_of verdict < 2 ^ 64 → IsPlain (verdict_value verdict)
 verdict_plain verdict fits = (refl, (refl, fits, (tt, tt, tt)), (tt, tt, tt))
 
-abbrev IsRead : Data → Type 0
-IsRead value = IsJsonOf (compact_text value) value
+pub summary_plain : (made crates dead errors : ℕ) (verdict : Verdict) → made < 2 ^ 64 → crates < 2 ^ 64
+    → dead < 2 ^ 64 → errors < 2 ^ 64 → IsPlain (summary_value made crates dead errors verdict)
+summary_plain made crates dead errors verdict made_fits crates_fit dead_fit errors_fit = (
+  refl,
+  (refl, crates_fit, (refl, dead_fit, (refl, errors_fit, (refl, made_fits, (tt, tt, tt))))),
+  (tt, tt, tt),
+)
 
-all_and : {X : Type 0} (f : X → Data) (xs : List X) (others : List Data) → All (λ x. IsRead (f x)) xs
-    → All IsRead others → All IsRead (map f xs ++ others)
-all_and f xs others these those = All-append IsRead (map f xs) others (All-map IsRead f xs these) those
+all_and : {X : Type 0} (f : X → Data) (xs : List X) (others : List Data) → All (λ x. IsPlain (f x)) xs
+    → All IsPlain others → All IsPlain (map f xs ++ others)
+all_and f xs others these those = All-append IsPlain (map f xs) others (All-map IsPlain f xs these) those
 
-module _ (is_json : (value : Data) → IsPlain value → IsRead value)
-    (finding_plain : (files : List File) → (d : Diagnostic) → (graphs : List GraphNode) → AreShort files
-    → IsPlain (finding_value files d graphs)) where
-  are_json : (report : Report) → AreNumbers report → All IsRead (told report)
-  are_json report fits =
-      all_and (finding_told report.files report.krates) report.findings _
-      (λ k finding within. is_json _ (finding_plain report.files _ _ fits.files))
-      (all_and dead_value report.dead _
-      (λ k e within. is_json _ (dead_plain (get_or report.dead k e) (fits.dead k e within)))
-      (all_and (unread_value report.krates) report.unread _
-      (λ k u within. is_json _ (unread_plain report.krates (get_or report.unread k u)))
-      (all_and malformed_value report.malformed _
-      (λ k path within. is_json _ (malformed_plain (get_or report.malformed k path)))
-      (All-cons IsRead (verdict_value report.verdict) []
-      (is_json (verdict_value report.verdict) (verdict_plain report.verdict fits.bits))
-      (λ k value within. absurd (omega (arith, within)))))))
+counted_plain : (files : List File) (g : Graph) (f : Finding) → IsCounted files f → IsPlain (finding_told files g f)
+unfolding IsCounted
+counted_plain files g f counted = finding_plain files f.diag.diag (graphs_shown g f.kid f.diag) counted
 
-  pub are_json_lines : (report : Report) → AreNumbers report → AreJsonLines report
-  are_json_lines report fits = record { told_by = told_by report; are_json = are_json report fits }
+short_counted : (files : List File) (findings : List Finding) → AreShort files → All (IsCounted files) findings
+unfolding IsCounted
+short_counted files findings short k f within = labels_counted files short (get_or findings k f).diag.diag.labels
+
+pub told_plain : (report : Report) → All (IsCounted report.files) report.findings → All HasNumbers report.dead
+    → bits_of report.verdict < 2 ^ 64 → All IsPlain (told report)
+told_plain report findings dead bits =
+    all_and (finding_told report.files report.krates) report.findings _
+    (All-weaker (IsCounted report.files) (λ f. IsPlain (finding_told report.files report.krates f))
+    (counted_plain report.files report.krates) report.findings findings)
+    (all_and dead_value report.dead _ (All-weaker HasNumbers (λ e. IsPlain (dead_value e)) dead_plain report.dead dead)
+    (all_and (unread_value report.krates) report.unread _
+    (λ k u within. unread_plain report.krates (get_or report.unread k u))
+    (all_and malformed_value report.malformed _ (λ k path within. malformed_plain (get_or report.malformed k path))
+    (All-cons IsPlain (verdict_value report.verdict) [] (verdict_plain report.verdict bits) (All-nil IsPlain)))))
+
+-- ---- lines
+
+-- the lines that a command tells of a report are those of what it tells
+answer_by : (asked : Option Command) (report : Report) → lines_for asked report ≡ flat_map line (told_for asked report)
+unfolding summary_line
+answer_by None report = refl
+answer_by (Some (check asked)) report = told_by report
+answer_by (Some (generate crates)) report = sym (one_line (report_summary crates report))
+
+pub json_for : (asked : Option Command) (report : Report) → All IsPlain (told_for asked report)
+    → AreJsonLines (lines_for asked report) (told_for asked report)
+json_for asked report are = subst (λ (text : List ℕ). AreJsonLines text (told_for asked report))
+    (sym (answer_by asked report)) (json_lines (told_for asked report) are)
+
+pub json_line : (value : Data) → IsPlain value → AreJsonLines (line value) (value ∷ [])
+json_line value is = subst (λ (text : List ℕ). AreJsonLines text (value ∷ [])) (one_line value)
+    (json_lines (value ∷ []) (All-cons IsPlain value [] is (All-nil IsPlain)))
+
+pub are_json_lines : (report : Report) → AreNumbers report → AreJsonLines (lines report) (told report)
+are_json_lines report fits = subst (λ (text : List ℕ). AreJsonLines text (told report)) (sym (told_by report))
+    (json_lines (told report) (told_plain report (short_counted report.files report.findings fits.files) fits.dead
+    fits.bits))
+
+-- ---- of an outcome
+
+-- what a command tells is what the words ask for
+pub told_asked : (asked : Option Command) (command : Command) (outcome : Outcome) → asked ≡ Some command
+    → IfReported outcome (λ report. All IsPlain (answer_told command report))
+    → IfReported outcome (λ report. All IsPlain (told_for asked report))
+told_asked asked command outcome is are =
+    subst (λ (a : Option Command). IfReported outcome (λ report. All IsPlain (told_for a report))) (sym is) are
+
+pub json_reported : (asked : Option Command) (outcome : Outcome)
+    → IfReported outcome (λ report. All IsPlain (told_for asked report))
+    → IfReported outcome (λ report. AreJsonLines (lines_for asked report) (told_for asked report))
+json_reported asked (Done report) are = json_for asked report are
+json_reported asked (Write report) are = json_for asked report are
+json_reported asked (Usage at) are = tt
+json_reported asked (Read which) are = tt
+json_reported asked (Long which) are = tt
+json_reported asked (Gate error) are = tt
+json_reported asked Memory are = tt

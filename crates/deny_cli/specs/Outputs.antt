@@ -1,10 +1,11 @@
 -- What a run leaves in its outputs, which tell by `written` what they took, where they tell it,
 -- and by `faults` how often they failed.
-use Rattle.std.specs.Prelude.{◌≡◌, ◌⊎◌, ℕ, List, Option}
+use Rattle.std.specs.Prelude.{◌≡◌, ◌⊎◌, ℕ, List, [], ◌∷◌, Option}
 use Rattle.deny_outside.specs.Count.{Rose}
 use Rattle.deny_outside.specs.Out.{Appends, AppendsFront}
 use Rattle.deny_gate.specs.declared.report.Report.{Report}
-use Rattle.deny_cli.specs.Stops.{stop_line, memory_line}
+use Rattle.deny_json.specs.Reading.{AreJsonLines}
+use Rattle.deny_cli.specs.Stops.{stop_line, stop_told, memory_line}
 use Rattle.deny_cli.specs.Summary.{answer_lines, lines_for}
 use Rattle.deny_cli.specs.Words.{Command}
 use Rattle.deny_cli.specs.declared.outcome.Outcome.{Outcome}
@@ -30,11 +31,15 @@ abbrev pub PutsLine : {W : Type 0} → (W → Option (List ℕ)) → (W → ℕ)
 PutsLine written faults old new line =
     Appends (written old) (written new) line ⊎ FailsWriting written faults old new line
 
--- one line that tells the stop; the labels of clashes lie in this text of the policy. Want of memory
--- in the making of that line puts the line of memory in its place.
+-- one line that tells the stop, JSON of one value; the labels of clashes lie in this text of the policy
+abbrev pub PutsStop : {W : Type 0} → (W → Option (List ℕ)) → (W → ℕ) → W → W → Outcome → List ℕ → Type 0
+PutsStop written faults old new outcome policy = PutsLine written faults old new (stop_line policy outcome)
+    × AreJsonLines (stop_line policy outcome) (stop_told policy outcome ∷ [])
+
+-- Want of memory in the making of that line puts the line of memory in its place.
 abbrev pub TellsStop : {W : Type 0} → (W → Option (List ℕ)) → (W → ℕ) → W → W → Outcome → List ℕ → Type 0
 TellsStop written faults old new outcome policy =
-    PutsLine written faults old new (stop_line policy outcome) ⊎ PutsLine written faults old new memory_line
+    PutsStop written faults old new outcome policy ⊎ PutsLine written faults old new memory_line
 
 -- the standard error: nothing, or the line of the stop
 abbrev pub LeavesErr : {W : Type 0} → (W → Option (List ℕ)) → (W → ℕ) → W → W → Outcome → List ℕ → Type 0

@@ -1,5 +1,5 @@
 -- The line that tells why a run stopped.
-use Rattle.std.specs.Prelude.{ℕ, ◌<◌, ◌^◌, List, [], ◌∷◌, IsUtf8, codes, length, map, ⊤}
+use Rattle.std.specs.Prelude.{ℕ, ◌<◌, ◌^◌, List, [], ◌∷◌, All, IsUtf8, codes, length, map, ⊤}
 use Rattle.serde_json.specs.Data.{Data, array, string, number, unsigned, object, Members, member, no_members}
 use Rattle.serde_json.specs.View.{items_of}
 use Rattle.deny_base.specs.declared.check.Which.{Which}
@@ -111,9 +111,12 @@ stop_fields policy (Gate gate.Memory) = stop_word (codes "memory")
 stop_fields policy (Write report) = stop_word (codes "write")
 stop_fields policy Memory = stop_word (codes "memory")
 
+abbrev pub stop_told : List ℕ → Outcome → Data
+stop_told policy outcome = tells (codes "stop") (stop_fields policy outcome)
+
 -- the line that tells why a run stopped
 unfoldable pub stop_line : List ℕ → Outcome → List ℕ
-stop_line policy outcome = line (tells (codes "stop") (stop_fields policy outcome))
+stop_line policy outcome = line (stop_told policy outcome)
 
 -- the line that tells that memory ran out
 unfoldable pub memory_line : List ℕ
@@ -134,3 +137,21 @@ IsTextOf (Gate (gate.Replacement at)) policy = ⊤
 IsTextOf (Gate gate.Memory) policy = ⊤
 IsTextOf (Write report) policy = ⊤
 IsTextOf Memory policy = ⊤
+
+-- the range of a fault is told by numbers of 64 bits
+abbrev pub HasSpan : ConfigFault → Type 0
+HasSpan fault = (fault.span.start < 2 ^ 64) × (fault.span.end < 2 ^ 64)
+
+-- the numbers that tell why a run stopped have 64 bits; those of labels are lines and columns of the policy
+abbrev pub HasStopNumbers : Outcome → Type 0
+HasStopNumbers (Done report) = ⊤
+HasStopNumbers (Usage at) = at < 2 ^ 64
+HasStopNumbers (Read which) = ⊤
+HasStopNumbers (Long which) = ⊤
+HasStopNumbers (Gate (gate.Config faults)) = All HasSpan faults
+HasStopNumbers (Gate (gate.Invalid told)) = ⊤
+HasStopNumbers (Gate (gate.Metadata fault)) = ⊤
+HasStopNumbers (Gate (gate.Replacement at)) = at < 2 ^ 64
+HasStopNumbers (Gate gate.Memory) = ⊤
+HasStopNumbers (Write report) = ⊤
+HasStopNumbers Memory = ⊤

@@ -1,8 +1,11 @@
 //! The lines of a report.
-ghost use Rattle.std.specs.Prelude.{◌≡◌, ◌++◌, IfOk, OnOk};
+ghost use Rattle.std.specs.Prelude.{◌≡◌, ◌<◌, ◌^◌, ◌++◌, All, IfOk, OnOk};
 ghost use Rattle.std.specs.List.{flat_map};
 ghost use Rattle.serde_json.specs.View.{view};
 ghost use Rattle.deny_cli.specs.Lines.{dead_line, finding_line, lines, malformed_line, unread_line, verdict_line, verdict_value, verdict_word};
+ghost use Rattle.deny_cli.specs.Outcome.{bits_of};
+ghost use Rattle.deny_cli.specs.Told.{HasNumbers, IsCounted, told};
+ghost use Rattle.deny_json.specs.Reading.{IsPlain};
 
 use crate::dead::dead_value;
 use crate::outcome::bits;
@@ -29,7 +32,8 @@ pub fn verdict_word(verdict: Verdict) -> &'static str
 
 /// A verdict as JSON.
 fn verdict_value(alloc: Global, verdict: Verdict) -> Result<Value, AllocError>
-    ensures { IfOk result (λ value. view value ≡ verdict_value verdict) }
+    ensures value { IfOk result (λ value. view value ≡ verdict_value verdict) }
+    ensures fits { OnOk result (bits_of verdict < 2 ^ 64) }
 {
     let word = verdict_word(verdict);
     json!(in alloc; {
@@ -39,15 +43,16 @@ fn verdict_value(alloc: Global, verdict: Verdict) -> Result<Value, AllocError>
 }
 
 /// The line of a finding, with its trees.
-#[tactic(auto, unfolding(crate::specs::Lines::finding_line))]
+#[tactic(auto, unfolding(crate::specs::Lines::finding_line, crate::specs::Told::IsCounted))]
 fn finding_line(
     alloc: Global,
     files: &Files,
     grapher: &InclusionGrapher<'_>,
     finding: &Finding,
 ) -> Result<Text, NoMemory>
-    ensures { IfOk result (λ text. text
+    ensures text { IfOk result (λ text. text
         ≡ finding_line files.now grapher.now.krates.now finding.now) }
+    ensures counted { OnOk result (IsCounted files.now finding.now) }
 {
     diag_line(alloc, files, grapher, finding.kid.as_ref(), &finding.diag)
 }
@@ -55,7 +60,8 @@ fn finding_line(
 /// The line of a verdict.
 #[tactic(auto, unfolding(crate::specs::Lines::verdict_line))]
 fn verdict_line(alloc: Global, verdict: Verdict) -> Result<Text, NoMemory>
-    ensures { IfOk result (λ text. text ≡ verdict_line verdict) }
+    ensures text { IfOk result (λ text. text ≡ verdict_line verdict) }
+    ensures fits { OnOk result (bits_of verdict < 2 ^ 64) }
 {
     line(alloc, &verdict_value(alloc, verdict)?)
 }
@@ -63,7 +69,8 @@ fn verdict_line(alloc: Global, verdict: Verdict) -> Result<Text, NoMemory>
 /// The line of a dead entry.
 #[tactic(auto, unfolding(crate::specs::Lines::dead_line))]
 fn dead_line(alloc: Global, entry: EntryId) -> Result<Text, NoMemory>
-    ensures { IfOk result (λ text. text ≡ dead_line entry) }
+    ensures text { IfOk result (λ text. text ≡ dead_line entry) }
+    ensures fits { OnOk result (HasNumbers entry) }
 {
     line(alloc, &dead_value(alloc, entry)?)
 }
@@ -92,8 +99,9 @@ fn push_findings(
     findings: &[Finding],
     text: &mut Text,
 ) -> Result<(), NoMemory>
-    ensures { OnOk result (text.new
+    ensures text { OnOk result (text.new
         ≡ text.old ++ flat_map (finding_line files.now grapher.now.krates.now) findings.now) }
+    ensures counted { OnOk result (All (IsCounted files.now) findings.now) }
 {
     for finding in findings {
         text.push_str(finding_line(alloc, files, grapher, finding)?.as_str())?;
@@ -103,7 +111,8 @@ fn push_findings(
 
 /// Adds the lines of dead entries, in their order.
 fn push_dead(alloc: Global, dead: &[EntryId], text: &mut Text) -> Result<(), NoMemory>
-    ensures { OnOk result (text.new ≡ text.old ++ flat_map dead_line dead.now) }
+    ensures text { OnOk result (text.new ≡ text.old ++ flat_map dead_line dead.now) }
+    ensures fits { OnOk result (All HasNumbers dead.now) }
 {
     for entry in dead {
         text.push_str(dead_line(alloc, *entry)?.as_str())?;
@@ -137,10 +146,11 @@ fn push_malformed(alloc: Global, malformed: &[Text], text: &mut Text) -> Result<
 }
 
 /// The lines of a report: its findings in order, with their trees, its dead entries, what could not be
-/// read, which manifests are malformed, and its verdict.
-#[tactic(auto, unfolding(crate::specs::Lines::lines))]
+/// read, which manifests are malformed, and its verdict. All numbers that they tell have 64 bits.
+#[tactic(auto, unfolding(crate::specs::Lines::lines), using(crate::proofs::ToldLemmas::told_plain))]
 pub fn lines(alloc: Global, report: &Report) -> Result<Text, NoMemory>
-    ensures { IfOk result (λ text. text ≡ lines report.now) }
+    ensures text { IfOk result (λ text. text ≡ lines report.now) }
+    ensures plain { OnOk result (All IsPlain (told report.now)) }
 {
     let mut text = Text::new(alloc);
     let grapher = InclusionGrapher::new(&report.krates);

@@ -1,4 +1,4 @@
-ghost use Rattle.std.specs.Prelude.{◌≡◌};
+ghost use Rattle.std.specs.Prelude.{◌≡◌, ◌<◌, ◌^◌};
 ghost use Rattle.deny_cli.specs.Outcome.{bits_of, status_of};
 
 use deny_base::Which;
@@ -49,7 +49,8 @@ impl Outcome {
 
 /// A bit for each check that has an error.
 pub(crate) fn bits(verdict: Verdict) -> u8
-    ensures { result ≡ bits_of verdict }
+    ensures bits { result ≡ bits_of verdict }
+    ensures fits { bits_of verdict < 2 ^ 64 }
 {
     match verdict {
         Verdict::Pass => 0,

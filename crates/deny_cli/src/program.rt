@@ -1,4 +1,4 @@
-ghost use Rattle.std.specs.Prelude.{◌≡◌, ◌==◌, ◌≤◌, ℕ, List, [], Some, IfOk, IfErr, not};
+ghost use Rattle.std.specs.Prelude.{◌≡◌, ◌==◌, ◌≤◌, ℕ, All, List, [], Some, IfOk, IfErr, not};
 ghost use Rattle.std.specs.List.{list_any};
 ghost use Rattle.deny_outside.specs.Count.{Rose};
 ghost use Rattle.deny_outside.specs.Disk.{Disk, IsLater};
@@ -12,6 +12,8 @@ ghost use Rattle.deny_cli.specs.declared.outcome.Outcome.{Outcome};
 ghost use Rattle.deny_cli.specs.declared.outcome.Outcome.TheVariants.{Memory};
 ghost use Rattle.deny_cli.specs.Stops.{IsTextOf};
 ghost use Rattle.deny_cli.specs.Outputs.{LeavesOut, LeavesErr, PutsLine, WritesReport};
+ghost use Rattle.deny_cli.specs.Told.{TellsJson, answer_told, told_for};
+ghost use Rattle.deny_json.specs.Reading.{IsPlain};
 ghost use Rattle.deny_cli.specs.Words.{check, generate, texts, Asks, AsksForFew, IsAccepted, asked_by, most_crates};
 
 use crate::outcome::{Ended, Outcome};
@@ -243,8 +245,10 @@ fn answer_to<'w, D: PackageFiles>(
 
 /// Writes what a command tells of its report, all at once.
 fn write_answer<W: Out>(alloc: Global, answer: Answer<'_>, out: &mut W) -> Outcome
-    ensures { WritesReport W.written W.faults out.old out.new
+    ensures wrote { WritesReport W.written W.faults out.old out.new
         (command_view answer.entry.command) answer.entry.report result }
+    ensures told { IfReported result (λ report.
+        All IsPlain (answer_told (command_view answer.entry.command) report)) }
 {
     match answer_lines(alloc, answer.command, &answer.report) {
         Ok(text) => match out.put(text.as_str().as_bytes()) {
@@ -268,6 +272,8 @@ fn ending_of<D: PackageFiles, W: Out>(
     ensures labels { IfReported result.outcome (λ report. AreLabelled report.files report.findings) }
     ensures policy { IsTextOfClashes (D.seen disk.old) (texts words.now) result.outcome result.policy.items }
     ensures out { LeavesOut W.written W.faults out.old out.new (asked_by (texts words.now)) result.outcome }
+    ensures told { IfReported result.outcome (λ report.
+        All IsPlain (told_for (asked_by (texts words.now)) report)) }
     ensures later { IsLater (D.seen disk.old) (D.seen disk.new) }
     ensures untouched { (crates : ℕ) → Asks (texts words.now) (generate crates) → disk.new ≡ disk.old }
 {
@@ -357,6 +363,9 @@ pub fn run<D: PackageFiles, W: Out, E: Out>(
     ensures bits { IfDone result.outcome (λ report. result.status ≡ failing_bits report.findings) }
 
     ensures out { LeavesOut W.written W.faults out.old out.new (asked_by (texts words.now)) result.outcome }
+    // What is written of a report is a value a line: split at its newlines it is the texts of what is told,
+    // and each of them is read again as this, by the grammar of JSON and by `serde_json`.
+    ensures json { IfReported result.outcome (TellsJson (texts words.now)) }
     ensures err { (policy : List ℕ) × IsTextOfClashes (D.seen disk.old) (texts words.now) result.outcome policy
         × LeavesErr E.written E.faults err.old err.new result.outcome policy }
     ensures later { IsLater (D.seen disk.old) (D.seen disk.new) }

@@ -1,9 +1,10 @@
 //! The line that tells why a run stopped.
-ghost use Rattle.std.specs.Prelude.{◌≡◌, ◌<◌, ◌^◌, ◌∷◌, [], IfOk, IsUtf8, codes, length, map};
+ghost use Rattle.std.specs.Prelude.{◌≡◌, ◌<◌, ◌^◌, ◌∷◌, [], All, IfOk, IsUtf8, OnOk, codes, length, map};
 ghost use Rattle.serde_json.specs.View.{view};
 ghost use Rattle.deny_cfg.specs.PolicyText.{policy_file};
 ghost use Rattle.deny_json.specs.Diagnostics.{diagnostic_value, tells};
-ghost use Rattle.deny_cli.specs.Stops.{IsTextOf, config_fields, fault_value, fault_detail, fault_fields, fault_word, file_word, invalid_fields, kind_word, memory_line, replacement_fields, stop_at_file, stop_fields, stop_line};
+ghost use Rattle.deny_json.specs.Reading.{AreJsonLines};
+ghost use Rattle.deny_cli.specs.Stops.{HasSpan, HasStopNumbers, IsTextOf, config_fields, fault_value, fault_detail, fault_fields, fault_word, file_word, invalid_fields, kind_word, memory_line, replacement_fields, stop_at_file, stop_line, stop_told};
 
 use crate::outcome::Outcome;
 use deny_base::{Diagnostic, Files, Which};
@@ -53,7 +54,8 @@ fn kind_word(kind: FaultKind) -> &'static str
 /// A fault of the policy as JSON.
 #[tactic(auto, unfolding(crate::specs::Stops::fault_value))]
 fn fault_value(alloc: Global, fault: &ConfigFault) -> Result<Value, AllocError>
-    ensures { IfOk result (λ value. view value ≡ fault_value fault.now) }
+    ensures value { IfOk result (λ value. view value ≡ fault_value fault.now) }
+    ensures fits { OnOk result (HasSpan fault.now) }
 {
     let key = fault.key.as_str();
     let kind = kind_word(fault.kind);
@@ -67,7 +69,8 @@ fn fault_value(alloc: Global, fault: &ConfigFault) -> Result<Value, AllocError>
 
 /// Faults of the policy as JSON, in their order.
 fn fault_values(alloc: Global, faults: &[ConfigFault]) -> Result<Vec<Value>, AllocError>
-    ensures { IfOk result (λ values. map view values.items ≡ map fault_value faults.now) }
+    ensures values { IfOk result (λ values. map view values.items ≡ map fault_value faults.now) }
+    ensures fit { OnOk result (All HasSpan faults.now) }
 {
     let mut values = Vec::new(alloc);
     for fault in faults {
@@ -78,7 +81,8 @@ fn fault_values(alloc: Global, faults: &[ConfigFault]) -> Result<Vec<Value>, All
 
 /// A stop that faults of the policy are the cause of, as JSON.
 fn config_value(alloc: Global, faults: &List<ConfigFault>) -> Result<Value, AllocError>
-    ensures { IfOk result (λ value. view value ≡ tells (codes "stop") (config_fields faults.now)) }
+    ensures value { IfOk result (λ value. view value ≡ tells (codes "stop") (config_fields faults.now)) }
+    ensures fit { OnOk result (All HasSpan faults.now) }
 {
     let faults = fault_values(alloc, faults.as_slice())?;
     json!(in alloc; {"fields": {"faults": faults, "stop": "config"}, "type": "stop"})
@@ -181,7 +185,8 @@ fn metadata_value(alloc: Global, fault: &MetadataFault) -> Result<Value, AllocEr
 /// A stop that a table of replacements is the cause of, as JSON: its first break, or 0 where there is
 /// none.
 fn replacement_value(alloc: Global, offset: usize) -> Result<Value, AllocError>
-    ensures { IfOk result (λ value. view value ≡ tells (codes "stop") (replacement_fields offset)) }
+    ensures value { IfOk result (λ value. view value ≡ tells (codes "stop") (replacement_fields offset)) }
+    ensures fits { offset < 2 ^ 64 }
 {
     json!(in alloc; {"fields": {"offset": offset, "stop": "replacement"}, "type": "stop"})
 }
@@ -190,8 +195,8 @@ fn replacement_value(alloc: Global, offset: usize) -> Result<Value, AllocError>
 /// none of a run that is done.
 fn stop_value(alloc: Global, outcome: &Outcome, policy: &[u8]) -> Result<Value, NoMemory>
     requires { IsTextOf outcome.now policy.now }
-    ensures { IfOk result (λ value. view value
-        ≡ tells (codes "stop") (stop_fields policy.now outcome.now)) }
+    ensures value { IfOk result (λ value. view value ≡ stop_told policy.now outcome.now) }
+    ensures fit { OnOk result (HasStopNumbers outcome.now) }
 {
     match outcome {
         Outcome::Usage(at) => {
@@ -208,11 +213,14 @@ fn stop_value(alloc: Global, outcome: &Outcome, policy: &[u8]) -> Result<Value, 
     }
 }
 
-/// The line that tells why a run stopped. Where entries of the policy clash, labels lie in its text.
-#[tactic(auto, unfolding(crate::specs::Stops::stop_line))]
+/// The line that tells why a run stopped, JSON of one value. Where entries of the policy clash, labels lie
+/// in its text.
+#[tactic(auto, unfolding(crate::specs::Stops::stop_line), using(crate::proofs::StopLemmas::json_stop))]
 pub fn stop_line(alloc: Global, outcome: &Outcome, policy: &[u8]) -> Result<Text, NoMemory>
     requires { IsTextOf outcome.now policy.now }
-    ensures { IfOk result (λ text. text ≡ stop_line policy.now outcome.now) }
+    ensures text { IfOk result (λ text. text ≡ stop_line policy.now outcome.now) }
+    ensures json { OnOk result
+        (AreJsonLines (stop_line policy.now outcome.now) (stop_told policy.now outcome.now ∷ [])) }
 {
     line(alloc, &stop_value(alloc, outcome, policy)?)
 }

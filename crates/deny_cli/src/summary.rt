@@ -1,9 +1,11 @@
 //! The line of a report on crates that were made, and what a command tells of a report.
-ghost use Rattle.std.specs.Prelude.{◌≡◌, filter, length, IfOk};
+ghost use Rattle.std.specs.Prelude.{◌≡◌, ◌<◌, ◌^◌, All, filter, length, IfOk, OnOk};
 ghost use Rattle.serde_json.specs.View.{view};
 ghost use Rattle.deny_gate.specs.Report.{has_error};
 ghost use Rattle.deny_cli.specs.Commands.{command_view};
 ghost use Rattle.deny_cli.specs.Summary.{answer_lines, report_summary, summary_line};
+ghost use Rattle.deny_cli.specs.Told.{answer_told};
+ghost use Rattle.deny_json.specs.Reading.{IsPlain};
 
 use crate::lines::{lines, verdict_word};
 use crate::words::Command;
@@ -25,7 +27,8 @@ fn has_error(finding: &Finding) -> bool
 
 /// How many findings have severity error.
 fn error_count(findings: &[Finding]) -> usize
-    ensures { result ≡ length (filter has_error findings.now) }
+    ensures count { result ≡ length (filter has_error findings.now) }
+    ensures fits { length (filter has_error findings.now) < 2 ^ 64 }
 {
     let mut errors = 0;
     for finding in findings {
@@ -38,14 +41,17 @@ fn error_count(findings: &[Finding]) -> usize
 
 /// How many crates a graph has.
 fn crate_count(krates: &Krates) -> usize
-    ensures { result ≡ length krates.now.crates }
+    ensures count { result ≡ length krates.now.crates }
+    ensures fits { length krates.now.crates < 2 ^ 64 }
 {
     krates.krates().len()
 }
 
 /// A report on so many crates that were made, as JSON.
+#[tactic(auto, using(crate::proofs::ToldLemmas::summary_plain))]
 fn report_summary(alloc: Global, made: u32, report: &Report) -> Result<Value, AllocError>
-    ensures { IfOk result (λ value. view value ≡ report_summary made report.now) }
+    ensures value { IfOk result (λ value. view value ≡ report_summary made report.now) }
+    ensures plain { OnOk result (IsPlain (report_summary made report.now)) }
 {
     let crates = crate_count(&report.krates);
     let dead = report.dead.len();
@@ -60,14 +66,17 @@ fn report_summary(alloc: Global, made: u32, report: &Report) -> Result<Value, Al
 /// The line of a report on so many crates that were made.
 #[tactic(auto, unfolding(crate::specs::Summary::summary_line))]
 fn summary_line(alloc: Global, made: u32, report: &Report) -> Result<Text, NoMemory>
-    ensures { IfOk result (λ text. text ≡ summary_line made report.now) }
+    ensures text { IfOk result (λ text. text ≡ summary_line made report.now) }
+    ensures plain { OnOk result (IsPlain (report_summary made report.now)) }
 {
     line(alloc, &report_summary(alloc, made, report)?)
 }
 
-/// What a command tells of a report: its lines, or one where the crates were made.
+/// What a command tells of a report: its lines, or one where the crates were made. All numbers in it have
+/// 64 bits.
 pub fn answer_lines(alloc: Global, command: Command<'_>, report: &Report) -> Result<Text, NoMemory>
-    ensures { IfOk result (λ text. text ≡ answer_lines (command_view command.entry) report.now) }
+    ensures text { IfOk result (λ text. text ≡ answer_lines (command_view command.entry) report.now) }
+    ensures plain { OnOk result (All IsPlain (answer_told (command_view command.entry) report.now)) }
 {
     match command {
         Command::Check(_) => lines(alloc, report),

@@ -1,7 +1,8 @@
 use Rattle.std.proofs.Common.{subst, List, ℕ}
 use Rattle.deny_cli.specs.Outputs.{LeavesErr}
-use Rattle.deny_cli.specs.Words.{texts}
+use Rattle.deny_cli.specs.Words.{asked_by, texts}
 use Rattle.deny_cli.proofs.CausesLemmas.{AnswerLaws, completes, dead_on, fails_by, headline_on, is_refused, is_text, not_written, refused_words, status_by}
+use Rattle.deny_cli.proofs.ToldLemmas.{json_reported}
 use Rattle.deny_cli.proofs.program.run.Goals as goal
 
 pub tell-requires : goal.tell-requires
@@ -53,6 +54,10 @@ returns-clause-bits g c =
     status_by (g.D.PackageFiles.seen c.args.disk.now) (texts c.args.words.now) c.ending_of-ending.result.outcome _
     c.status.ensures
     (headline_on c.headline.ensures _ _ _ c.ending_of-ending.result.outcome c.ending_of-ending.ensures.cause)
+
+pub returns-clause-json : goal.returns-clause-json
+returns-clause-json g c = json_reported (asked_by (texts c.args.words.now)) c.ending_of-ending.result.outcome
+    c.ending_of-ending.ensures.told
 
 pub returns-clause-err : goal.returns-clause-err
 returns-clause-err g c = (
