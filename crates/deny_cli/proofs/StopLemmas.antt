@@ -1,12 +1,11 @@
 -- The line of a stop is read as what it tells.
-use Rattle.std.proofs.Common.{◌<◌, ◌^◌, ℕ, List, [], ◌∷◌, arith, codes, get_or, length, map, refl, subst, sym}
+use Rattle.std.proofs.Common.{◌<◌, ◌^◌, ℕ, List, [], ◌∷◌, arith, get_or, length, refl}
 use Rattle.std.specs.Prelude.{All}
 use Rattle.std.proofs.lemmas.List.Elements.{All-cons, All-nil, All-weaker}
-use Rattle.serde_json.specs.Data.{Members}
 use Rattle.deny_base.specs.declared.files.File.{File}
 use Rattle.deny_base.specs.declared.finding.Diagnostic.{Diagnostic}
 use Rattle.deny_cfg.specs.PolicyText.{policy_file}
-use Rattle.deny_json.specs.Diagnostics.{diagnostic_value, tells}
+use Rattle.deny_json.specs.Diagnostics.{diagnostic_value}
 use Rattle.deny_json.specs.Reading.{AreJsonLines, AreShort, IsPlain, MembersArePlain}
 use Rattle.deny_json.proofs.PlainLemmas.{diagnostic_plain, each_told}
 use Rattle.deny_toml.specs.declared.error.ConfigFault.{ConfigFault}
