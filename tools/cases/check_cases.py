@@ -3,8 +3,8 @@
 
 The expected output comes from a reading of the rules that is written here anew: it shares nothing with the program
 that the cases try, and stands in tools/readings. The cases stand in build_cases, dead_cases, declaration_cases,
-feature_cases, licence_check_cases, manifest_cases, metadata_cases, package_cases, policy_cases, rule_cases, std_cases,
-tree_cases and workspace_cases.
+feature_cases, hostile_cases, licence_check_cases, manifest_cases, metadata_cases, package_cases, policy_cases,
+rule_cases, std_cases, tree_cases and workspace_cases.
 
     check_cases.py cases FOLDER                             writes the files stdin and stdout of crates/deny_cases
     check_cases.py files FOLDER CASE                        writes the files of a case, all of which are named from the
@@ -24,6 +24,7 @@ from case_parts import ALONE, DENY_X, WITH_X, case, is_free, manifest_of, with_m
 from dead_cases import dead_cases
 from feature_cases import feature_cases
 from declaration_cases import declaration_cases
+from hostile_cases import EACH, hostile_cases
 from licence_check_cases import licence_check_cases
 from manifest_cases import long_manifests, manifest_cases
 from readings import toml
@@ -155,10 +156,11 @@ def cases():
     subjects = (rule_cases, feature_cases, licence_check_cases, policy_cases, metadata_cases, std_cases)
     of_manifests = (manifest_cases, declaration_cases, workspace_cases)
     for part in (
-        words, outside, *subjects, tree_cases, dead_cases, *of_manifests, build_cases, package_cases, long_texts,
-        long_tables, long_manifests
+        words, outside, *subjects, tree_cases, dead_cases, *of_manifests, build_cases, package_cases, hostile_cases,
+        long_texts, long_tables, long_manifests
     ):
-        yield from map(with_manifests, filter(is_wanted, part()))
+        for one in filter(is_wanted, part()):
+            yield from in_turn(with_manifests(one))
 
 
 def is_wanted(case):
@@ -166,6 +168,27 @@ def is_wanted(case):
     if not case.pop("is_toml", False):
         return True
     return toml.reading(case["files"]["deny.toml"]) != "grammar"
+
+
+def in_turn(case):
+    """The case, or several of it: of a disk whose calls fail in turn, until none fails, or of an output that takes each
+    number of bytes until it takes all."""
+    numbers = [name for name in ("fail_call", "room", "err_room") if case.get(name) == EACH]
+    if not numbers:
+        yield case
+    for name in numbers:
+        for number in range(most(case, name) + 1):
+            yield dict(case, name="%s, %s %d" % (case["name"], name.replace("_", " "), number), **{name: number})
+
+
+def most(case, name):
+    """How many calls a case makes of its disk, or how many bytes it writes."""
+    whole = {key: value for key, value in case.items() if key != name}
+    disk = disk_of(whole)
+    written, status = run(case["words"], disk)
+    if name == "fail_call":
+        return disk.calls
+    return len((written if (status in DONE) == (name == "room") else stop_line("write")).encode())
 
 
 # ---- what a case has to print
@@ -320,6 +343,13 @@ def check_dead(case, answer):
         sys.exit("%s: dead at %s" % (answer["name"], starts))
 
 
+def check_failing(answer):
+    """Where one call fails, a run reads all but one file or folder, or stops at a text."""
+    unread = sum(value["type"] == "unread" for value in values_of(answer))
+    if answer["status"] not in (*DONE, 17) or unread > 1:
+        sys.exit("%s: %d are not read, and status %d" % (answer["name"], unread, answer["status"]))
+
+
 def place_of_label(fields):
     return fields["labels"][0]["line"], fields["labels"][0]["column"]
 
@@ -410,6 +440,8 @@ def write_cases(folder):
             check_by_hand(by_hand, one, answer)
             if answer["status"] in DONE:
                 check_dead(one, answer)
+            if "fail_call" in one:
+                check_failing(answer)
             stdin.write(compact(one) + "\n")
             stdout.write(compact(answer) + "\n")
 

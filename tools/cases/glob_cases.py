@@ -75,6 +75,11 @@ BAD = [
     "[^é-a]", "{[z-a]", "{" * 17, "😀{a,b", "{a,{b}", "{" * 16 + "}" * 17, "*.sh}", "[",
 ]
 
+# A glob of every form, cut at each character: each front of it is a glob or is none.
+WHOLE = "**/a?/**/{b,*c[!d-f\u00e9]{g,}}\\*[]-]\u00e9/**"
+CUT = [WHOLE[:size] for size in range(len(WHOLE) + 1)]
+CUT_PATHS = ["", "a", "ax", "ax/b", "y/ax/z/b", "ax/b*-\u00e9/q", "ax/xchg*]\u00e9/", "ax/b*-\u00e9", "a?/**"]
+
 
 def random_text(choice, pieces, most):
     return "".join(choice.choice(pieces) for _ in range(choice.randint(0, most)))
@@ -119,7 +124,7 @@ def check_by_hand():
 def lines():
     """The cases and the answers."""
     check_by_hand()
-    for globs, paths in SETS + [(BAD, ["a"])] + list(random_sets()) + list(random_words()):
+    for globs, paths in SETS + [(BAD, ["a"]), (CUT, CUT_PATHS)] + list(random_sets()) + list(random_words()):
         yield "set", "set"
         fitting = []
         for glob in globs:

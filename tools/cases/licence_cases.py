@@ -107,11 +107,15 @@ ODD = [
     " OR ".join(["(A)"] * 70),
 ]
 
+# An expression of every form, cut at each character.
+WHOLE = "((MIT OR\tZlib-1.0+)/ISC) AND GPL-2.0 WITH A-B-2.0 OR BSD_3"
+CUT = [WHOLE[:size] for size in range(len(WHOLE) + 1)]
+
 SHORT = ["A", "AND", "OR", "WITH", "(", ")", "/"]
 
 
 def cases():
-    texts = CRATES + ODD
+    texts = CRATES + ODD + CUT
     for length in range(1, 5):
         texts += [" ".join(tokens) for tokens in itertools.product(SHORT, repeat=length)]
     return texts

@@ -327,32 +327,6 @@ def failing_folders():
     )
 
 
-# ---- calls that fail, one by one
-
-
-def failing_calls():
-    """Each call of a run that fails in turn, over two members, their workspace and a package of which each path is
-    asked once: behind the last call nothing fails."""
-    members = declared_graph({"a": [asks("x")], "b": [asks("x")]}, members="a b")
-    for one in members["packages"]:
-        one["targets"] = [target("custom-build", "/r/x-1.0.0/build.rs")] if one["name"] == "x" else []
-    files = {"/w/Cargo.toml": "[workspace]\nmembers = ['a', 'b']\n"}
-    for name in "ab":
-        files["/w/%s/Cargo.toml" % name] = manifest_of(name) + "\n[dependencies]\nx = '1'\n"
-    in_x = {"a/b": "", "a/c": ELF, "build.rs": SOURCE, "s": "#!/bin/sh\n" + "x" * 300, "t": "#!" + "x" * 30, "z": PE}
-    files.update(in_package("x", in_x))
-    bypass = "bypass = [{ name = 'x', build-script = '%s', allow = [{ path = 'z', checksum = '%s' }] }]\n"
-    for name, policy in (
-        ("a right checksum", SCRIPTS + bypass % (sum_of(SOURCE), sum_of(PE))),
-        ("other checksums", SCRIPTS + bypass % (WRONG, WRONG)), ("no bypass", BUILD),
-        ("a script that is not allowed", BUILD + "allow-build-scripts = []\n"),
-        ("shared dependencies alone", ""),
-    ):
-        policy += "[bans.workspace-dependencies]\n"
-        for number in range(25):
-            yield build("package: call %d fails, %s" % (number, name), members, policy, others=files, fail_call=number)
-
-
 # ---- by chance
 
 
@@ -418,5 +392,5 @@ def by_chance():
 
 def package_cases():
     parts = (native, first_lines, extensions, classes, allowed_paths, folders, kept_by_git, failing, failing_folders)
-    for part in (*parts, failing_calls, by_chance):
+    for part in (*parts, by_chance):
         yield from part()

@@ -68,6 +68,15 @@ def agrees(text, answer):
     return isinstance(answer, dict) and same(plain(answer), value)
 
 
+def is_accepted(text):
+    """Whether tomllib accepts the text."""
+    try:
+        tomllib.loads(text)
+    except (tomllib.TOMLDecodeError, ValueError):
+        return False
+    return True
+
+
 # ---- the cases: a text and what it is
 
 def each(verdict, *texts):
@@ -351,10 +360,25 @@ WIDE = each(
     'a = { "é" = "ü", b.\'ʞ\' = 1 }\n',
 )
 
+# A text of every form, which ends at each byte but the first ones: what each front of it is, tomllib says.
+EVERY_FORM = (
+    "# \u00e9\r\n[ 'a'.\"\\u00e9\" . b-1 ]\nc.d = \"p\\t\\\"\"\ne = '\u20ac'\nf = \"\"\"\n\"q\" \\\n  r\"\"\"\ng = '''\n's''''\n"
+    "h = [ -1_0, +0x1F, 0o7, 0b1, # t\n 1.5e-3, -inf, nan, ]\n"
+    "i = { j = true , k.l = false }\nm = 1979-05-27T07:32:00.5-08:00\nn = 1979-05-27 07:32:00\no = 07:32:01\n[[p]]\nq = {}\n"
+)
+
+
+def fronts(text):
+    """Each front of the text, and what it is."""
+    return [(text[:size], "tree" if is_accepted(text[:size]) else "grammar") for size in range(3, len(text) + 1)]
+
+
+CUT = fronts(EVERY_FORM)
+
 # Three small ones, read by hand below.
 SMALL = each("clash", "a = 1\na = 2\n") + each("tree", "a.b = [1, 2]", "[a.b]\nc = 1\n[a]\n")
 
-GROUPS = [DOCUMENT, LINES, KEYS, STRINGS, INTEGERS, FLOATS, BOOLEANS, DATES, ARRAYS, INLINE_TABLES, HEADERS, LONG, CLASHES, WIDE, SMALL]
+GROUPS = [DOCUMENT, LINES, KEYS, STRINGS, INTEGERS, FLOATS, BOOLEANS, DATES, ARRAYS, INLINE_TABLES, HEADERS, LONG, CLASHES, WIDE, CUT, SMALL]
 
 # Answers worked out by hand.
 BY_HAND = {
