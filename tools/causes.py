@@ -1,10 +1,11 @@
 #!/usr/bin/env python3
-"""Looks up each clause that docs/CAUSES.md names.
+"""Looks up each clause and each must-fail edit that docs/CAUSES.md names.
 
-    tools/causes.py     prints a line for each reference that the source does not have, and how many there are
+    tools/causes.py     prints a line for each that the source does not have, and how many there are
 
-A reference is `crate::call`: `clause`, `clause` ..; the call is a function, or a method behind its type or trait. A clause
-is an `ensures` of the call, `·` one without a name, or what the implementation of a trait of std gives.
+A reference to a clause is `crate::call`: `clause`, `clause` ..; the call is a function, or a method behind its type or trait. A clause
+is an `ensures` of the call, `·` one without a name, or what the implementation of a trait of std gives. A reference to an
+edit is `crate/edit`.
 """
 
 import re
@@ -13,6 +14,7 @@ from pathlib import Path
 
 TOP = Path(__file__).resolve().parent.parent
 REFERENCE = re.compile(r"`(deny_\w+)::([\w:]+)`:((?:,? `[\w·]+`(?!:))+)")
+EDIT = re.compile(r"`(deny_\w+)/([\w-]+)`")
 OWNER = re.compile(r"^(?:pub(?:\(crate\))? )?(?:impl|trait)\b(.*)")
 FUNCTION = re.compile(r"^\s*(?:pub(?:\(crate\))? )?fn (\w+)")
 GIVEN = re.compile(r"^\s*ghost (\w+_gives)\b")
@@ -78,7 +80,11 @@ def main():
         owner, _, name = call.rpartition("::")
         if clause not in of_crate.get((owner or None, name), ()):
             missing.append("%s::%s has no clause %s" % (crate, call, clause))
-    print("\n".join(missing + ["%d clauses are named, %d are missing" % (len(references), len(missing))]))
+    edits = EDIT.findall(text)
+    paths = [TOP / "crates" / crate / "must-fail" / (edit + ".edit") for crate, edit in edits]
+    missing += ["there is no %s" % path.relative_to(TOP) for path in paths if not path.is_file()]
+    counts = len(references), len(edits), len(missing)
+    print("\n".join(missing + ["%d clauses and %d edits are named, %d are missing" % counts]))
     sys.exit(bool(missing))
 
 
