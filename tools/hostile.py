@@ -1,6 +1,6 @@
 #!/usr/bin/env python3
 """Says whether a program ends as it should where the machine is against it: outputs that take nothing, texts without an
-end, files that cannot be read, little memory.
+end, files that cannot be read or that change while they are read, little memory.
 
     tools/hostile.py PROGRAM     for each of these a line: that it ends as it should, or what it ended with
 
@@ -42,12 +42,12 @@ def drop_rights():
             os.setuid(NOBODY)
 
 
-def ended(words, folder, out=subprocess.PIPE, before=drop_rights):
+def ended(words, folder, out=subprocess.PIPE, before=drop_rights, given=()):
     """The status of a run, and what it wrote."""
     try:
         run = subprocess.run(
             words, cwd=folder, stdin=subprocess.DEVNULL, stdout=out, stderr=subprocess.PIPE, preexec_fn=before,
-            timeout=SECONDS,
+            timeout=SECONDS, env={**os.environ, **dict(given)},
         )
     except subprocess.TimeoutExpired:
         return "no end in %d seconds" % SECONDS
@@ -175,6 +175,44 @@ def piped(program):
         return got, stopped(17, '"file":"policy","stop":"read"')
 
 
+LONG = b"# a line of a text that comes in several pieces\n" * 4096
+
+
+def changed(program, library, file, **given):
+    """A run while which a file of several pieces grows, or vanishes; what is to come is known when it has ended."""
+    with tempfile.TemporaryDirectory() as folder:
+        copy = copied(folder)
+        path = os.path.join(copy, file)
+        with open(path, "rb") as old:
+            text = old.read()
+        with open(path, "wb") as new:
+            new.write(LONG + text if file.endswith(".toml") else text[:-1] + b" " * len(LONG) + text[-1:])
+        for one in copy, path:
+            os.chmod(one, 0o777)
+        named = file if file in WORDS else "./" + file # as the run names it
+        got = ended([program, *WORDS], copy, given={"LD_PRELOAD": library, "CHANGING": named, **given})
+        if file in WORDS and not os.path.exists(path):
+            return got, stopped(17, '"file":"%s","stop":"read"' % file.partition(".")[0].replace("deny", "policy"))
+        return got, reading(copy)
+
+
+def changing(program):
+    """Files that change while they are read, where there is a C compiler."""
+    if shutil.which("cc") is None:
+        return
+    with tempfile.TemporaryDirectory() as folder:
+        os.chmod(folder, 0o755)
+        library = os.path.join(folder, "changing.so")
+        source = os.path.join(TOP, "tools/changing.c")
+        subprocess.run(["cc", "-O2", "-shared", "-fPIC", "-o", library, source], check=True)
+        for file in "deny.toml", "metadata.json", "Cargo.toml":
+            yield "%s that vanishes" % file, changed(program, library, file)
+        yield "a policy that grows", changed(program, library, "deny.toml", GROWN="\n[bans.workspace-dependencies]\n")
+        yield "a policy that grows by a fault", changed(program, library, "deny.toml", GROWN="\nmore = 1\n")
+        yield "metadata that grow", changed(program, library, "metadata.json", GROWN="{")
+        yield "a manifest that grows", changed(program, library, "Cargo.toml", GROWN="[")
+
+
 SIZES = [7 * 2**20 + number * 2**19 for number in range(20)]  # bytes
 REAL = ["check", "real-deny.toml", "app-metadata.json"]
 
@@ -202,6 +240,7 @@ def situations(program):
         yield "zeros without an end as %s" % name, instead(program, 18, file, "long", "/dev/zero")
     for name, change in UNREADABLE.items():
         yield name, unreadable(program, change)
+    yield from changing(program)
     yield "little memory", limited(program)
 
 

@@ -78,7 +78,19 @@ def replacements():
     }
     found = names("c", 100)
     packages = [crate("app")] + [crate(name) for name in found]
-    return "[bans.std-replacements]\nscope = 'all'\n", metadata(packages), table({name: one for name in found})
+    return "[bans.std-replacements]\nscope = 'all'\n", metadata(packages), {"table": table({name: one for name in found})}
+
+
+def targets():
+    """A wildcard for a target of 100,000 levels, which a manifest writes with a blank more."""
+    name = names("a", 1)[0]
+    deep = "cfg(%sunix%s)" % ("not(" * 100000, ")" * 100000)
+    member = crate(name, source=None, manifest_path="w/Cargo.toml")
+    member["dependencies"] = [{"name": "x", "req": "*", "target": deep}]
+    value = metadata([member, crate("x")], root="w")
+    value["resolve"]["nodes"][0]["deps"] = [{"pkg": "x", "dep_kinds": [{"kind": None, "target": deep}]}]
+    manifest = "[target.'%s'.dependencies]\nx = '*'\n" % deep.replace("unix", " unix")
+    return "[bans]\nwildcards = 'deny'\n", value, {}, {"w/Cargo.toml": manifest.encode()}
 
 
 # Each text and its status; by hand how often its lines say something, and the letter and the number of the names in them.
@@ -90,6 +102,7 @@ SIZES = [
     (entries, 2, b'"code":"unused-wrapper"', 100000, b"w", 100000),
     (features, 2, b'"code":"feature-banned"', 10000, b"f", 10000),
     (replacements, 2, b'"code":"replaced-in-std"', 100, b"c", 100),
+    (targets, 2, b'"code":"wildcard"', 1, b"a", 1),
 ]
 
 
@@ -102,13 +115,16 @@ def run(words, folder):
 
 def answered(program, size, *wanted):
     """Whether a text is answered whole, or what was not so."""
-    policy, value, *tables = size()
+    policy, value, *more = size()
+    tables, others = (*more, {}, {})[:2]
+    named = {"deny.toml": policy.encode(), "metadata.json": json.dumps(value).encode(), **tables}
     with tempfile.TemporaryDirectory() as folder:
-        files = {"deny.toml": policy.encode(), "metadata.json": json.dumps(value).encode(), **dict(zip(["table"], tables))}
-        for name, text in files.items():
-            with open(os.path.join(folder, name), "wb") as file:
+        for name, text in {**named, **others}.items():
+            path = os.path.join(folder, name)
+            os.makedirs(os.path.dirname(path), exist_ok=True)
+            with open(path, "wb") as file:
                 file.write(text)
-        got, status = run([program, "check", *files], folder)
+        got, status = run([program, "check", *named], folder)
     _, word, _, letter, _ = wanted
     found = status, word, got.count(word), letter, len(set(re.findall(letter + rb"\d{6}", got)))
     return "answered whole" if found == wanted else "it says %d times %s, of %d names, with status %d" % (

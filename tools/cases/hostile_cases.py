@@ -55,6 +55,8 @@ def failing_calls():
     manifests.update({"/w/%s/Cargo.toml" % name: whole_member(name, "x") for name in "ab"})
     yield case("calls: two members", SHARED, two, files=manifests, fail_call=EACH)
     yield case("calls: a ban", DENY_X, WITH_X, fail_call=EACH)
+    for number in 2**32 - 1, 2**32, 2**64 - 1:
+        yield case("calls: number %d, which none has" % number, DENY_X, WITH_X, by_hand="banned x", fail_call=number)
     yield case("calls: a table", "[bans.std-replacements]\n", row_graph("app -> x"), WORKED, fail_call=EACH)
     yield from failing_packages()
 
