@@ -3,8 +3,8 @@ bytes, texts that end at each byte, and expressions that nest deep."""
 
 from build_cases import BUILD, ELF, GIT, PE, SCRIPT, SOURCE, sum_of
 from case_parts import (
-    DENY_X, PASSED, WITH_X, asks, built_graph, bytes_text, case, declared_graph, in_package, manifest_of, row_graph,
-    target,
+    DENY_X, PASSED, WITH_X, asks, built_graph, bytes_text, case, declared_graph, in_package, manifest_of, put,
+    row_graph, target,
 )
 from replacement_cases import WORKED
 
@@ -157,6 +157,31 @@ def expressions():
             yield of_target(name + ", and once more", deep, deep.replace("unix", "%s(unix)" % word), "")
 
 
+# ---- nestings, as deep as may be and one deeper
+
+
+def nestings():
+    """Values of the metadata of a package, which stand three levels down, of a policy, and globs of a bypass."""
+    nested = lambda levels, inner: inner if levels == 0 else nested(levels - 1, [inner])
+    for levels, by_hand in ((1, ""), (124, ""), (125, "metadata"), (126, "metadata")):
+        for name, inner in (("arrays", []), ("arrays and an object", {})):
+            value = put(row_graph("app"), ("packages", 0, "metadata"), nested(levels - 1, inner))
+            yield case("nested: %d %s in a package" % (levels, name), text=value, by_hand=by_hand)
+    for levels, by_hand in ((64, ""), (65, None)):
+        key = ".".join("a" * levels)
+        for name, text in (
+            ("arrays", "a = %s%s\n" % ("[" * levels, "]" * levels)), ("a key", key + " = 1\n"), ("a header", "[%s]\n" % key),
+            ("tables", "a = %s1%s\n" % ("{a=" * levels, "}" * levels)),
+        ):
+            more = {} if by_hand is None else {"by_hand": by_hand}
+            yield case("nested: %s of %d in a policy" % (name, levels), text, **more)
+    macro = built_graph("app -> x", x="proc-macro")
+    for levels, by_hand in ((1, "path-bypassed-by-glob a"), (16, "path-bypassed-by-glob a"), (17, "2:42")):
+        glob = "{" * levels + "a" + "}" * levels
+        policy = BUILD + "bypass = [{ crate = 'x', allow-globs = ['%s'] }]\n" % glob
+        yield case("nested: %d braces in a bypass" % levels, policy, macro, files=in_package("x", {"a": ELF}), by_hand=by_hand)
+
+
 def hostile_cases():
-    for part in (failing_calls, rooms, cuts, expressions):
+    for part in (failing_calls, rooms, cuts, expressions, nestings):
         yield from part()
