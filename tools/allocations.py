@@ -1,13 +1,13 @@
 #!/usr/bin/env python3
-"""Says whether a program ends as it should where memory is refused: each of its allocations in turn, alone, and together
-with all behind it.
+"""Says whether a program ends as it should where memory is refused: each of its allocations in turn, alone and with all
+behind it.
 
     tools/allocations.py PROGRAM     for each small run a line: that it ends as it should, or what it ended with
 
 PROGRAM is run with the words of `./deny`, over files that are made, and with tools/refused.c, which counts allocations.
 What is to come is known by the readings: the lines or the stop of a run to which nothing is refused; or want of memory,
-with its line and its status; or, of a stop, the line of want of memory with the status of the stop; or, where the system
-cannot even give the words, nothing, with status 28.
+with its line and its status; or, of a stop, the line of want of memory with the status of the stop; or, where the
+system cannot even give the words, nothing, with status 28.
 """
 
 import os
@@ -37,7 +37,8 @@ def cases():
     yield from (one for one in failing_calls() if one["name"].removeprefix("calls: ") in wanted)
     allowed = "[licenses]\nallow = ['Apache-2.0', 'Zlib']\nexceptions = [{ crate = 'x', allow = ['MIT'] }]\n"
     yield case("licences", allowed, licensed("app -> x", {"app": "Apache-2.0", "x": "MIT/ISC"}))
-    yield case("two versions", "[bans]\nmultiple-versions = 'deny'\nhighlight = 'all'\n", row_graph("app -> x, app -> x@2.0.0"))
+    several = "[bans]\nmultiple-versions = 'deny'\nhighlight = 'all'\n"
+    yield case("two versions", several, row_graph("app -> x, app -> x@2.0.0"))
     yield {"name": "made", "words": ["generate", "4"]}
     yield {"name": "no words", "words": []}
     yield case("faults", "[bans]\nmore = 1\nskip = [1]\n")

@@ -3,9 +3,9 @@
 
     tools/causes.py     prints a line for each that the source does not have, and how many there are
 
-A reference to a clause is `crate::call`: `clause`, `clause` ..; the call is a function, or a method behind its type or trait. A clause
-is an `ensures` of the call, `·` one without a name, or what the implementation of a trait of std gives. A reference to an
-edit is `crate/edit`.
+A reference to a clause is `crate::call`: `clause`, `clause` ..; the call is a function, or a method behind its type or
+trait. A clause is an `ensures` of the call, `·` one without a name, or what the implementation of a trait of std gives.
+A reference to an edit is `crate/edit`.
 """
 
 import re

@@ -67,7 +67,8 @@ def failing_packages():
                         sources={"y": GIT})
     files = {
         **in_package("x", {"build.rs": SOURCE, "a/b/c/d": ELF, "a/e": "", "f/g": SCRIPT}),
-        **in_package("y", {".git/a": ELF, "b/.git/c": ELF, "b/d": ""}), **in_package("z", {"build.rs": SOURCE, "h": ELF}),
+        **in_package("y", {".git/a": ELF, "b/.git/c": ELF, "b/d": ""}),
+        **in_package("z", {"build.rs": SOURCE, "h": ELF}),
     }
     bypass = "bypass = [{ name = 'x', allow-globs = ['a/**'] }, { name = 'z', build-script = '%s', allow = [" % WRONG
     policy = BUILD + "interpreted = 'deny'\n" + bypass + "{ path = 'h', checksum = '%s' }] }]\n" % sum_of(ELF)
@@ -170,16 +171,16 @@ def nestings():
     for levels, by_hand in ((64, ""), (65, None)):
         key = ".".join("a" * levels)
         for name, text in (
-            ("arrays", "a = %s%s\n" % ("[" * levels, "]" * levels)), ("a key", key + " = 1\n"), ("a header", "[%s]\n" % key),
-            ("tables", "a = %s1%s\n" % ("{a=" * levels, "}" * levels)),
+            ("arrays", "a = %s%s\n" % ("[" * levels, "]" * levels)), ("a key", key + " = 1\n"),
+            ("a header", "[%s]\n" % key), ("tables", "a = %s1%s\n" % ("{a=" * levels, "}" * levels)),
         ):
             more = {} if by_hand is None else {"by_hand": by_hand}
             yield case("nested: %s of %d in a policy" % (name, levels), text, **more)
-    macro = built_graph("app -> x", x="proc-macro")
+    macro, files = built_graph("app -> x", x="proc-macro"), in_package("x", {"a": ELF})
     for levels, by_hand in ((1, "path-bypassed-by-glob a"), (16, "path-bypassed-by-glob a"), (17, "2:42")):
         glob = "{" * levels + "a" + "}" * levels
         policy = BUILD + "bypass = [{ crate = 'x', allow-globs = ['%s'] }]\n" % glob
-        yield case("nested: %d braces in a bypass" % levels, policy, macro, files=in_package("x", {"a": ELF}), by_hand=by_hand)
+        yield case("nested: %d braces in a bypass" % levels, policy, macro, files=files, by_hand=by_hand)
 
 
 def hostile_cases():
