@@ -31,13 +31,25 @@ static void change(const char *path) {
     }
 }
 
+static int opened(int at, const char *path, int flags, int mode) {
+    if (changing && !strcmp(path, changing) && ++times == 2) {
+        change(path);
+    }
+    return syscall(SYS_openat, at, path, flags, mode);
+}
+
 int openat(int at, const char *path, int flags, ...) {
     va_list more;
     va_start(more, flags);
     int mode = va_arg(more, int);
     va_end(more);
-    if (changing && !strcmp(path, changing) && ++times == 2) {
-        change(path);
-    }
-    return syscall(SYS_openat, at, path, flags, mode);
+    return opened(at, path, flags, mode);
+}
+
+int open(const char *path, int flags, ...) {
+    va_list more;
+    va_start(more, flags);
+    int mode = va_arg(more, int);
+    va_end(more);
+    return opened(AT_FDCWD, path, flags, mode);
 }

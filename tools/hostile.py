@@ -189,8 +189,10 @@ def changed(program, library, file, **given):
             new.write(LONG + text if file.endswith(".toml") else text[:-1] + b" " * len(LONG) + text[-1:])
         for one in copy, path:
             os.chmod(one, 0o777)
-        named = file if file in WORDS else "./" + file # as the run names it
+        named, size = file if file in WORDS else "./" + file, os.path.getsize(path) # as the run names it
         got = ended([program, *WORDS], copy, given={"LD_PRELOAD": library, "CHANGING": named, **given})
+        if os.path.exists(path) and os.path.getsize(path) == size:
+            return "it did not change", got
         if file in WORDS and not os.path.exists(path):
             return got, stopped(17, '"file":"%s","stop":"read"' % file.partition(".")[0].replace("deny", "policy"))
         return got, reading(copy)
