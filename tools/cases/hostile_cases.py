@@ -168,13 +168,13 @@ def nestings():
         for name, inner in (("arrays", []), ("arrays and an object", {})):
             value = put(row_graph("app"), ("packages", 0, "metadata"), nested(levels - 1, inner))
             yield case("nested: %d %s in a package" % (levels, name), text=value, by_hand=by_hand)
-    for levels, by_hand in ((64, ""), (65, None)):
-        key = ".".join("a" * levels)
-        for name, text in (
-            ("arrays", "a = %s%s\n" % ("[" * levels, "]" * levels)), ("a key", key + " = 1\n"),
-            ("a header", "[%s]\n" % key), ("tables", "a = %s1%s\n" % ("{a=" * levels, "}" * levels)),
-        ):
-            more = {} if by_hand is None else {"by_hand": by_hand}
+    key = ".".join("a" * 64)
+    for name, text in ("a key", key + " = 1\n"), ("a header", "[%s]\n" % key):
+        yield case("nested: %s of 64 in a policy" % name, text, by_hand="")
+    for levels in 64, 65:
+        for name, front, behind in ("arrays", "[", "]"), ("tables", "{a=", "}"):
+            text = "a = %s1%s\n" % (front * levels, behind * levels)
+            more = {"by_hand": ""} if levels == 64 else {}
             yield case("nested: %s of %d in a policy" % (name, levels), text, **more)
     macro, files = built_graph("app -> x", x="proc-macro"), in_package("x", {"a": ELF})
     for levels, by_hand in ((1, "path-bypassed-by-glob a"), (16, "path-bypassed-by-glob a"), (17, "2:42")):
