@@ -4,7 +4,8 @@ use Rattle.std.specs.List.{position_or_len}
 use Rattle.std.specs.Str.{bytes_eq}
 use Rattle.std.specs.Cmp.{IsTotalOrder, nat_cmp_total, on_total}
 use Rattle.std.specs.FinMap.{IsAntisymmetric, nat_cmp-IsAntisymmetric}
-use Rattle.deny_base.specs.Code.{first_license, code_name, code_number, code_cmp, diagnostic_code_name, diagnostic_code_number, diagnostic_code_cmp}
+use Rattle.deny_base.specs.Code.{first_license, code_name, code_number, code_cmp, diagnostic_code_name}
+use Rattle.deny_base.specs.Code.{diagnostic_code_number, diagnostic_code_cmp}
 use Rattle.deny_base.specs.LicenseCode.{license_code_name, license_code_number, license_code_cmp}
 use Rattle.deny_base.specs.declared.code.Code.TheVariants as bans
 use Rattle.deny_base.specs.declared.code.DiagnosticCode.{DiagnosticCode}

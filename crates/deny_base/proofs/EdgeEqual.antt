@@ -22,10 +22,10 @@ pub kind_cmp-exact : IsAntisymmetric kind_cmp
 kind_cmp-exact a b e = sym (kind_at-number a)
     ∙ (ap kind_at (nat_cmp-IsAntisymmetric (kind_number a) (kind_number b) e) ∙ kind_at-number b)
 
-edge_from : ℕ → ℕ → DepKind → Edge
+unfoldable pub edge_from : ℕ → ℕ → DepKind → Edge
 edge_from parent child kind = record { parent = parent; child = child; kind = kind }
 
-edge_from-is : (e : Edge) → edge_from e.parent e.child e.kind ≡ e
+pub edge_from-is : (e : Edge) → edge_from e.parent e.child e.kind ≡ e
 unfolding edge_from
 edge_from-is e = refl
 

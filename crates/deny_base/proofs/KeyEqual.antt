@@ -18,7 +18,8 @@ use Rattle.deny_base.specs.declared.span.Span.{Span}
 
 -- what stands at a number of the order of declaration
 sections : List Section
-sections = section.Deprecated ∷ section.Crates ∷ section.Groups ∷ section.Workspace ∷ section.Unused ∷ section.Std ∷ section.Licenses ∷ section.LicensesUnused ∷ []
+sections = section.Deprecated ∷ section.Crates ∷ section.Groups ∷ section.Workspace ∷ section.Unused ∷ section.Std
+    ∷ section.Licenses ∷ section.LicensesUnused ∷ []
 
 section_at : ℕ → Section
 section_at n = slice_index_or sections n section.Deprecated

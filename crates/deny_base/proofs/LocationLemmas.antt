@@ -1,9 +1,13 @@
 -- Locations, counted by bytes and by characters.
-use Rattle.std.proofs.Common.{◌≡◌, ℕ, ◌||◌, ◌&&◌, ◌+◌, ◌-◌, ◌*◌, ◌/◌, ◌%◌, ◌<◌, ◌≤◌, Bool, true, false, cond, not, ltb, leb, List, [], ◌∷◌, ◌++◌, length, take, drop, reverse, get_or, Some, None, refl, inl, inr, sym, ap, ◌∙◌, arith, append_assoc, length-append, length-drop}
+use Rattle.std.proofs.Common.{◌≡◌, ℕ, ◌||◌, ◌&&◌, ◌+◌, ◌-◌, ◌*◌, ◌/◌, ◌%◌, ◌<◌, ◌≤◌, Bool, true, false, cond, not, ltb}
+use Rattle.std.proofs.Common.{leb, List, [], ◌∷◌, ◌++◌, length, take, drop, reverse, get_or, Some, None, refl, inl, inr}
+use Rattle.std.proofs.Common.{sym, ap, ◌∙◌, arith, append_assoc, length-append, length-drop}
 use Rattle.std.specs.List.{after_last, count_by, prefix_len, fold}
 use Rattle.std.specs.Str.{chars, IsUtf8, IsCharBoundary}
 use Rattle.std.proofs.lemmas.Bool.{ltb-true, ltb-false, lt-ltb, le-ltb, le-leb, lt-leb, ne_eqb, cases_lt}
-use Rattle.std.proofs.lemmas.List.{reverse-append, length-reverse, drop-append-le, take_more, get_or-take, get_or-drop, get_or_append_left, get_or_push, get_or_past, length-take, length-take-le, append-nil}
+use Rattle.std.proofs.lemmas.List.{reverse-append, length-reverse, drop-append-le, take_more, get_or-take, get_or-drop}
+use Rattle.std.proofs.lemmas.List.{get_or_append_left, get_or_push, get_or_past, length-take, length-take-le}
+use Rattle.std.proofs.lemmas.List.{append-nil}
 use Rattle.std.proofs.lemmas.List.Sums.{prefix_len-le-length, sum_by_push, count_by-le-length, fold-append}
 use Rattle.std.proofs.lemmas.Str.{IsUtf8-take, encodes-chars}
 use Rattle.std.proofs.Math.ListN.{drop_of_length-le}

@@ -1,5 +1,6 @@
 -- Files that labels point into, and the locations of offsets in their texts.
-use Rattle.std.specs.Prelude.{ℕ, ◌==◌, Bool, ◌&&◌, ◌||◌, nat_le, nat_lt, if◌then◌else◌, List, length, take, slice_index, slice_get, Option, Some, None}
+use Rattle.std.specs.Prelude.{ℕ, ◌==◌, Bool, ◌&&◌, ◌||◌, nat_le, nat_lt, if◌then◌else◌, List, length, take, slice_index}
+use Rattle.std.specs.Prelude.{slice_get, Option, Some, None}
 use Rattle.std.specs.List.{after_last, count_by}
 use Rattle.std.specs.Str.{chars}
 use Rattle.deny_base.specs.declared.files.File.{File}

@@ -1,5 +1,6 @@
 -- The hits of a policy, by the files of the crates that use a bypass.
-use Rattle.std.proofs.Common.{◌≡◌, ◌∙◌, ◌++◌, ◌∷◌, [], ℕ, Bool, true, false, List, Option, Some, None, option_map, refl, sym, ap}
+use Rattle.std.proofs.Common.{◌≡◌, ◌∙◌, ◌++◌, ◌∷◌, [], ℕ, Bool, true, false, List, Option, Some, None, option_map, refl}
+use Rattle.std.proofs.Common.{sym, ap}
 use Rattle.std.specs.Prelude.{◌&&◌, cond, filter_map, find, not, option_and_then}
 use Rattle.std.specs.List.{cons_option, flat_map, list_any}
 use Rattle.deny_base.specs.declared.entry.EntryKind.TheVariants as kind
@@ -10,8 +11,8 @@ use Rattle.deny_build_model.specs.Building.{AllowedPath, Bypass}
 use Rattle.deny_build_model.specs.declared.package.PackageFile.{PackageFile}
 use Rattle.deny_codes.specs.BuildScripts.{is_script_ok, is_walked, passes_by_script, uses}
 use Rattle.deny_codes.specs.PackageFiles.{hits_glob, hits_path, path_range}
-use Rattle.deny_codes.specs.Packages.{Looking, bypass_hit, bypass_hits_of, checks, file_hit, file_hit_at, glob_hit, if_hit, meets_file}
-use Rattle.deny_codes.specs.Packages.{package_of, path_hit, walks}
+use Rattle.deny_codes.specs.Packages.{Looking, bypass_hit, bypass_hits_of, checks, file_hit, file_hit_at, glob_hit}
+use Rattle.deny_codes.specs.Packages.{if_hit, meets_file, package_of, path_hit, walks}
 use Rattle.deny_lists.proofs.Agreement.{find_on, found_on, list_any_on}
 use Rattle.deny_lists.proofs.Filters.{find-flat_map, find-map}
 use Rattle.deny_model.specs.Graph.{Crate, kid_of}
@@ -23,7 +24,8 @@ use Rattle.deny_build.specs.private.Users.{is_user, met_at, met_in}
 use Rattle.deny_build.proofs.MetLemmas.{meets_glob_as, meets_path_as}
 use Rattle.deny_build.proofs.SetLemmas.{any-map}
 
-pub filter_map-flat : {X : Type 0} (f : X → Option Hit) (xs : List X) → flat_map (λ x. if_hit (f x)) xs ≡ filter_map f xs
+pub filter_map-flat : {X : Type 0} (f : X → Option Hit) (xs : List X)
+    → flat_map (λ x. if_hit (f x)) xs ≡ filter_map f xs
 filter_map-flat f [] = refl
 filter_map-flat f (x ∷ xs) = ap (λ hits. if_hit (f x) ++ hits) (filter_map-flat f xs) ∙ by_hit (f x) (filter_map f xs)
   where
@@ -36,7 +38,8 @@ walked_user : (checked rest user : Bool) → ((checked && rest) && (checked && u
 walked_user true rest user = refl
 walked_user false rest user = refl
 
-walks_and_uses : (l : Looking) (y : Bypass) (c : Crate) → (walks l c && is_user y (l, c)) ≡ (walks l c && uses l.building y c)
+walks_and_uses : (l : Looking) (y : Bypass) (c : Crate)
+    → (walks l c && is_user y (l, c)) ≡ (walks l c && uses l.building y c)
 unfolding is_walked
 walks_and_uses l y c = walked_user (checks l c)
     (is_script_ok l.building c && not (passes_by_script l.building (package_of l c) c)) (uses l.building y c)
@@ -56,7 +59,8 @@ module _ (l : Looking) (y : Bypass) (test : PackageFile → Bool) (p : MetFile �
           → list_any p (cond b (all_met (Some y) (kid_of c) (package_of l c).files) [])
           ≡ ((walks l c && uses l.building y c) && list_any test (package_of l c).files)
       by_test true is = any-map p (met_by (Some y) (kid_of c)) (package_of l c).files
-          ∙ (list_any_on (λ file. p (met_by (Some y) (kid_of c) file)) test (package_of l c).files (λ file _. agree (kid_of c) file)
+          ∙ (list_any_on (λ file. p (met_by (Some y) (kid_of c) file)) test (package_of l c).files
+          (λ file _. agree (kid_of c) file)
           ∙ ap (λ b. b && list_any test (package_of l c).files) (sym is))
       by_test false is = ap (λ b. b && list_any test (package_of l c).files) (sym is)
 
@@ -67,13 +71,15 @@ module _ (l : Looking) (y : Bypass) (test : PackageFile → Bool) (p : MetFile �
   hit_at_crate c some = by_test (walks l c && is_user y (l, c)) some
     where
       by_test : (b : Bool) → list_any p (cond b (all_met (Some y) (kid_of c) (package_of l c).files) []) ≡ true
-          → option_map (λ (m : MetFile). hit m.file.path m.kid) (find p (cond b (all_met (Some y) (kid_of c) (package_of l c).files) []))
+          → option_map (λ (m : MetFile). hit m.file.path m.kid)
+          (find p (cond b (all_met (Some y) (kid_of c) (package_of l c).files) []))
           ≡ option_map (λ (file : PackageFile). hit file.path (kid_of c)) (find test (package_of l c).files)
       by_test true some = ap (option_map (λ (m : MetFile). hit m.file.path m.kid))
           (find-map p (met_by (Some y) (kid_of c)) (package_of l c).files)
           ∙ (made (find (λ file. p (met_by (Some y) (kid_of c) file)) (package_of l c).files)
           ∙ ap (option_map (λ (file : PackageFile). hit file.path (kid_of c)))
-          (find_on (λ file. p (met_by (Some y) (kid_of c) file)) test (package_of l c).files (λ file _. agree (kid_of c) file)))
+          (find_on (λ file. p (met_by (Some y) (kid_of c) file)) test (package_of l c).files
+          (λ file _. agree (kid_of c) file)))
         where
           made : (o : Option PackageFile)
               → option_map (λ (m : MetFile). hit m.file.path m.kid) (option_map (met_by (Some y) (kid_of c)) o)
@@ -108,15 +114,19 @@ glob_hit_as l y w = file_hit_as l y (hits_glob y w) (meets_glob w.value)
 path_hits_as : (l : Looking) (y : Bypass) (paths : List AllowedPath)
     → flat_map (λ a. if_hit (path_hit_in (met_in l y) a)) paths ≡ filter_map (path_hit l y) paths
 path_hits_as l y [] = refl
-path_hits_as l y (a ∷ paths) = ap (λ hit. if_hit hit ++ flat_map (λ b. if_hit (path_hit_in (met_in l y) b)) paths) (path_hit_as l y a)
-    ∙ (ap (λ hits. if_hit (path_hit l y a) ++ hits) (path_hits_as l y paths ∙ sym (filter_map-flat (path_hit l y) paths))
+path_hits_as l y (a ∷ paths) =
+    ap (λ hit. if_hit hit ++ flat_map (λ b. if_hit (path_hit_in (met_in l y) b)) paths) (path_hit_as l y a)
+    ∙ (ap (λ hits. if_hit (path_hit l y a) ++ hits)
+    (path_hits_as l y paths ∙ sym (filter_map-flat (path_hit l y) paths))
     ∙ filter_map-flat (path_hit l y) (a ∷ paths))
 
 glob_hits_as : (l : Looking) (y : Bypass) (globs : List Words)
     → flat_map (λ w. if_hit (glob_hit_in (met_in l y) w)) globs ≡ filter_map (glob_hit l y) globs
 glob_hits_as l y [] = refl
-glob_hits_as l y (w ∷ globs) = ap (λ hit. if_hit hit ++ flat_map (λ v. if_hit (glob_hit_in (met_in l y) v)) globs) (glob_hit_as l y w)
-    ∙ (ap (λ hits. if_hit (glob_hit l y w) ++ hits) (glob_hits_as l y globs ∙ sym (filter_map-flat (glob_hit l y) globs))
+glob_hits_as l y (w ∷ globs) =
+    ap (λ hit. if_hit hit ++ flat_map (λ v. if_hit (glob_hit_in (met_in l y) v)) globs) (glob_hit_as l y w)
+    ∙ (ap (λ hits. if_hit (glob_hit l y w) ++ hits)
+    (glob_hits_as l y globs ∙ sym (filter_map-flat (glob_hit l y) globs))
     ∙ filter_map-flat (glob_hit l y) (w ∷ globs))
 
 -- the hits of a bypass, and those of its paths and its globs by the files that they meet

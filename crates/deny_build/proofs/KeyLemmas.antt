@@ -1,5 +1,6 @@
 -- The keys of a crate, by what the code finds of it.
-use Rattle.std.proofs.Common.{◌≡◌, ◌∙◌, ◌++◌, ◌∷◌, [], ℕ, suc, append_assoc, Bool, true, false, Bor, List, Option, Some, None, filter, is_some, length, map, not, refl, sym, ap, arith}
+use Rattle.std.proofs.Common.{◌≡◌, ◌∙◌, ◌++◌, ◌∷◌, [], ℕ, suc, append_assoc, Bool, true, false, Bor, List, Option, Some}
+use Rattle.std.proofs.Common.{None, filter, is_some, length, map, not, refl, sym, ap, arith}
 use Rattle.std.specs.Prelude.{nat_lt}
 use Rattle.std.specs.BTreeMap.{BTreeMap}
 use Rattle.std.specs.FinMap as finite
@@ -17,12 +18,12 @@ use Rattle.deny_build_model.specs.declared.package.PackageFile.{PackageFile}
 use Rattle.deny_build_model.specs.declared.package.Seen.{Seen}
 use Rattle.deny_codes.specs.BuildScripts.{bypass_range, required_unknown, used}
 use Rattle.deny_codes.specs.PackageFiles.{Class, ChecksumMatch, ChecksumMismatch, DeniedByExtension, DetectedExecutable}
-use Rattle.deny_codes.specs.PackageFiles.{DetectedExecutableScript, Harmless, PathBypassed, PathBypassedByGlob, UnableToCheckPath}
-use Rattle.deny_codes.specs.PackageFiles.{class_by, class_of, globs_of, hits_glob, hits_path, is_decided_by, path_of_used, path_range}
-use Rattle.deny_codes.specs.PackageFiles.{step_by, step_of}
-use Rattle.deny_codes.specs.Packages.{Looking, class_keys, deprecated_key, deprecated_keys, features_enabled_keys, file_keys, folder_key}
-use Rattle.deny_codes.specs.Packages.{package_of, path_key, right_script_keys, script_shown, unmatched_glob_keys, unmatched_keys}
-use Rattle.deny_codes.specs.Packages.{unmatched_path_keys, walked_keys}
+use Rattle.deny_codes.specs.PackageFiles.{DetectedExecutableScript, Harmless, PathBypassed, PathBypassedByGlob}
+use Rattle.deny_codes.specs.PackageFiles.{UnableToCheckPath, class_by, class_of, globs_of, hits_glob, hits_path}
+use Rattle.deny_codes.specs.PackageFiles.{is_decided_by, path_of_used, path_range, step_by, step_of}
+use Rattle.deny_codes.specs.Packages.{Looking, class_keys, deprecated_key, deprecated_keys, features_enabled_keys}
+use Rattle.deny_codes.specs.Packages.{file_keys, folder_key, package_of, path_key, right_script_keys, script_shown}
+use Rattle.deny_codes.specs.Packages.{unmatched_glob_keys, unmatched_keys, unmatched_path_keys, walked_keys}
 use Rattle.deny_lists.proofs.Agreement.{filter_on, flat_map_on, list_any_on}
 use Rattle.deny_lists.proofs.Filters.{find-any}
 use Rattle.deny_lists.specs.TextMap.{TextFinMap}
@@ -38,7 +39,8 @@ use Rattle.deny_build.proofs.SetLemmas.{any-map, decides_by}
 
 -- ---- the older key
 
-pub deprecated_some : (b : Building) (range : Span) → b.older_key ≡ Some range → deprecated_key range ∷ [] ≡ deprecated_keys b
+pub deprecated_some : (b : Building) (range : Span) → b.older_key ≡ Some range
+    → deprecated_key range ∷ [] ≡ deprecated_keys b
 unfolding deprecated_keys
 deprecated_some b range is = ap (λ o. option_map_or (λ (r : Span). deprecated_key r ∷ []) o []) (sym is)
 
@@ -48,9 +50,12 @@ deprecated_none b is = ap (λ o. option_map_or (λ (r : Span). deprecated_key r 
 
 -- ---- scripts
 
-pub right_are : (l : Looking) (c : Crate) (range : Span) (shown : List ℕ) (contents : Package) (words : List (Bor Words))
-    → shown ≡ script_shown contents → contents ≡ package_of l c → map (λ (w : Bor Words). w.now) words ≡ required_unknown l.building c
-    → path_key code.ChecksumMatch c.place range shown ∷ map (λ (w : Bor Words). crate_key code.UnknownFeature c.place w.now.span) words
+pub right_are : (l : Looking) (c : Crate) (range : Span) (shown : List ℕ) (contents : Package)
+    (words : List (Bor Words))
+    → shown ≡ script_shown contents → contents ≡ package_of l c
+    → map (λ (w : Bor Words). w.now) words ≡ required_unknown l.building c
+    → path_key code.ChecksumMatch c.place range shown ∷ map
+    (λ (w : Bor Words). crate_key code.UnknownFeature c.place w.now.span) words
     ≡ right_script_keys l c range
 unfolding right_script_keys
 right_are l c range shown contents words is same are =
@@ -62,7 +67,8 @@ right_are l c range shown contents words is same are =
 
 pub none_enabled : (place : ℕ) (first : Option Bypass) (y : Bypass) (enabled : List Words) → first ≡ Some y
     → nat_lt 0 (length enabled) ≡ false → [] ≡ features_enabled_keys place first enabled
-none_enabled place first y enabled is none = by_words enabled none ∙ ap (λ o. features_enabled_keys place o enabled) (sym is)
+none_enabled place first y enabled is none =
+    by_words enabled none ∙ ap (λ o. features_enabled_keys place o enabled) (sym is)
   where
     by_words : (ws : List Words) → nat_lt 0 (length ws) ≡ false → [] ≡ features_enabled_keys place (Some y) ws
     by_words [] none = refl
@@ -74,7 +80,8 @@ none_enabled place first y enabled is none = by_words enabled none ∙ ap (λ o.
 pub some_enabled : (place : ℕ) (first : Option Bypass) (y : Bypass) (enabled : List Words) → first ≡ Some y
     → nat_lt 0 (length enabled) ≡ true
     → crate_key code.FeaturesEnabled place (bypass_range y) ∷ [] ≡ features_enabled_keys place first enabled
-some_enabled place first y enabled is some = by_words enabled some ∙ ap (λ o. features_enabled_keys place o enabled) (sym is)
+some_enabled place first y enabled is some =
+    by_words enabled some ∙ ap (λ o. features_enabled_keys place o enabled) (sym is)
   where
     by_words : (ws : List Words) → nat_lt 0 (length ws) ≡ true
         → crate_key code.FeaturesEnabled place (bypass_range y) ∷ [] ≡ features_enabled_keys place (Some y) ws
@@ -86,7 +93,8 @@ some_enabled place first y enabled is some = by_words enabled some ∙ ap (λ o.
 
 -- ---- files
 
-told_as : (place : ℕ) (shown : List ℕ) (class : Class) → told_keys place shown (told_by class) ≡ class_keys place shown class
+told_as : (place : ℕ) (shown : List ℕ) (class : Class)
+    → told_keys place shown (told_by class) ≡ class_keys place shown class
 told_as place shown (PathBypassed range) = refl
 told_as place shown PathBypassedByGlob = refl
 told_as place shown (ChecksumMatch range) = refl
@@ -97,7 +105,8 @@ told_as place shown DetectedExecutable = refl
 told_as place shown DetectedExecutableScript = refl
 told_as place shown Harmless = refl
 
-module _ (l : Looking) (c : Crate) (first : Option Bypass) (is : first ≡ used l.building c) (own scripts : TextFinMap Bool)
+module _ (l : Looking) (c : Crate) (first : Option Bypass) (is : first ≡ used l.building c)
+    (own scripts : TextFinMap Bool)
     (owned : IsSetOf (own_texts first) own) (scripted : IsSetOf (script_texts l.building) scripts) where
   met_as : (kid : Kid) (file : PackageFile) → met_keys own scripts c.place (met_by first kid file) ≡ file_keys l c file
   unfolding met_keys met_by file_keys class_of step_of
@@ -114,14 +123,16 @@ module _ (l : Looking) (c : Crate) (first : Option Bypass) (is : first ≡ used 
   pub files_as : (kid : Kid) (files : List PackageFile)
       → flat_map (met_keys own scripts c.place) (all_met first kid files) ≡ flat_map (file_keys l c) files
   files_as kid files = flat_map-map (met_keys own scripts c.place) (met_by first kid) files
-      ∙ flat_map_on (λ file. met_keys own scripts c.place (met_by first kid file)) (file_keys l c) files (λ file _. met_as kid file)
+      ∙ flat_map_on (λ file. met_keys own scripts c.place (met_by first kid file)) (file_keys l c) files
+      (λ file _. met_as kid file)
 
 -- ---- what no file meets
 
 pub missed_paths_as : (contents : Package) (place : ℕ) (y : Bypass) (kid : Kid)
     → missed_path_keys place (all_met (Some y) kid contents.files) y.allow ≡ unmatched_path_keys contents place y
 unfolding missed_path_keys unmatched_path_keys
-missed_paths_as contents place y kid = ap (map (λ (a : AllowedPath). crate_key code.UnmatchedPathBypass place (path_range a)))
+missed_paths_as contents place y kid =
+    ap (map (λ (a : AllowedPath). crate_key code.UnmatchedPathBypass place (path_range a)))
     (filter_on (λ a. not (list_any (meets_path (path_range a)) (all_met (Some y) kid contents.files)))
     (λ a. not (list_any (hits_path y a) contents.files)) y.allow
     (λ a _. ap not (any-map (meets_path (path_range a)) (met_by (Some y) kid) contents.files
@@ -141,7 +152,8 @@ missed_globs_as contents place y kid = ap (map (λ (w : Words). crate_key code.U
 -- the globs at which no number stands are those that let no file pass
 pub missed_globs_by : (place : ℕ) (all : List MetFile) (firsts : TextFinMap ℕ) (globs : List Words)
     → ((text : List ℕ) → IsFirstAt (meets_glob text) all (finite.get firsts text))
-    → map (λ (w : Words). crate_key code.UnmatchedGlob place w.span) (filter (λ w. not (is_some (finite.get firsts w.value))) globs)
+    → map (λ (w : Words). crate_key code.UnmatchedGlob place w.span)
+    (filter (λ w. not (is_some (finite.get firsts w.value))) globs)
     ≡ missed_glob_keys place all globs
 unfolding missed_glob_keys
 missed_globs_by place all firsts globs first = ap (map (λ (w : Words). crate_key code.UnmatchedGlob place w.span))
@@ -155,8 +167,10 @@ pub missed_paths_by : (place : ℕ) (all : List MetFile) (firsts : BTreeMap Span
     → map (λ (a : AllowedPath). crate_key code.UnmatchedPathBypass place (path_range a))
     (filter (λ a. not (is_path_met firsts a)) paths) ≡ missed_path_keys place all paths
 unfolding missed_path_keys is_path_met
-missed_paths_by place all firsts paths first = ap (map (λ (a : AllowedPath). crate_key code.UnmatchedPathBypass place (path_range a)))
-    (filter_on (λ a. not (is_some (number_at firsts (path_range a)))) (λ a. not (list_any (meets_path (path_range a)) all)) paths
+missed_paths_by place all firsts paths first =
+    ap (map (λ (a : AllowedPath). crate_key code.UnmatchedPathBypass place (path_range a)))
+    (filter_on (λ a. not (is_some (number_at firsts (path_range a))))
+    (λ a. not (list_any (meets_path (path_range a)) all)) paths
     (λ a _. ap not (none_found (meets_path (path_range a)) all (number_at firsts (path_range a)) (first (path_range a))
     ∙ sym (find-any (meets_path (path_range a)) all))))
 
@@ -165,7 +179,8 @@ missed_as : (contents : Package) (place : ℕ) (kid : Kid) (first : Option Bypas
     ≡ option_map_or (λ y. unmatched_path_keys contents place y ++ unmatched_glob_keys contents place y) first []
 missed_as contents place kid None = refl
 missed_as contents place kid (Some y) =
-    ap (λ keys. keys ++ missed_glob_keys place (all_met (Some y) kid contents.files) y.globs) (missed_paths_as contents place y kid)
+    ap (λ keys. keys ++ missed_glob_keys place (all_met (Some y) kid contents.files) y.globs)
+    (missed_paths_as contents place y kid)
     ∙ ap (λ keys. unmatched_path_keys contents place y ++ keys) (missed_globs_as contents place y kid)
 
 -- ---- a crate that is walked
@@ -180,12 +195,15 @@ walked_by l c first own scripts kid is owned scripted =
     ap (λ keys. map (folder_key c.place) (package_of l c).unlisted
     ++ (keys ++ option_map_or (missed_keys c.place (all_met first kid (package_of l c).files)) first []))
     (files_as l c first is own scripts owned scripted kid (package_of l c).files)
-    ∙ ap (λ keys. map (folder_key c.place) (package_of l c).unlisted ++ (flat_map (file_keys l c) (package_of l c).files ++ keys))
+    ∙ ap (λ keys. map (folder_key c.place) (package_of l c).unlisted
+    ++ (flat_map (file_keys l c) (package_of l c).files ++ keys))
     (missed_as (package_of l c) c.place kid first
-    ∙ ap (λ o. option_map_or (λ y. unmatched_path_keys (package_of l c) c.place y ++ unmatched_glob_keys (package_of l c) c.place y) o [])
+    ∙ ap (λ o. option_map_or
+    (λ y. unmatched_path_keys (package_of l c) c.place y ++ unmatched_glob_keys (package_of l c) c.place y) o [])
     is)
 
-pub walked_are : (l : Looking) (c : Crate) (first : Option Bypass) (own scripts : TextFinMap Bool) (kid : Kid) (contents : Package)
+pub walked_are : (l : Looking) (c : Crate) (first : Option Bypass) (own scripts : TextFinMap Bool) (kid : Kid)
+    (contents : Package)
     (unlisted : List Seen) (files : List MetFile) → first ≡ used l.building c → IsSetOf (own_texts first) own
     → IsSetOf (script_texts l.building) scripts → contents ≡ package_of l c → unlisted ≡ contents.unlisted
     → files ≡ all_met first kid contents.files
@@ -194,11 +212,13 @@ pub walked_are : (l : Looking) (c : Crate) (first : Option Bypass) (own scripts 
 walked_are l c first own scripts kid contents unlisted files is owned scripted same folders met =
     ap (λ (us : List Seen). map (folder_key c.place) us ++ (flat_map (met_keys own scripts c.place) files
     ++ option_map_or (missed_keys c.place files) first [])) (folders ∙ ap (λ (p : Package). p.unlisted) same)
-    ∙ (ap (λ (ms : List MetFile). map (folder_key c.place) (package_of l c).unlisted ++ (flat_map (met_keys own scripts c.place) ms
+    ∙ (ap (λ (ms : List MetFile). map (folder_key c.place) (package_of l c).unlisted
+    ++ (flat_map (met_keys own scripts c.place) ms
     ++ option_map_or (missed_keys c.place ms) first [])) (met ∙ ap (λ (p : Package). all_met first kid p.files) same)
     ∙ walked_by l c first own scripts kid is owned scripted)
 
-pub joined : {T : Type 0} (a b d : List T) (all new mid last : List T) → mid ≡ all ++ a → last ≡ mid ++ b → new ≡ last ++ d
+pub joined : {T : Type 0} (a b d : List T) (all new mid last : List T) → mid ≡ all ++ a → last ≡ mid ++ b
+    → new ≡ last ++ d
     → new ≡ all ++ (a ++ (b ++ d))
 joined a b d all new mid last first second third =
     third ∙ (ap (λ ts. ts ++ d) (second ∙ ap (λ ts. ts ++ b) first)

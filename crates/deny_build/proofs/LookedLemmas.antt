@@ -1,5 +1,6 @@
 -- The crates of a graph as the code looks at them.
-use Rattle.std.proofs.Common.{◌≡◌, ◌∙◌, ◌++◌, ◌∷◌, [], ℕ, ◌<◌, Bool, true, false, Bor, List, Option, Some, None, get_or, length, map, option_map, refl, sym, ap}
+use Rattle.std.proofs.Common.{◌≡◌, ◌∙◌, ◌++◌, ◌∷◌, [], ℕ, ◌<◌, Bool, true, false, Bor, List, Option, Some, None, get_or}
+use Rattle.std.proofs.Common.{length, map, option_map, refl, sym, ap}
 use Rattle.std.specs.Prelude.{◌&&◌, cond, filter, find, nat_lt, slice_get}
 use Rattle.std.specs.List.{flat_map}
 use Rattle.std.specs.Option.{option_map_or}
@@ -32,12 +33,14 @@ is_first_of y first = option_map_or (λ (f : Bypass). same_span (bypass_range f)
 user_by : (l : Looking) (c : Crate) (y : Bypass) (first : Option Bypass) (checked : Bool) → checked ≡ checks l c
     → first ≡ used l.building c → (checked && is_first_of y first) ≡ is_user y (l, c)
 unfolding used uses
-user_by l c y first checked is same = ap (λ b. b && is_first_of y first) is ∙ ap (λ f. checks l c && is_first_of y f) same
+user_by l c y first checked is same =
+    ap (λ b. b && is_first_of y first) is ∙ ap (λ f. checks l c && is_first_of y f) same
 
 -- ---- the crates that use a bypass
 
 range_of_used : (checked : Bool) (first : Option (Bor ValidBypass)) (range : Span)
-    → option_map_or (λ own. same_span own range) (cond checked (option_map (λ (y : Bor ValidBypass). y.now.spec.name.span) first) None) false
+    → option_map_or (λ own. same_span own range)
+    (cond checked (option_map (λ (y : Bor ValidBypass). y.now.spec.name.span) first) None) false
     ≡ (checked && option_map_or (λ (f : Bypass). same_span (bypass_range f) range)
     (option_map (λ (y : Bor ValidBypass). bypass_view y.now) first) false)
 range_of_used true None range = refl
@@ -46,14 +49,16 @@ range_of_used false first range = refl
 
 uses_as : (at : Looked) (y : Bypass) → uses_range (bypass_range y) at ≡ is_user y (looked_view at)
 uses_as at y = range_of_used at.checked at.bypass (bypass_range y)
-    ∙ user_by (looking_at at) (krate_of at) y (option_map (λ (b : Bor ValidBypass). bypass_view b.now) at.bypass) at.checked
+    ∙ user_by (looking_at at) (krate_of at) y
+    (option_map (λ (b : Bor ValidBypass). bypass_view b.now) at.bypass) at.checked
     at.checks at.uses
 
 pub users_are : (l : Looking) (all : List Looked) (users : Users) → AreLooked l all
     → ((range : Span) → users_at users.groups range ≡ filter (uses_range range) all) → AreUsers l users
 users_are l all users are grouped y =
     ap (map looked_view) (grouped (bypass_range y))
-    ∙ (ap (map looked_view) (filter_on (uses_range (bypass_range y)) (λ at. is_user y (looked_view at)) all (λ at _. uses_as at y))
+    ∙ (ap (map looked_view) (filter_on (uses_range (bypass_range y)) (λ at. is_user y (looked_view at)) all
+    (λ at _. uses_as at y))
     ∙ (sym (filter-map (is_user y) looked_view all)
     ∙ (ap (filter (is_user y)) are ∙ filter-map (is_user y) (λ c. (l, c)) l.graph.crates)))
 
@@ -69,12 +74,14 @@ flat_filter {X} {Y} p f g (x ∷ xs) is = by_test (p x) refl (flat_filter p f g 
     by_test false fails rest = rest
         ∙ ap (λ ys. ys ++ flat_map g xs) (sym (is x ∙ ap (λ b. cond b (f x) []) fails))
 
-both_tests : (walked user : Bool) (files : List MetFile) → cond (walked && user) files [] ≡ cond user (cond walked files []) []
+both_tests : (walked user : Bool) (files : List MetFile)
+    → cond (walked && user) files [] ≡ cond user (cond walked files []) []
 both_tests true user files = refl
 both_tests false true files = refl
 both_tests false false files = refl
 
-walked_users : (l : Looking) (y : Bypass) (c : Crate) → met_at y (l, c) ≡ cond (is_user y (l, c)) (met_walked y (l, c)) []
+walked_users : (l : Looking) (y : Bypass) (c : Crate)
+    → met_at y (l, c) ≡ cond (is_user y (l, c)) (met_walked y (l, c)) []
 unfolding met_at met_walked
 walked_users l y c = both_tests (walks l c) (is_user y (l, c)) (all_met (Some y) (kid_of c) (package_of l c).files)
 
@@ -105,13 +112,15 @@ module _ (l : Looking) (users : Users) (are : AreUsers l users) (y : Bypass) whe
 
   pub met_users : (group : Option (List (Bor Looked)))
       → option_map_or (λ own. map (λ (u : Bor Looked). u.now) own) group [] ≡ users_at users.groups (bypass_range y)
-      → option_map_or (λ own. flat_map (met_walked y) (map (λ (u : Bor Looked). looked_view u.now) own)) group [] ≡ met_in l y
+      → option_map_or (λ own. flat_map (met_walked y) (map (λ (u : Bor Looked). looked_view u.now) own)) group []
+      ≡ met_in l y
   unfolding met_in
   met_users group same = by_group group
       ∙ (ap (λ (own : List Looked). flat_map (met_walked y) (map looked_view own)) same
       ∙ (ap (flat_map (met_walked y)) (are y)
       ∙ (flat_map-map (met_walked y) (λ c. (l, c)) (filter (λ c. is_user y (l, c)) l.graph.crates)
-      ∙ flat_filter (λ c. is_user y (l, c)) (λ c. met_walked y (l, c)) (λ c. met_at y (l, c)) l.graph.crates (walked_users l y))))
+      ∙ flat_filter (λ c. is_user y (l, c)) (λ c. met_walked y (l, c)) (λ c. met_at y (l, c)) l.graph.crates
+      (walked_users l y))))
     where
       by_group : (o : Option (List (Bor Looked)))
           → option_map_or (λ own. flat_map (met_walked y) (map (λ (u : Bor Looked). looked_view u.now) own)) o []

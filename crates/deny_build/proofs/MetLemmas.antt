@@ -1,11 +1,13 @@
 -- Files as the paths and the globs of a bypass speak of them: which is the first.
-use Rattle.std.proofs.Common.{◌≡◌, ◌∙◌, ◌++◌, ◌∷◌, [], ℕ, Bor, zero, suc, ◌+◌, ◌<◌, Bool, true, false, List, Option, Some, None, get_or, is_some, length, map, option_map, refl, subst, sym, take, ap, arith}
+use Rattle.std.proofs.Common.{◌≡◌, ◌∙◌, ◌++◌, ◌∷◌, [], ℕ, Bor, zero, suc, ◌+◌, ◌<◌, Bool, true, false, List, Option}
+use Rattle.std.proofs.Common.{Some, None, get_or, is_some, length, map, option_map, refl, subst, sym, take, ap, arith}
 use Rattle.std.specs.Prelude.{◌&&◌, cond, find, slice_get}
 use Rattle.std.specs.List.{list_any}
-use Rattle.std.specs.Option.{option_copied, option_map_or, option_or}
+use Rattle.std.specs.Option.{option_map_or, option_or}
 use Rattle.std.proofs.lemmas.List.{length-map, length-take-le, map-append, take_more}
 use Rattle.std.proofs.lemmas.List.Folds.{find-append}
-use Rattle.std.proofs.lemmas.Option.{none-some}
+use Rattle.deny_lists.proofs.Options.{option_or-none}
+use Rattle.deny_lists.proofs.Places.{slice_get-append_some, slice_get-push}
 use Rattle.deny_base.specs.declared.span.Kid.{Kid}
 use Rattle.deny_base.specs.declared.span.Span.{Span}
 use Rattle.deny_build_cfg.specs.BuildingView.{path_view}
@@ -19,20 +21,6 @@ use Rattle.deny_tables.specs.declared.bans.cfg.bypass.BypassPath.{BypassPath}
 use Rattle.deny_build.specs.declared.met.Met.{Met}
 use Rattle.deny_build.specs.private.Met.{IsFirstAt, MetFile, meets_glob, meets_path, met_by, met_view}
 
--- what is behind a reference, by its view
-pub behind : {X Y : Type 0} (v : X → Y) (r : Option (Bor X)) → option_map (λ (x : Bor X). v x.now) r ≡ option_map v (option_copied r)
-behind v None = refl
-behind v (Some x) = refl
-
-get_left : {X : Type 0} (xs ys : List X) (n : ℕ) (x : X) → slice_get xs n ≡ Some x → slice_get (xs ++ ys) n ≡ Some x
-get_left [] ys n x at = absurd (none-some x at)
-get_left (y ∷ xs) ys zero x at = at
-get_left (y ∷ xs) ys (suc n) x at = get_left xs ys n x at
-
-get_pushed : {X : Type 0} (xs : List X) (x : X) → slice_get (xs ++ x ∷ []) (length xs) ≡ Some x
-get_pushed [] x = refl
-get_pushed (y ∷ xs) x = get_pushed xs x
-
 -- one more file, whose number is put where there is none
 pub first_more : (test : MetFile → Bool) (xs : List MetFile) (x : MetFile) (got : Option ℕ) → IsFirstAt test xs got
     → IsFirstAt test (xs ++ x ∷ []) (option_or got (cond (test x) (Some (length xs)) None))
@@ -41,7 +29,7 @@ first_more test xs x None none = by_test (test x) refl
     by_test : (b : Bool) → test x ≡ b → IsFirstAt test (xs ++ x ∷ []) (cond b (Some (length xs)) None)
     by_test true passes = (
       x,
-      get_pushed xs x,
+      slice_get-push xs x,
       find-append test xs (x ∷ [])
           ∙ (ap (λ o. option_or o (cond (test x) (Some x) None)) none ∙ ap (λ b. cond b (Some x) None) passes),
     )
@@ -49,7 +37,7 @@ first_more test xs x None none = by_test (test x) refl
         ∙ (ap (λ o. option_or o (cond (test x) (Some x) None)) none ∙ ap (λ b. cond b (Some x) None) fails)
 first_more test xs x (Some n) first = (
   first.0,
-  get_left xs (x ∷ []) n first.0 first.1,
+  slice_get-append_some xs (x ∷ []) n first.0 first.1,
   find-append test xs (x ∷ [])
       ∙ ap (λ o. option_or o (cond (test x) (Some x) None)) first.2,
 )
@@ -67,7 +55,8 @@ none_found test xs (Some n) first = ap is_some (sym first.2)
 -- a loop over files comes to one more
 pub firsts_more : (all : List Met) (n : ℕ) (m : Met) (test : MetFile → Bool) (got new : Option ℕ) → n < length all
     → m ≡ get_or all n m → IsFirstAt test (map met_view (take n all)) got
-    → new ≡ option_or got (cond (test (met_view m)) (Some n) None) → IsFirstAt test (map met_view (take (n + 1) all)) new
+    → new ≡ option_or got (cond (test (met_view m)) (Some n) None)
+    → IsFirstAt test (map met_view (take (n + 1) all)) new
 firsts_more all n m test got new inside is before added =
     let taken : length (map met_view (take n all)) ≡ n = length-map (take n all) met_view
     ∙ length-take-le n all (omega arith) in
@@ -85,22 +74,20 @@ unfolding meets_glob is_decided_by
 glob_met m glob globs are leaves =
     ap (list_any (same_text glob)) are ∙ ap (λ b. b && list_any (same_text glob) m.file.globs) (sym leaves)
 
-nothing_new : (got : Option ℕ) → got ≡ option_or got None
-nothing_new None = refl
-nothing_new (Some n) = refl
-
 -- a file of which this path speaks, or none
 pub path_met : (range : Span) (m : Met) (path : Bor BypassPath) → m.path ≡ Some path
     → same_span path.now.path.span range ≡ meets_path range (met_view m)
 unfolding meets_path
-path_met range m path is = ap (λ (o : Option (Bor BypassPath)). option_map_or (λ (a : AllowedPath). same_span (path_range a) range)
+path_met range m path is =
+    ap (λ (o : Option (Bor BypassPath)). option_map_or (λ (a : AllowedPath). same_span (path_range a) range)
     (option_map (λ (a : Bor BypassPath). path_view a.now) o) false) (sym is)
 
 pub no_path_met : (range : Span) (m : Met) (got : Option ℕ) (number : ℕ) → m.path ≡ None
     → got ≡ option_or got (cond (meets_path range (met_view m)) (Some number) None)
 unfolding meets_path
-no_path_met range m got number is = nothing_new got
-    ∙ ap (λ (o : Option (Bor BypassPath)). option_or got (cond (option_map_or (λ (a : AllowedPath). same_span (path_range a) range)
+no_path_met range m got number is = option_or-none got
+    ∙ ap (λ (o : Option (Bor BypassPath)). option_or got
+    (cond (option_map_or (λ (a : AllowedPath). same_span (path_range a) range)
     (option_map (λ (a : Bor BypassPath). path_view a.now) o) false) (Some number) None)) (sym is)
 
 -- ---- the files of a package

@@ -1,8 +1,9 @@
 -- Sets of texts, and maps from texts to the first that has them.
-use Rattle.std.proofs.Common.{◌≡◌, ◌∙◌, ◌++◌, ◌∷◌, [], ℕ, ◌+◌, ◌<◌, ◌≤◌, Bool, true, false, List, Option, Some, None, get_or, is_some, length, map, refl, subst, sym, take, ap}
+use Rattle.std.proofs.Common.{◌≡◌, ◌∙◌, ◌++◌, ◌∷◌, [], ℕ, ◌+◌, ◌<◌, ◌≤◌, Bool, true, false, List, Option, Some, None}
+use Rattle.std.proofs.Common.{get_or, is_some, length, map, refl, subst, sym, take, ap}
 use Rattle.std.specs.Prelude.{◌||◌, cond}
 use Rattle.std.specs.FinMap as finite
-use Rattle.std.specs.Cmp.Lexicographic.{bytes_decides, nat_list_cmp_total, slice_cmp, texts_ties}
+use Rattle.std.specs.Cmp.Lexicographic.{bytes_decides, slice_cmp}
 use Rattle.std.specs.List.{list_any}
 use Rattle.std.specs.Option.{option_or}
 use Rattle.std.specs.Ordering.{nat_cmp}
@@ -10,41 +11,20 @@ use Rattle.std.proofs.lemmas.List.{map-append, take_all, take_more}
 use Rattle.std.proofs.lemmas.List.Folds.{list_any-append}
 use Rattle.deny_lists.proofs.Filters.{none_or, some_or}
 use Rattle.deny_lists.proofs.Agreement.{list_any_on}
-use Rattle.deny_lists.proofs.Booleans.{tests_agree}
+use Rattle.deny_lists.proofs.Booleans.{tests_agree, or-false}
 use Rattle.deny_lists.proofs.Members.{any_from, any_passes}
 use Rattle.deny_lists.specs.TextMap.{TextFinMap}
+use Rattle.deny_lists.proofs.Options.{option_or-none}
 use Rattle.deny_build_model.specs.declared.package.PackageFile.{PackageFile}
 use Rattle.deny_codes.specs.PackageFiles.{is_decided_by}
 use Rattle.deny_model.specs.Text.{same_text}
+use Rattle.deny_model.proofs.Texts.{one_text_more}
 use Rattle.deny_build.specs.private.Globs.{IsSetOf, decides}
-
-pub inserted : {V : Type 0} (m : TextFinMap V) (key : List ℕ) (value : V) (other : List ℕ)
-    → finite.get (finite.insert m key value) other ≡ cond (same_text other key) (Some value) (finite.get m other)
-inserted m key value other = finite.get-insert nat_list_cmp_total m key value other
-    ∙ ap (λ b. cond b (Some value) (finite.get m other)) (sym (texts_ties other key))
 
 pub nothing_at : {V : Type 0} (text : List ℕ) → finite.get (finite.empty {X = V} {R = slice_cmp nat_cmp}) text ≡ None
 nothing_at text = finite.get-empty (slice_cmp nat_cmp) text
 
 -- ---- sets
-
-pub no_texts : IsSetOf [] finite.empty
-no_texts = record { each = λ text. ap is_some (nothing_at text) }
-
-pub one_text_more : (texts : List (List ℕ)) (set : TextFinMap Bool) (text : List ℕ) (value : Bool) → IsSetOf texts set
-    → IsSetOf (texts ++ text ∷ []) (finite.insert set text value)
-one_text_more texts set text value before = record {
-  each = λ other. ap is_some (inserted set text value other)
-      ∙ (or_got (same_text other text) (finite.get set other)
-      ∙ (ap (λ b. b || (same_text other text || false)) (before.each other)
-      ∙ sym (list_any-append (same_text other) texts (text ∷ []))));
-}
-  where
-    or_got : (b : Bool) (got : Option Bool) → is_some (cond b (Some value) got) ≡ (is_some got || (b || false))
-    or_got true None = refl
-    or_got true (Some v) = refl
-    or_got false None = refl
-    or_got false (Some v) = refl
 
 -- ---- which of two lists has one of the other
 
@@ -64,7 +44,8 @@ pub any_swapped : (xs ys : List (List ℕ)) → list_any (λ x. list_any (same_t
 any_swapped xs ys = tests_agree (list_any (λ (x : List ℕ). list_any (same_text x) ys) xs)
     (list_any (λ (y : List ℕ). list_any (same_text y) xs) ys) (any_both xs ys) (any_both ys xs)
 
-pub any-map : {X Y : Type 0} (p : Y → Bool) (f : X → Y) (xs : List X) → list_any p (map f xs) ≡ list_any (λ x. p (f x)) xs
+pub any-map : {X Y : Type 0} (p : Y → Bool) (f : X → Y) (xs : List X)
+    → list_any p (map f xs) ≡ list_any (λ x. p (f x)) xs
 any-map p f [] = refl
 any-map p f (x ∷ xs) = ap (λ b. p (f x) || b) (any-map p f xs)
 
@@ -73,7 +54,8 @@ pub decides_by : {X : Type 0} (text_of : X → List ℕ) (globs : List X) (set :
     → IsSetOf (map text_of globs) set → decides set file ≡ list_any (λ x. is_decided_by file (text_of x)) globs
 unfolding is_decided_by
 decides_by {X} text_of globs set file of =
-    list_any_on (λ glob. is_some (finite.get set glob)) (λ glob. list_any (same_text glob) (map text_of globs)) file.globs
+    list_any_on (λ glob. is_some (finite.get set glob))
+    (λ glob. list_any (same_text glob) (map text_of globs)) file.globs
     (λ glob _. of.each glob)
     ∙ (any_swapped file.globs (map text_of globs)
     ∙ any-map (λ (text : List ℕ). list_any (same_text text) file.globs) text_of globs)
@@ -90,15 +72,12 @@ one_text_taken {X} text_of xs x i set text inside is same before =
     (one_text_more (map text_of (take i xs)) set text true before)
 
 pub all_texts_taken : {X : Type 0} (text_of : X → List ℕ) (xs : List X) (i : ℕ) (set : TextFinMap Bool)
-    (texts : List (List ℕ)) → length xs ≤ i → map text_of xs ≡ texts → IsSetOf (map text_of (take i xs)) set → IsSetOf texts set
+    (texts : List (List ℕ)) → length xs ≤ i → map text_of xs ≡ texts → IsSetOf (map text_of (take i xs)) set
+    → IsSetOf texts set
 all_texts_taken text_of xs i set texts past are before =
     subst (λ (ts : List (List ℕ)). IsSetOf ts set) (ap (map text_of) (take_all i xs past) ∙ are) before
 
 -- ---- what is put only where there is nothing
-
-or_nothing : (o : Option ℕ) → o ≡ option_or o None
-or_nothing None = refl
-or_nothing (Some n) = refl
 
 pub kept_at : (firsts : TextFinMap ℕ) (glob text : List ℕ) (n : ℕ) → is_some (finite.get firsts glob) ≡ true
     → finite.get firsts text ≡ option_or (finite.get firsts text) (cond (same_text text glob) (Some n) None)
@@ -108,7 +87,7 @@ kept_at firsts glob text n there = by_test (same_text text glob) refl
         → finite.get firsts text ≡ option_or (finite.get firsts text) (cond b (Some n) None)
     by_test true same = sym (some_or (finite.get firsts text) (Some n)
         (ap (λ t. is_some (finite.get firsts t)) ((bytes_decides text glob).0 same) ∙ there))
-    by_test false differs = or_nothing (finite.get firsts text)
+    by_test false differs = option_or-none (finite.get firsts text)
 
 pub put_at : (firsts : TextFinMap ℕ) (glob text : List ℕ) (n : ℕ) → is_some (finite.get firsts glob) ≡ false
     → cond (same_text text glob) (Some n) (finite.get firsts text)
@@ -119,17 +98,13 @@ put_at firsts glob text n none = by_test (same_text text glob) refl
         ≡ option_or (finite.get firsts text) (cond b (Some n) None)
     by_test true same = sym (none_or (finite.get firsts text) (Some n)
         (ap (λ t. is_some (finite.get firsts t)) ((bytes_decides text glob).0 same) ∙ none))
-    by_test false differs = or_nothing (finite.get firsts text)
-
-or_false : (b : Bool) → (b || false) ≡ b
-or_false true = refl
-or_false false = refl
+    by_test false differs = option_or-none (finite.get firsts text)
 
 any_more : {X : Type 0} (p : X → Bool) (xs : List X) (x : X) (i : ℕ) → i < length xs → x ≡ get_or xs i x
     → list_any p (take (i + 1) xs) ≡ (list_any p (take i xs) || p x)
 any_more {X} p xs x i inside is =
     ap (list_any p) (take_more xs i x inside ∙ ap (λ (y : X). take i xs ++ y ∷ []) (sym is))
-    ∙ (list_any-append p (take i xs) (x ∷ []) ∙ ap (λ b. list_any p (take i xs) || b) (or_false (p x)))
+    ∙ (list_any-append p (take i xs) (x ∷ []) ∙ ap (λ b. list_any p (take i xs) || b) (or-false (p x)))
 
 noted : (got : Option ℕ) (before here : Bool) (n : ℕ)
     → option_or (option_or got (cond before (Some n) None)) (cond here (Some n) None)

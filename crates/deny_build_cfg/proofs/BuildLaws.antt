@@ -2,6 +2,7 @@
 use Rattle.std.proofs.Common.{◌≡◌, ◌++◌, ℕ, List, [], ◌∷◌, length, refl, sym, subst, ap}
 use Rattle.std.specs.Prelude.{suc}
 use Rattle.std.specs.List.{AllZip}
+use Rattle.deny_lists.proofs.Members.{zip_push}
 use Rattle.deny_globs.proofs.Once.{no_fault}
 use Rattle.deny_globs.specs.Faults.{IsBadAt}
 use Rattle.deny_globs.specs.Patterns.{Pattern, tokens_of}
@@ -9,17 +10,10 @@ use Rattle.deny_build_cfg.specs.Globs.{AreGlobsOf, IsGlobOf}
 use Rattle.deny_build_cfg.specs.Globs.AreGlobsOf.{none, one_more, left_out}
 use Rattle.deny_build_cfg.specs.declared.pattern.GlobPattern.{GlobPattern}
 
-zip_more : {A B : Type 0} (R : A → B → Type 0) (xs : List A) (ys : List B) (x : A) (y : B) → AllZip R xs ys → R x y
-    → AllZip R (xs ++ x ∷ []) (ys ++ y ∷ [])
-zip_more R [] [] x y all is = (is, tt)
-zip_more R [] (b ∷ ys) x y all is = absurd all
-zip_more R (a ∷ xs) [] x y all is = absurd all
-zip_more R (a ∷ xs) (b ∷ ys) x y all is = (all.0, zip_more R xs ys x y all.1 is)
-
 -- one more was made, and put behind the others
 pub zip_next : {A B : Type 0} (R : A → B → Type 0) (xs : List A) (ys : List B) (x : A) (y : B) (new : List B)
     → AllZip R xs ys → R x y → new ≡ ys ++ y ∷ [] → AllZip R (xs ++ x ∷ []) new
-zip_next R xs ys x y new all is put = subst (AllZip R (xs ++ x ∷ [])) (sym put) (zip_more R xs ys x y all is)
+zip_next R xs ys x y new all is put = subst (AllZip R (xs ++ x ∷ [])) (sym put) (zip_push R xs ys x y all is)
 
 -- each pattern has a glob
 pub as_many : (text_of : GlobPattern → List ℕ) (wanted patterns : List GlobPattern) (globs : List Pattern)

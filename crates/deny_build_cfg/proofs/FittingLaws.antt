@@ -1,5 +1,6 @@
 -- The patterns of numbers, one after another.
-use Rattle.std.proofs.Common.{◌≡◌, ◌++◌, ◌+◌, ◌<◌, ℕ, List, [], ◌∷◌, Option, None, Some, drop, get_or, length, sym, ap, ◌∙◌}
+use Rattle.std.proofs.Common.{◌≡◌, ◌++◌, ◌+◌, ◌<◌, ℕ, List, [], ◌∷◌, Option, None, Some, drop, get_or, length, sym, ap}
+use Rattle.std.proofs.Common.{◌∙◌}
 use Rattle.std.specs.Prelude.{filter_map}
 use Rattle.std.specs.List.{cons_option}
 use Rattle.std.proofs.lemmas.List.{drop_more}
@@ -11,7 +12,8 @@ first_given f x None rest is = ap (λ p. cons_option p (filter_map f rest)) is
 first_given f x (Some y) rest is = ap (λ p. cons_option p (filter_map f rest)) is
 
 -- what one more of them gives was put behind what the others gave
-pub given_next : {X Y : Type 0} (f : X → Option Y) (xs : List X) (i : ℕ) (x default : X) (o : Option Y) (old new whole : List Y)
+pub given_next : {X Y : Type 0} (f : X → Option Y) (xs : List X) (i : ℕ) (x default : X) (o : Option Y)
+    (old new whole : List Y)
     → i < length xs → x ≡ get_or xs i default → f x ≡ o → new ≡ old ++ cons_option o []
     → old ++ filter_map f (drop i xs) ≡ whole → new ++ filter_map f (drop (i + 1) xs) ≡ whole
 given_next f xs i x default o old new whole inside is gives =

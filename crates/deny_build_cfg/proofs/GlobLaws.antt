@@ -1,5 +1,6 @@
 -- How globs are gathered, one after another.
-use Rattle.std.proofs.Common.{◌≡◌, ◌++◌, ◌+◌, ◌<◌, ◌≤◌, ℕ, List, [], ◌∷◌, append_assoc, ap, get_or, length, map, sym, subst, take, ◌∙◌}
+use Rattle.std.proofs.Common.{◌≡◌, ◌++◌, ◌+◌, ◌<◌, ◌≤◌, ℕ, List, [], ◌∷◌, append_assoc, ap, get_or, length, map, sym}
+use Rattle.std.proofs.Common.{subst, take, ◌∙◌}
 use Rattle.std.proofs.lemmas.List.{map-append, take_all, take_more}
 use Rattle.deny_globs.specs.Faults.{IsBadAt}
 use Rattle.deny_globs.specs.Patterns.{Pattern}

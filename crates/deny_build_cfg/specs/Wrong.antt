@@ -1,5 +1,6 @@
 -- What is wrong in a table `build`: extensions, paths and globs.
-use Rattle.std.specs.Prelude.{◌≡◌, ◌+◌, ◌-◌, ◌++◌, ◌&&◌, ◌==◌, ◌⊎◌, ℕ, Bool, false, not, List, [], ◌∷◌, Option, None, Some, Contains, drop, filter_map, length, nat_le, option_map, take, if◌then◌else◌}
+use Rattle.std.specs.Prelude.{◌≡◌, ◌+◌, ◌-◌, ◌++◌, ◌&&◌, ◌==◌, ◌⊎◌, ℕ, Bool, false, not, List, [], ◌∷◌, Option, None}
+use Rattle.std.specs.Prelude.{Some, Contains, drop, filter_map, length, nat_le, option_map, take, if◌then◌else◌}
 use Rattle.std.specs.Char.{is_ascii, is_ascii_alphanumeric}
 use Rattle.std.specs.List.{flat_map, list_all, position}
 use Rattle.deny_base.specs.declared.span.Span.{Span}
@@ -83,4 +84,5 @@ IsGlobFault bypass found = IsOfAny IsGlobFaultOf (listed bypass.allow_globs) fou
 
 -- this is wrong in a table that stands in the text
 abbrev pub IsWrong : List ℕ → BuildConfig → BuildFault → Type 0
-IsWrong source build found = Contains (faults_by_text source build) found ⊎ IsOfAny IsGlobFault (listed build.bypass) found
+IsWrong source build found =
+    Contains (faults_by_text source build) found ⊎ IsOfAny IsGlobFault (listed build.bypass) found

@@ -1,5 +1,7 @@
 -- A sum that takes a file piece by piece.
-use Rattle.std.proofs.Common.{◌≡◌, ℕ, Bool, true, false, Err, nat_lt, Ok, Result, ◌^◌, ◌+◌, ◌<◌, ◌≤◌, List, [], ◌++◌, length, take, Option, None, Some, IfSome, refl, sym, ap, subst, ◌∙◌, arith, rules, length-append}
+use Rattle.std.proofs.Common.{◌≡◌, ℕ, Bool, true, false, Err, nat_lt, Ok, Result, ◌^◌, ◌+◌, ◌<◌, ◌≤◌, List, [], ◌++◌}
+use Rattle.std.proofs.Common.{length, take, Option, None, Some, IfSome, refl, sym, ap, subst, ◌∙◌, arith, rules}
+use Rattle.std.proofs.Common.{length-append}
 use Rattle.std.proofs.lemmas.Bool.{ltb-false}
 use Rattle.std.proofs.lemmas.List.{append-nil, length-take, length-take-le, take_all}
 use Rattle.sha2.specs.Sha256.{sha256}

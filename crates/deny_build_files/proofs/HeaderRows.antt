@@ -1,7 +1,8 @@
 -- Worked cases: what files are by their first bytes, by computing.
 use Rattle.std.proofs.Common.{◌≡◌, ℕ, true, false, List, [], ◌∷◌, ◌++◌, replicate, codes, Option, None, Some, refl}
 use Rattle.deny_build_files.specs.Header.{executable_in, native_kind, is_mach, elf, archive}
-use Rattle.deny_build_files.specs.Script.{interpreter_in, interpreter_of_text, first_line, named_by, named_in, last_part, is_rust_path}
+use Rattle.deny_build_files.specs.Script.{interpreter_in, interpreter_of_text, first_line, named_by, named_in}
+use Rattle.deny_build_files.specs.Script.{last_part, is_rust_path}
 use Rattle.deny_build_model.specs.declared.package.ExecutableKind.{ExecutableKind}
 use Rattle.deny_build_model.specs.declared.package.ExecutableKind.TheVariants.{Native}
 use Rattle.deny_build_model.specs.declared.package.NativeKind.TheVariants.{Elf, Pe, Mach, Archive}

@@ -1,10 +1,10 @@
 -- Lines of scripts and their parts.
-use Rattle.std.proofs.Common.{◌≡◌, ℕ, ◌-◌, true, false, List, map, take, length, Option, None, option_map, slice_index_or, Bor, refl, sym, ap, ◌∙◌}
+use Rattle.std.proofs.Common.{◌≡◌, ℕ, ◌-◌, true, false, List, map, take, length, Option, None, option_map}
+use Rattle.std.proofs.Common.{slice_index_or, Bor, refl, sym, ap, ◌∙◌}
 use Rattle.std.proofs.Math.ListN.{get_or-map}
 use Rattle.std.proofs.lemmas.List.{length-map}
-use Rattle.std.proofs.lemmas.Str.{IsUtf8-from_is_utf8}
 use Rattle.std.specs.List.{position, slice_split}
-use Rattle.std.specs.Str.{is_utf8, IsUtf8}
+use Rattle.std.specs.Str.{is_utf8}
 use Rattle.deny_build_model.specs.Paths.{is_slash}
 use Rattle.deny_build_files.specs.Script.{is_newline, line_in, first_line, interpreter_by, interpreter_of_text}
 
@@ -22,10 +22,6 @@ last_now parts text none is =
     let long : length parts ≡ length (slice_split is_slash text) = sym (length-map parts now) ∙ ap length is in
     sym (get_or-map now parts (length parts - 1) none)
     ∙ (λ i. slice_index_or (is i) (long i - 1) none.now)
-
-pub not_utf8 : (bytes : List ℕ) → (IsUtf8 bytes → ⊥) → is_utf8 bytes ≡ false
-not_utf8 bytes isnt = elim (is_utf8 bytes) as (λ b. is_utf8 bytes ≡ b → is_utf8 bytes ≡ false)
-    [ true ↦ λ e. absurd (isnt (IsUtf8-from_is_utf8 bytes e)) | false ↦ λ e. e ] refl
 
 pub no_text : (path line : List ℕ) → is_utf8 line ≡ false → interpreter_by path line ≡ None
 unfolding interpreter_by

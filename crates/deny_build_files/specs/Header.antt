@@ -1,5 +1,6 @@
 -- What a file is by its first bytes: native code, a script, or no executable.
-use Rattle.std.specs.Prelude.{ℕ, ◌||◌, ◌++◌, Bool, nat_lt, List, [], ◌∷◌, codes, length, take, Option, None, Some, option_map, if◌then◌else◌}
+use Rattle.std.specs.Prelude.{ℕ, ◌||◌, ◌++◌, Bool, nat_lt, List, [], ◌∷◌, codes, length, take, Option, None, Some}
+use Rattle.std.specs.Prelude.{option_map, if◌then◌else◌}
 use Rattle.deny_build_files.specs.Script.{begins, interpreter_in}
 use Rattle.deny_build_model.specs.declared.package.ExecutableKind.{ExecutableKind}
 use Rattle.deny_build_model.specs.declared.package.ExecutableKind.TheVariants.{Native, Interpreted}

@@ -1,5 +1,6 @@
 -- How the path of a file is shown: below the folder of cargo, below the folder of its crate, or as it is.
-use Rattle.std.specs.Prelude.{ℕ, zero, suc, ◌&&◌, ◌++◌, Bool, nat_eq, not, List, [], ◌∷◌, codes, length, Option, None, Some, if◌then◌else◌}
+use Rattle.std.specs.Prelude.{ℕ, zero, suc, ◌&&◌, ◌++◌, Bool, nat_eq, not, List, [], ◌∷◌, codes, length, Option, None}
+use Rattle.std.specs.Prelude.{Some, if◌then◌else◌}
 use Rattle.std.specs.Cmp.Lexicographic.{pointwise}
 use Rattle.std.specs.List.{join_by, starts_with}
 use Rattle.std.specs.Option.{option_and_then}

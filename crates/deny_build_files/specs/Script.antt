@@ -1,5 +1,6 @@
 -- Scripts: files that begin with `#!`, and the interpreter that their first line names.
-use Rattle.std.specs.Prelude.{ℕ, ◌-◌, ◌==◌, ◌&&◌, Bool, nat_eq, nat_lt, List, [], ◌∷◌, codes, length, take, Option, None, Some, option_map, if◌then◌else◌}
+use Rattle.std.specs.Prelude.{ℕ, ◌-◌, ◌==◌, ◌&&◌, Bool, nat_eq, nat_lt, List, [], ◌∷◌, codes, length, take, Option}
+use Rattle.std.specs.Prelude.{None, Some, option_map, if◌then◌else◌}
 use Rattle.std.specs.List.{position, slice_index_or, slice_split, starts_with, ends_with}
 use Rattle.std.specs.Option.{option_and_then}
 use Rattle.std.specs.Str.{is_utf8}
@@ -40,7 +41,8 @@ abbrev pub first_of : List (List ℕ) → Option (List ℕ)
 first_of [] = None
 first_of (part ∷ parts) = Some part
 
--- the first of these parts is the interpreter's: behind `/env` the next one is the name, else it is named without its folder
+-- the first of these parts is the interpreter's: behind `/env` the next one is the name, else it is named without its
+-- folder
 unfoldable pub named_in : List (List ℕ) → Option (List ℕ)
 named_in [] = None
 named_in (part ∷ parts) = if ends part (codes "/env") then first_of parts else Some (last_part part)

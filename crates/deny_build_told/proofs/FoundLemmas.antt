@@ -1,10 +1,12 @@
 -- Items that are found by texts.
-use Rattle.std.proofs.Common.{◌≡◌, ℕ, Bool, true, false, List, Option, Some, None, Bor, cond, is_some, option_map, refl, sym, ap, ◌∙◌}
+use Rattle.std.proofs.Common.{◌≡◌, ℕ, Bool, true, false, List, Option, Some, Bor, cond, is_some, option_map, refl, sym}
+use Rattle.std.proofs.Common.{ap, ◌∙◌}
 use Rattle.std.specs.Prelude.{find}
 use Rattle.std.specs.List.{list_any}
 use Rattle.std.specs.Cmp.Lexicographic.{nat_list_eq_equiv}
 use Rattle.deny_lists.proofs.Agreement.{list_any_on}
 use Rattle.deny_lists.proofs.Filters.{find-any}
+use Rattle.deny_lists.proofs.Options.{is_some-option_map}
 use Rattle.deny_model.specs.Text.{same_text}
 
 -- an item in the place of others, as it is seen
@@ -13,15 +15,11 @@ pub seen_first : {X Y : Type 0} (f : X → Y) (b : Bool) (x : X) (o : Option X)
 seen_first f true x o = refl
 seen_first f false x o = refl
 
-some_seen : {X Y : Type 0} (f : X → Y) (o : Option X) → is_some o ≡ is_some (option_map f o)
-some_seen f None = refl
-some_seen f (Some x) = refl
-
 -- a text was found, exactly where it is among some
 pub some_found : (texts : List (List ℕ)) (text : List ℕ) (r : Option (Bor (List ℕ)))
     → option_map (λ t. t.now) r ≡ find (λ t. same_text t text) texts → is_some r ≡ list_any (same_text text) texts
 some_found texts text r is =
-    some_seen (λ t. t.now) r
+    sym (is_some-option_map (λ (t : Bor (List ℕ)). t.now) r)
     ∙ (ap is_some is
     ∙ (sym (find-any (λ t. same_text t text) texts)
     ∙ list_any_on (λ t. same_text t text) (same_text text) texts (λ t among. nat_list_eq_equiv.symm t text)))

@@ -1,4 +1,3 @@
 pub mod CrateLemmas
-pub mod NumberLemmas
 pub mod PathLemmas
 pub mod ViewLemmas

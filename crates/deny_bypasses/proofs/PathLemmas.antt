@@ -1,5 +1,6 @@
 -- An allowed path is found among those whose components are spelled alike.
-use Rattle.std.proofs.Common.{◌≡◌, ◌∙◌, ◌∷◌, [], ℕ, true, Bor, Contains, List, Option, Some, None, find, map, option_map, refl, sym, ap}
+use Rattle.std.proofs.Common.{◌≡◌, ◌∙◌, ◌∷◌, [], ℕ, true, Bor, Contains, List, Option, Some, None, find, map}
+use Rattle.std.proofs.Common.{option_map, refl, sym, ap}
 use Rattle.std.specs.Prelude.{◌↔◌, option_and_then, slice_get}
 use Rattle.std.specs.Cmp.Lexicographic.{bytes_decides, pointwise}
 use Rattle.std.specs.List.Sorted.{IsStrictlyIncreasing}
@@ -15,7 +16,7 @@ use Rattle.deny_model.specs.Text.{same_text}
 use Rattle.deny_tables.specs.declared.bans.cfg.bypass.BypassPath.{BypassPath}
 use Rattle.deny_bypasses.specs.Paths.{files_of, spelled, spelling, spelling_of}
 use Rattle.deny_bypasses.specs.private.Components.{has_components, has_components_at}
-use Rattle.deny_bypasses.proofs.NumberLemmas.{first-numbered}
+use Rattle.deny_lists.proofs.Finding.{first-numbered}
 use Rattle.deny_bypasses.proofs.ViewLemmas.{found_viewed}
 
 same_names : (xs ys : List (List ℕ)) → pointwise same_text xs ys ≡ true → xs ≡ ys
@@ -44,13 +45,16 @@ pub path_found : (bypass : Option ValidBypass) (path : List ℕ) (names : List (
     → names ≡ components path → asked ≡ spelled names → files ≡ files_of bypass → IsStrictlyIncreasing numbers
     → ((i : ℕ) → Contains numbers i ↔ (slice_get (map spelling_of (files_of bypass)) i ≡ Some asked))
     → option_copied found ≡ option_and_then (slice_get files) (find (has_components_at files names) numbers)
-    → option_map (λ (file : Bor BypassPath). path_view file.now) found ≡ path_of_used (option_map bypass_view bypass) path
+    → option_map (λ (file : Bor BypassPath). path_view file.now) found
+    ≡ path_of_used (option_map bypass_view bypass) path
 unfolding same_path
 path_found bypass path names asked numbers files found are same those up exact is =
     found_viewed (λ (a : AllowedPath). allows a path) path_view (files_of bypass) found
     (is
     ∙ (ap (λ (fs : List BypassPath). option_and_then (slice_get fs) (find (has_components_at fs names) numbers)) those
-    ∙ (first-numbered (λ (file : BypassPath). has_components names file.path.value) (files_of bypass) spelling_of asked numbers
+    ∙ (first-numbered (λ (file : BypassPath). has_components names file.path.value)
+    (files_of bypass) spelling_of asked numbers
     up exact (λ file has. spelled_alike names file has ∙ sym same)
-    ∙ ap (λ (ns : List (List ℕ)). find (λ (file : BypassPath). has_components ns file.path.value) (files_of bypass)) are)))
+    ∙ ap (λ (ns : List (List ℕ)). find (λ (file : BypassPath). has_components ns file.path.value) (files_of bypass))
+    are)))
     ∙ among_all bypass path

@@ -1,5 +1,6 @@
 -- What is found of the entries and the targets that the code has, as contracts see them.
-use Rattle.std.proofs.Common.{◌≡◌, ◌∙◌, ℕ, length, Bool, List, [], ◌∷◌, Option, None, Some, true, false, Bor, map, option_map, refl, sym, ap, not, cond, arith}
+use Rattle.std.proofs.Common.{◌≡◌, ◌∙◌, ℕ, length, Bool, List, [], ◌∷◌, Option, None, Some, true, false, Bor, map}
+use Rattle.std.proofs.Common.{option_map, refl, sym, ap, not, cond, arith}
 use Rattle.std.proofs.lemmas.Bool.Decides.{nat_tests}
 use Rattle.std.specs.Prelude.{◌&&◌, ◌||◌, ◌==◌, Contains, IfSome, filter, find, is_some, nat_lt, option_and_then}
 use Rattle.std.specs.FinMap as finite
@@ -13,16 +14,18 @@ use Rattle.deny_build_cfg.specs.declared.valid.ValidBuildConfig.{ValidBuildConfi
 use Rattle.deny_build_cfg.specs.declared.valid.ValidBypass.{ValidBypass}
 use Rattle.deny_build_model.specs.Building.{Building, Bypass}
 use Rattle.deny_build_model.specs.declared.package.Package.{Package}
-use Rattle.deny_codes.proofs.Kept.{found_member}
-use Rattle.deny_codes.specs.BuildScripts.{has_sum, is_script, is_script_ok, is_script_right, may_have_script, passes_by_script}
-use Rattle.deny_codes.specs.BuildScripts.{required_enabled, required_of, required_unknown, script_found, script_of, used, wanted_sum}
+use Rattle.deny_codes.specs.BuildScripts.{has_sum, is_script, is_script_ok, is_script_right, may_have_script}
+use Rattle.deny_codes.specs.BuildScripts.{passes_by_script, required_enabled, required_of, required_unknown}
+use Rattle.deny_codes.specs.BuildScripts.{script_found, script_of, used, wanted_sum}
 use Rattle.deny_codes.specs.Features.{has_feature, is_enabled}
 use Rattle.deny_entries.specs.SpecView.{spec_view}
 use Rattle.deny_entries.specs.declared.package_spec.PackageSpec.{PackageSpec}
 use Rattle.deny_krates.specs.Crates.{crate_view, target_view}
 use Rattle.deny_krates.specs.declared.Target.{Target}
 use Rattle.deny_krates.specs.declared.krate.Krate.{Krate}
-use Rattle.deny_lists.proofs.Filters.{find-map, some-filter}
+use Rattle.deny_lists.proofs.Filters.{find-map, some-filter, any-map}
+use Rattle.deny_lists.proofs.Options.{is_some-option_map, option_map-now}
+use Rattle.deny_lists.proofs.Finding.{found_member}
 use Rattle.deny_model.specs.Graph.{Crate}
 use Rattle.deny_model.specs.Graph as model
 use Rattle.deny_model.specs.Match.{matches, speaks_of}
@@ -31,21 +34,13 @@ use Rattle.deny_model.specs.Text.{same_text}
 use Rattle.deny_reach.specs.Reached.{executes_at_build_time, is_executed_kind}
 use Rattle.deny_tables.specs.declared.bans.cfg.checksum.Checksum.{Checksum}
 
-any-map : {X Y : Type 0} (p : Y → Bool) (v : X → Y) (xs : List X) → list_any (λ x. p (v x)) xs ≡ list_any p (map v xs)
-any-map p v [] = refl
-any-map p v (x ∷ xs) = ap (λ b. p (v x) || b) (any-map p v xs)
-
--- what is behind a reference, by its view
-behind : {X Y : Type 0} (v : X → Y) (r : Option (Bor X)) → option_map (λ (x : Bor X). v x.now) r ≡ option_map v (option_copied r)
-behind v None = refl
-behind v (Some x) = refl
-
 pub found_viewed : {X Y : Type 0} (p : Y → Bool) (v : X → Y) (xs : List X) (r : Option (Bor X))
     → option_copied r ≡ find (λ x. p (v x)) xs → option_map (λ (x : Bor X). v x.now) r ≡ find p (map v xs)
-found_viewed p v xs r is = behind v r ∙ (ap (option_map v) is ∙ sym (find-map p v xs))
+found_viewed p v xs r is = option_map-now v r ∙ (ap (option_map v) is ∙ sym (find-map p v xs))
 
 pub pointwise_viewed : {X Y : Type 0} (same : X → X → Bool) (also : Y → Y → Bool) (v : X → Y)
-    → ((a b : X) → same a b ≡ also (v a) (v b)) → (xs ys : List X) → pointwise same xs ys ≡ pointwise also (map v xs) (map v ys)
+    → ((a b : X) → same a b ≡ also (v a) (v b)) → (xs ys : List X)
+    → pointwise same xs ys ≡ pointwise also (map v xs) (map v ys)
 pointwise_viewed same also v agree [] [] = refl
 pointwise_viewed same also v agree [] (y ∷ ys) = refl
 pointwise_viewed same also v agree (x ∷ xs) [] = refl
@@ -68,7 +63,8 @@ pub any_matches : (place : ℕ) (k : Krate) (config : ValidBuildConfig) (specs :
 unfolding may_have_script matches
 any_matches place k config specs is =
     any-map (λ (spec : Spec). speaks_of spec k.name (parts_of k.version)) spec_view specs
-    ∙ ap (λ o. option_map_or (λ (ss : List Spec). list_any (λ (spec : Spec). speaks_of spec k.name (parts_of k.version)) ss)
+    ∙ ap (λ o. option_map_or
+    (λ (ss : List Spec). list_any (λ (spec : Spec). speaks_of spec k.name (parts_of k.version)) ss)
     (option_map (map spec_view) o) true) (sym is)
 
 pub all_may : (place : ℕ) (k : Krate) (config : ValidBuildConfig) → config.allow_build_scripts ≡ None
@@ -78,21 +74,18 @@ all_may place k config is =
     ap (λ o. option_map_or (λ (ss : List Spec). list_any (λ spec. matches spec (crate_view place k)) ss)
     (option_map (map spec_view) o) true) (sym is)
 
-is_some-map : {X Y : Type 0} (v : X → Y) (o : Option X) → is_some (option_map v o) ≡ is_some o
-is_some-map v None = refl
-is_some-map v (Some x) = refl
-
 -- whether there is a script
 pub has_script : (place : ℕ) (k : Krate) (r : Option (Bor Target))
     → option_map (λ (t : Bor Target). target_view t.now) r ≡ script_of (crate_view place k)
     → is_some (script_of (crate_view place k)) ≡ is_some r
-has_script place k r is = ap is_some (sym is) ∙ is_some-map (λ (t : Bor Target). target_view t.now) r
+has_script place k r is = ap is_some (sym is) ∙ is_some-option_map (λ (t : Bor Target). target_view t.now) r
 
 pub no_script_ok : (b : Building) (c : Crate) → is_some (script_of c) ≡ false → true ≡ is_script_ok b c
 unfolding is_script_ok
 no_script_ok b c none = ap (λ s. not s || may_have_script b c) (sym none)
 
-pub script_ok_by_list : (b : Building) (c : Crate) → is_some (script_of c) ≡ true → may_have_script b c ≡ is_script_ok b c
+pub script_ok_by_list : (b : Building) (c : Crate) → is_some (script_of c) ≡ true
+    → may_have_script b c ≡ is_script_ok b c
 unfolding is_script_ok
 script_ok_by_list b c some = ap (λ s. not s || may_have_script b c) (sym some)
 
@@ -102,13 +95,15 @@ pub bypass_found : (place : ℕ) (k : Krate) (config : ValidBuildConfig) (r : Op
     → option_copied r ≡ find (λ y. speaks_of (spec_view y.spec) k.name (parts_of k.version)) config.bypass
     → option_map (λ (y : Bor ValidBypass). bypass_view y.now) r ≡ used (building_view config) (crate_view place k)
 unfolding used matches
-bypass_found place k config r is = found_viewed (λ (y : Bypass). speaks_of y.spec k.name (parts_of k.version)) bypass_view config.bypass r is
+bypass_found place k config r is =
+    found_viewed (λ (y : Bypass). speaks_of y.spec k.name (parts_of k.version)) bypass_view config.bypass r is
 
 -- ---- the checksum of a script
 
 pub no_sum_without_script : (b : Building) (c : Crate) → is_some (script_of c) ≡ false → None ≡ wanted_sum b c
 unfolding wanted_sum
-no_sum_without_script b c none = ap (λ s. cond s (option_and_then (λ (y : Bypass). y.script) (used b c)) None) (sym none)
+no_sum_without_script b c none =
+    ap (λ s. cond s (option_and_then (λ (y : Bypass). y.script) (used b c)) None) (sym none)
 
 pub sum_of_used : (b : Building) (c : Crate) → is_some (script_of c) ≡ true
     → option_and_then (λ (y : Bypass). y.script) (used b c) ≡ wanted_sum b c
@@ -121,7 +116,8 @@ pub right_by : (place : ℕ) (k : Krate) (b : Building) (contents : Package) (r 
     ≡ is_script_right b contents (crate_view place k)
 unfolding is_script_right
 right_by place k b contents r is =
-    viewed r ∙ ap (λ o. option_map_or (λ (sum : Spanned (List ℕ)). has_sum sum.value (script_found contents)) o false) is
+    viewed r ∙ ap (λ o. option_map_or (λ (sum : Spanned (List ℕ)). has_sum sum.value (script_found contents)) o false)
+    is
   where
     viewed : (o : Option (Bor (Spanned Checksum)))
         → option_map_or (λ (sum : Bor (Spanned Checksum)). has_sum sum.now.value.0 (script_found contents)) o false

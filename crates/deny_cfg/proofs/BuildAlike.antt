@@ -4,16 +4,18 @@ use Rattle.std.specs.List.{AllZip}
 use Rattle.deny_base.specs.declared.level.LintLevel.TheVariants as level
 use Rattle.deny_base.specs.declared.span.Spanned.{Spanned}
 use Rattle.deny_build_cfg.specs.Build.{build_by, listed, of_scripts, older_key_by}
-use Rattle.deny_entries.proofs.ReadsLaws.{ReadsAlike, ReadsOne, SpecsAlike, alike_list, alike_table, keys_alike, one_as, one_bool, one_optional, one_or, one_spanned, one_text, one_texts, text_alike}
+use Rattle.deny_entries.proofs.ReadsLaws.{ReadsAlike, ReadsOne, SpecsAlike, alike_list, alike_table, keys_alike, one_as}
+use Rattle.deny_entries.proofs.ReadsLaws.{one_bool, one_optional, one_or, one_spanned, one_text, one_texts, text_alike}
+use Rattle.deny_entries.proofs.ReadsLaws.{one_required}
 use Rattle.deny_entries.proofs.RowLaws.{says_of}
 use Rattle.deny_entries.specs.Entry.{ReadsEntryKeys}
 use Rattle.deny_entries.specs.PolicyKey.{name_of}
 use Rattle.deny_entries.specs.Spec.{ReadsSpec, ReadsSpecKeys, ReadsSpecValue}
-use Rattle.deny_entries.specs.Table.{ReadsIfThere, ReadsTable, at_key}
+use Rattle.deny_entries.specs.Table.{ReadsTable, at_key}
 use Rattle.deny_entries.specs.Words.{ReadsAs, ReadsBool, ReadsList, ReadsSpanned, ReadsText, ReadsTexts, level_of}
 use Rattle.deny_entries.specs.declared.package_spec.PackageSpec.{PackageSpec}
 use Rattle.deny_entries.specs.declared.policy_key.PolicyKey.TheVariants as key
-use Rattle.deny_tables.proofs.ConfigLaws.{BothAlike}
+use Rattle.deny_tables.proofs.ConfigLaws.{BothAlike, alike_optional}
 use Rattle.deny_tables.specs.Build.{ReadsBuild, ReadsBypass, ReadsBypassKeys, ReadsBypassPath, ReadsChecksum, keys_in}
 use Rattle.deny_tables.specs.Checksum.{checksum_of}
 use Rattle.deny_tables.specs.Config.{ReadsConfig}
@@ -22,7 +24,7 @@ use Rattle.deny_tables.specs.declared.bans.cfg.bypass.Bypass.{Bypass}
 use Rattle.deny_tables.specs.declared.bans.cfg.config.Config.{Config}
 use Rattle.deny_toml.specs.Calls.{text_in}
 use Rattle.deny_toml.specs.declared.value.Value.{Value}
-use Rattle.deny_cfg.proofs.LicensingLaws.{one_list, one_there}
+use Rattle.deny_cfg.proofs.LicensingLaws.{one_list}
 use Rattle.deny_cfg.specs.PolicyText.{ReadsBans}
 
 -- ---- entries of `bypass`
@@ -37,7 +39,7 @@ one_path : ReadsOne ReadsBypassPath
 unfolding name_of
 one_path entries x y one two =
     let path =
-    one_there (ReadsSpanned ReadsText) (one_spanned ReadsText one_text) (at_key key.Path entries) x.path y.path
+    one_required (ReadsSpanned ReadsText) (one_spanned ReadsText one_text) (at_key key.Path entries) x.path y.path
     (says_of key.Path one) (says_of key.Path two) in
     let checksum =
     one_optional (ReadsSpanned ReadsChecksum) one_checksum (at_key key.Checksum entries) x.checksum y.checksum
@@ -100,15 +102,6 @@ specs_alike v xs ys one two = alike_list ReadsSpec SpecsAlike spec_alike v xs ys
 
 -- ---- the table
 
-both_alike : {T : Type 0} (Reads : Value → T → Type 0) (Alike : T → T → Type 0) → ReadsAlike Reads Alike
-    → ReadsAlike (ReadsIfThere Reads) (BothAlike Alike)
-both_alike Reads Alike alike None None None one two = tt
-both_alike Reads Alike alike None None (Some y) one two = absurd (cc two)
-both_alike Reads Alike alike None (Some x) y one two = absurd (cc one)
-both_alike Reads Alike alike (Some v) None y one two = absurd one
-both_alike Reads Alike alike (Some v) (Some x) None one two = absurd two
-both_alike Reads Alike alike (Some v) (Some x) (Some y) one two = alike v x y one two
-
 pub record BuildsAlike (a b : BuildConfig) : Type 0 where
   pub scripts : BothAlike (AllZip SpecsAlike) a.allow_build_scripts b.allow_build_scripts
   pub executables : a.executables ≡ b.executables
@@ -124,7 +117,7 @@ builds_alike : ReadsAlike ReadsBuild BuildsAlike
 unfolding name_of
 builds_alike entries a b one two = record {
   scripts =
-      both_alike (ReadsList ReadsSpec) (AllZip SpecsAlike) specs_alike (at_key key.AllowBuildScripts entries)
+      alike_optional (ReadsList ReadsSpec) (AllZip SpecsAlike) specs_alike (at_key key.AllowBuildScripts entries)
       a.allow_build_scripts b.allow_build_scripts (says_of key.AllowBuildScripts one)
       (says_of key.AllowBuildScripts two);
   executables =
@@ -137,7 +130,7 @@ builds_alike entries a b one two = record {
       one_optional ReadsTexts one_texts (at_key key.ScriptExtensions entries) a.script_extensions
       b.script_extensions (says_of key.ScriptExtensions one) (says_of key.ScriptExtensions two);
   bypass =
-      both_alike (ReadsList ReadsBypass) (AllZip BypassesAlike)
+      alike_optional (ReadsList ReadsBypass) (AllZip BypassesAlike)
       (λ v xs ys here there. alike_list ReadsBypass BypassesAlike bypasses_alike v xs ys here there)
       (at_key key.Bypass entries) a.bypass b.bypass (says_of key.Bypass one) (says_of key.Bypass two);
   builtin =
@@ -170,11 +163,11 @@ built_in_keys : ReadsAlike ReadsConfig BuiltAlike
 unfolding name_of
 built_in_keys entries a b one two = record {
   build =
-      both_alike (ReadsTable ReadsBuild) BuildsAlike
+      alike_optional (ReadsTable ReadsBuild) BuildsAlike
       (λ v x y here there. alike_table ReadsBuild BuildsAlike builds_alike v x y here there)
       (at_key key.Build entries) a.build b.build (says_of key.Build one) (says_of key.Build two);
   scripts =
-      both_alike (ReadsSpanned (ReadsList ReadsSpec)) ScriptsAlike scripts_alike
+      alike_optional (ReadsSpanned (ReadsList ReadsSpec)) ScriptsAlike scripts_alike
       (at_key key.AllowBuildScripts entries) a.allow_build_scripts b.allow_build_scripts
       (says_of key.AllowBuildScripts one) (says_of key.AllowBuildScripts two);
 }

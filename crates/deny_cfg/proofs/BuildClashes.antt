@@ -3,7 +3,8 @@ use Rattle.std.proofs.Common.{◌≡◌, ◌++◌, ℕ, List, [], ◌∷◌, Con
 use Rattle.std.specs.Prelude.{filter_map}
 use Rattle.std.specs.List.{AllZip}
 use Rattle.deny_build_cfg.specs.Build.{listed}
-use Rattle.deny_build_cfg.specs.Wrong.{IsGlobFault, IsGlobFaultOf, IsOfAny, IsWrong, extension_fault, faults_by_text, path_fault, path_faults}
+use Rattle.deny_build_cfg.specs.Wrong.{IsGlobFault, IsGlobFaultOf, IsOfAny, IsWrong, extension_fault, faults_by_text}
+use Rattle.deny_build_cfg.specs.Wrong.{path_fault, path_faults}
 use Rattle.deny_build_cfg.specs.declared.wrong.BuildFault.{BuildFault}
 use Rattle.deny_lists.proofs.Alike.{Same, same_flat_map}
 use Rattle.deny_lists.proofs.Members.{Contains-cases, Contains-first, Contains-rest, no_member}

@@ -1,5 +1,6 @@
 -- What is wrong in a table `build` lies in the text.
-use Rattle.std.proofs.Common.{◌≡◌, ◌+◌, ◌-◌, ◌<◌, ◌&&◌, ◌++◌, ℕ, Bool, true, false, cond, not, List, [], ◌∷◌, length, drop, take, get_or, Option, None, Some, inl, inr, refl, sym, ap, subst, ◌∙◌, arith}
+use Rattle.std.proofs.Common.{◌≡◌, ◌+◌, ◌-◌, ◌<◌, ◌&&◌, ◌++◌, ℕ, Bool, true, false, cond, not, List, [], ◌∷◌, length}
+use Rattle.std.proofs.Common.{drop, take, get_or, Option, None, Some, inl, inr, refl, sym, ap, subst, ◌∙◌, arith}
 use Rattle.std.specs.Prelude.{IfSome, IsUtf8, filter_map, option_map}
 use Rattle.std.specs.Cmp.Lexicographic.{same_text as texts_same}
 use Rattle.std.specs.List.{AllByRecursion, flat_map}
@@ -9,12 +10,14 @@ use Rattle.std.proofs.lemmas.Str.{IsCharBoundary-after_ascii, IsCharBoundary-bef
 use Rattle.deny_base.specs.declared.span.Span.{Span}
 use Rattle.deny_build_cfg.proofs.BuiltinLaws.{ascii_from_test}
 use Rattle.deny_build_cfg.specs.Build.{listed}
-use Rattle.deny_build_cfg.specs.Wrong.{IsGlobFault, IsWrong, bad_at, bad_place, byte_range, bytes_at, extension_fault, faults_by_text, is_absolute, is_ascii_text, line_end, path_fault, path_faults, written_at}
+use Rattle.deny_build_cfg.specs.Wrong.{IsGlobFault, IsWrong, bad_at, bad_place, byte_range, bytes_at, extension_fault}
+use Rattle.deny_build_cfg.specs.Wrong.{faults_by_text, is_absolute, is_ascii_text, line_end, path_fault, path_faults}
+use Rattle.deny_build_cfg.specs.Wrong.{written_at}
 use Rattle.deny_build_cfg.specs.declared.wrong.BuildFault.{BuildFault}
 use Rattle.deny_build_cfg.specs.declared.wrong.BuildFault.TheVariants as fault
-use Rattle.deny_globs.proofs.Once.{nat_le_true}
 use Rattle.deny_lists.proofs.Each.{all_append, all_flat, all_given}
 use Rattle.deny_lists.proofs.Members.{at_member}
+use Rattle.deny_lists.proofs.Numbers.{nat_le-true}
 use Rattle.deny_model.specs.Policy.{Words}
 use Rattle.deny_model.specs.Text.{same_text}
 use Rattle.deny_tables.specs.declared.bans.cfg.build.BuildConfig.{BuildConfig}
@@ -23,7 +26,8 @@ use Rattle.deny_tables.specs.declared.bans.cfg.bypass.BypassPath.{BypassPath}
 use Rattle.deny_toml.specs.Ranges.{IsRange}
 use Rattle.deny_cfg.proofs.LabelLaws.{Lie}
 use Rattle.deny_cfg.proofs.Among.{lie_prefix, lie_rest}
-use Rattle.deny_cfg.specs.LabelRanges.{of_some, own_range, path_ranges, spec_range, word_ranges, written_build_ranges, written_bypass_ranges}
+use Rattle.deny_cfg.specs.LabelRanges.{of_some, own_range, path_ranges, spec_range, word_ranges, written_build_ranges}
+use Rattle.deny_cfg.specs.LabelRanges.{written_bypass_ranges}
 
 -- ---- the byte of an extension that may not be there
 
@@ -35,8 +39,8 @@ module _ (text : List ℕ) (utf8 : IsUtf8 text) (w : Words) (placed : IsRange te
   unfolding bytes
   bytes_are =
       ap (λ b. cond b (take (w.span.end - w.span.start) (drop w.span.start text)) [])
-      (λ i. nat_le_true w.span.start w.span.end placed.ordered i
-      && nat_le_true w.span.end (length text) placed.within i)
+      (λ i. nat_le-true w.span.start w.span.end placed.ordered i
+      && nat_le-true w.span.end (length text) placed.within i)
 
   -- a byte of the range that is ASCII
   ascii_place : (at : ℕ) → at < length bytes → get_or bytes at 0 < 128

@@ -6,7 +6,8 @@ use Rattle.deny_base.specs.declared.span.Span.{Span}
 use Rattle.deny_build_cfg.proofs.BuildLaws.{one_patterns}
 use Rattle.deny_build_cfg.proofs.BuiltinLaws.{globs_file_of}
 use Rattle.deny_build_cfg.specs.Build.{IsBuildOf, IsBypassOf, builtin_if, listed, number_of}
-use Rattle.deny_build_cfg.specs.BuildingView.{building_view, bypass_view, globs_file, globs_view, path_view, script_glob_view, words_of}
+use Rattle.deny_build_cfg.specs.BuildingView.{building_view, bypass_view, globs_file, globs_view, path_view}
+use Rattle.deny_build_cfg.specs.BuildingView.{script_glob_view, words_of}
 use Rattle.deny_build_cfg.specs.BuildingView as view
 use Rattle.deny_build_cfg.specs.Globs.{AreGlobsOf, IsSetOf, OfBoth, extension_text, own_text}
 use Rattle.deny_build_cfg.specs.declared.glob_set.ValidGlobSet.{ValidGlobSet}

@@ -1,17 +1,19 @@
 -- What is so of the table `build` of each policy that was read: its globs, their file, and its older key.
-use Rattle.std.proofs.Common.{◌≡◌, ◌++◌, ◌+◌, ◌≤◌, ◌&&◌, ℕ, Bool, true, false, List, [], ◌∷◌, length, map, refl, sym, ap, subst, ◌∙◌, arith}
+use Rattle.std.proofs.Common.{◌≡◌, ◌++◌, ◌+◌, ◌&&◌, ℕ, Bool, true, false, List, [], ◌∷◌, length, map, refl, sym, ap}
+use Rattle.std.proofs.Common.{subst, ◌∙◌, arith}
 use Rattle.std.specs.Prelude.{All, IfSome, Option, None, Some, nat_le, option_and_then}
 use Rattle.std.specs.Char.{is_ascii}
 use Rattle.std.specs.List.{AllByRecursion, flat_map, list_all}
 use Rattle.std.specs.Option.{option_map_or}
 use Rattle.std.proofs.lemmas.Bool.{and_parts}
-use Rattle.std.proofs.lemmas.Bool.Decides.{nat_tests}
 use Rattle.std.proofs.lemmas.List.Elements.{All-from_recursion, recursion_from_All}
 use Rattle.std.proofs.lemmas.Str.{IsCharBoundary-from_ascii}
+use Rattle.deny_lists.proofs.Numbers.{le_from_nat_le}
 use Rattle.deny_base.specs.declared.span.Span.{Span}
 use Rattle.deny_base.specs.declared.span.Spanned.{Spanned}
 use Rattle.deny_build_cfg.proofs.BuiltinLaws.{ascii_from_test, globs_file_of, kept_each}
-use Rattle.deny_build_cfg.specs.Build.{IsBuildOf, IsReadBuild, build_by, builtin_if, files_of, listed, number_of, older_key_by}
+use Rattle.deny_build_cfg.specs.Build.{IsBuildOf, IsReadBuild, build_by, builtin_if, files_of, listed, number_of}
+use Rattle.deny_build_cfg.specs.Build.{older_key_by}
 use Rattle.deny_build_cfg.specs.BuildingView.{globs_file}
 use Rattle.deny_build_cfg.specs.Builtin.{builtin_file, builtin_texts, builtin_words}
 use Rattle.deny_build_cfg.specs.Globs.{OfBoth}
@@ -97,9 +99,6 @@ IsPlaced (User word) = Unit {0}
 abbrev lies_within : Span → Bool
 lies_within range = nat_le range.start range.end && nat_le range.end (length builtin_file.source)
 
-below : (a b : ℕ) → nat_le a b ≡ true → a ≤ b
-below a b e = grind (arith, nat_tests)
-
 source_ascii : list_all is_ascii builtin_file.source ≡ true
 unfolding builtin_file
 source_ascii = refl
@@ -107,8 +106,8 @@ source_ascii = refl
 range_by : (range : Span) → lies_within range ≡ true → IsRange builtin_file.source range
 range_by range e =
     let parts = and_parts (nat_le range.start range.end) (nat_le range.end (length builtin_file.source)) e in
-    let ordered = below range.start range.end parts.0 in
-    let within = below range.end (length builtin_file.source) parts.1 in
+    let ordered = le_from_nat_le range.start range.end parts.0 in
+    let within = le_from_nat_le range.end (length builtin_file.source) parts.1 in
     let ascii = ascii_from_test builtin_file.source source_ascii in
     record {
       ordered = ordered;

@@ -1,5 +1,7 @@
 -- Only equal clashes tie; and how clashes are gathered.
-use Rattle.std.proofs.Common.{◌≡◌, ◌<◌, ◌≤◌, ◌+◌, ◌++◌, ℕ, Bool, true, false, List, [], ◌∷◌, Option, Some, None, drop, length, map, slice_index_or, add-one, append_assoc, append-nil, inl, inr, refl, sym, subst, ap, ◌∙◌}
+use Rattle.std.proofs.Common.{◌≡◌, ◌<◌, ◌≤◌, ◌+◌, ◌++◌, ℕ, Bool, true, false, List, [], ◌∷◌, Option, Some, None, drop}
+use Rattle.std.proofs.Common.{length, map, slice_index_or, add-one, append_assoc, append-nil, inl, inr, refl, sym}
+use Rattle.std.proofs.Common.{subst, ap, ◌∙◌}
 use Rattle.std.specs.Prelude.{Contains, Err, Ok, OnOk, Result, cond, filter, filter_map}
 use Rattle.std.specs.List.{cons_option}
 use Rattle.std.proofs.Math.ListN.{drop_of_length-le}
@@ -19,7 +21,8 @@ use Rattle.deny_tables.specs.declared.bans.cfg.build.BuildConfig.{BuildConfig}
 use Rattle.deny_cfg.specs.Clashes.{IsBuildClash, IsWrongIn, build_clash, clash_cmp, kind_cmp, kind_number}
 use Rattle.deny_cfg.specs.declared.clash.Clash.{Clash}
 use Rattle.deny_cfg.specs.declared.clash.ClashKind.{ClashKind}
-use Rattle.deny_cfg.specs.declared.clash.ClashKind.TheVariants.{WrappersOfMultiple, DenyAndAllow, DenyAndSkip, AllowAndSkip, FeatureTwice, Extension, Glob, Path}
+use Rattle.deny_cfg.specs.declared.clash.ClashKind.TheVariants.{WrappersOfMultiple, DenyAndAllow, DenyAndSkip}
+use Rattle.deny_cfg.specs.declared.clash.ClashKind.TheVariants.{AllowAndSkip, FeatureTwice, Extension, Glob, Path}
 
 kind_at : ℕ → ClashKind
 kind_at n =

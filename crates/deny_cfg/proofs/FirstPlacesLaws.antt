@@ -1,15 +1,15 @@
 -- Of equal wordings the first is found.
-use Rattle.deny_lists.proofs.Orders.{option_text_cmp-exact, text_cmp-exact, then_first, then_second}
-use Rattle.std.proofs.Common.{◌≡◌, ◌<◌, ◌+◌, ◌&&◌, ◌++◌, add-one, length, take, ℕ, List, [], ◌∷◌, Bool, true, false, Option, Some, None, map, refl, sym, ap, ◌∙◌}
+use Rattle.deny_lists.proofs.Orders.{option_text_cmp-exact, text_cmp-exact, then_first, then_second, is_eq-then}
+use Rattle.deny_lists.proofs.Orders.{is_eq-reverse}
+use Rattle.std.proofs.Common.{◌≡◌, ◌<◌, ◌+◌, ◌&&◌, length, take, ℕ, List, [], ◌∷◌, Bool, true, false, Option, Some}
+use Rattle.std.proofs.Common.{None, map, refl, sym, ap, ◌∙◌}
 use Rattle.std.specs.Prelude.{cond, find, is_some, option_map, slice_index_or}
-use Rattle.std.proofs.Math.Seq.{take-suc}
-use Rattle.std.proofs.lemmas.List.{map-append}
 use Rattle.std.specs.Cmp.{IsTotalOrder, on_total, then_total}
 use Rattle.std.specs.Cmp.Lexicographic.{slice_cmp, nat_list_cmp_total, options_total, texts_ties}
 use Rattle.std.specs.FinMap.{IsAntisymmetric}
 use Rattle.std.specs.Map.{lookup}
 use Rattle.std.specs.Option.{option_cmp, option_eq, option_or}
-use Rattle.std.specs.Ordering.{is_eq, nat_cmp, ordering_reverse, ordering_then}
+use Rattle.std.specs.Ordering.{is_eq, nat_cmp}
 use Rattle.std.specs.declared.cmp.Ordering.{Ordering}
 use Rattle.std.specs.declared.cmp.Ordering.TheVariants.{Less, Equal, Greater}
 use Rattle.deny_base.specs.declared.span.Span.{Span}
@@ -18,7 +18,9 @@ use Rattle.deny_model.specs.Text.{same_text}
 use Rattle.deny_cfg.specs.Clashes.{clash_with, feature_at, feature_clash, specs_of, two_places}
 use Rattle.deny_lists.specs.First.{FindsFirst, GainsEntry}
 use Rattle.deny_lists.proofs.FirstLemmas.{finds_more}
-use Rattle.deny_cfg.specs.FirstPlaces.{entry_place, place_in, plain_wording, same_wording, spec_wording, word_place, wording_cmp}
+use Rattle.deny_lists.proofs.Places.{map-take_next}
+use Rattle.deny_cfg.specs.FirstPlaces.{entry_place, place_in, plain_wording, same_wording, spec_wording, word_place}
+use Rattle.deny_cfg.specs.FirstPlaces.{wording_cmp}
 use Rattle.deny_entries.specs.SpecView.{same_spec}
 use Rattle.deny_tables.specs.declared.bans.cfg.features.CrateFeatures.{CrateFeatures}
 use Rattle.deny_cfg.specs.declared.clash.ClashKind.{ClashKind}
@@ -54,18 +56,8 @@ option_ties None (Some y) = refl
 option_ties (Some x) None = refl
 option_ties (Some x) (Some y) = texts_ties x y
 
-both_tie : (a b : Bool) (r s : Ordering) → a ≡ is_eq r → b ≡ is_eq s → a && b ≡ is_eq (ordering_then r s)
-both_tie a b Less s e f = rw e refl
-both_tie a b Equal s e f = rw e f
-both_tie a b Greater s e f = rw e refl
-
 wording_ties : (a b : Wording) → same_wording a b ≡ is_eq (wording_cmp a b)
-wording_ties a b = both_tie _ _ _ _ (texts_ties a.name b.name) (option_ties a.requirement b.requirement)
-
-is_eq-reverse : (r : Ordering) → is_eq (ordering_reverse r) ≡ is_eq r
-is_eq-reverse Less = refl
-is_eq-reverse Equal = refl
-is_eq-reverse Greater = refl
+wording_ties a b = is_eq-then _ _ _ _ (texts_ties a.name b.name) (option_ties a.requirement b.requirement)
 
 wording_tied : (asked w : Wording) → is_eq (wording_cmp w asked) ≡ same_wording asked w
 wording_tied asked w =
@@ -115,10 +107,6 @@ gains_none old w p there = record {
       (λ e. ap (λ q. is_some (place_in old q)) (wording_same asked w e) ∙ there);
 }
 
-map_more : {A B : Type 0} (f : A → B) (xs : List A) (i : ℕ) (x : A) → i < length xs → x ≡ slice_index_or xs i x
-    → map f (take (i + 1) xs) ≡ map f (take i xs) ++ f x ∷ []
-map_more f xs i x inside is = rw (add-one, take-suc xs i x inside, ← is) (map-append f (take i xs) (x ∷ []))
-
 -- one more of the things that have these places
 pub finds_next : {A : Type 0} (place : A → Wording × Span) (xs : List A) (i : ℕ) (x : A) (old new : FirstPlaces)
     → i < length xs → x ≡ slice_index_or xs i x
@@ -126,7 +114,7 @@ pub finds_next : {A : Type 0} (place : A → Wording × Span) (xs : List A) (i :
     → GainsEntry same_wording (place x).0 (place x).1 (place_in old) (place_in new)
     → FindsFirst same_wording (map place (take (i + 1) xs)) (place_in new)
 finds_next place xs i x old new inside is finds gains =
-    rw (map_more place xs i x inside is)
+    rw (map-take_next place xs i x inside is)
     (finds_more same_wording (map place (take i xs)) (place x).0 (place x).1 (place_in old) (place_in new) finds gains)
 
 spec_found : (s : PackageSpec) (others : List (PackageSpecOrExtended Reason))

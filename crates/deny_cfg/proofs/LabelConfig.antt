@@ -8,7 +8,8 @@ use Rattle.deny_base.specs.declared.span.Span.{Span}
 use Rattle.deny_base.specs.declared.span.Spanned.{Spanned}
 use Rattle.deny_model.specs.Policy.{Words}
 use Rattle.deny_toml.proofs.ApartLaws.{starts_of_entries}
-use Rattle.deny_toml.proofs.ApartParts.{AreDistinct, IsPartOf, apart_part, name_part, part_nothing, part_of_part, starts_of, starts_of_keys}
+use Rattle.deny_toml.proofs.ApartParts.{AreDistinct, IsPartOf, apart_part, name_part, part_nothing, part_of_part}
+use Rattle.deny_toml.proofs.ApartParts.{starts_of, starts_of_keys}
 use Rattle.deny_toml.specs.Apart.{AreApart, starts_in}
 use Rattle.deny_toml.specs.Calls.{below_name, table_in, value_at}
 use Rattle.deny_toml.specs.Ranges.{IsRange, StandsIn}
@@ -18,14 +19,17 @@ use Rattle.deny_toml.specs.declared.value.Value.{Value}
 use Rattle.deny_entries.specs.Apart.{reason_entry-apart}
 use Rattle.deny_tables.specs.Apart.{ban_entry-apart, feature_entry-apart, tree_skip_entry-apart}
 use Rattle.deny_entries.specs.Reasons.{ReadsReason, ReadsReasonKey, ReadsReasoned, reason_fields}
-use Rattle.deny_tables.specs.Bans.{ReadsBan, ReadsBanEntry, ReadsTreeSkip, ReadsTreeSkipEntry, ban_fields, tree_skip_fields}
+use Rattle.deny_tables.specs.Bans.{ReadsBan, ReadsBanEntry, ReadsTreeSkip, ReadsTreeSkipEntry, ban_fields}
+use Rattle.deny_tables.specs.Bans.{tree_skip_fields}
 use Rattle.deny_tables.specs.Build.{ReadsBuild}
 use Rattle.deny_tables.specs.Config.{ReadsConfig}
 use Rattle.deny_entries.specs.Depends.{reason-depends}
 use Rattle.deny_tables.specs.Depends.{ban-depends, features-depend, tree_skip-depends}
 use Rattle.deny_entries.specs.Entry.{ReadsEntryKeys, ReadsSome}
 use Rattle.deny_tables.specs.Features.{ReadsCrateFeatures, ReadsFeatures, feature_fields, lists_in, nowhere}
-use Rattle.deny_cfg.specs.LabelRanges.{AreLabels, config_labels, crate_ban_ranges, crate_feature_ranges, joined, of_some, own_range, reason_range, root_ranges, std_ranges, with_spec, word_ranges, written_build_ranges}
+use Rattle.deny_cfg.specs.LabelRanges.{AreLabels, config_labels, crate_ban_ranges, crate_feature_ranges, joined}
+use Rattle.deny_cfg.specs.LabelRanges.{of_some, own_range, reason_range, root_ranges, std_ranges, with_spec}
+use Rattle.deny_cfg.specs.LabelRanges.{word_ranges, written_build_ranges}
 use Rattle.deny_entries.proofs.RowLaws.{says_of}
 use Rattle.deny_entries.specs.PolicyKey.{name_of}
 use Rattle.deny_cfg.specs.PolicyText.{ReadsBans, bans_name}
@@ -41,8 +45,11 @@ use Rattle.deny_entries.specs.declared.policy_key.PolicyKey.TheVariants as key
 use Rattle.deny_entries.specs.declared.reason.Reason.{Reason}
 use Rattle.deny_entries.specs.declared.spec_or_extended.PackageSpecOrExtended.{PackageSpecOrExtended}
 use Rattle.deny_cfg.proofs.BuildLabels.{build_within}
-use Rattle.deny_cfg.proofs.LabelLaws.{◌▸◌, Lie, StandsAt, Within, WithinKey, WithinKeys, at_stands, entries_stand, key_at, keys_within, list_within, no_entries_stand, no_keys, no_more, one_key, optional_within, or_within, starts, table_within}
-use Rattle.deny_cfg.proofs.LabelReads.{entry_keys_within, entry_within, flag_within, meaning_within, reason_within, word_within, words_within}
+use Rattle.deny_cfg.proofs.LabelLaws.{◌▸◌, Lie, StandsAt, Within, WithinKey, WithinKeys, at_stands, entries_stand}
+use Rattle.deny_cfg.proofs.LabelLaws.{key_at, keys_within, list_within, no_entries_stand, no_keys, no_more, one_key}
+use Rattle.deny_cfg.proofs.LabelLaws.{optional_within, or_within, starts, table_within}
+use Rattle.deny_cfg.proofs.LabelReads.{entry_keys_within, entry_within, flag_within, meaning_within, reason_within}
+use Rattle.deny_cfg.proofs.LabelReads.{word_within, words_within}
 
 wrappers_within : (text : List ℕ) (v : Value) (wrappers : Spanned (List Words)) → ReadsSpanned ReadsTexts v wrappers
     → Within text v (word_ranges wrappers.value)

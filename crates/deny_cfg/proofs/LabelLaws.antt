@@ -2,19 +2,22 @@
 -- each at another.
 use Rattle.std.proofs.lemmas.Bool.{and_parts, not-true}
 use Rattle.std.proofs.lemmas.Option.{same_Some}
-use Rattle.std.proofs.Common.{◌≡◌, ◌+◌, ◌&&◌, ◌++◌, ℕ, Bool, true, false, cond, not, List, [], ◌∷◌, map, append-nil, Option, Some, None, refl, sym, ap, ◌∙◌, subst, arith}
+use Rattle.std.proofs.Common.{◌≡◌, ◌+◌, ◌&&◌, ◌++◌, ℕ, Bool, true, false, cond, not, List, [], ◌∷◌, map, append-nil}
+use Rattle.std.proofs.Common.{Option, Some, None, refl, sym, ap, ◌∙◌, subst, arith}
 use Rattle.std.specs.Prelude.{nat_eq, option_map, find}
 use Rattle.std.specs.Cmp.Lexicographic.{pointwise}
 use Rattle.std.specs.List.{AllByRecursion, IsDistinct, flat_map}
 use Rattle.std.proofs.lemmas.List.{map-append}
 use Rattle.deny_base.specs.declared.span.Span.{Span}
 use Rattle.deny_toml.proofs.ApartLaws.{times, times-append, starts_of_entries}
-use Rattle.deny_toml.proofs.ApartParts.{IsPartOf, names_part, part_nothing, part_of_part, parts_append, starts_at, starts_of, starts_of_elements, starts_of_keys}
+use Rattle.deny_toml.proofs.ApartParts.{IsPartOf, names_part, part_nothing, part_of_part, parts_append, starts_at}
+use Rattle.deny_toml.proofs.ApartParts.{starts_of, starts_of_elements, starts_of_keys}
 use Rattle.deny_toml.specs.Apart.{starts_in}
 use Rattle.deny_toml.specs.Calls.{Layer, array_in, array_of, has_name, layer_in, table_in, table_of, value_at, without}
 use Rattle.deny_toml.specs.Deserialize.{ReadsArray, ReadsEach}
 use Rattle.deny_toml.specs.Ranges as ranges
-use Rattle.deny_toml.specs.Ranges.{AllOfContent, AllOfEntries, AllOfValue, AllOfValues, IsRange, KeyStands, StandsIn, ValueStands}
+use Rattle.deny_toml.specs.Ranges.{AllOfContent, AllOfEntries, AllOfValue, AllOfValues, IsRange, KeyStands, StandsIn}
+use Rattle.deny_toml.specs.Ranges.{ValueStands}
 use Rattle.deny_toml.specs.Value.{entries_in}
 use Rattle.deny_toml.specs.declared.value.Table.{Table}
 use Rattle.deny_toml.specs.declared.value.Value.{Value}

@@ -17,13 +17,15 @@ use Rattle.deny_entries.specs.Words.{ReadsAs, ReadsList, ReadsSpanned}
 use Rattle.deny_entries.specs.declared.policy_key.PolicyKey.TheVariants as key
 use Rattle.deny_entries.proofs.RowLaws.{says_of}
 use Rattle.deny_tables.specs.Apart.{exception_entry-apart}
-use Rattle.deny_tables.specs.Licenses.{ReadsException, ReadsExceptionKeys, ReadsLicenses, exception_fields, exception_rows}
+use Rattle.deny_tables.specs.Licenses.{ReadsException, ReadsExceptionKeys, ReadsLicenses, exception_fields}
+use Rattle.deny_tables.specs.Licenses.{exception_rows}
 use Rattle.deny_tables.specs.declared.licenses.config.Config.{Config}
 use Rattle.deny_tables.specs.declared.licenses.exception.Exception.{Exception}
 use Rattle.deny_cfg.specs.LabelRanges.{AreLabels, exception_range, licence_labels, licence_ranges, own_range}
 use Rattle.deny_cfg.specs.PolicyText.{ReadsLicensing, licenses_name}
 use Rattle.deny_cfg.proofs.LabelConfig.{key_are_labels}
-use Rattle.deny_cfg.proofs.LabelLaws.{◌▸◌, Within, WithinKey, WithinKeys, keys_within, list_within, no_keys, no_more, optional_within, or_within, table_within}
+use Rattle.deny_cfg.proofs.LabelLaws.{◌▸◌, Within, WithinKey, WithinKeys, keys_within, list_within, no_keys, no_more}
+use Rattle.deny_cfg.proofs.LabelLaws.{optional_within, or_within, table_within}
 use Rattle.deny_cfg.proofs.LabelReads.{entry_keys_within, meaning_within}
 
 licences_within : (text : List ℕ) (v : Value) (licences : List (Spanned Requirement)) → ReadsLicences v licences

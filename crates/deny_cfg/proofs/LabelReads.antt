@@ -1,6 +1,8 @@
 -- Where the ranges of words, specs and entries lie.
 use Rattle.std.proofs.lemmas.Option.{same_Some}
-use Rattle.std.proofs.Common.{◌≡◌, ◌⊎◌, ◌<◌, ◌≤◌, ◌+◌, ◌-◌, ◌++◌, ◌==◌, ℕ, Bool, true, false, cond, not, List, [], ◌∷◌, length, get_or, take, drop, Option, Some, None, inl, inr, refl, sym, ap, ◌∙◌, subst, arith, eqb-true}
+use Rattle.std.proofs.Common.{◌≡◌, ◌⊎◌, ◌<◌, ◌≤◌, ◌+◌, ◌-◌, ◌++◌, ◌==◌, ℕ, Bool, true, false, cond, not, List, [], ◌∷◌}
+use Rattle.std.proofs.Common.{length, get_or, take, drop, Option, Some, None, inl, inr, refl, sym, ap, ◌∙◌, subst}
+use Rattle.std.proofs.Common.{arith, eqb-true}
 use Rattle.std.specs.Prelude.{IfSome, is_some, option_and_then, if◌then◌else◌}
 use Rattle.std.specs.List.{position_or_len}
 use Rattle.std.specs.Option.{option_map_or}
@@ -16,7 +18,8 @@ use Rattle.deny_model.specs.Policy.{Words}
 use Rattle.deny_toml.proofs.ApartLaws.{starts_by_layer, starts_of_layer}
 use Rattle.deny_toml.proofs.ApartParts.{IsPartOf, part_itself, starts_of_text}
 use Rattle.deny_toml.specs.Apart.{starts_in}
-use Rattle.deny_toml.specs.Calls.{Layer, bool_of, is_verbatim, layer_in, one_line_of, scalar_of, text_in, text_of, without}
+use Rattle.deny_toml.specs.Calls.{Layer, bool_of, is_verbatim, layer_in, one_line_of, scalar_of, text_in, text_of}
+use Rattle.deny_toml.specs.Calls.{without}
 use Rattle.deny_toml.specs.Ranges.{IsRange, ScalarStands, ValueStands, bytes_in}
 use Rattle.deny_toml.specs.Value.{span_in, span_of}
 use Rattle.deny_toml.specs.declared.value.Content.TheOpen.{Content-F}
@@ -28,13 +31,16 @@ use Rattle.deny_entries.specs.Entry.{ReadsEntry, ReadsEntryBy, ReadsEntryKeys, R
 use Rattle.deny_cfg.specs.LabelRanges.{of_some, own_range, reason_range, spec_range, word_ranges}
 use Rattle.deny_entries.proofs.RowLaws.{says_of}
 use Rattle.deny_entries.specs.PolicyKey.{name_of}
-use Rattle.deny_entries.specs.Spec.{ReadsName, ReadsSpecBy, ReadsSpecKeys, ReadsSpecOf, ReadsSpecText, crate_fields, divided, divided_at, name_fields, name_in, name_span, or_else, parts_or, spec_fields, spec_in}
+use Rattle.deny_entries.specs.Spec.{ReadsName, ReadsSpecBy, ReadsSpecKeys, ReadsSpecOf, ReadsSpecText, crate_fields}
+use Rattle.deny_entries.specs.Spec.{divided, divided_at, name_fields, name_in, name_span, or_else, parts_or}
+use Rattle.deny_entries.specs.Spec.{spec_fields, spec_in}
 use Rattle.deny_entries.specs.Table.{DependsOn, Entries, Field, ReadsThere, are_apart, at_key}
 use Rattle.deny_entries.specs.Words.{ReadsAs, ReadsBool, ReadsSpanned, ReadsText, ReadsTexts}
 use Rattle.deny_entries.specs.declared.package_spec.PackageSpec.{PackageSpec}
 use Rattle.deny_entries.specs.declared.policy_key.PolicyKey.TheVariants as key
 use Rattle.deny_entries.specs.declared.reason.Reason.{Reason}
-use Rattle.deny_cfg.proofs.LabelLaws.{Within, WithinKey, WithinKeys, key_at, list_within, put_key, skip_key, stands_itself, table_within}
+use Rattle.deny_cfg.proofs.LabelLaws.{Within, WithinKey, WithinKeys, key_at, list_within, put_key, skip_key}
+use Rattle.deny_cfg.proofs.LabelLaws.{stands_itself, table_within}
 use Rattle.deny_entries.proofs.SpecLaws.{verbatim_length}
 use Rattle.deny_entries.proofs.TableLaws.{said_left}
 use Rattle.deny_entries.proofs.UnknownLaws.{left}

@@ -1,5 +1,6 @@
 -- The ranges of a validated configuration are among those of the configuration as it is written.
-use Rattle.std.proofs.Common.{◌≡◌, ◌≢◌, ◌<◌, ◌++◌, ℕ, Bool, true, false, cond, not, List, [], ◌∷◌, length, map, append_assoc, Option, Some, None, refl, sym, ap, ◌∙◌, subst, arith}
+use Rattle.std.proofs.Common.{◌≡◌, ◌≢◌, ◌<◌, ◌++◌, ℕ, Bool, true, false, cond, not, List, [], ◌∷◌, length, map}
+use Rattle.std.proofs.Common.{append_assoc, Option, Some, None, refl, sym, ap, ◌∙◌, subst, arith}
 use Rattle.std.specs.Prelude.{AllPairs, filter, option_map}
 use Rattle.std.specs.List.{flat_map}
 use Rattle.std.proofs.lemmas.List.{get_or-map, length-map}
@@ -10,14 +11,18 @@ use Rattle.deny_model.specs.Policy.{Words}
 use Rattle.deny_toml.proofs.ApartParts.{AreDistinct}
 use Rattle.deny_toml.specs.Ranges.{IsRange}
 use Rattle.deny_cfg.specs.Clashes.{is_ban}
-use Rattle.deny_cfg.specs.LabelRanges.{AreLabels, ban_ranges, build_ranges, config_labels, crate_ban_ranges, crate_feature_ranges, feature_ranges, of_some, own_range, reason_range, root_ranges, spec_range, std_ranges, with_spec, word_labels, word_ranges, written_build_ranges}
+use Rattle.deny_cfg.specs.LabelRanges.{AreLabels, ban_ranges, build_ranges, config_labels, crate_ban_ranges}
+use Rattle.deny_cfg.specs.LabelRanges.{crate_feature_ranges, feature_ranges, of_some, own_range, reason_range}
+use Rattle.deny_cfg.specs.LabelRanges.{root_ranges, spec_range, std_ranges, with_spec, word_labels, word_ranges}
+use Rattle.deny_cfg.specs.LabelRanges.{written_build_ranges}
 use Rattle.deny_cfg.specs.Valid.{IsValidOf, ban_of, features_of, is_multiple, krate_ban, older_key_of}
 use Rattle.deny_tables.specs.declared.bans.cfg.ban.CrateBanExtended.{CrateBanExtended}
 use Rattle.deny_tables.specs.declared.bans.cfg.config.Config.{Config}
 use Rattle.deny_tables.specs.declared.bans.cfg.features.CrateFeatures.{CrateFeatures}
 use Rattle.deny_cfg.specs.declared.bans.cfg.valid.ValidConfig.{ValidConfig}
 use Rattle.deny_entries.specs.declared.spec_or_extended.PackageSpecOrExtended.{PackageSpecOrExtended}
-use Rattle.deny_cfg.proofs.Among.{Among, among_both, among_itself, among_joined, among_rest, among_same, among_then, lie_prefix, lie_rest, times_both}
+use Rattle.deny_cfg.proofs.Among.{Among, among_both, among_itself, among_joined, among_rest, among_same, among_then}
+use Rattle.deny_cfg.proofs.Among.{lie_prefix, lie_rest, times_both}
 use Rattle.deny_cfg.proofs.BuildAmong.{built_among}
 use Rattle.deny_cfg.proofs.LabelConfig.{are_labels}
 use Rattle.deny_cfg.proofs.LabelLaws.{lie_append, starts}

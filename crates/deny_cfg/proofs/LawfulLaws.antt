@@ -7,7 +7,10 @@ use Rattle.deny_base.specs.declared.span.Spanned.{Spanned}
 use Rattle.deny_spdx.specs.declared.requirement.Requirement.{Requirement}
 use Rattle.deny_tables.specs.declared.licenses.config.Config.{Config}
 use Rattle.deny_tables.specs.declared.licenses.exception.Exception.{Exception}
-use Rattle.deny_cfg.specs.LabelRanges.{AreLabels, ban_ranges, build_ranges, exception_range, feature_ranges, feature_ranges_by, licence_labels, licence_ranges, of_some, own_range, reason_range, root_ranges, spec_range, std_ranges, std_ranges_by, with_spec, word_labels, word_ranges}
+use Rattle.deny_cfg.specs.LabelRanges.{AreLabels, ban_ranges, build_ranges, exception_range, feature_ranges}
+use Rattle.deny_cfg.specs.LabelRanges.{feature_ranges_by, licence_labels, licence_ranges, of_some, own_range}
+use Rattle.deny_cfg.specs.LabelRanges.{reason_range, root_ranges, spec_range, std_ranges, std_ranges_by, with_spec}
+use Rattle.deny_cfg.specs.LabelRanges.{word_labels, word_ranges}
 use Rattle.deny_cfg.specs.Lawful.{IsLawful, IsLawfulLicensing, entry_spans, no_range, wrapper_ranges}
 use Rattle.deny_cfg.specs.declared.bans.cfg.valid.KrateBan.{KrateBan}
 use Rattle.deny_cfg.specs.declared.bans.cfg.valid.ValidConfig.{ValidConfig}

@@ -8,12 +8,14 @@ use Rattle.deny_lists.proofs.Alike.{same_map}
 use Rattle.deny_entries.specs.Entry.{ReadsEntryKeys}
 use Rattle.deny_entries.specs.Licence.{ReadsLicences}
 use Rattle.deny_entries.specs.PolicyKey.{name_of}
-use Rattle.deny_entries.specs.Table.{Entries, ReadsTable, ReadsThere, at_key}
+use Rattle.deny_entries.specs.Table.{Entries, ReadsTable, at_key}
 use Rattle.deny_entries.specs.Words.{ReadsAs, ReadsBool, ReadsList, ReadsSpanned, ReadsText, level_of}
 use Rattle.deny_entries.specs.declared.policy_key.PolicyKey.TheVariants as key
-use Rattle.deny_entries.proofs.ReadsLaws.{ReadsAlike, ReadsOne, SpecsAlike, alike_list, alike_list_or, alike_table, keys_alike, one_as, one_bool, one_or, one_spanned, one_text}
+use Rattle.deny_entries.proofs.ReadsLaws.{ReadsAlike, ReadsOne, SpecsAlike, alike_list, alike_list_or, alike_table}
+use Rattle.deny_entries.proofs.ReadsLaws.{keys_alike, one_as, one_bool, one_or, one_spanned, one_text, one_required}
 use Rattle.deny_entries.proofs.RowLaws.{says_of}
-use Rattle.deny_tables.specs.Licenses.{ReadsException, ReadsExceptionKeys, ReadsLicenses, ReadsPrivate, none_private, private_in}
+use Rattle.deny_tables.specs.Licenses.{ReadsException, ReadsExceptionKeys, ReadsLicenses, ReadsPrivate, none_private}
+use Rattle.deny_tables.specs.Licenses.{private_in}
 use Rattle.deny_tables.specs.declared.licenses.config.Config.{Config}
 use Rattle.deny_tables.specs.declared.licenses.exception.Exception.{Exception}
 use Rattle.deny_cfg.specs.LicensingView.{exception_view, licensing_of, licensing_view}
@@ -27,10 +29,6 @@ one_licences : ReadsOne ReadsLicences
 one_licences =
     one_list (ReadsSpanned (ReadsAs requirement_in)) (one_spanned (ReadsAs requirement_in) (one_as requirement_in))
 
-pub one_there : {T : Type 0} (Reads : Value → T → Type 0) → ReadsOne Reads → ReadsOne (ReadsThere Reads)
-one_there Reads same None x y one two = absurd one
-one_there Reads same (Some v) x y one two = same v x y one two
-
 -- two exceptions are alike where their specs are, and they list the same
 abbrev ExceptionsAlike : Exception → Exception → Type 0
 ExceptionsAlike a b = SpecsAlike a.spec b.spec × (a.allow ≡ b.allow)
@@ -42,7 +40,7 @@ exception_keys_alike : ReadsAlike ReadsExceptionIn ExceptionsAlike
 unfolding name_of
 exception_keys_alike entries a b one two = (
   keys_alike entries a.spec b.spec one.of_spec two.of_spec,
-  one_there ReadsLicences one_licences (at_key key.Allow entries) a.allow b.allow (says_of key.Allow one.besides)
+  one_required ReadsLicences one_licences (at_key key.Allow entries) a.allow b.allow (says_of key.Allow one.besides)
       (says_of key.Allow two.besides),
 )
 

@@ -11,7 +11,7 @@ use Rattle.deny_base.proofs.KeyEqual.{span_cmp-total}
 use Rattle.deny_toml.specs.Calls.{below_name}
 use Rattle.deny_toml.specs.Clash.{clash}
 use Rattle.deny_toml.specs.Faults.{fault_at}
-use Rattle.deny_toml.specs.Parser.{IsDocumentOf, IsFaultOf, IsTreeOf, whole}
+use Rattle.deny_toml.specs.Parser.{IsDocumentOf, IsFaultOf, IsTreeOf}
 use Rattle.deny_toml.specs.Tree.{tree}
 use Rattle.deny_toml.specs.declared.error.ConfigFault.{ConfigFault}
 use Rattle.deny_toml.specs.declared.error.FaultKind.TheVariants.{Grammar}
@@ -19,10 +19,12 @@ use Rattle.deny_toml.specs.declared.error.TomlKind.{TomlKind}
 use Rattle.deny_toml.specs.declared.error.TomlKind.TheVariants as toml
 use Rattle.deny_toml.specs.Expression.{Expression}
 use Rattle.deny_toml.specs.declared.value.Value.{Value}
+use Rattle.deny_toml.proofs.ParserLaws.{one_tree}
 use Rattle.deny_cfg.specs.Clashes.{clash_cmp, clash_told, kind_number}
 use Rattle.deny_cfg.specs.Deprecated.{warnings_by}
 use Rattle.deny_cfg.specs.LicensingView.{licensing_of}
-use Rattle.deny_cfg.specs.PolicyText.{AreFaults, IsPolicyOf, ListsFaults, ReadsBans, ReadsLicensing, Says, TellsClashes, bans_name, faults_of_tree, kind_of, licenses_name}
+use Rattle.deny_cfg.specs.PolicyText.{AreFaults, IsPolicyOf, ListsFaults, ReadsBans, ReadsLicensing, Says, TellsClashes}
+use Rattle.deny_cfg.specs.PolicyText.{bans_name, faults_of_tree, kind_of, licenses_name}
 use Rattle.deny_cfg.specs.PolicyView.{building_of, builtin_file_of, policy_view}
 use Rattle.deny_tables.specs.declared.bans.cfg.config.Config.{Config}
 use Rattle.deny_tables.specs.declared.licenses.config.Config as licenses
@@ -40,9 +42,6 @@ use Rattle.deny_cfg.proofs.ViewLaws.{same_view}
 -- what a text writes is one, and so is its tree
 one_document : (text : List ℕ) (es fs : List Expression) → IsDocumentOf text es → IsDocumentOf text fs → es ≡ fs
 one_document text es fs one two = two.only es one.written
-
-one_tree : (text : List ℕ) (v w : Value) → IsTreeOf text v → IsTreeOf text w → v ≡ w
-one_tree text v w one two = one.3 ∙ ap (tree (whole text)) (one_document text one.0 two.0 one.1 two.1) ∙ sym two.3
 
 bans_alike : ReadsAlike ReadsBans ConfigsAlike
 bans_alike None a b one two = configs_alike [] a b one two

@@ -1,7 +1,8 @@
 -- What is told of a text that has no policy, and that a text without clashes tells none.
 use Rattle.deny_lists.proofs.Members.{no_member}
 use Rattle.deny_lists.proofs.PrefixLemmas.{gains_whole_of}
-use Rattle.std.proofs.Common.{◌≡◌, ◌++◌, ◌-◌, ℕ, List, [], ◌∷◌, Contains, append_assoc, length, map, take, Ok, Err, inl, inr, refl, sym, ap, ◌∙◌, subst, arith}
+use Rattle.std.proofs.Common.{◌≡◌, ◌++◌, ◌-◌, ℕ, List, [], ◌∷◌, Contains, append_assoc, length, map, take, Ok, Err, inl}
+use Rattle.std.proofs.Common.{inr, refl, sym, ap, ◌∙◌, subst, arith}
 use Rattle.std.proofs.lemmas.Bool.{cases_lt}
 use Rattle.std.proofs.lemmas.List.{length-append, take-append-le, take_all}
 use Rattle.std.proofs.Math.Seq.{take-append_seam}
@@ -9,7 +10,6 @@ use Rattle.std.specs.Prelude.{IfErr, IfOk, IsUtf8, OnErr, Result}
 use Rattle.deny_base.specs.declared.files.File.{File}
 use Rattle.deny_base.specs.declared.finding.Diagnostic.{Diagnostic}
 use Rattle.deny_base.specs.declared.span.Span.{Span}
-use Rattle.deny_lists.proofs.Members.{Contains-first}
 use Rattle.deny_model.specs.Keys.{no_span}
 use Rattle.deny_toml.proofs.FaultLaws.{single_ascends}
 use Rattle.deny_toml.specs.Faults.{Reports, fault_at}
@@ -21,7 +21,8 @@ use Rattle.deny_toml.specs.declared.error.FaultKind.TheVariants as kind
 use Rattle.deny_toml.specs.declared.error.TomlKind.{TomlKind}
 use Rattle.deny_toml.specs.declared.value.Value.{Value}
 use Rattle.deny_cfg.specs.Clashes.{AreClashes, IsClash, clash_cmp, clash_told}
-use Rattle.deny_cfg.specs.PolicyText.{AddsFiles, AddsOnError, AreFaults, IsConfig, IsNoPolicy, Keeps, KeepsOnError, ListsFaults, faults_of_tree, globs_files, kind_of, policy_file, policy_files}
+use Rattle.deny_cfg.specs.PolicyText.{AddsFiles, AddsOnError, AreFaults, IsConfig, IsNoPolicy, Keeps, KeepsOnError}
+use Rattle.deny_cfg.specs.PolicyText.{ListsFaults, faults_of_tree, globs_files, kind_of, policy_file, policy_files}
 use Rattle.deny_cfg.specs.PolicyText.AreFaults.{not_utf8, no_toml, of_tree}
 use Rattle.deny_lists.specs.Ascending.{Lists}
 use Rattle.deny_lists.specs.Prefix.{Gains, GainsPrefix, GainsPrefixOf}
@@ -61,10 +62,6 @@ pub tree_listed : (text : List ℕ) (v : Value) (faults : List ConfigFault) → 
 tree_listed text v faults utf8 tree reported =
     subst (ListsFaults text) (sym reported.0) record
     { are = of_tree v utf8 tree; some = reported.1; ascending = reported.2 }
-
-no_members : {T : Type 0} (xs : List T) → ((x : T) → Contains xs x → ⊥) → xs ≡ []
-no_members [] none = refl
-no_members (x ∷ xs) none = absurd (none x (Contains-first x xs))
 
 nothing_mapped : {A B : Type 0} (f : A → B) (xs : List A) → map f xs ≡ [] → xs ≡ []
 nothing_mapped f [] e = refl

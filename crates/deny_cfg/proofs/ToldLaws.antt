@@ -1,11 +1,13 @@
 -- The labels of what clashes lie in the text.
 use Rattle.deny_lists.proofs.Each.{all_append, all_filter, all_flat, all_found, all_given, all_mapped, all_weaker}
-use Rattle.std.proofs.Common.{◌≡◌, ◌++◌, ℕ, Bool, true, false, cond, List, [], ◌∷◌, length, map, Contains, Option, Some, None, inl, inr, refl, sym, subst, arith}
+use Rattle.deny_lists.proofs.Each.{all_from_members}
+use Rattle.std.proofs.Common.{◌≡◌, ◌++◌, ℕ, Bool, true, false, cond, List, [], ◌∷◌, length, map, Option, Some, None}
+use Rattle.std.proofs.Common.{inl, inr, refl, sym, subst, arith}
 use Rattle.std.specs.Prelude.{All, IfSome, IsUtf8, codes, filter, filter_map, find, option_and_then, option_map}
 use Rattle.std.specs.List.{AllByRecursion, flat_map}
 use Rattle.std.proofs.lemmas.List.Elements.{All-from_recursion, recursion_from_All}
 use Rattle.std.proofs.lemmas.Str.{IsCharBoundary-start}
-use Rattle.deny_lists.proofs.Members.{Contains-first, Contains-rest, at_member}
+use Rattle.deny_lists.proofs.Members.{at_member}
 use Rattle.deny_base.specs.declared.finding.Diagnostic.{Diagnostic}
 use Rattle.deny_base.specs.declared.label.LabelStyle.TheVariants.{Primary, Secondary}
 use Rattle.deny_base.specs.declared.span.Span.{Span}
@@ -23,10 +25,14 @@ use Rattle.deny_build_cfg.specs.declared.wrong.BuildFault.{BuildFault}
 use Rattle.deny_build_cfg.specs.declared.wrong.BuildFault.TheVariants as fault
 use Rattle.deny_tables.specs.declared.bans.cfg.build.BuildConfig.{BuildConfig}
 use Rattle.deny_tables.specs.Bans.{ReadsBan, ReadsBanEntry, ban_fields}
-use Rattle.deny_cfg.specs.Clashes.{AreClashes, IsBuildClash, IsClash, banned_specs, build_clash, clash_labels, clash_told, clash_with, clashes_in, feature_at, feature_clash, feature_clashes, is_ban, label_of, one_label, specs_of, two_places, wrappers_clash, wrappers_clash_by}
+use Rattle.deny_cfg.specs.Clashes.{AreClashes, IsBuildClash, IsClash, banned_specs, build_clash, clash_labels}
+use Rattle.deny_cfg.specs.Clashes.{clash_told, clash_with, clashes_in, feature_at, feature_clash, feature_clashes}
+use Rattle.deny_cfg.specs.Clashes.{is_ban, label_of, one_label, specs_of, two_places, wrappers_clash, wrappers_clash_by}
 use Rattle.deny_tables.specs.Config.{ReadsConfig}
 use Rattle.deny_entries.specs.Entry.{ReadsEntryBy, ReadsPair, ReadsSome}
-use Rattle.deny_cfg.specs.LabelRanges.{AreLabels, config_labels, crate_ban_ranges, crate_feature_ranges, list_ranges, of_some, own_range, reason_range, root_ranges, std_ranges, told_ranges, with_spec, word_ranges, wrapper_list, written_build_ranges}
+use Rattle.deny_cfg.specs.LabelRanges.{AreLabels, config_labels, crate_ban_ranges, crate_feature_ranges, list_ranges}
+use Rattle.deny_cfg.specs.LabelRanges.{of_some, own_range, reason_range, root_ranges, std_ranges, told_ranges}
+use Rattle.deny_cfg.specs.LabelRanges.{with_spec, word_ranges, wrapper_list, written_build_ranges}
 use Rattle.deny_cfg.specs.PolicyText.{ReadsBans, bans_name}
 use Rattle.deny_entries.proofs.RowLaws.{says_of}
 use Rattle.deny_entries.specs.PolicyKey.{name_of}
@@ -45,7 +51,8 @@ use Rattle.deny_entries.specs.declared.policy_key.PolicyKey.TheVariants as key
 use Rattle.deny_entries.specs.declared.reason.Reason.{Reason}
 use Rattle.deny_entries.specs.declared.spec_or_extended.PackageSpecOrExtended.{PackageSpecOrExtended}
 use Rattle.deny_cfg.proofs.LabelConfig.{name_stands}
-use Rattle.deny_cfg.proofs.LabelLaws.{EntriesStand, Lie, StandsAt, at_stands, elements_stand, entries_stand, lie_append, no_entries_stand, stands_itself}
+use Rattle.deny_cfg.proofs.LabelLaws.{EntriesStand, Lie, StandsAt, at_stands, elements_stand, entries_stand, lie_append}
+use Rattle.deny_cfg.proofs.LabelLaws.{no_entries_stand, stands_itself}
 use Rattle.deny_cfg.proofs.Among.{lie_prefix, lie_rest}
 use Rattle.deny_cfg.proofs.BuildTold.{FaultLies, wrong_lies}
 
@@ -364,10 +371,6 @@ module _ (text : List ℕ) (nothing : IsRange text no_span) where
       lie_append text (map (λ label. label.span) (clash_labels c.kind file c)) (told_ranges (map (clash_told file) cs))
       (labels_by c.kind file c all.0) (told_by file cs all.1)
 
-of_members : {X : Type 0} (P : X → Type 0) (xs : List X) → ((x : X) → Contains xs x → P x) → AllByRecursion P xs
-of_members P [] each = tt
-of_members P (x ∷ xs) each = (each x (Contains-first x xs), of_members P xs (λ y is. each y (Contains-rest x xs y is)))
-
 nothing_lies : (text : List ℕ) → IsUtf8 text → IsRange text no_span
 nothing_lies text utf8 =
     record {
@@ -389,7 +392,7 @@ told_lie text config file told utf8 labels lists are =
     let both = recursion_from_All (IsRange text)
     (wrappers ++ of_some own_range config.allow_build_scripts) lists in
     let listed =
-    of_members (ClashLies text) are.clashes
+    all_from_members (ClashLies text) are.clashes
     (λ c is. clash_lies text nothing utf8 config
     (recursion_from_All (IsRange text) (config_labels config) labels.placed)
     (lie_prefix text wrappers (of_some own_range config.allow_build_scripts) both) c (are.listed.sound c is)) in

@@ -1,5 +1,6 @@
 -- Configurations that are alike have the same clashes, and the same view once they are valid.
-use Rattle.std.proofs.Common.{◌≡◌, ◌++◌, ◌+◌, ◌&&◌, ℕ, Bool, false, List, [], ◌∷◌, Option, None, Some, map, not, refl, sym, ap, ◌∙◌}
+use Rattle.std.proofs.Common.{◌≡◌, ◌++◌, ◌+◌, ◌&&◌, ℕ, Bool, false, List, [], ◌∷◌, Option, None, Some, map, not, refl}
+use Rattle.std.proofs.Common.{sym, ap, ◌∙◌}
 use Rattle.std.specs.Prelude.{filter, filter_map, find, option_and_then, option_map}
 use Rattle.std.specs.List.{AllZip}
 use Rattle.std.specs.Option.{option_eq, option_map_or}
@@ -7,8 +8,10 @@ use Rattle.semver.specs.Identifiers.{parts_of}
 use Rattle.deny_base.specs.declared.span.Span.{Span}
 use Rattle.deny_model.specs.Policy.{Ban, Entry, Root, Spec, Words}
 use Rattle.deny_model.specs.Text.{same_text}
-use Rattle.deny_cfg.specs.Clashes.{banned_specs, clash_with, clashes_in, feature_at, feature_clash, feature_clashes, is_ban, specs_of, two_places, wrappers_clash, wrappers_clash_by}
-use Rattle.deny_cfg.specs.PolicyView.{ban_view, entry_view, feature_view, policy_view, reason_words, replacing_view, root_view, roots_from, scope_view, sharing_view, words_or_none}
+use Rattle.deny_cfg.specs.Clashes.{banned_specs, clash_with, clashes_in, feature_at, feature_clash, feature_clashes}
+use Rattle.deny_cfg.specs.Clashes.{is_ban, specs_of, two_places, wrappers_clash, wrappers_clash_by}
+use Rattle.deny_cfg.specs.PolicyView.{ban_view, entry_view, feature_view, policy_view, reason_words, replacing_view}
+use Rattle.deny_cfg.specs.PolicyView.{root_view, roots_from, scope_view, sharing_view, words_or_none}
 use Rattle.deny_tables.specs.Highlight.{shows_lowest, shows_simplest}
 use Rattle.deny_entries.specs.SpecView.{same_spec, spec_view}
 use Rattle.deny_cfg.specs.Valid.{IsValidOf, ban_of, features_of, is_multiple, krate_ban}

@@ -1,5 +1,7 @@
 -- Which entries of a policy contradict each other, what is wrong in its table `build`, and what is told of it.
-use Rattle.std.specs.Prelude.{◌&&◌, ◌==◌, ◌++◌, ◌≡◌, ◌⊎◌, ℕ, Bool, false, true, not, List, [], ◌∷◌, Option, None, Some, filter, find, length, map, filter_map, option_map, option_and_then, codes, Contains, if◌then◌else◌}
+use Rattle.std.specs.Prelude.{◌&&◌, ◌==◌, ◌++◌, ◌≡◌, ◌⊎◌, ℕ, Bool, false, true, not, List, [], ◌∷◌, Option, None, Some}
+use Rattle.std.specs.Prelude.{filter, find, length, map, filter_map, option_map, option_and_then, codes, Contains}
+use Rattle.std.specs.Prelude.{if◌then◌else◌}
 use Rattle.std.specs.Fmt.{decimal}
 use Rattle.std.specs.List.{flat_map}
 use Rattle.std.specs.Option.{option_map_or}

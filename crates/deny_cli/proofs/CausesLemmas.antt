@@ -1,5 +1,6 @@
 -- What follows from the causes of a run's outcomes.
-use Rattle.std.proofs.Common.{◌∙◌, ◌≡◌, ◌≢◌, ◌<◌, ◌≤◌, ◌==◌, ◌+◌, ◌^◌, ℕ, IsTrue, Bool, true, false, List, length, Option, None, Some, ap, refl, sym, subst, rules, arith, if◌then◌else◌}
+use Rattle.std.proofs.Common.{◌∙◌, ◌≡◌, ◌≢◌, ◌<◌, ◌≤◌, ◌==◌, ◌+◌, ◌^◌, ℕ, IsTrue, Bool, true, false, List, length}
+use Rattle.std.proofs.Common.{Option, None, Some, ap, refl, sym, subst, rules, arith, if◌then◌else◌}
 use Rattle.std.specs.List.{list_any}
 use Rattle.std.proofs.lemmas.Option.{none-some}
 use Rattle.std.specs.Prelude.{IfSome, not, option_map}
@@ -24,8 +25,12 @@ use Rattle.deny_gate.specs.Dead.{CanDoWithoutDead}
 use Rattle.deny_gate.specs.Headline.{IsHeadlineOf, is_failure}
 use Rattle.deny_gate.specs.Report.{fails_as, has_error, policy_id, verdict_by}
 use Rattle.deny_gate.specs.declared.report.Report.{Report}
-use Rattle.deny_cli.specs.Causes.{known_files, known_texts, made_texts, texts_at, IsShort, IsFirstLong, IsLongThere, IsReadIfNamed, IsPolicyAt, AreTextsOf, AreTold, IsReportOn, IsStopOn, IsLongOn, IsReadFault, IsRefusedRun, IsValidRun, IsHeadlineOn, CanDoWithoutDeadOn, IsReadable, IsTextOfClashes, ComesBy, StopsAt}
-use Rattle.deny_cli.specs.Outcome.{AreOneStop, IfDone, IfReported, IsUsage, IsDoneOrMemory, IsStopOrMemory, bits_of, failing_bits, status_of}
+use Rattle.deny_cli.specs.Causes.{known_files, known_texts, made_texts, texts_at, IsShort, IsFirstLong, IsLongThere}
+use Rattle.deny_cli.specs.Causes.{IsReadIfNamed, IsPolicyAt, AreTextsOf, AreTold, IsReportOn, IsStopOn, IsLongOn}
+use Rattle.deny_cli.specs.Causes.{IsReadFault, IsRefusedRun, IsValidRun, IsHeadlineOn, CanDoWithoutDeadOn, IsReadable}
+use Rattle.deny_cli.specs.Causes.{IsTextOfClashes, ComesBy, StopsAt}
+use Rattle.deny_cli.specs.Outcome.{AreOneStop, IfDone, IfReported, IsUsage, IsDoneOrMemory, IsStopOrMemory, bits_of}
+use Rattle.deny_cli.specs.Outcome.{failing_bits, status_of}
 use Rattle.deny_cli.specs.Outputs.{FailsWriting, LeavesOut, WritesReport}
 use Rattle.deny_cli.specs.Stops.{IsTextOf}
 use Rattle.deny_cli.specs.Summary.{answer_lines, lines_for}

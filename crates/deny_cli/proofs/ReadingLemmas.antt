@@ -1,5 +1,5 @@
 -- Readings that stop a run: of which text, and that it was asked for.
-use Rattle.std.proofs.Common.{◌≡◌, ◌∙◌, ◌≤◌, ◌^◌, ℕ, List, [], Option, None, Some, Result, Ok, Err, refl, sym, subst, arith}
+use Rattle.std.proofs.Common.{◌≡◌, ◌≤◌, ◌^◌, ℕ, List, [], Option, None, Some, Result, Ok, Err, refl, sym, subst, arith}
 use Rattle.std.specs.Prelude.{IfErr, IfSome, IsErrAnd, option_map, ⊤}
 use Rattle.deny_outside.specs.Count.{RoseBy}
 use Rattle.deny_outside.specs.Disk.{Disk, Files, FailedAt, IsLater, bytes_at}
@@ -7,30 +7,13 @@ use Rattle.deny_base.specs.declared.check.Which.{Which}
 use Rattle.deny_base.specs.declared.check.Which.TheVariants.{Policy, Metadata, Replacements}
 use Rattle.deny_outside.specs.declared.disk.Call.TheVariants as call
 use Rattle.deny_gate.specs.Gating.{Texts}
-use Rattle.deny_cli.specs.Causes.{AreShortBefore, IsAskedFor, IsFaultAt, IsFirstLong, IsLong, IsLongAt, IsLongThere, IsReadAt, IsReadStop, IsShort, StopsAt, known_texts, texts_at}
+use Rattle.deny_cli.specs.Causes.{AreShortBefore, IsAskedFor, IsFaultAt, IsFirstLong, IsLong, IsLongAt, IsLongThere}
+use Rattle.deny_cli.specs.Causes.{IsReadAt, IsReadStop, IsShort, StopsAt, known_texts, texts_at}
 use Rattle.deny_cli.specs.Words.{Asked, check, path_of}
 use Rattle.deny_cli.specs.declared.outcome.Outcome.{Outcome}
 use Rattle.deny_cli.specs.declared.outcome.Outcome.TheVariants.{Done, Usage, Read, Long, Gate, Write, Memory}
 
 -- ---- counts and files of a disk that is later
-
-pub no_later : (disk : Disk) → IsLater disk disk
-no_later disk = record {
-  files = refl;
-  faults = omega arith;
-  faults_at = λ kind path. omega arith;
-  given = omega arith;
-  listed = omega arith;
-}
-
-pub later_twice : (old between new : Disk) → IsLater old between → IsLater between new → IsLater old new
-later_twice old between new first second = record {
-  files = second.files ∙ first.files;
-  faults = omega (arith, first.faults, second.faults);
-  faults_at = λ kind path. omega (arith, first.faults_at kind path, second.faults_at kind path);
-  given = omega (arith, first.given, second.given);
-  listed = omega (arith, first.listed, second.listed);
-}
 
 rose_since : (n before between after : ℕ) → before ≤ between → RoseBy n between after → RoseBy n before after
 rose_since n before between after later rose = omega (arith, later, rose)

@@ -73,13 +73,16 @@ is_long = refl
 
 pub is_unknown : stop_line []
     (Gate (gate.Config (record
-    { span = record { start = 7; end = 14 }; kind = kind.Unknown; key = codes "bans.clarify"; is_nameless = false } ∷ [])))
-    ≡ codes "{\"fields\":{\"faults\":[{\"end\":14,\"key\":\"bans.clarify\",\"kind\":\"unknown\",\"start\":7}],\"stop\":\"config\"},\"type\":\"stop\"}\n"
+    { span = record { start = 7; end = 14 }; kind = kind.Unknown; key = codes "bans.clarify"; is_nameless = false }
+    ∷ [])))
+    ≡ codes
+    "{\"fields\":{\"faults\":[{\"end\":14,\"key\":\"bans.clarify\",\"kind\":\"unknown\",\"start\":7}],\"stop\":\"config\"},\"type\":\"stop\"}\n"
 unfolding serde_json_on_literals digits stop_line fault_value
 is_unknown = refl
 
 pub is_a_fault : stop_line [] (Gate (gate.Metadata (fault.Shape (codes "packages.0.name"))))
-    ≡ codes "{\"fields\":{\"detail\":\"packages.0.name\",\"fault\":\"shape\",\"stop\":\"metadata\"},\"type\":\"stop\"}\n"
+    ≡ codes
+    "{\"fields\":{\"detail\":\"packages.0.name\",\"fault\":\"shape\",\"stop\":\"metadata\"},\"type\":\"stop\"}\n"
 unfolding serde_json_on_literals digits stop_line
 is_a_fault = refl
 

@@ -1,5 +1,6 @@
 -- The lines of a report are read as what it tells.
-use Rattle.std.proofs.Common.{◌≡◌, ℕ, ◌<◌, ◌^◌, List, [], ◌∷◌, ◌++◌, Option, None, Some, ap, ap₂, refl, subst, sym, ◌∙◌, append-nil, get_or}
+use Rattle.std.proofs.Common.{◌≡◌, ℕ, ◌<◌, ◌^◌, List, [], ◌∷◌, ◌++◌, Option, None, Some, ap, ap₂, refl, subst, sym, ◌∙◌}
+use Rattle.std.proofs.Common.{append-nil, get_or}
 use Rattle.std.specs.Prelude.{All, map}
 use Rattle.std.specs.List.{flat_map}
 use Rattle.std.specs.Option.{option_map_or}
@@ -22,7 +23,8 @@ use Rattle.deny_gate.specs.declared.report.Finding.{Finding}
 use Rattle.deny_gate.specs.declared.report.Report.{Report}
 use Rattle.deny_gate.specs.declared.report.Verdict.{Verdict}
 use Rattle.deny_cli.specs.Dead.{dead_value}
-use Rattle.deny_cli.specs.Lines.{dead_line, finding_line, lines, malformed_line, unread_line, verdict_line, verdict_value}
+use Rattle.deny_cli.specs.Lines.{dead_line, finding_line, lines, malformed_line, unread_line, verdict_line}
+use Rattle.deny_cli.specs.Lines.{verdict_value}
 use Rattle.deny_cli.specs.Outcome.{IfReported, bits_of}
 use Rattle.deny_cli.specs.Summary.{lines_for, report_summary, summary_line, summary_value}
 use Rattle.deny_cli.specs.Told.{AreNumbers, HasNumbers, IsCounted, answer_told, finding_told, told, told_for}

@@ -1,5 +1,6 @@
 -- On the disk that is made for crates nothing is left unread: it never fails, and its texts are short.
-use Rattle.std.proofs.Common.{◌≡◌, ◌≢◌, ◌≤◌, ◌^◌, ℕ, Bool, true, false, List, [], ◌∷◌, ◌+◌, Option, None, Some, ap, get_or, length, codes, inl, inr, refl, sym, subst, arith}
+use Rattle.std.proofs.Common.{◌≡◌, ◌≢◌, ◌≤◌, ◌^◌, ℕ, Bool, true, false, List, [], ◌∷◌, ◌+◌, Option, None, Some, ap}
+use Rattle.std.proofs.Common.{get_or, length, codes, inl, inr, refl, sym, subst, arith}
 use Rattle.std.specs.Prelude.{AllPairs, is_some, cond, filter, map, if◌then◌else◌}
 use Rattle.std.specs.List.{cons_option, filter_map}
 use Rattle.std.specs.Option.{option_map_or}

@@ -1,6 +1,8 @@
 -- Where lists of words break off, by the form that they fill.
-use Rattle.std.proofs.Common.{◌≡◌, ℕ, ◌+◌, ◌<◌, ◌≤◌, ◌++◌, ◌∙◌, List, [], ◌∷◌, Option, Some, None, length, take, drop, codes, ap, append_assoc, refl, sym, subst, take-take, arith}
-use Rattle.std.specs.Prelude.{◌&&◌, Bool, true, false, IfSome, nat_le, option_map, ⊤, String, option_and_then, slice_index_or, string_bytes, if◌then◌else◌}
+use Rattle.std.proofs.Common.{◌≡◌, ℕ, ◌+◌, ◌<◌, ◌≤◌, ◌++◌, ◌∙◌, List, [], ◌∷◌, Option, Some, None, length, take, drop}
+use Rattle.std.proofs.Common.{codes, ap, append_assoc, refl, sym, subst, take-take, arith}
+use Rattle.std.specs.Prelude.{◌&&◌, Bool, true, false, IfSome, nat_le, option_map, ⊤, String, option_and_then}
+use Rattle.std.specs.Prelude.{slice_index_or, string_bytes, if◌then◌else◌}
 use Rattle.std.specs.Str.Parse.{digits_value}
 use Rattle.deny_model.specs.Text.{same_text}
 use Rattle.std.specs.declared.alloc.Global.{Global}
@@ -11,7 +13,10 @@ use Rattle.std.proofs.lemmas.Bool.{leb-true}
 use Rattle.std.proofs.lemmas.Option.{none-some}
 use Rattle.deny_workspace.specs.declared.registries.Registry.{Registry}
 use Rattle.deny_cli.specs.Registries.{registries_in}
-use Rattle.deny_cli.specs.Words.{AskedSoFar, AsksForFew, Command, Form, begun, nothing, checking, check_of, generate, generating, generating_some, count_of, is_plain, leads_with_zero, most_crates, names_file, path_added, step, filled, command_of, asked_by, Asks, IsAccepted, GoesOn, IsUsageAt, option_added, texts}
+use Rattle.deny_cli.specs.Words.{AskedSoFar, AsksForFew, Command, Form, begun, nothing, checking, check_of, generate}
+use Rattle.deny_cli.specs.Words.{generating, generating_some, count_of, is_plain, leads_with_zero, most_crates}
+use Rattle.deny_cli.specs.Words.{names_file, path_added, step, filled, command_of, asked_by, Asks, IsAccepted, GoesOn}
+use Rattle.deny_cli.specs.Words.{IsUsageAt, option_added, texts}
 
 -- ---- each form can be filled
 
@@ -95,7 +100,13 @@ pub texts_more : (words : List (String Global)) (at : ℕ) (word : String Global
     → word ≡ slice_index_or words at word
     → take (at + 1) (texts words) ≡ take at (texts words) ++ string_bytes word ∷ []
 texts_more words at word inside is =
-    rw (take-map string_bytes (at + 1) words, take-map string_bytes at words, add-one, take-suc words at word inside, ← is)
+    rw (
+      take-map string_bytes (at + 1) words,
+      take-map string_bytes at words,
+      add-one,
+      take-suc words at word inside,
+      ← is,
+    )
     (map-append string_bytes (take at words) (word ∷ []))
 
 -- ---- from there to the place of a usage

@@ -1,5 +1,6 @@
 -- When each outcome of a run comes. `old` is the disk as the run begins, `new` as it ends.
-use Rattle.std.specs.Prelude.{◌≡◌, ◌≢◌, ℕ, ◌<◌, ◌≤◌, ◌^◌, List, [], codes, length, Option, Some, None, IfSome, option_map, ⊤}
+use Rattle.std.specs.Prelude.{◌≡◌, ◌≢◌, ℕ, ◌<◌, ◌≤◌, ◌^◌, List, [], codes, length, Option, Some, None, IfSome}
+use Rattle.std.specs.Prelude.{option_map, ⊤}
 use Rattle.std.specs.FinMap as finite
 use Rattle.deny_outside.specs.Count.{Rose, RoseBy}
 use Rattle.deny_outside.specs.Disk.{Disk, Files, FailedAt, bytes_at}
@@ -14,7 +15,8 @@ use Rattle.deny_outside.specs.declared.read.ReadEnd.TheVariants as end
 use Rattle.deny_cfg.specs.PolicyText.{TellsClashes}
 use Rattle.deny_codes.specs.Saying.{HasTable}
 use Rattle.deny_gate.specs.Dead.{CanDoWithoutDead}
-use Rattle.deny_gate.specs.Gating.{AreShort, AsksForTable, HasGraph, HasPolicy, IsCause, IsCausedReport, IsReportOf, Texts}
+use Rattle.deny_gate.specs.Gating.{AreShort, AsksForTable, HasGraph, HasPolicy, IsCause, IsCausedReport, IsReportOf}
+use Rattle.deny_gate.specs.Gating.{Texts}
 use Rattle.deny_gate.specs.Headline.{IsHeadlineOf}
 use Rattle.deny_gate.specs.Labels.{AreLabelledClashes, IsLabelledCause}
 use Rattle.deny_gate.specs.Report.{policy_id}
@@ -139,8 +141,8 @@ pub record IsCausedBy (old new : Disk) (asked : Asked) (report : Report) : Type 
   pub read : AreRead old asked texts
   pub is_theirs : IsCausedReport old new texts report
 
--- why a command left manifests and packages unread. A disk that is made never fails, and nothing on it is large, so that
--- nothing is left unread there.
+-- why a command left manifests and packages unread. A disk that is made never fails, and nothing on it is large, so
+-- that nothing is left unread there.
 abbrev pub IsCausedAt : Disk → Disk → Command → Report → Type 0
 IsCausedAt old new (check asked) report = IsCausedBy old new asked report
 IsCausedAt old new (generate crates) report = report.unread ≡ []

@@ -8,7 +8,9 @@ use Rattle.deny_base.specs.declared.files.File.{File}
 use Rattle.deny_base.specs.declared.finding.Diagnostic.{Diagnostic}
 use Rattle.deny_cfg.specs.PolicyText.{policy_file}
 use Rattle.deny_krates.specs.fault.MetadataFault.{MetadataFault}
-use Rattle.deny_krates.specs.fault.MetadataFault.TheVariants.{Json, Float, NoResolve, Shape, DuplicateId, DanglingId, Version, Requirement, Source, ManifestPath, Memory as OutOfMemory}
+use Rattle.deny_krates.specs.fault.MetadataFault.TheVariants.{Json, Float, NoResolve, Shape, DuplicateId, DanglingId}
+use Rattle.deny_krates.specs.fault.MetadataFault.TheVariants.{Version, Requirement, Source, ManifestPath}
+use Rattle.deny_krates.specs.fault.MetadataFault.TheVariants.{Memory as OutOfMemory}
 use Rattle.deny_toml.specs.declared.error.ConfigFault.{ConfigFault}
 use Rattle.deny_toml.specs.declared.error.FaultKind.{FaultKind}
 use Rattle.deny_toml.specs.declared.error.FaultKind.TheVariants as kind

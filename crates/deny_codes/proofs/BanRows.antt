@@ -4,8 +4,8 @@ use Rattle.deny_base.specs.declared.code.Code.TheVariants as code
 use Rattle.deny_model.specs.Keys.{crate_key, dependent_key, no_span, unused_key}
 use Rattle.deny_model.specs.Policy as policy
 use Rattle.deny_model.specs.Policy.{Ban}
-use Rattle.deny_codes.proofs.Cases.{bans_on_cases, ban_at, ban_keys, by_two, crate, dev_edge, edge, entry_at, exactly, graph}
-use Rattle.deny_codes.proofs.Cases.{one_x, plain, range, two_x, words_at}
+use Rattle.deny_codes.proofs.Cases.{bans_on_cases, ban_at, ban_keys, by_two, crate, dev_edge, edge, entry_at, exactly}
+use Rattle.deny_codes.proofs.Cases.{graph, one_x, plain, range, two_x, words_at}
 
 -- a ban by name stands at the entry's range, and two entries that match are two bans
 two_bans : ban_keys (record plain { deny = ban_at (codes "x") [] 16 ∷ ban_at (codes "x") [] 21 ∷ [] }) one_x

@@ -4,7 +4,6 @@ use Rattle.std.specs.Prelude.{⊤}
 use Rattle.std.specs.FinMap as finite
 use Rattle.std.specs.Fmt.{digits}
 use Rattle.deny_base.specs.declared.level.LintLevel.TheVariants.{Allow, Deny}
-use Rattle.deny_base.specs.declared.span.Spanned.{Spanned}
 use Rattle.deny_build_model.specs.Building.{AllowedPath, Building, Bypass, ScriptGlob}
 use Rattle.deny_build_model.specs.Paths.{components, same_path}
 use Rattle.deny_build_model.specs.Unseen.{unseen_package}
@@ -29,6 +28,7 @@ use Rattle.deny_codes.specs.Packages.{file_keys, glob_hit, is_used, meets_file, 
 use Rattle.deny_codes.specs.Packages.{right_script_keys, script_keys, sum_keys, unmatched_bypass_keys}
 use Rattle.deny_codes.specs.Packages.{unmatched_glob_keys, unmatched_keys, unmatched_path_keys, walked_keys}
 use Rattle.deny_codes.proofs.Cases.{crate, graph, on_cases, range, spec_at, words_at}
+use Rattle.deny_codes.proofs.ManifestCases.{text_at}
 
 -- ---- crates
 
@@ -91,18 +91,15 @@ one_sum = 1 ∷ 171 ∷ []
 unfoldable pub other_sum : List ℕ
 other_sum = 2 ∷ 16 ∷ []
 
-unfoldable pub sum_at : List ℕ → ℕ → Spanned (List ℕ)
-sum_at sum start = record { value = sum; span = range start }
-
 unfoldable pub with_sum : ℕ → Bypass → Bypass
-with_sum start y = record y { script = Some (sum_at one_sum start) }
+with_sum start y = record y { script = Some (text_at one_sum start) }
 
 unfoldable pub path_at : List ℕ → ℕ → AllowedPath
 path_at path start = record { path = words_at path start; checksum = None }
 
 -- its checksum stands 5 bytes later
 unfoldable pub path_with_sum : List ℕ → ℕ → AllowedPath
-path_with_sum path start = record { path = words_at path start; checksum = Some (sum_at one_sum (start + 5)) }
+path_with_sum path start = record { path = words_at path start; checksum = Some (text_at one_sum (start + 5)) }
 
 unfoldable pub script_glob : List ℕ → ℕ → Bool → ScriptGlob
 script_glob text start built_in = record { text = text; range = range start; built_in = built_in }
@@ -147,7 +144,8 @@ over b crates packages = record {
 -- ---- what a row unfolds
 
 unfoldable pub builds_on_cases : ⊤
-unfolding on_cases digits with_targets macro scripted featured beside minding listing bypass_of one_sum other_sum sum_at
+unfolding on_cases digits with_targets macro scripted featured beside minding listing bypass_of one_sum other_sum
+    text_at
     with_sum path_at path_with_sum script_glob seen_as file_of harmless with_script with_files nowhere everywhere over
     components same_path key_of matches executes_at_build_time is_executed_kind is_member is_enabled
     asks_script is_checked is_script is_script_denied is_script_ok is_script_right is_walked may_have_script

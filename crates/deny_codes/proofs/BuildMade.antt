@@ -15,7 +15,7 @@ use Rattle.deny_build_model.specs.Building.{AllowedPath, Building, Bypass}
 use Rattle.deny_build_model.specs.declared.package.Package.{Package}
 use Rattle.deny_build_model.specs.declared.package.PackageFile.{PackageFile}
 use Rattle.deny_build_model.specs.declared.package.Seen.{Seen}
-use Rattle.deny_lists.proofs.Each.{all_append, all_flat, all_mapped}
+use Rattle.deny_lists.proofs.Each.{all_append, all_flat, all_mapped, all_from_members}
 use Rattle.deny_lists.proofs.Members.{at_member, no_member}
 use Rattle.deny_model.specs.Graph.{Crate}
 use Rattle.deny_model.specs.Keys.{crate_key, key_of, no_span, unused_key}
@@ -35,7 +35,6 @@ use Rattle.deny_codes.specs.Packages.{right_script_keys, script_keys, script_sho
 use Rattle.deny_codes.specs.Packages.{unmatched_glob_keys, unmatched_keys, unmatched_path_keys, walked_keys, walks}
 use Rattle.deny_codes.specs.Standing.{StandsAs}
 use Rattle.deny_codes.proofs.Made.{Made}
-use Rattle.deny_codes.proofs.Parts.{each_from}
 
 -- the codes that keys of builds bear
 abbrev pub is_of_builds : Code → Bool
@@ -97,7 +96,8 @@ Standing d = (c : Circumstances) (facts : Facts) (k : Key) → Contains (build_k
 abbrev AreMade : List Key → Type 0
 AreMade keys = AllByRecursion MadeOfBuilds keys
 
-of_crate : (d : Code) (place : ℕ) (entry : Span) → IsTrue (is_of_builds d) → Standing d → MadeOfBuilds (crate_key d place entry)
+of_crate : (d : Code) (place : ℕ) (entry : Span) → IsTrue (is_of_builds d) → Standing d
+    → MadeOfBuilds (crate_key d place entry)
 unfolding key_of
 of_crate d place entry of stands = record {
   section = section.Crates;
@@ -137,11 +137,11 @@ of_bypass entry = record {
 -- ---- lists of them
 
 all_of_map : {X : Type 0} (f : X → Key) (xs : List X) → ((x : X) → MadeOfBuilds (f x)) → AreMade (map f xs)
-all_of_map f xs each = all_mapped MadeOfBuilds f xs (each_from (λ x. MadeOfBuilds (f x)) xs (λ x is. each x))
+all_of_map f xs each = all_mapped MadeOfBuilds f xs (all_from_members (λ x. MadeOfBuilds (f x)) xs (λ x is. each x))
 
 all_of_flat : {X : Type 0} (f : X → List Key) (xs : List X) → ((x : X) → AreMade (f x)) → AreMade (flat_map f xs)
 all_of_flat f xs each = all_flat (λ x. AreMade (f x)) MadeOfBuilds f (λ x all. all) xs
-    (each_from (λ x. AreMade (f x)) xs (λ x is. each x))
+    (all_from_members (λ x. AreMade (f x)) xs (λ x is. each x))
 
 all_of_if : (b : Bool) (these those : List Key) → AreMade these → AreMade those
     → AreMade (if b then these else those)
@@ -290,7 +290,8 @@ deprecated_made c key is = by_building c.building is
     by_range : (o : Option Span) → Contains (option_map_or (λ range. deprecated_key range ∷ []) o []) key
         → MadeDeprecated key
     by_range None is = absurd (no_member key is)
-    by_range (Some range) is = at_member MadeDeprecated (deprecated_key range ∷ []) key (deprecated_key_made range, tt) is
+    by_range (Some range) is =
+        at_member MadeDeprecated (deprecated_key range ∷ []) key (deprecated_key_made range, tt) is
 
     by_building : (o : Option Building) → Contains (option_map_or deprecated_keys o []) key → MadeDeprecated key
     by_building None is = absurd (no_member key is)

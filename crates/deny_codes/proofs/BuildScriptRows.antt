@@ -1,5 +1,5 @@
--- Small cases of build scripts: which crates have one that they may have, which are looked at, and what a bypass says of
--- a script by its checksum.
+-- Small cases of build scripts: which crates have one that they may have, which are looked at, and what a bypass says
+-- of a script by its checksum.
 use Rattle.std.proofs.Common.{◌≡◌, ℕ, Bool, true, false, List, [], ◌∷◌, None, Some, ap, codes, refl}
 use Rattle.std.specs.Cmp.Lexicographic.{slice_cmp, nat_list_cmp_total}
 use Rattle.std.specs.FinMap as finite
@@ -19,8 +19,9 @@ use Rattle.deny_codes.specs.BuildScripts.{used, uses, wanted_sum}
 use Rattle.deny_codes.specs.Features.{has_feature}
 use Rattle.deny_codes.proofs.Cases.{app, crate, exactly, spec_at, words_at}
 use Rattle.deny_codes.proofs.BuildCases.{beside, builds_on_cases, bypass_of, everywhere, featured, listing, macro}
-use Rattle.deny_codes.proofs.BuildCases.{minding, nowhere, one_sum, other_sum, scripted, sum_at, with_script, with_sum}
+use Rattle.deny_codes.proofs.BuildCases.{minding, nowhere, one_sum, other_sum, scripted, with_script, with_sum}
 use Rattle.deny_codes.proofs.BuildCases.{with_targets}
+use Rattle.deny_codes.proofs.ManifestCases.{text_at}
 
 -- `p` with a build script, and `p` as a procedural macro
 unfoldable p : Crate
@@ -144,7 +145,7 @@ unfoldable summed : Bypass → Building
 summed y = record minding { bypass = with_sum 25 y ∷ [] }
 
 -- the first bypass writes one, or does not, whatever those behind it write
-wanted : (wanted_sum (summed (bypass_of (codes "p") 20)) p ≡ Some (sum_at one_sum 25))
+wanted : (wanted_sum (summed (bypass_of (codes "p") 20)) p ≡ Some (text_at one_sum 25))
     × (wanted_sum (summed (bypass_of (codes "p") 20)) q ≡ None)
     × (wanted_sum two_bypasses p ≡ None)
     × (wanted_sum minding p ≡ None)

@@ -2,8 +2,6 @@
 -- to, and what is told.
 use Rattle.std.proofs.Common.{◌≡◌, ℕ, List, [], ◌∷◌, true, false, Option, Some, None, codes, refl, sym, ap, ◌∙◌, subst}
 use Rattle.std.specs.Prelude.{⊤, IsTrue, Contains, is_some}
-use Rattle.std.specs.Cmp.Lexicographic.{slice_cmp, nat_list_cmp_total}
-use Rattle.std.specs.Ordering.{nat_cmp}
 use Rattle.std.specs.FinMap as finite
 use Rattle.std.specs.Fmt.{digits}
 use Rattle.deny_base.specs.Level.{severity_of}
@@ -20,34 +18,33 @@ use Rattle.deny_model.specs.Policy as policy
 use Rattle.deny_model.specs.Policy.{FeatureEntry, Policy}
 use Rattle.deny_model.specs.Told.{primary}
 use Rattle.deny_lists.proofs.Members.{Contains-by_cases, Contains-first, Contains-rest, no_member}
-use Rattle.deny_codes.specs.Features.{LeadsTo, Reaches, step, on, IsNotAllowedOf, IsFeatureNotAllowed}
-use Rattle.deny_codes.specs.Features.{has_feature, is_enabled, default_feature, is_plain, default_level}
-use Rattle.deny_codes.specs.Features.{names_feature, leaves_default, minds_default, is_default_told, default_enabled_keys_of}
+use Rattle.deny_lists.proofs.TextMapLemmas.{get-from_entries}
+use Rattle.deny_codes.specs.Features.{LeadsTo, Reaches, step, on, IsNotAllowedOf, IsFeatureNotAllowed, has_feature}
+use Rattle.deny_codes.specs.Features.{is_enabled, default_feature, is_plain, default_level, names_feature}
+use Rattle.deny_codes.specs.Features.{leaves_default, minds_default, is_default_told, default_enabled_keys_of}
 use Rattle.deny_codes.specs.Features.{default_enabled_keys_at, default_enabled_keys, has_default_apart, is_unlisted}
-use Rattle.deny_codes.specs.Features.{unlisted, missing, is_mismatched, tells_unknown, is_mismatch_told, mismatched_keys_of}
-use Rattle.deny_codes.specs.Features.{mismatched_keys, banned_features, feature_banned_keys_at, feature_banned_keys_of}
-use Rattle.deny_codes.specs.Features.{feature_banned_keys, unknown_features, unknown_feature_keys_at}
-use Rattle.deny_codes.specs.Features.{unknown_feature_keys_of, unknown_feature_keys, not_allowed_feature_key, feature_at}
-use Rattle.deny_codes.specs.Features.{feature_nodes_at, named_at, mismatched_told, feature_not_allowed_told, feature_banned_told}
-use Rattle.deny_codes.specs.Features.{unknown_feature_told, default_severity, default_enabled_told}
+use Rattle.deny_codes.specs.Features.{unlisted, missing, is_mismatched, tells_unknown, is_mismatch_told}
+use Rattle.deny_codes.specs.Features.{mismatched_keys_of, mismatched_keys, banned_features, feature_banned_keys_at}
+use Rattle.deny_codes.specs.Features.{feature_banned_keys_of, feature_banned_keys, unknown_features}
+use Rattle.deny_codes.specs.Features.{unknown_feature_keys_at, unknown_feature_keys_of, unknown_feature_keys}
+use Rattle.deny_codes.specs.Features.{not_allowed_feature_key, feature_at, feature_nodes_at, named_at, mismatched_told}
+use Rattle.deny_codes.specs.Features.{feature_not_allowed_told, feature_banned_told, unknown_feature_told}
+use Rattle.deny_codes.specs.Features.{default_severity, default_enabled_told}
 use Rattle.deny_codes.specs.Members.{is_member}
 use Rattle.deny_codes.specs.Telling.{plainly}
 use Rattle.deny_codes.proofs.Cases.{app, crate, graph, on_cases, plain, range, spec_at, words_at}
-
--- a crate with features, each with what it enables, and those of them that are enabled
-unfoldable with_table : List (List ℕ × List (List ℕ)) → List (List ℕ) → Crate → Crate
-with_table table enabled c = record c { features = finite.from_entries table; enabled = enabled }
+use Rattle.deny_codes.proofs.BuildCases.{featured}
 
 -- `x` with `a` and `b`, which enable each other, and `d` beside them
 unfoldable a_and_b : List (List ℕ × List (List ℕ))
 a_and_b = (codes "a", codes "b" ∷ []) ∷ (codes "b", codes "a" ∷ []) ∷ (codes "d", []) ∷ []
 
 unfoldable x : Crate
-x = with_table a_and_b (codes "a" ∷ codes "b" ∷ []) (crate 1 (codes "x") 1)
+x = featured a_and_b (codes "a" ∷ codes "b" ∷ []) (crate 1 (codes "x") 1)
 
 -- `x` with `default` enabled alone
 unfoldable by_default : Crate
-by_default = with_table ((codes "default", []) ∷ []) (codes "default" ∷ []) (crate 1 (codes "x") 1)
+by_default = featured ((codes "default", []) ∷ []) (codes "default" ∷ []) (crate 1 (codes "x") 1)
 
 -- `app` and another crate
 unfoldable beside : Crate → Graph
@@ -55,7 +52,7 @@ beside c = graph (c ∷ []) []
 
 -- the member `app` with `default` enabled, and nothing else
 unfoldable app_by_default : Graph
-app_by_default = record (graph [] []) { crates = with_table [] (codes "default" ∷ []) app ∷ [] }
+app_by_default = record (graph [] []) { crates = featured [] (codes "default" ∷ []) app ∷ [] }
 
 -- an entry on `x`: what it allows and denies
 unfoldable on_x : List policy.Words → List policy.Words → FeatureEntry
@@ -81,49 +78,45 @@ minding level entries = record (with_entries entries) { external_default = at le
 
 -- what a row unfolds
 unfoldable features_on_cases : ⊤
-unfolding on_cases digits with_table a_and_b x by_default beside app_by_default on_x exactly with_entries at minding
+unfolding on_cases digits featured a_and_b x by_default beside app_by_default on_x exactly with_entries at minding
     key_of matches is_member is_enabled is_plain default_level names_feature leaves_default
     minds_default is_default_told default_enabled_keys_of default_enabled_keys_at has_default_apart is_unlisted unlisted
     missing is_mismatched tells_unknown is_mismatch_told mismatched_keys_of banned_features feature_banned_keys_at
     feature_banned_keys_of unknown_features unknown_feature_keys_at unknown_feature_keys_of not_allowed_feature_key
-    feature_at named_at feature_nodes_at mismatched_told feature_not_allowed_told feature_banned_told unknown_feature_told
+    feature_at named_at feature_nodes_at mismatched_told feature_not_allowed_told feature_banned_told
+    unknown_feature_told
     default_severity default_enabled_told
 features_on_cases = tt
 
 -- ---- features of a crate
 
--- what a table says of a feature
-get_in : (table : List (List ℕ × List (List ℕ))) (feature : List ℕ)
-    → finite.get {R = slice_cmp nat_cmp} (finite.from_entries table) feature ≡ finite.find (slice_cmp nat_cmp) feature table
-get_in table feature = finite.get-from_entries nat_list_cmp_total table feature
-
 has_a : has_feature x (codes "a") ≡ true
 unfolding features_on_cases has_feature
-has_a = ap is_some (get_in a_and_b (codes "a"))
+has_a = ap is_some (get-from_entries a_and_b (codes "a"))
 
 has_b : has_feature x (codes "b") ≡ true
 unfolding features_on_cases has_feature
-has_b = ap is_some (get_in a_and_b (codes "b"))
+has_b = ap is_some (get-from_entries a_and_b (codes "b"))
 
 has_d : has_feature x (codes "d") ≡ true
 unfolding features_on_cases has_feature
-has_d = ap is_some (get_in a_and_b (codes "d"))
+has_d = ap is_some (get-from_entries a_and_b (codes "d"))
 
 has_no_c : has_feature x (codes "c") ≡ false
 unfolding features_on_cases has_feature
-has_no_c = ap is_some (get_in a_and_b (codes "c"))
+has_no_c = ap is_some (get-from_entries a_and_b (codes "c"))
 
 has_no_e : has_feature x (codes "e") ≡ false
 unfolding features_on_cases has_feature
-has_no_e = ap is_some (get_in a_and_b (codes "e"))
+has_no_e = ap is_some (get-from_entries a_and_b (codes "e"))
 
 -- `x` without a table, with an enabled feature
 unfoldable enabled_alone : Crate
-enabled_alone = with_table [] (codes "z" ∷ []) (crate 1 (codes "x") 1)
+enabled_alone = featured [] (codes "z" ∷ []) (crate 1 (codes "x") 1)
 
 has_no_z : has_feature enabled_alone (codes "z") ≡ false
 unfolding features_on_cases has_feature enabled_alone
-has_no_z = ap is_some (get_in [] (codes "z"))
+has_no_z = ap is_some (get-from_entries [] (codes "z"))
 
 plain_texts : (is_plain (codes "dep") ≡ true) × (is_plain (codes "a:b") ≡ true) × (is_plain (codes "") ≡ true)
 unfolding features_on_cases
@@ -255,7 +248,8 @@ default_at_members_level : unlisted (record plain { workspace_default = at Warn 
 unfolding features_on_cases
 default_at_members_level = refl
 
-missing_one : missing (on_x (words_at (codes "a") 20 ∷ words_at (codes "d") 21 ∷ []) []) x ≡ words_at (codes "d") 21 ∷ []
+missing_one : missing (on_x (words_at (codes "a") 20 ∷ words_at (codes "d") 21 ∷ []) []) x
+    ≡ words_at (codes "d") 21 ∷ []
 unfolding features_on_cases
 missing_one = refl
 
@@ -289,7 +283,8 @@ unfolding features_on_cases
 exact_beside_default = refl
 
 -- an unknown feature is missing, and is told so alone
-exactly_unknown : (mismatched_keys (with_entries (exactly (words_at (codes "c") 20 ∷ []) ∷ [])) (beside x) ≡ mismatch_key)
+exactly_unknown : (mismatched_keys (with_entries (exactly (words_at (codes "c") 20 ∷ []) ∷ [])) (beside x)
+    ≡ mismatch_key)
     × (unknown_feature_keys (with_entries (exactly (words_at (codes "c") 20 ∷ []) ∷ [])) (beside x) ≡ [])
 unfolding features_on_cases mismatch_key
 exactly_unknown = (refl, refl)
@@ -314,7 +309,8 @@ banned_and_enabled : feature_banned_keys (with_entries (on_x [] (words_at (codes
 unfolding features_on_cases
 banned_and_enabled = refl
 
-banned_and_not_enabled : feature_banned_keys (with_entries (on_x [] (words_at (codes "d") 20 ∷ []) ∷ [])) (beside x) ≡ []
+banned_and_not_enabled : feature_banned_keys (with_entries (on_x [] (words_at (codes "d") 20 ∷ []) ∷ [])) (beside x)
+    ≡ []
 unfolding features_on_cases
 banned_and_not_enabled = refl
 
@@ -355,7 +351,8 @@ unfolding features_on_cases
 unknown_beside_banned = simp (has_b, has_no_c) refl
 
 -- a feature that is not enabled is known all the same
-known_and_not_enabled : unknown_feature_keys (with_entries (on_x (words_at (codes "d") 20 ∷ []) [] ∷ [])) (beside x) ≡ []
+known_and_not_enabled : unknown_feature_keys (with_entries (on_x (words_at (codes "d") 20 ∷ []) [] ∷ [])) (beside x)
+    ≡ []
 unfolding features_on_cases
 known_and_not_enabled = simp has_d refl
 
@@ -363,11 +360,11 @@ known_and_not_enabled = simp has_d refl
 
 listed_a : finite.get x.features (codes "a") ≡ Some (codes "b" ∷ [])
 unfolding features_on_cases
-listed_a = get_in a_and_b (codes "a")
+listed_a = get-from_entries a_and_b (codes "a")
 
 listed_b : finite.get x.features (codes "b") ≡ Some (codes "a" ∷ [])
 unfolding features_on_cases
-listed_b = get_in a_and_b (codes "b")
+listed_b = get-from_entries a_and_b (codes "b")
 
 a_leads_to_b : LeadsTo x (codes "a") (codes "b")
 unfolding features_on_cases
@@ -408,12 +405,12 @@ leads_to_none c feature got is none = leads_nowhere c feature (λ other leads. n
 -- no chain of length zero leads from a feature to itself
 no_way_of_length_zero : Reaches x (codes "d") (codes "d") → ⊥
 unfolding features_on_cases list_or_none
-no_way_of_length_zero = leads_to_none x (codes "d") (Some []) (get_in a_and_b (codes "d"))
+no_way_of_length_zero = leads_to_none x (codes "d") (Some []) (get-from_entries a_and_b (codes "d"))
     (λ other contained plain. no_member other contained) (codes "d")
 
 c_reaches_nothing : (other : List ℕ) → Reaches x (codes "c") other → ⊥
 unfolding features_on_cases list_or_none
-c_reaches_nothing = leads_to_none x (codes "c") None (get_in a_and_b (codes "c"))
+c_reaches_nothing = leads_to_none x (codes "c") None (get-from_entries a_and_b (codes "c"))
     (λ other contained plain. no_member other contained)
 
 -- a feature that enables a dependency, and a feature of one
@@ -421,12 +418,12 @@ unfoldable of_dependencies : List (List ℕ × List (List ℕ))
 of_dependencies = (codes "a", codes "dep:n" ∷ codes "n/f" ∷ []) ∷ []
 
 unfoldable through_dependencies : Crate
-through_dependencies = with_table of_dependencies (codes "n/f" ∷ []) (crate 1 (codes "x") 1)
+through_dependencies = featured of_dependencies (codes "n/f" ∷ []) (crate 1 (codes "x") 1)
 
 not_through_dependencies : (other : List ℕ) → Reaches through_dependencies (codes "a") other → ⊥
 unfolding features_on_cases list_or_none of_dependencies through_dependencies
 not_through_dependencies = leads_to_none through_dependencies (codes "a") (Some (codes "dep:n" ∷ codes "n/f" ∷ []))
-    (get_in of_dependencies (codes "a"))
+    (get-from_entries of_dependencies (codes "a"))
     (λ other contained plain. Contains-by_cases (codes "dep:n") (codes "n/f" ∷ []) other contained
     (λ is. never (subst (λ text. IsTrue (is_plain text)) (sym is) plain))
     (λ rest. Contains-by_cases (codes "n/f") [] other rest
@@ -495,7 +492,8 @@ no_list : (c : Crate) (feature : List ℕ) → IsNotAllowedOf plain (beside x) (
 unfolding features_on_cases
 no_list c feature told = never (sym told.some)
 
-by_exact : (c : Crate) (feature : List ℕ) → IsNotAllowedOf plain (beside x) (exactly (words_at (codes "d") 20 ∷ [])) c feature
+by_exact : (c : Crate) (feature : List ℕ)
+    → IsNotAllowedOf plain (beside x) (exactly (words_at (codes "d") 20 ∷ [])) c feature
     → ⊥
 unfolding features_on_cases
 by_exact c feature told = never (sym told.inexact)
@@ -520,7 +518,8 @@ unfolding features_on_cases exactly_a_and_d
 told_mismatched = refl
 
 unfoldable exactly_all : Policy
-exactly_all = with_entries (exactly (words_at (codes "a") 20 ∷ words_at (codes "b") 21 ∷ words_at (codes "d") 22 ∷ []) ∷ [])
+exactly_all = with_entries
+    (exactly (words_at (codes "a") 20 ∷ words_at (codes "b") 21 ∷ words_at (codes "d") 22 ∷ []) ∷ [])
 
 -- where no feature is unlisted the crate is shown
 told_missing : mismatched_told exactly_all (beside x) 3 (crate_key code.ExactFeaturesMismatch 1 (range 9))

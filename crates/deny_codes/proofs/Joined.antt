@@ -1,11 +1,10 @@
 -- Lists of what stands in sections of one check and of another: one after the other they are the report's; and parts of
 -- such lists.
-use Rattle.std.proofs.Common.{◌≡◌, ◌++◌, ◌⊎◌, ap, inl, inr, List, refl}
+use Rattle.std.proofs.Common.{◌≡◌, ◌++◌, ◌⊎◌, inl, inr, List, refl}
 use Rattle.std.specs.Prelude.{IsTrue}
-use Rattle.std.specs.Ordering.{ordering_then}
-use Rattle.std.specs.declared.cmp.Ordering.{Ordering}
 use Rattle.std.specs.declared.cmp.Ordering.TheVariants.{Less}
 use Rattle.deny_lists.specs.Ascending.{Lists}
+use Rattle.deny_lists.proofs.Orders.{then-less}
 use Rattle.deny_base.specs.Code.{section_cmp, section_number}
 use Rattle.deny_base.specs.KeyOrder.{key_cmp}
 use Rattle.deny_base.specs.declared.key.Key.{Key}
@@ -32,9 +31,6 @@ bans_first _ section.Licenses one other = refl
 bans_first _ section.LicensesUnused one other = refl
 bans_first _ _ one other = absurd (cc other)
 
-below : (o rest : Ordering) → o ≡ Less → ordering_then o rest ≡ Less
-below o rest is = ap (λ r. ordering_then r rest) is
-
 pub joined : (c : Circumstances) (facts : Facts) (xs ys : List Key) → ListsOwn is_of_bans c facts xs
     → ListsOwn is_of_licenses c facts ys
     → Lists key_cmp (Stands c facts) (xs ++ ys)
@@ -42,7 +38,7 @@ joined c facts xs ys these those =
     lists_same key_cmp (λ key. StandsIn is_of_bans c facts key ⊎ StandsIn is_of_licenses c facts key) (Stands c facts)
     (xs ++ ys)
     (lists_append key_cmp (StandsIn is_of_bans c facts) (StandsIn is_of_licenses c facts) xs ys these those
-    (λ x y is there. below _ _ (bans_first x.section y.section is.0 there.0)))
+    (λ x y is there. then-less _ _ (bans_first x.section y.section is.0 there.0)))
     (λ key is. elim is as (λ _. Stands c facts key) [ inl here ↦ here.1 | inr there ↦ there.1 ])
     (λ key is. elim (each_section key.section) as (λ _. StandsIn is_of_bans c facts key
     ⊎ StandsIn is_of_licenses c facts key) [

@@ -139,13 +139,6 @@ find_first_kept keep test (x ∷ xs) stays = elim (cases_Bool (test x)) as
           ]
     ]
 
-pub found_member : {X : Type 0} (test : X → Bool) (xs : List X) (x : X) → find test xs ≡ Some x → Contains xs x
-found_member test [] x is = absurd (none-some x is)
-found_member test (y ∷ xs) x is = elim (cases_Bool (test y)) as (λ _. Contains (y ∷ xs) x) [
-  | inl t ↦ subst (Contains (y ∷ xs)) (same_Some y x (sym (found_first test y xs t) ∙ is)) (Contains-first y xs)
-  | inr t ↦ Contains-rest y xs x (found_member test xs x (sym (found_later test y xs t) ∙ is))
-]
-
 pub found_passes : {X : Type 0} (test : X → Bool) (xs : List X) (x : X) → find test xs ≡ Some x → test x ≡ true
 found_passes test [] x is = absurd (none-some x is)
 found_passes test (y ∷ xs) x is = elim (cases_Bool (test y)) as (λ _. test x ≡ true) [

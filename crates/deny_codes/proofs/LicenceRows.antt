@@ -26,6 +26,7 @@ use Rattle.deny_spdx.specs.Reader.{and_step, close_step, open_step, or_step, set
 use Rattle.deny_spdx.specs.Reads.{byte_taken, mark_taken, plus_ended, reading_in, word_ended}
 use Rattle.deny_spdx.specs.Tokens.{is_blank, is_word_byte, token_of}
 use Rattle.deny_spdx.specs.declared.requirement.Requirement.{Requirement}
+use Rattle.deny_spdx.proofs.MeaningRows.{excepted}
 use Rattle.deny_model.specs.Counting.{Counts}
 use Rattle.deny_model.specs.Graph.{Crate, Graph}
 use Rattle.deny_model.specs.Hits.{hit_of}
@@ -36,15 +37,14 @@ use Rattle.deny_model.specs.Told.{primary}
 use Rattle.deny_codes.specs.Circumstances.{Circumstances, licensed, unseen_by}
 use Rattle.deny_codes.specs.Licences.{IsOfLicences, accepted_keys, allowance_hit, allows, asked_in, asked_of, bad_place}
 use Rattle.deny_codes.specs.Licences.{exception_hit, exception_not_encountered_keys, exception_of, excepts}
-use Rattle.deny_codes.specs.Licences.{expression_of}
-use Rattle.deny_codes.specs.Licences.{first_hit, grants_by_allowance, grants_by_exception, hits_by, holds, is_accepted}
-use Rattle.deny_codes.specs.Licences.{is_granted, is_hit_by, is_licensed, is_looked_at, is_passed_over, is_rejected}
-use Rattle.deny_codes.specs.Licences.{is_skipped_private, is_unlicensed, is_unreadable, keys_where, licence_hits}
-use Rattle.deny_codes.specs.Licences.{license_key, licensed_key, not_encountered_keys, parse_error_keys, rejected_keys}
-use Rattle.deny_codes.specs.Licences.{accepted_told, exception_not_encountered_told, not_encountered_told}
-use Rattle.deny_codes.specs.Licences.{parse_error_told, rejected_notes, rejected_told, requirement_text}
-use Rattle.deny_codes.specs.Licences.{same_requirement}
-use Rattle.deny_codes.specs.Licences.{skipped_private_keys, skipped_private_told, unlicensed_keys, unlicensed_told}
+use Rattle.deny_codes.specs.Licences.{expression_of, first_hit, grants_by_allowance, grants_by_exception, hits_by}
+use Rattle.deny_codes.specs.Licences.{holds, is_accepted, is_granted, is_hit_by, is_licensed, is_looked_at}
+use Rattle.deny_codes.specs.Licences.{is_passed_over, is_rejected, is_skipped_private, is_unlicensed, is_unreadable}
+use Rattle.deny_codes.specs.Licences.{keys_where, licence_hits, license_key, licensed_key, not_encountered_keys}
+use Rattle.deny_codes.specs.Licences.{parse_error_keys, rejected_keys, accepted_told, exception_not_encountered_told}
+use Rattle.deny_codes.specs.Licences.{not_encountered_told, parse_error_told, rejected_notes, rejected_told}
+use Rattle.deny_codes.specs.Licences.{requirement_text, same_requirement, skipped_private_keys, skipped_private_told}
+use Rattle.deny_codes.specs.Licences.{unlicensed_keys, unlicensed_told}
 use Rattle.deny_codes.specs.Telling.{plainly}
 use Rattle.deny_codes.specs.Told.{diag_of, pack_of, pack_told, words_licensed}
 use Rattle.deny_codes.specs.declared.words.Words.{Words}
@@ -53,9 +53,6 @@ use Rattle.deny_codes.proofs.CountingRows.{tested, x_does_not, x_kept, y_kept}
 
 abbrev pub licence : List ℕ → Requirement
 licence id = record { id = id; exception = None }
-
-abbrev pub excepted : List ℕ → List ℕ → Requirement
-excepted id exception = record { id = id; exception = Some exception }
 
 abbrev pub mit : Requirement
 mit = licence (codes "MIT")

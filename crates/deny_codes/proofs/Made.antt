@@ -34,12 +34,12 @@ use Rattle.deny_model.specs.View.{Declared, View, WorkspaceEntry}
 use Rattle.deny_model.specs.Wrappers.{is_hit_wrapper, unused_wrapper_keys_of}
 use Rattle.deny_codes.specs.AllowList.{allowed_keys}
 use Rattle.deny_codes.specs.Bans.{allowed_by_wrapper_keys, banned_keys, unmatched_wrapper_keys}
-use Rattle.deny_codes.specs.Features.{IsFeatureNotAllowed, banned_features, default_enabled_keys, default_enabled_keys_at}
-use Rattle.deny_codes.specs.Features.{default_enabled_keys_of, default_level, feature_banned_keys}
-use Rattle.deny_codes.specs.Features.{feature_banned_keys_at, feature_banned_keys_of, is_default_told, is_mismatch_told}
-use Rattle.deny_codes.specs.Features.{mismatched_keys, mismatched_keys_of, not_allowed_feature_key, spoken_of}
-use Rattle.deny_codes.specs.Features.{unknown_feature_keys, unknown_feature_keys_at, unknown_feature_keys_of}
-use Rattle.deny_codes.specs.Features.{unknown_features}
+use Rattle.deny_codes.specs.Features.{IsFeatureNotAllowed, banned_features, default_enabled_keys}
+use Rattle.deny_codes.specs.Features.{default_enabled_keys_at, default_enabled_keys_of, default_level}
+use Rattle.deny_codes.specs.Features.{feature_banned_keys, feature_banned_keys_at, feature_banned_keys_of}
+use Rattle.deny_codes.specs.Features.{is_default_told, is_mismatch_told, mismatched_keys, mismatched_keys_of}
+use Rattle.deny_codes.specs.Features.{not_allowed_feature_key, spoken_of, unknown_feature_keys, unknown_feature_keys_at}
+use Rattle.deny_codes.specs.Features.{unknown_feature_keys_of, unknown_features}
 use Rattle.deny_codes.specs.Licences.{allowance_range, exception_not_encountered_keys, exception_range}
 use Rattle.deny_codes.specs.Licences.{grants_by_allowance, grants_by_exception, is_hit_by, keys_where, license_key}
 use Rattle.deny_codes.specs.Licences.{licensed_key, not_encountered_keys}
@@ -47,8 +47,8 @@ use Rattle.deny_codes.specs.SkippedTrees.{skipped_by_root_keys}
 use Rattle.deny_codes.specs.Skips.{skipped_keys}
 use Rattle.deny_codes.specs.Circumstances.{Circumstances}
 use Rattle.deny_codes.specs.Saying.{Saying, said_by}
-use Rattle.deny_codes.specs.StdReplacements.{ignore_range, is_told_replaced, is_unmatched_ignore}
-use Rattle.deny_codes.specs.StdReplacements.{replaced_key, replaced_keys, replaced_keys_in, unmatched_ignore_keys}
+use Rattle.deny_codes.specs.StdReplacements.{ignore_range, is_told_replaced, is_unmatched_ignore, replaced_key}
+use Rattle.deny_codes.specs.StdReplacements.{replaced_keys, replaced_keys_in, unmatched_ignore_keys}
 use Rattle.deny_codes.specs.StdReplacements.{unmatched_ignore_keys_in}
 use Rattle.deny_codes.specs.Sharing.{is_duplicated, unused_entry_key, unused_entry_keys, unused_entry_keys_by, uses_of}
 use Rattle.deny_codes.specs.Sharing.{workspace_duplicate_keys, workspace_duplicate_keys_by, workspace_duplicate_keys_of}
@@ -294,7 +294,8 @@ feature_banned_at key e c is = made_map section.Crates code.FeatureBanned
 feature_banned_of : (g : Graph) (key : Key) (e : FeatureEntry) → Contains (feature_banned_keys_of g e) key
     → Made section.Crates code.FeatureBanned key
 unfolding feature_banned_keys_of
-feature_banned_of g key e is = made_flat section.Crates code.FeatureBanned (feature_banned_keys_at e) (spoken_of g e) key
+feature_banned_of g key e is =
+    made_flat section.Crates code.FeatureBanned (feature_banned_keys_at e) (spoken_of g e) key
     (feature_banned_at key e) is
 
 pub feature_banned_made : (p : Policy) (g : Graph) (key : Key) → Contains (feature_banned_keys p g) key
@@ -473,7 +474,8 @@ pub not_encountered_made : (counts : Crate → Bool) (l : Licensing) (g : Graph)
     → MadeLicensed section.LicensesUnused license.LicenseNotEncountered key
 unfolding not_encountered_keys
 not_encountered_made counts l g key is = made_licensed section.LicensesUnused license.LicenseNotEncountered
-    (λ (a : Spanned Requirement). license_key section.LicensesUnused license.LicenseNotEncountered 0 (allowance_range a))
+    (λ (a : Spanned Requirement). license_key section.LicensesUnused license.LicenseNotEncountered 0
+    (allowance_range a))
     (filter (λ a. not (is_hit_by counts l g (grants_by_allowance l a))) l.allow) key
     (λ a. made_license_key section.LicensesUnused license.LicenseNotEncountered 0 (allowance_range a)) is
 

@@ -137,6 +137,7 @@ sharing_x e view = record view { shared = None ∷ Some (record e { place = Some
 
 unfoldable pub manifests_on_cases : ⊤
 unfolding on_cases digits from x_of_crates_io y_of_a_registry z_of_a_folder w_of_a_repository v_of_a_sparse_registry
-    behind two_members any_version one_version of_kind written text_at sharing_it not_sharing_it with_version with_rename
+    behind two_members any_version one_version of_kind written text_at sharing_it not_sharing_it with_version
+    with_rename
     manifest_in seeing entry_from entry_with_version entry_with_rename entry_patched sharing_x
 manifests_on_cases = tt

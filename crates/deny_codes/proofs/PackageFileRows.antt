@@ -14,7 +14,8 @@ use Rattle.deny_codes.specs.PackageFiles.{Harmless, PathBypassed, PathBypassedBy
 use Rattle.deny_codes.specs.PackageFiles.{hits_glob, hits_path, path_of, step_of}
 use Rattle.deny_codes.proofs.Cases.{range, words_at}
 use Rattle.deny_codes.proofs.BuildCases.{builds_on_cases, bypass_of, file_of, minding, one_sum, other_sum, path_at}
-use Rattle.deny_codes.proofs.BuildCases.{path_with_sum, script_glob, sum_at}
+use Rattle.deny_codes.proofs.BuildCases.{path_with_sum, script_glob}
+use Rattle.deny_codes.proofs.ManifestCases.{text_at}
 
 -- ---- allowed paths
 
@@ -37,7 +38,8 @@ unfolding builds_on_cases with_paths
 first_path = (refl, refl, refl, refl, refl, refl)
 
 -- a `.` alone is no component; a name that begins with one is
-dots : (path_of (record with_paths { allow = path_at (codes "a/.") 20 ∷ [] }) (codes "a") ≡ Some (path_at (codes "a/.") 20))
+dots : (path_of (record with_paths { allow = path_at (codes "a/.") 20 ∷ [] }) (codes "a")
+    ≡ Some (path_at (codes "a/.") 20))
     × (path_of (record with_paths { allow = path_at (codes ".a") 20 ∷ [] }) (codes "a") ≡ None)
     × (path_of (record with_paths { allow = path_at (codes "..") 20 ∷ [] }) (codes "") ≡ None)
     × (path_of (record with_paths { allow = path_at (codes ".") 20 ∷ [] }) (codes "") ≡ Some (path_at (codes ".") 20))
@@ -69,8 +71,8 @@ steps path globs = step_of policed (Some bypass) path (fits globs)
 with_bypass : (steps (codes "plain") (codes "g" ∷ codes "s" ∷ []) ≡ ByPath (range 20))
     × (steps (codes "./plain") [] ≡ ByPath (range 20))
     × (steps (codes "summed") (codes "g" ∷ codes "s" ∷ []) ≡ ByGlob)
-    × (steps (codes "summed") (codes "s" ∷ []) ≡ BySum (sum_at one_sum 35))
-    × (steps (codes "summed") [] ≡ BySum (sum_at one_sum 35))
+    × (steps (codes "summed") (codes "s" ∷ []) ≡ BySum (text_at one_sum 35))
+    × (steps (codes "summed") [] ≡ BySum (text_at one_sum 35))
     × (steps (codes "x") (codes "s" ∷ codes "g" ∷ []) ≡ ByGlob)
     × (steps (codes "x") (codes "f" ∷ []) ≡ ByGlob)
     × (steps (codes "x") (codes "s" ∷ []) ≡ ByExtension)

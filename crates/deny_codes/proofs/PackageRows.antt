@@ -157,7 +157,8 @@ unfolding builds_on_cases p1 p2 bypassing on_paths with_paths
 paths_told = refl
 
 path_mismatched : package_keys (with_paths
-    (with_files (file_of (codes "b") [] (Sum other_sum) ∷ file_of (codes "c") [] Unasked ∷ []) ∷ unseen_package ∷ [])) p1
+    (with_files (file_of (codes "b") [] (Sum other_sum) ∷ file_of (codes "c") [] Unasked ∷ []) ∷ unseen_package ∷ []))
+    p1
     ≡ path_key code.ChecksumMismatch 1 (range 35) (codes "$crate/b")
     ∷ path_key code.PathBypassed 1 (range 50) (codes "$crate/c")
     ∷ crate_key code.UnmatchedPathBypass 1 (range 20)
@@ -187,7 +188,8 @@ first_crate_hits = refl
 -- ---- bypasses of no crate
 
 -- the first one that speaks of a crate is used, and that alone
-second_bypass : build_keys (over (bypassing (bypass_of (codes "p") 10 ∷ bypass_of (codes "p") 11 ∷ bypass_of (codes "a") 12
+second_bypass : build_keys
+    (over (bypassing (bypass_of (codes "p") 10 ∷ bypass_of (codes "p") 11 ∷ bypass_of (codes "a") 12
     ∷ [])) (p1 ∷ p2 ∷ []) (with_files [] ∷ with_files [] ∷ []))
     ≡ unused_key code.UnmatchedBypass (range 11) ∷ unused_key code.UnmatchedBypass (range 12) ∷ []
 unfolding builds_on_cases p1 p2 bypassing
@@ -303,7 +305,8 @@ older_key_is = refl
 -- ---- circumstances
 
 -- a policy that does not speak of builds
-no_builds : (build_keys_in (unseen_by plain (beside (p1 ∷ [])) 3) (record { chains = all_count; reached = nowhere }) ≡ [])
+no_builds : (build_keys_in (unseen_by plain (beside (p1 ∷ [])) 3) (record { chains = all_count; reached = nowhere })
+    ≡ [])
     × (deprecated_keys_in (unseen_by plain (beside (p1 ∷ [])) 3) ≡ [])
     × (bypass_hits_in (unseen_by plain (beside (p1 ∷ [])) 3) (record { chains = all_count; reached = nowhere }) ≡ [])
 unfolding builds_on_cases p1

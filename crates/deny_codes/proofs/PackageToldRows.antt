@@ -55,7 +55,8 @@ on_s = record (with_sum 15 (bypass_of (codes "s") 10)) {
 unfoldable policed : Building
 policed = record minding {
   interpreted = Warn;
-  extensions = script_glob (codes "*.rb") 70 false ∷ script_glob (codes "*.pl") 71 false ∷ script_glob (codes "*.rb") 8 true
+  extensions = script_glob (codes "*.rb") 70 false ∷ script_glob (codes "*.pl") 71 false ∷ script_glob
+      (codes "*.rb") 8 true
       ∷ [];
   bypass = on_s ∷ [];
 }
@@ -69,7 +70,8 @@ unfoldable here : Package → Circumstances
 here contents = seeing policed contents
 
 unfoldable told_on_cases : ⊤
-unfolding builds_on_cases encode_with s s_kid on_s policed seeing here words_as bypassed_by_glob_told checksum_match_told
+unfolding builds_on_cases encode_with s s_kid on_s policed seeing here words_as bypassed_by_glob_told
+    checksum_match_told
     checksum_mismatch_told denied_by_extension_told deprecated_told deprecated_key detected_told features_enabled_told
     file_shown folder_shown is_script_sum mismatch_note mismatch_severity path_bypassed_told script_denied_told
     unable_to_check_told unmatched_bypass_told unmatched_glob_told unmatched_path_told unknown_feature_told named_at
@@ -220,7 +222,8 @@ denied found = words_as code.BuildScriptNotAllowed (here (with_script found))
     (crate_key code.BuildScriptNotAllowed 1 no_span)
 
 abbrev plainly_denied : Words
-plainly_denied = plainly severity.Error (codes "crate 's = 1.0.0' has a build script but is not allowed to have one") [] s_kid
+plainly_denied = plainly severity.Error
+    (codes "crate 's = 1.0.0' has a build script but is not allowed to have one") [] s_kid
 
 -- with its path and its checksum where it was read
 told_denied : (denied (Sum one_sum)

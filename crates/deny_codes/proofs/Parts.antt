@@ -1,19 +1,14 @@
 -- Lists of what a fact is true of: one after another, in other words, and parts of them.
 use Rattle.std.proofs.Common.{◌≡◌, ◌++◌, ◌∷◌, ◌⊎◌, [], inl, inr, Bool, List}
 use Rattle.std.specs.Prelude.{Contains, IsTrue, filter}
-use Rattle.std.specs.List.{AllByRecursion}
 use Rattle.std.specs.List.Sorted.{IsStrictlySortedBy}
 use Rattle.std.specs.declared.cmp.Ordering.{Ordering}
 use Rattle.std.specs.declared.cmp.Ordering.TheVariants.{Less}
 use Rattle.std.proofs.lemmas.List.Elements.{Contains-append_cases, Contains-append_left, Contains-append_right}
 use Rattle.std.proofs.lemmas.List.Kept.{IsStrictlySortedBy-filter}
-use Rattle.deny_lists.proofs.Each.{all_append}
+use Rattle.deny_lists.proofs.Each.{all_append, all_from_members}
 use Rattle.deny_lists.proofs.Members.{Contains-filter, Contains-first, Contains-from_filter, Contains-rest}
 use Rattle.deny_lists.specs.Ascending.{Lists}
-
-pub each_from : {T : Type 0} (P : T → Type 0) (xs : List T) → ((x : T) → Contains xs x → P x) → AllByRecursion P xs
-each_from P [] each = tt
-each_from P (x ∷ xs) each = (each x (Contains-first x xs), each_from P xs (λ y is. each y (Contains-rest x xs y is)))
 
 ascends_append : {T : Type 0} (cmp : T → T → Ordering) (xs ys : List T) → IsStrictlySortedBy cmp xs
     → IsStrictlySortedBy cmp ys
@@ -21,7 +16,7 @@ ascends_append : {T : Type 0} (cmp : T → T → Ordering) (xs ys : List T) → 
 unfolding IsStrictlySortedBy
 ascends_append cmp [] ys up vp apart = vp
 ascends_append cmp (x ∷ xs) ys up vp apart = (
-  all_append (λ z. cmp x z ≡ Less) xs ys up.0 (each_from (λ z. cmp x z ≡ Less) ys
+  all_append (λ z. cmp x z ≡ Less) xs ys up.0 (all_from_members (λ z. cmp x z ≡ Less) ys
       (λ y is. apart x y (Contains-first x xs) is)),
   ascends_append cmp xs ys up.1 vp (λ a b is there. apart a b (Contains-rest x xs a is) there),
 )

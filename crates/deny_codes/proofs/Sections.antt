@@ -56,7 +56,8 @@ as_code code.UnmatchedWrapper c facts key is = within key (unmatched_wrapper_mad
 as_code code.SkippedByRoot c facts key is = within key (skipped_by_root_made c.policy c.graph facts.chains key is) refl
 as_code code.UnmatchedSkipRoot c facts key is = within key (unmatched_skip_root_made c.policy c.graph key is) refl
 as_code code.ExactFeaturesMismatch c facts key is = within key (mismatched_made c.policy c.graph key is) refl
-as_code code.FeatureNotExplicitlyAllowed c facts key is = within key (feature_not_allowed_made c.policy c.graph key is) refl
+as_code code.FeatureNotExplicitlyAllowed c facts key is =
+    within key (feature_not_allowed_made c.policy c.graph key is) refl
 as_code code.FeatureBanned c facts key is = within key (feature_banned_made c.policy c.graph key is) refl
 as_code code.UnknownFeature c facts key is = elim is as (λ _. IsTrue (is_of_bans key.section)) [
   | inl here ↦ within key (unknown_feature_made c.policy c.graph key here) refl
@@ -99,7 +100,8 @@ about_crate : (d : LicenseCode) (is : (Crate → Bool) → Licensing → Crate �
 about_crate d is None g key listed = absurd listed
 about_crate d is (Some l) g key listed = apart key (where_made d (is listed.counts l) g key listed.listed) refl
 
-of_allowance : (licensing : Option Licensing) (g : Graph) (key : Key) → IsOfLicences not_encountered_keys licensing g key
+of_allowance : (licensing : Option Licensing) (g : Graph) (key : Key)
+    → IsOfLicences not_encountered_keys licensing g key
     → IsTrue (is_of_licenses key.section)
 of_allowance None g key is = absurd is
 of_allowance (Some l) g key is = apart key (not_encountered_made is.counts l g key is.listed) refl
@@ -121,7 +123,7 @@ in_licenses license.SkippedPrivateWorkspaceCrate licensing g key is =
 in_licenses license.LicenseNotEncountered licensing g key is = of_allowance licensing g key is
 in_licenses license.LicenseExceptionNotEncountered licensing g key is = of_exception licensing g key is
 
-two_checks : (s : Section) → IsTrue (is_of_bans s) → IsTrue (is_of_licenses s) → ⊥
+pub two_checks : (s : Section) → IsTrue (is_of_bans s) → IsTrue (is_of_licenses s) → ⊥
 two_checks section.Licenses one other = absurd (cc one)
 two_checks section.LicensesUnused one other = absurd (cc one)
 two_checks _ one other = absurd (cc other)

@@ -16,13 +16,13 @@ use Rattle.deny_model.specs.Told.{primary, secondary}
 use Rattle.deny_model.specs.View.{Declared, Manifest, View, WorkspaceEntry, nothing_seen}
 use Rattle.deny_codes.specs.Circumstances.{Circumstances, policy_alone, seen_in}
 use Rattle.deny_codes.specs.Sharing.{all_uses, counts_here, entry_labels, entry_labels_in, is_duplicated, is_left_out}
-use Rattle.deny_codes.specs.Sharing.{is_unshared, is_use_of, none_shared, not_all_shared, patched_note, renamed_entry_note}
-use Rattle.deny_codes.specs.Sharing.{renamed_note, unshared_labels, unused_entry_key, unused_entry_keys}
-use Rattle.deny_codes.specs.Sharing.{unused_entry_keys_by, unused_entry_message, unused_entry_told, unused_entry_told_by}
-use Rattle.deny_codes.specs.Sharing.{unused_labels, unused_labels_in, use_in, use_labels, uses_at, uses_in}
-use Rattle.deny_codes.specs.Sharing.{workspace_duplicate_keys, workspace_duplicate_keys_by, workspace_duplicate_keys_of}
-use Rattle.deny_codes.specs.Sharing.{workspace_duplicate_labels, workspace_duplicate_message, workspace_duplicate_told}
-use Rattle.deny_codes.specs.Sharing.{workspace_duplicate_told_by}
+use Rattle.deny_codes.specs.Sharing.{is_unshared, is_use_of, none_shared, not_all_shared, patched_note}
+use Rattle.deny_codes.specs.Sharing.{renamed_entry_note, renamed_note, unshared_labels, unused_entry_key}
+use Rattle.deny_codes.specs.Sharing.{unused_entry_keys, unused_entry_keys_by, unused_entry_message, unused_entry_told}
+use Rattle.deny_codes.specs.Sharing.{unused_entry_told_by, unused_labels, unused_labels_in, use_in, use_labels, uses_at}
+use Rattle.deny_codes.specs.Sharing.{uses_in, workspace_duplicate_keys, workspace_duplicate_keys_by}
+use Rattle.deny_codes.specs.Sharing.{workspace_duplicate_keys_of, workspace_duplicate_labels}
+use Rattle.deny_codes.specs.Sharing.{workspace_duplicate_message, workspace_duplicate_told, workspace_duplicate_told_by}
 use Rattle.deny_codes.specs.Telling.{plainly}
 use Rattle.deny_codes.specs.Told.{words_as}
 use Rattle.deny_codes.proofs.Cases.{app, plain, range}
@@ -149,7 +149,8 @@ unfolding sharing_on_cases
 no_member = refl
 
 -- what was not read declares nothing
-one_unread : stand strict (record nothing_seen { manifests = Some (manifest_in 4 (written any_version 1 10 ∷ [])) ∷ [] })
+one_unread : stand strict
+    (record nothing_seen { manifests = Some (manifest_in 4 (written any_version 1 10 ∷ [])) ∷ [] })
     ≡ []
 unfolding sharing_on_cases
 one_unread = refl

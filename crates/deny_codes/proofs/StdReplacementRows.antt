@@ -17,12 +17,11 @@ use Rattle.deny_model.specs.Policy.{EachCrate, NoCrate, Replacing, Transitive, W
 use Rattle.deny_model.specs.Text.{same_text}
 use Rattle.deny_model.specs.Told.{primary, secondary, spec_text}
 use Rattle.deny_codes.specs.Saying.{Items, Saying}
-use Rattle.deny_codes.specs.StdReplacements.{code_name, counting_version, has_stable, hits_ignore, ignore_hit, ignore_hits}
-use Rattle.deny_codes.specs.StdReplacements.{ignore_of, is_hit_ignore, is_in_scope, is_replaced, is_told_replaced}
-use Rattle.deny_codes.specs.StdReplacements.{is_unmatched_ignore}
-use Rattle.deny_codes.specs.StdReplacements.{may_replace, replaced_key, replaced_keys, replaced_told, replacement_lines}
-use Rattle.deny_codes.specs.StdReplacements.{replacement_note, satisfies, stable_lines, unmatched_ignore_keys}
-use Rattle.deny_codes.specs.StdReplacements.{unmatched_ignore_told}
+use Rattle.deny_codes.specs.StdReplacements.{code_name, counting_version, has_stable, hits_ignore, ignore_hit}
+use Rattle.deny_codes.specs.StdReplacements.{ignore_hits, ignore_of, is_hit_ignore, is_in_scope, is_replaced}
+use Rattle.deny_codes.specs.StdReplacements.{is_told_replaced, is_unmatched_ignore, may_replace, replaced_key}
+use Rattle.deny_codes.specs.StdReplacements.{replaced_keys, replaced_told, replacement_lines, replacement_note}
+use Rattle.deny_codes.specs.StdReplacements.{satisfies, stable_lines, unmatched_ignore_keys, unmatched_ignore_told}
 use Rattle.deny_codes.specs.Members.{is_member}
 use Rattle.deny_codes.specs.Telling.{plainly}
 use Rattle.deny_codes.proofs.Cases.{app, crate, edge, entry_at, graph, on_cases, range, words_at}
@@ -89,7 +88,8 @@ by_both of_app of_y = record through_y {
 unfoldable pub replacing_on_cases : ⊤
 unfolding on_cases plainly_replacing f_by_g since of_name of_x from_crates_io x rust one one_with through_y by_both
     key_of matches dependents leads digits spec_text is_member is_in_scope counting_version has_stable satisfies
-    may_replace is_replaced ignore_of hits_ignore is_hit_ignore is_told_replaced replaced_keys is_unmatched_ignore unmatched_ignore_keys
+    may_replace is_replaced ignore_of hits_ignore is_hit_ignore is_told_replaced replaced_keys is_unmatched_ignore
+    unmatched_ignore_keys
     ignore_hit ignore_hits code_name replacement_lines stable_lines replacement_note replaced_told unmatched_ignore_told
 replacing_on_cases = tt
 

@@ -72,7 +72,8 @@ unfolding told_on_cases
 told_banned = refl
 
 -- the same where the lock text is a file too: entries have their labels in the policy
-told_beside_a_lock_text : words_as code.Banned (seen_by busy by_two 3 8 nothing_seen) (crate_key code.Banned 1 (range 16))
+told_beside_a_lock_text : words_as code.Banned (seen_by busy by_two 3 8 nothing_seen)
+    (crate_key code.Banned 1 (range 16))
     ≡ plainly severity.Error (codes "crate 'x = 1.0.0' is explicitly banned")
     ban_labels_told (Some x_kid)
 unfolding told_on_cases

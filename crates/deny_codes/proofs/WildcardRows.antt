@@ -25,8 +25,8 @@ use Rattle.deny_codes.specs.Wildcards.{wildcard_label, wildcard_labels, wildcard
 use Rattle.deny_codes.specs.Wildcards.{wildcard_message, wildcard_told, wildcards_in, wildcards_of}
 use Rattle.deny_codes.proofs.Cases.{all_count, app, entry_at, plain, range, root_of}
 use Rattle.deny_codes.proofs.ManifestCases.{any_version, behind, entry_from, entry_with_version, from}
-use Rattle.deny_codes.proofs.ManifestCases.{manifests_on_cases, not_sharing_it, of_kind, one_version, seeing, sharing_it}
-use Rattle.deny_codes.proofs.ManifestCases.{sharing_x, with_version, written}
+use Rattle.deny_codes.proofs.ManifestCases.{manifests_on_cases, not_sharing_it, of_kind, one_version, seeing}
+use Rattle.deny_codes.proofs.ManifestCases.{sharing_it, sharing_x, with_version, written}
 
 unfoldable pub minding : Policy
 minding = record plain { wildcards = Deny }
@@ -284,7 +284,8 @@ unfolding wildcards_on_cases app_kid
 told_with_an_entry = refl
 
 told_with_its_version : words_as code.Wildcard
-    (here minding (sharing_x (entry_with_version (entry_from 60)) (seeing (sharing_it (written any_version 1 10) ∷ []))))
+    (here minding (sharing_x (entry_with_version (entry_from 60))
+    (seeing (sharing_it (written any_version 1 10) ∷ []))))
     (crate_key code.Wildcard 0 no_span)
     ≡ plainly severity.Error (codes "found 2 wildcard dependencies for crate 'app'")
     (primary 4 (range 20) (codes "wildcard dependency") ∷ secondary 7 (range 90) (codes "workspace dependency") ∷ [])

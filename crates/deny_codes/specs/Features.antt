@@ -1,6 +1,8 @@
 -- Features of crates that a policy does not allow, denies or does not know, and the feature `default` by its level: the
 -- keys of all entries, and what is told of each.
-use Rattle.std.specs.Prelude.{◌≡◌, ◌&&◌, ◌||◌, ◌==◌, ◌++◌, ◌∷◌, ℕ, Bool, true, false, IsTrue, not, length, is_some, nat_eq, List, [], Option, Some, Contains, filter, find, map, option_and_then, codes, if◌then◌else◌}
+use Rattle.std.specs.Prelude.{◌≡◌, ◌&&◌, ◌||◌, ◌==◌, ◌++◌, ◌∷◌, ℕ, Bool, true, false, IsTrue, not, length, is_some}
+use Rattle.std.specs.Prelude.{nat_eq, List, [], Option, Some, Contains, filter, find, map, option_and_then, codes}
+use Rattle.std.specs.Prelude.{if◌then◌else◌}
 use Rattle.std.specs.FinMap as finite
 use Rattle.std.specs.List.{flat_map, list_any, starts_with}
 use Rattle.std.specs.Option.{option_map_or}
@@ -171,8 +173,8 @@ not_allowed_feature_key place entry feature = record (crate_key code.FeatureNotE
   text = feature;
 }
 
--- an entry allows some features of a crate that it speaks of, not exactly these, and this is an enabled one that it does
--- not allow and to which none of them leads
+-- an entry allows some features of a crate that it speaks of, not exactly these, and this is an enabled one that it
+-- does not allow and to which none of them leads
 pub record IsNotAllowedOf (p : Policy) (g : Graph) (e : FeatureEntry) (c : Crate) (feature : List ℕ) : Type 0 where
   pub spoken_of : IsTrue (matches e.spec c)
   pub inexact : e.exact.value ≡ false
@@ -205,7 +207,8 @@ feature_at p range = option_map_or (λ w. w.value) (find (λ w. same_span w.span
 -- a feature of the crate at a place, as it is shown
 unfoldable pub feature_nodes_at : Graph → ℕ → List (List ℕ) → List GraphNode
 feature_nodes_at g place features =
-    option_map_or (λ c. map (λ feature. record { kid = kid_of c; feature = Some feature }) features) (crate_at g place) []
+    option_map_or (λ c. map (λ feature. record { kid = kid_of c; feature = Some feature }) features)
+    (crate_at g place) []
 
 -- with all features that lead to it
 abbrev pub with_features : Words → List GraphNode → Words

@@ -1,6 +1,8 @@
 -- Licences that crates ask for, by what a policy allows: the keys of the licence check, which allowed licences and
 -- exceptions are hit, and what is told of each. A test says which crates count.
-use Rattle.std.specs.Prelude.{◌&&◌, ◌||◌, ◌==◌, ◌++◌, ◌∷◌, ◌↔◌, ℕ, Bool, false, true, not, IsTrue, length, is_none, is_some, List, [], Contains, Option, None, Some, filter, find, filter_map, map, option_map, codes, if◌then◌else◌}
+use Rattle.std.specs.Prelude.{◌&&◌, ◌||◌, ◌==◌, ◌++◌, ◌∷◌, ◌↔◌, ℕ, Bool, false, true, not, IsTrue, length, is_none}
+use Rattle.std.specs.Prelude.{is_some, List, [], Contains, Option, None, Some, filter, find, filter_map, map}
+use Rattle.std.specs.Prelude.{option_map, codes, if◌then◌else◌}
 use Rattle.std.specs.Fmt.{decimal}
 use Rattle.std.specs.List.{list_any}
 use Rattle.std.specs.Option.{option_map_or}
@@ -201,7 +203,8 @@ exception_hit counts l g e = option_map (λ c. hit_of kind.LicenseException (exc
 
 -- one for each licence that all may ask for, and then for each exception, that is hit
 abbrev pub licence_hits : (Crate → Bool) → Licensing → Graph → List Hit
-licence_hits counts l g = filter_map (allowance_hit counts l g) l.allow ++ filter_map (exception_hit counts l g) l.exceptions
+licence_hits counts l g =
+    filter_map (allowance_hit counts l g) l.allow ++ filter_map (exception_hit counts l g) l.exceptions
 
 -- ---- what stands, by a policy that may speak of licences
 

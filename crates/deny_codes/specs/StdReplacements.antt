@@ -1,6 +1,7 @@
 -- Crates that the standard library replaces, by a policy's table and what a table of replacements says: their keys,
 -- the hits of the entries that pass some of them over, and what is told of each.
-use Rattle.std.specs.Prelude.{◌&&◌, ◌||◌, ◌==◌, ◌++◌, ◌∷◌, ℕ, Bool, true, false, not, nat_le, is_none, List, [], Option, Some, None, filter, filter_map, find, map, option_map, codes, if◌then◌else◌}
+use Rattle.std.specs.Prelude.{◌&&◌, ◌||◌, ◌==◌, ◌++◌, ◌∷◌, ℕ, Bool, true, false, not, nat_le, is_none, List, [], Option}
+use Rattle.std.specs.Prelude.{Some, None, filter, filter_map, find, map, option_map, codes, if◌then◌else◌}
 use Rattle.std.specs.Fmt.{decimal}
 use Rattle.std.specs.List.{flat_map, list_any}
 use Rattle.std.specs.Option.{option_map_or, option_or}

@@ -17,7 +17,7 @@ use Rattle.deny_model.specs.Graph.{Graph}
 use Rattle.deny_facts.specs.Placed.{ArePlaced}
 use Rattle.deny_facts.specs.Steps.{HasEdgeFrom}
 use Rattle.deny_facts.proofs.DependentLemmas.{dependent_within}
-use Rattle.deny_facts.proofs.NeighbourLemmas.{child_stands}
+use Rattle.deny_krates.proofs.NeighbourLemmas.{child_stands}
 use Rattle.deny_dup_edges.specs.Above.{AreAbove, LeadsToOne}
 
 pub each_dependent_stands : (g : Graph) (place : ℕ) (ds : List DirectDependent) → ArePlaced g.crates

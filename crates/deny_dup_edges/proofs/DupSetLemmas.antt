@@ -1,5 +1,6 @@
 -- The numbers of edges, set by set, and the set with the fewest.
-use Rattle.std.proofs.Common.{◌≡◌, ◌<◌, ◌+◌, ◌++◌, ℕ, zero, suc, List, [], ◌∷◌, Bool, true, false, Option, Some, Contains, length, take, filter, slice_get, refl, sym, ap, ◌∙◌, subst, arith}
+use Rattle.std.proofs.Common.{◌≡◌, ◌<◌, ◌+◌, ◌++◌, ℕ, zero, suc, List, [], ◌∷◌, Bool, true, false, Option, Some}
+use Rattle.std.proofs.Common.{Contains, length, take, filter, slice_get, refl, sym, ap, ◌∙◌, subst, arith}
 use Rattle.std.specs.Prelude.{All, cond, slice_index_or}
 use Rattle.std.specs.List.{AllByRecursion, AllZip}
 use Rattle.std.specs.List.Sorted.{IsStrictlySortedBy}
@@ -12,14 +13,14 @@ use Rattle.std.proofs.lemmas.List.Elements.{All-contains, filter_more}
 use Rattle.deny_lists.specs.Ascending.{Lists}
 use Rattle.deny_base.specs.declared.edge.Edge.{Edge}
 use Rattle.deny_krates.specs.Orderly.{IsOrderly}
-use Rattle.deny_lists.proofs.Members.{Contains-by_cases, Contains-first, Contains-rest, from_there, no_member}
+use Rattle.deny_lists.proofs.Members.{Contains-by_cases, Contains-first, Contains-rest, from_there, no_member, zip_push}
 use Rattle.deny_model.specs.Counting.{Chain}
 use Rattle.deny_model.specs.Graph.{Graph}
 use Rattle.deny_dup_edges.specs.Above.{AreAbove}
 use Rattle.deny_lists.specs.Walk.{has_distance}
 use Rattle.deny_dup_edges.specs.DupEdges.{IsNumberOf}
 use Rattle.deny_dup_edges.specs.private.EdgeLists.{IsReachedNumber}
-use Rattle.deny_facts.proofs.NeighbourLemmas.{child_stands}
+use Rattle.deny_krates.proofs.NeighbourLemmas.{child_stands}
 
 -- ---- the numbers of the edges to crates that have a distance
 
@@ -163,13 +164,6 @@ set_numbers g edges place distances reached numbers orderly all above listed = r
 }
 
 -- ---- lists that grow side by side
-
-zip_push : {A B : Type 0} (R : A → B → Type 0) (xs : List A) (ys : List B) (x : A) (y : B) → AllZip R xs ys → R x y
-    → AllZip R (xs ++ x ∷ []) (ys ++ y ∷ [])
-zip_push R [] [] x y zip is = (is, tt)
-zip_push R [] (v ∷ ys) x y zip is = absurd zip
-zip_push R (u ∷ xs) [] x y zip is = absurd zip
-zip_push R (u ∷ xs) (v ∷ ys) x y zip is = (zip.0, zip_push R xs ys x y zip.1 is)
 
 one_more : {A : Type 0} (p : A → Bool) (xs : List A) (i : ℕ) (x : A) → i < length xs → x ≡ slice_index_or xs i x
     → filter p (take (i + 1) xs) ≡ filter p (take i xs) ++ cond (p x) (x ∷ []) []

@@ -1,9 +1,11 @@
 -- Edges of a graph, gathered by the crates that they lead to.
-use Rattle.std.proofs.Common.{◌≡◌, ◌⊎◌, ◌<◌, ◌≤◌, ◌+◌, ◌++◌, ℕ, List, [], ◌∷◌, Option, Contains, length, take, map, refl, sym, ap, ◌∙◌, subst, inl, inr, add-one}
+use Rattle.std.proofs.Common.{◌≡◌, ◌⊎◌, ◌<◌, ◌≤◌, ◌+◌, ◌++◌, ℕ, List, [], ◌∷◌, Option, Contains, length, take, map}
+use Rattle.std.proofs.Common.{refl, sym, ap, ◌∙◌, subst, inl, inr, add-one}
 use Rattle.std.specs.Prelude.{All, slice_index_or}
 use Rattle.std.proofs.Math.Seq.{take-suc}
 use Rattle.std.proofs.lemmas.List.{map-append, take_all, take_more}
-use Rattle.std.proofs.lemmas.List.Elements.{All-contains_itself, All-weaker, Contains-append_left, Contains-push, Contains-push_cases}
+use Rattle.std.proofs.lemmas.List.Elements.{All-contains_itself, All-weaker, Contains-append_left, Contains-push}
+use Rattle.std.proofs.lemmas.List.Elements.{Contains-push_cases}
 use Rattle.deny_lists.specs.Ascending.{Adds, Lists}
 use Rattle.deny_base.specs.Edge.{edge_cmp}
 use Rattle.deny_base.specs.declared.edge.DepKind.{DepKind}
@@ -18,7 +20,8 @@ use Rattle.deny_dup_edges.specs.DupEdges.{IsAboveOne}
 use Rattle.deny_dup_edges.specs.private.EdgeLists.{IsBetween, IsEdge, IsTo, IsToOne}
 use Rattle.deny_facts.specs.Placed.{ArePlaced}
 use Rattle.deny_lists.proofs.Adding.{adds_same, adds_then}
-use Rattle.deny_facts.proofs.NeighbourLemmas.{child_stands, each_needing}
+use Rattle.deny_krates.proofs.NeighbourLemmas.{child_stands}
+use Rattle.deny_facts.proofs.NeighbourLemmas.{each_needing}
 use Rattle.deny_lists.proofs.Members.{no_member}
 
 -- ---- the edges from one crate to another: one of each kind at most

@@ -11,10 +11,12 @@ use Rattle.deny_entries.specs.declared.package_spec.PackageSpec.{PackageSpec}
 use Rattle.deny_entries.specs.declared.policy_key.PolicyKey.TheVariants as key
 use Rattle.deny_entries.specs.PolicyKey.{name_of}
 use Rattle.deny_entries.specs.Requirement.{held_in, requirement_in, requirement_text}
-use Rattle.deny_entries.specs.Spec.{ReadsName, ReadsSpecBy, ReadsSpecKeys, ReadsSpecOf, ReadsSpecText, name_in, name_span, parts_in, spec_in}
+use Rattle.deny_entries.specs.Spec.{ReadsName, ReadsSpecBy, ReadsSpecKeys, ReadsSpecOf, ReadsSpecText, name_in}
+use Rattle.deny_entries.specs.Spec.{name_span, parts_in, spec_in}
 use Rattle.deny_entries.specs.SpecView.{spec_view}
 use Rattle.deny_entries.specs.Table.{Entries, ReadsIn, ReadsIfThere, ReadsOr, ReadsThere, ReadsTable, at_key}
-use Rattle.deny_entries.specs.Words.{ReadsAs, ReadsBool, ReadsCount, ReadsList, ReadsSpanned, ReadsText, ReadsTexts, meaning_in}
+use Rattle.deny_entries.specs.Words.{ReadsAs, ReadsBool, ReadsCount, ReadsList, ReadsSpanned, ReadsText, ReadsTexts}
+use Rattle.deny_entries.specs.Words.{meaning_in}
 use Rattle.deny_entries.proofs.RowLaws.{says_of}
 
 -- what is read twice is alike, or the same
@@ -90,7 +92,7 @@ pub alike_list_or : {T : Type 0} (Reads : Value → T → Type 0) (Alike : T →
     → ReadsAlike (ReadsOr [] (ReadsList Reads)) (AllZip Alike)
 alike_list_or Reads Alike alike = alike_or [] (ReadsList Reads) (AllZip Alike) tt (alike_list Reads Alike alike)
 
-one_required : {T : Type 0} (Reads : Value → T → Type 0) → ReadsOne Reads → ReadsOne (ReadsThere Reads)
+pub one_required : {T : Type 0} (Reads : Value → T → Type 0) → ReadsOne Reads → ReadsOne (ReadsThere Reads)
 one_required Reads same None x y one two = absurd one
 one_required Reads same (Some v) x y one two = same v x y one two
 

@@ -6,9 +6,11 @@ use Rattle.std.specs.Prelude.{nat_eq, option_map}
 use Rattle.deny_toml.specs.Calls.{value_at}
 use Rattle.deny_toml.specs.declared.value.Value.{Value}
 use Rattle.deny_entries.specs.PolicyKey.{name_of}
-use Rattle.deny_entries.specs.Table.{AreAlikeAt, EachSays, Entries, Field, Gives, ReadAt, ReadsIfThere, ReadsRows, Row, State, after, are_apart, faults_of_fields, fields_of, is_other}
+use Rattle.deny_entries.specs.Table.{AreAlikeAt, EachSays, Entries, Field, Gives, ReadAt, ReadsIfThere, ReadsRows, Row}
+use Rattle.deny_entries.specs.Table.{State, after, are_apart, faults_of_fields, fields_of, is_other}
 use Rattle.deny_entries.specs.declared.policy_key.PolicyKey.{PolicyKey}
-use Rattle.deny_entries.proofs.TableLaws.{alike-itself, alike-trans, alike-without, none_first, none_rest, optional_mapped}
+use Rattle.deny_entries.proofs.TableLaws.{alike-itself, alike-trans, alike-without, none_first, none_rest}
+use Rattle.deny_entries.proofs.TableLaws.{optional_mapped}
 
 -- The keys of these rows were read from here on, one after another; of each the line says so, and what was read of it.
 pub data Steps {T : Type 0} (x : T) : List (Row T) → State → Type 1 where

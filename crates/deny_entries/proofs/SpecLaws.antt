@@ -1,6 +1,7 @@
 -- Equal specs match the same crates.
 use Rattle.std.proofs.lemmas.Bool.{and_parts}
-use Rattle.std.proofs.Common.{◌≡◌, ◌+◌, ◌==◌, length, eqb-true, ℕ, true, false, ◌&&◌, List, Option, None, Some, refl, sym, ap, ◌∙◌}
+use Rattle.std.proofs.Common.{◌≡◌, ◌+◌, ◌==◌, length, eqb-true, ℕ, true, false, ◌&&◌, List, Option, None, Some, refl}
+use Rattle.std.proofs.Common.{sym, ap, ◌∙◌}
 use Rattle.std.specs.Prelude.{option_and_then, option_map}
 use Rattle.std.specs.Option.{option_eq, option_map_or}
 use Rattle.semver.specs.Parse.{Held}
@@ -9,6 +10,7 @@ use Rattle.deny_model.specs.Graph.{Crate}
 use Rattle.deny_model.specs.Match.{matches, meets}
 use Rattle.deny_model.specs.Policy.{Spec}
 use Rattle.deny_model.specs.Text.{same_text}
+use Rattle.deny_model.proofs.Texts.{equal_from_option_eq}
 use Rattle.deny_toml.specs.Calls.{is_verbatim, layer_in, one_line_of, scalar_of, text_in, text_of}
 use Rattle.deny_toml.specs.Value.{span_in}
 use Rattle.deny_toml.specs.Scalar.{Scalar}
@@ -18,12 +20,6 @@ use Rattle.deny_entries.specs.declared.package_spec.PackageSpec.{PackageSpec}
 use Rattle.deny_entries.specs.Requirement.{held_in, requirement_in}
 use Rattle.deny_entries.specs.SpecView.{same_spec, spec_view}
 use Rattle.deny_entries.proofs.UnknownLaws.{same_is}
-
-same_option : (a b : Option (List ℕ)) → option_eq same_text a b ≡ true → a ≡ b
-same_option None None e = refl
-same_option None (Some y) e = cc e
-same_option (Some x) None e = cc e
-same_option (Some x) (Some y) e = ap Some (same_is x y e)
 
 unwrapped : (a b : Option (List Held)) → option_map Some a ≡ option_map Some b → a ≡ b
 unwrapped None None e = refl
@@ -45,7 +41,7 @@ pub equal_match : (a b : PackageSpec) → same_spec a b ≡ true → (c : Crate)
     → matches (spec_view a) c ≡ matches (spec_view b) c
 equal_match a b same c =
     let parts = and_parts (same_text a.name.value b.name.value) (option_eq same_text a.req_text b.req_text) same in
-    let texts : a.req_text ≡ b.req_text = same_option a.req_text b.req_text parts.1 in
+    let texts : a.req_text ≡ b.req_text = equal_from_option_eq a.req_text b.req_text parts.1 in
     let requirements =
     wrapped a.version_req ∙ a.read ∙ ap (option_map requirement_in) texts ∙ sym b.read
     ∙ sym (wrapped b.version_req) in

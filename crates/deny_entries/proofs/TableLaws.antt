@@ -1,6 +1,7 @@
 -- Keys that are read one after another, and what each of them says of the whole table.
 use Rattle.std.proofs.lemmas.Bool.{and_parts, not-true}
-use Rattle.std.proofs.Common.{◌≡◌, ℕ, Bool, true, false, not, List, [], ◌∷◌, ◌++◌, map, Option, None, Some, refl, sym, ap, subst, append-nil, ◌∙◌}
+use Rattle.std.proofs.Common.{◌≡◌, ℕ, Bool, true, false, not, List, [], ◌∷◌, ◌++◌, map, Option, None, Some, refl, sym}
+use Rattle.std.proofs.Common.{ap, subst, append-nil, ◌∙◌}
 use Rattle.std.proofs.lemmas.List.{append_assoc}
 use Rattle.std.specs.Prelude.{nat_eq, find, option_map, is_some, ◌||◌}
 use Rattle.std.specs.List.{list_any}
@@ -16,19 +17,18 @@ use Rattle.deny_toml.specs.Faults.{in_order}
 use Rattle.deny_toml.specs.TableHelper.{unknown}
 use Rattle.deny_toml.specs.declared.error.DeserError.{DeserError}
 use Rattle.deny_toml.proofs.FaultLaws.{in_order-empty}
-use Rattle.deny_toml.specs.Faults.{under, Reports}
+use Rattle.deny_toml.specs.Faults.{Reports}
 use Rattle.deny_toml.specs.TableHelper.{optional_faults, table_faults}
 use Rattle.deny_toml.specs.TableHelper as helper
-use Rattle.deny_entries.specs.Table.{Entries, Field, faults_of_fields, faults_in_table, faults_of_table, ReadsIn, ReadsTable, unknown_keys, is_other, are_apart, AreAlikeAt, DependsOn, State, after, after_all, ReadAt, ReadsIfThere, ReadsOr, optional}
+use Rattle.deny_toml.proofs.ArrayLaws.{under-none}
+use Rattle.deny_entries.specs.Table.{Entries, Field, faults_of_fields, faults_in_table, faults_of_table, ReadsIn}
+use Rattle.deny_entries.specs.Table.{ReadsTable, unknown_keys, is_other, are_apart, AreAlikeAt, DependsOn, State, after}
+use Rattle.deny_entries.specs.Table.{after_all, ReadAt, ReadsIfThere, ReadsOr, optional}
 use Rattle.deny_entries.proofs.UnknownLaws.{left, left_unknown, same_is}
 use Rattle.deny_entries.specs.declared.policy_key.PolicyKey.{PolicyKey}
 use Rattle.deny_entries.specs.PolicyKey.{name_of}
 use Rattle.std.specs.Prelude.{Result, Ok, Err, IfOk, if◌then◌else◌}
 use Rattle.deny_lists.specs.declared.memory.NoMemory.{NoMemory}
-
-pub under-none : (name : List ℕ) (fs : List ConfigFault) → under name fs ≡ [] → fs ≡ []
-under-none name [] e = refl
-under-none name (f ∷ fs) e = cc e
 
 module _ {T : Type 0} (faults_of : Value → List ConfigFault) (Reads : Value → T → Type 0) (name : List ℕ) where
   -- what the helper says of a key that may be left out is what is read, where its value has no fault

@@ -1,11 +1,14 @@
 -- The keys that are left of a table, once the known ones were taken out, are the unknown ones.
 use Rattle.std.proofs.lemmas.Bool.{and_parts, not-true}
 use Rattle.deny_lists.proofs.Each.{all_append}
-use Rattle.std.proofs.Common.{◌≡◌, ◌||◌, ℕ, Bool, true, false, cond, Contains, refl, sym, ap, subst, eqb-true, inl, inr, ◌∙◌}
+use Rattle.std.proofs.Common.{◌≡◌, ◌||◌, ℕ, Bool, true, false, cond, Contains, refl, sym, ap, subst, eqb-true, inl, inr}
+use Rattle.std.proofs.Common.{◌∙◌}
 use Rattle.std.specs.Prelude.{◌&&◌, ◌++◌, ◌∷◌, List, [], filter, map, nat_eq, not}
 use Rattle.std.specs.Cmp.Lexicographic.{pointwise}
 use Rattle.std.specs.List.{AllByRecursion}
-use Rattle.std.proofs.lemmas.List.Elements.{All-contains, All-contains_itself, All-from_recursion, Contains-append_cases, Contains-append_left, Contains-append_right, filter_agree, recursion_from_All}
+use Rattle.std.proofs.lemmas.List.Elements.{All-contains, All-contains_itself, All-from_recursion}
+use Rattle.std.proofs.lemmas.List.Elements.{Contains-append_cases, Contains-append_left, Contains-append_right}
+use Rattle.std.proofs.lemmas.List.Elements.{filter_agree, recursion_from_All}
 use Rattle.deny_toml.proofs.FaultLaws.{in_order-lists, in_order-only}
 use Rattle.deny_toml.specs.Calls.{has_name, without}
 use Rattle.deny_toml.specs.Faults.{in_order}
@@ -94,7 +97,8 @@ besides_apart name (f ∷ fs) apart =
     by_name true other rest = rest
     by_name false other rest = rw other rest
 
--- what is left of a table with one key more in front: that key too where it is unknown, and else one field less is taken out of the others
+-- what is left of a table with one key more in front: that key too where it is unknown, and else one field less is
+-- taken out of the others
 left-other : (fs : List Field) (e : Key × Value) (es : Entries) → is_other e.0.name fs ≡ true
     → left fs (e ∷ es) ≡ e ∷ left fs es
 unfolding without

@@ -4,7 +4,8 @@ use Rattle.std.specs.Prelude.{[], ◌∷◌, List, ◌&&◌, not, is_some}
 use Rattle.deny_toml.specs.Calls.{value_at}
 use Rattle.deny_entries.specs.Entry.{ReadsSome, holds_none}
 use Rattle.deny_entries.specs.Reasons.{ReadsReason, ReadsReasonKey, reason_fields}
-use Rattle.deny_entries.specs.Table.{AreAlikeAt, DependsOn, EachSays, Entries, Field, Gives, ReadsIfThere, ReadsRows, Row, fields_of}
+use Rattle.deny_entries.specs.Table.{AreAlikeAt, DependsOn, EachSays, Entries, Field, Gives, ReadsIfThere, ReadsRows}
+use Rattle.deny_entries.specs.Table.{Row, fields_of}
 
 holds_alike : (fields : List Field) (one other : Entries) → AreAlikeAt fields one other
     → holds_none fields one ≡ holds_none fields other

@@ -1,5 +1,6 @@
 -- Requirements on versions, as semver reads them in a text.
-use Rattle.std.specs.Prelude.{◌≡◌, option_map, ℕ, Bool, true, List, Option, None, Some, is_some, map, Result, Ok, Err, if◌then◌else◌}
+use Rattle.std.specs.Prelude.{◌≡◌, option_map, ℕ, Bool, true, List, Option, None, Some, is_some, map, Result, Ok, Err}
+use Rattle.std.specs.Prelude.{if◌then◌else◌}
 use Rattle.semver.specs.Parse.{req_of, Held}
 use Rattle.semver.specs.Identifiers.{comparator_view}
 use Rattle.semver.specs.declared.error.Error.{Error}

@@ -1,5 +1,6 @@
 -- Specs: a name, and maybe a requirement on versions, as a policy writes them.
-use Rattle.std.specs.Prelude.{◌≡◌, ℕ, ◌==◌, ◌&&◌, not, List, [], ◌∷◌, length, Option, None, Some, is_some, if◌then◌else◌}
+use Rattle.std.specs.Prelude.{◌≡◌, ℕ, ◌==◌, ◌&&◌, not, List, [], ◌∷◌, length, Option, None, Some, is_some}
+use Rattle.std.specs.Prelude.{if◌then◌else◌}
 use Rattle.std.specs.List.{position_or_len, before_first, after_first}
 use Rattle.deny_base.specs.declared.span.Span.{Span}
 use Rattle.deny_toml.specs.declared.error.ConfigFault.{ConfigFault}
@@ -9,7 +10,8 @@ use Rattle.deny_toml.specs.Calls.{is_verbatim, text_in}
 use Rattle.deny_entries.specs.declared.package_spec.PackageSpec.{PackageSpec}
 use Rattle.deny_entries.specs.declared.policy_key.PolicyKey.TheVariants as key
 use Rattle.deny_entries.specs.Requirement.{is_readable, requirement_text}
-use Rattle.deny_entries.specs.Table.{Entries, Field, ReadsRows, ReadsTable, Row, at_key, faults_of_table, fields_of, may_hold, must_hold, optional, required}
+use Rattle.deny_entries.specs.Table.{Entries, Field, ReadsRows, ReadsTable, Row, at_key, faults_of_table, fields_of}
+use Rattle.deny_entries.specs.Table.{may_hold, must_hold, optional, required}
 use Rattle.deny_entries.specs.Words.{Kind, a_word, faults_as, faults_of_meaning, placed}
 
 -- what a divider divides where it stands first
@@ -37,12 +39,13 @@ name_in text = if length text == 0 then None else Some text
 abbrev pub checked : List ℕ × Option (List ℕ) → Option (List ℕ × Option (List ℕ))
 checked parts = if not (length parts.0 == 0) && is_readable parts.1 then Some parts else None
 
--- the name and the text of the requirement, where a text is a spec: the name is not empty, and semver reads the requirement
+-- the name and the text of the requirement, where a text is a spec: the name is not empty, and semver reads the
+-- requirement
 unfoldable pub spec_in : List ℕ → Option (List ℕ × Option (List ℕ))
 spec_in text = checked (parts_or (divided text) text)
 
--- The range of the name: its own bytes where the string is on one line and has no escape, so that each byte stands for itself;
--- else the range of the string.
+-- The range of the name: its own bytes where the string is on one line and has no escape, so that each byte stands for
+-- itself; else the range of the string.
 abbrev pub name_span : Value → List ℕ → Span
 name_span v name = if is_verbatim v then span_of (span_in v).start (length name) else span_in v
 

@@ -1,5 +1,6 @@
 -- The direct dependents of a crate, as the graph keeps them and as the rules speak of them.
-use Rattle.std.proofs.Common.{◌≡◌, ◌<◌, ℕ, Bool, true, false, List, Contains, Option, Some, None, is_some, length, map, slice_get, refl, sym, ap, ◌∙◌}
+use Rattle.std.proofs.Common.{◌≡◌, ◌<◌, ℕ, Bool, true, false, List, Contains, Option, Some, None, is_some, length, map}
+use Rattle.std.proofs.Common.{slice_get, refl, sym, ap, ◌∙◌}
 use Rattle.std.specs.Prelude.{option_and_then, option_map}
 use Rattle.std.specs.FinMap as finite
 use Rattle.std.specs.List.{list_all}
@@ -18,9 +19,10 @@ use Rattle.deny_model.specs.Told.{crate_at}
 use Rattle.deny_facts.specs.Wrappers.{has_range, range_at, range_of}
 use Rattle.deny_facts.specs.Groups.{all_bear, bears}
 use Rattle.deny_facts.specs.Placed.{ArePlaced}
-use Rattle.deny_lists.proofs.Members.{Contains-from_filter, Contains-from_map, all_at, all_from}
+use Rattle.deny_lists.proofs.Members.{Contains-from_map, all_at, all_from}
 use Rattle.deny_lists.proofs.Booleans.{tests_agree}
-use Rattle.deny_facts.proofs.PlaceLemmas.{at_place}
+use Rattle.deny_krates.proofs.PlaceLemmas.{at_place}
+use Rattle.deny_krates.proofs.NeighbourLemmas.{dependent_stands}
 
 pub range-there : (g : Graph) (ranges : TextFinMap Span) (n : ℕ) (c : Crate) → slice_get g.crates n ≡ Some c
     → range_at g ranges n ≡ range_of ranges c
@@ -50,10 +52,6 @@ pub record IsParent (g : Graph) (place n : ℕ) : Type 0 where
   pub parent : Crate
   pub member : Contains (dependents g place) parent
   pub at : slice_get g.crates n ≡ Some parent
-
-pub dependent_stands : (g : Graph) (place : ℕ) (c : Crate) → Contains (dependents g place) c → Contains g.crates c
-unfolding dependents
-dependent_stands g place c is = (Contains-from_filter _ g.crates c is).0
 
 module _ (g : Graph) (place : ℕ) (ds : List DirectDependent) (placed : ArePlaced g.crates)
     (direct : AreDirectDependents g place ds) where

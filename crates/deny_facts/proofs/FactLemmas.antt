@@ -1,5 +1,6 @@
 -- Marks that chains are worked out to are facts of the graph.
-use Rattle.std.proofs.Common.{◌≡◌, ℕ, suc, ◌+◌, ◌-◌, ◌<◌, ◌≤◌, Bool, true, false, List, [], ◌∷◌, Option, None, Some, length, map, filter, Contains, inl, inr, refl, sym, ap, ◌∙◌, subst, arith}
+use Rattle.std.proofs.Common.{◌≡◌, ℕ, suc, ◌+◌, ◌-◌, ◌<◌, ◌≤◌, Bool, true, false, List, [], ◌∷◌, Option, None, Some}
+use Rattle.std.proofs.Common.{length, map, filter, Contains, inl, inr, refl, sym, ap, ◌∙◌, subst, arith}
 use Rattle.std.specs.Prelude.{◌↔◌, All, IsTrue, max, option_and_then, replicate, slice_index_or}
 use Rattle.std.specs.List.{AllZip}
 use Rattle.std.proofs.lemmas.Bool.{false≢true, lt-ltb, ltb-true}
@@ -20,8 +21,9 @@ use Rattle.deny_facts.specs.Distances.{IsLed, IsDistance, AreDistances}
 use Rattle.deny_facts.specs.Marks.{marked, is_near, AreCounted, IsTreeOf}
 use Rattle.deny_facts.specs.Placed.{ArePlaced}
 use Rattle.deny_facts.proofs.MarkLemmas.{places_within}
-use Rattle.deny_facts.proofs.PlaceLemmas.{place_within}
-use Rattle.deny_lists.proofs.Members.{Contains-by_cases, Contains-filter, Contains-from_filter, Contains-from_map, contains_map, no_member}
+use Rattle.deny_krates.proofs.PlaceLemmas.{place_within}
+use Rattle.deny_lists.proofs.Members.{Contains-by_cases, Contains-filter, Contains-from_filter, Contains-from_map}
+use Rattle.deny_lists.proofs.Members.{contains_map, no_member}
 
 -- which crates count
 

@@ -1,9 +1,7 @@
 pub mod GetLemmas
-pub mod PlaceLemmas
 pub mod RunLemmas
 pub mod MarkLemmas
 pub mod MatchingLemmas
-pub mod SpanLemmas
 pub mod WrapperLemmas
 pub mod DependentLemmas
 pub mod NeighbourLemmas

@@ -1,5 +1,6 @@
 -- A mark for each crate, at its place, is a test of crates.
-use Rattle.std.proofs.Common.{◌≡◌, ◌+◌, ◌++◌, ◌<◌, ℕ, Bool, false, List, [], ◌∷◌, Contains, Some, filter, get_or, length, map, slice_get, take, refl, sym, ap, ◌∙◌, subst, arith}
+use Rattle.std.proofs.Common.{◌≡◌, ◌+◌, ◌++◌, ◌<◌, ℕ, Bool, false, List, [], ◌∷◌, Contains, Some, filter, get_or}
+use Rattle.std.proofs.Common.{length, map, slice_get, take, refl, sym, ap, ◌∙◌, subst, arith}
 use Rattle.std.specs.Prelude.{◌==◌, ◌||◌, All, option_map, replicate}
 use Rattle.std.specs.List.{list_any}
 use Rattle.std.proofs.Math.Bool.{or-false}
@@ -8,13 +9,14 @@ use Rattle.std.proofs.lemmas.List.{ext_get_or, length-map, map_more}
 use Rattle.std.proofs.lemmas.List.Elements.{All-map, All-contains_itself, All-weaker}
 use Rattle.std.proofs.lemmas.List.Folds.{list_any-append, list_any_more}
 use Rattle.std.proofs.lemmas.Option.{get_or_from_slice_get, slice_get-map}
-use Rattle.deny_lists.proofs.Members.{Contains-filter, Contains-from_filter, Contains-from_map, any_from, any_passes, contains_map, from_there}
+use Rattle.deny_lists.proofs.Members.{Contains-filter, Contains-from_filter, Contains-from_map, any_from, any_passes}
+use Rattle.deny_lists.proofs.Members.{contains_map, from_there}
 use Rattle.deny_model.specs.Graph.{Crate}
 use Rattle.deny_lists.proofs.Agreement.{AgreeOn, map_on}
 use Rattle.deny_facts.specs.Marks.{AddsMarks, HaveBesides, mark_at, marked}
 use Rattle.deny_facts.specs.Placed.{ArePlaced}
 use Rattle.deny_lists.proofs.Booleans.{tests_agree}
-use Rattle.deny_facts.proofs.PlaceLemmas.{one_place, place_of, place_within, stands_at}
+use Rattle.deny_krates.proofs.PlaceLemmas.{one_place, place_of, place_within, stands_at}
 
 -- the marks of a test
 

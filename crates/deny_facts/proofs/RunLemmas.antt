@@ -1,5 +1,6 @@
 -- Crates that stand side by side, and steps of loops that go over their places.
-use Rattle.std.proofs.Common.{◌≡◌, ℕ, zero, suc, ◌+◌, ◌-◌, ◌<◌, ◌≤◌, Bool, true, false, List, [], ◌∷◌, ◌++◌, Contains, Some, length, take, drop, map, filter, slice_get, refl, sym, ap, ◌∙◌, subst, arith}
+use Rattle.std.proofs.Common.{◌≡◌, ℕ, zero, suc, ◌+◌, ◌-◌, ◌<◌, ◌≤◌, Bool, true, false, List, [], ◌∷◌, ◌++◌, Contains}
+use Rattle.std.proofs.Common.{Some, length, take, drop, map, filter, slice_get, refl, sym, ap, ◌∙◌, subst, arith}
 use Rattle.std.specs.List.{range_with_len}
 use Rattle.std.proofs.Math.Seq.{take-add}
 use Rattle.std.proofs.lemmas.Bool.{cond-true, cond-false}
@@ -10,14 +11,16 @@ use Rattle.std.proofs.lemmas.List.Sums.{length-filter, count_by-le-length}
 use Rattle.std.proofs.lemmas.Option.{get_or_from_slice_get, slice_get_within}
 use Rattle.std.proofs.lemmas.Simd.{map-map}
 use Rattle.std.proofs.lemmas.Slice.Eq.{bytes_eq-Decides}
-use Rattle.deny_lists.proofs.Members.{Contains-by_cases, Contains-filter, Contains-from_filter, contains_map, from_there, no_member}
+use Rattle.deny_lists.proofs.Members.{Contains-by_cases, Contains-filter, Contains-from_filter, contains_map}
+use Rattle.deny_lists.proofs.Members.{from_there, no_member}
 use Rattle.deny_model.specs.Graph.{Crate}
 use Rattle.deny_model.specs.Groups.{has_name}
 use Rattle.deny_facts.specs.Marks.{mark_at, marked}
 use Rattle.deny_facts.specs.Placed.{ArePlaced}
 use Rattle.deny_lists.proofs.Loops.{appended}
 use Rattle.deny_lists.proofs.Filters.{filter-map}
-use Rattle.deny_facts.proofs.PlaceLemmas.{place_of}
+use Rattle.deny_lists.proofs.Numbers.{range_with_len-same}
+use Rattle.deny_krates.proofs.PlaceLemmas.{place_of}
 
 -- parts of lists
 
@@ -53,14 +56,12 @@ one-of xs place x is =
 
 -- ranges
 
-same_range : (a b m n : ℕ) → a ≡ b → m ≡ n → range_with_len a m ≡ range_with_len b n
-same_range a b m n e f = cc
-
 drop-range : (n a m : ℕ) → drop n (range_with_len a m) ≡ range_with_len (a + n) (m - n)
-drop-range zero a m = same_range a (a + 0) m (m - 0) (omega arith) (omega arith)
-drop-range (suc n) a zero = same_range (a + suc n) (a + suc n) 0 (0 - suc n) refl (omega arith)
+drop-range zero a m = range_with_len-same a (a + 0) m (m - 0) (omega arith) (omega arith)
+drop-range (suc n) a zero = range_with_len-same (a + suc n) (a + suc n) 0 (0 - suc n) refl (omega arith)
 drop-range (suc n) a (suc m) =
-    drop-range n (a + 1) m ∙ same_range (a + 1 + n) (a + suc n) (m - n) (suc m - suc n) (omega arith) (omega arith)
+    drop-range n (a + 1) m ∙ range_with_len-same (a + 1 + n) (a + suc n) (m - n) (suc m - suc n) (omega arith)
+    (omega arith)
 
 take-range : (n a m : ℕ) → n ≤ m → take n (range_with_len a m) ≡ range_with_len a n
 take-range zero a m h = refl
@@ -68,10 +69,10 @@ take-range (suc n) a zero h = absurd (omega arith)
 take-range (suc n) a (suc m) h = ap (λ places. a ∷ places) (take-range n (a + 1) m (omega arith))
 
 range-step : (a b : ℕ) → a < b → range_with_len a (b - a) ≡ a ∷ range_with_len (a + 1) (b - (a + 1))
-range-step a b h = same_range a a (b - a) (suc (b - (a + 1))) refl (omega arith)
+range-step a b h = range_with_len-same a a (b - a) (suc (b - (a + 1))) refl (omega arith)
 
 pub no_range : (a b : ℕ) → b ≤ a → range_with_len a (b - a) ≡ []
-no_range a b h = same_range a a (b - a) 0 refl (omega arith)
+no_range a b h = range_with_len-same a a (b - a) 0 refl (omega arith)
 
 within_range : (a n p : ℕ) → Contains (range_with_len a n) p → (a ≤ p) × (p < a + n)
 within_range a zero p is = absurd (no_member p is)
@@ -176,7 +177,7 @@ module _ (crates : List Crate) (placed : ArePlaced crates) (start end : ℕ) (up
       ∙ (ap (take (end - start)) (sym (drop-map place_of start crates)
       ∙ (ap (drop start) placed.places ∙ drop-range start 0 (length crates)))
       ∙ (take-range (end - start) (0 + start) (length crates - start) (omega arith)
-      ∙ same_range (0 + start) start (end - start) (end - start) (omega arith) refl))
+      ∙ range_with_len-same (0 + start) start (end - start) (end - start) (omega arith) refl))
 
   pub map-run : {X : Type 0} (f : ℕ → X) → map f (range_with_len start (end - start)) ≡ map (λ c. f c.place)
       (take (end - start) (drop start crates))

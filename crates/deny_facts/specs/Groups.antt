@@ -1,5 +1,6 @@
 -- The reduced groups of names, as the code keeps them: a mark for each crate that is in the one of its name.
-use Rattle.std.specs.Prelude.{◌≡◌, ◌&&◌, ◌||◌, ◌==◌, ◌<◌, ◌≤◌, ◌++◌, ◌-◌, ℕ, Bool, false, not, List, filter, map, length, take, drop, slice_get}
+use Rattle.std.specs.Prelude.{◌≡◌, ◌&&◌, ◌||◌, ◌==◌, ◌<◌, ◌≤◌, ◌++◌, ◌-◌, ℕ, Bool, false, not, List, filter, map}
+use Rattle.std.specs.Prelude.{length, take, drop, slice_get}
 use Rattle.std.specs.List.{list_all}
 use Rattle.std.specs.Option.{option_map_or}
 use Rattle.deny_krates.specs.declared.krate.DirectDependent.{DirectDependent}

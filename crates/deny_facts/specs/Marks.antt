@@ -1,5 +1,6 @@
 -- The facts that the rules rest on, as the code keeps them: a mark for each crate, at its place.
-use Rattle.std.specs.Prelude.{◌≡◌, ◌||◌, ◌<◌, ◌↔◌, ℕ, max, Bool, true, false, IsTrue, List, [], Option, None, Some, length, map, slice_index_or, nat_lt, Contains}
+use Rattle.std.specs.Prelude.{◌≡◌, ◌||◌, ◌<◌, ◌↔◌, ℕ, max, Bool, true, false, IsTrue, List, [], Option, None, Some}
+use Rattle.std.specs.Prelude.{length, map, slice_index_or, nat_lt, Contains}
 use Rattle.deny_cfg.specs.PolicyView.{root_view}
 use Rattle.deny_cfg.specs.TreeSkipExtended.{TreeSkipExtended}
 use Rattle.deny_cfg.specs.PackageSpecOrExtended.{PackageSpecOrExtended}

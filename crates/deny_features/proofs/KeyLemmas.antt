@@ -1,5 +1,6 @@
 -- What stands at places is what stands of crates.
-use Rattle.std.proofs.Common.{◌≡◌, ℕ, suc, arith, ◌++◌, Bool, true, false, List, [], ◌∷◌, Option, Some, None, cond, filter, length, map, not, refl, sym, ap, ◌∙◌}
+use Rattle.std.proofs.Common.{◌≡◌, ℕ, suc, arith, ◌++◌, Bool, true, false, List, [], ◌∷◌, Option, Some, None, cond}
+use Rattle.std.proofs.Common.{filter, length, map, not, refl, sym, ap, ◌∙◌}
 use Rattle.std.specs.Prelude.{◌&&◌, ◌||◌, ◌==◌, Contains}
 use Rattle.std.specs.List.{flat_map, list_all, list_any, range_with_len}
 use Rattle.std.specs.Option.{option_map_or}
@@ -12,21 +13,28 @@ use Rattle.deny_base.specs.declared.level.LintLevel.TheVariants.{Allow, Warn, De
 use Rattle.deny_base.specs.declared.span.Spanned.{Spanned}
 use Rattle.deny_lists.proofs.Agreement.{filter_on, list_any_on, map_on}
 use Rattle.deny_lists.proofs.Filters.{filter-filter, filter-map, filter-none}
-use Rattle.deny_lists.proofs.Members.{Contains-first, Contains-from_filter, Contains-rest}
+use Rattle.deny_lists.proofs.Members.{Contains-from_filter}
+use Rattle.deny_lists.proofs.Booleans.{and-true}
 use Rattle.deny_model.specs.Graph.{Crate, Graph}
 use Rattle.deny_model.specs.Keys.{crate_key}
 use Rattle.deny_model.specs.Match.{matches}
 use Rattle.deny_model.specs.Policy as policy
 use Rattle.deny_model.specs.Policy.{FeatureEntry, Policy}
 use Rattle.deny_model.specs.Text.{same_text}
-use Rattle.deny_codes.specs.Features.{banned_features, default_enabled_keys, default_enabled_keys_at, default_enabled_keys_of, default_feature, default_level, feature_banned_keys_at, feature_banned_keys_of, has_default_apart, has_feature, is_default_told, is_enabled, is_mismatch_told, is_mismatched, is_unlisted, leaves_default, mismatched_keys_of, minds_default, missing, tells_unknown, unknown_feature_keys_at, unknown_feature_keys_of, unknown_features, unlisted}
+use Rattle.deny_codes.specs.Features.{banned_features, default_enabled_keys, default_enabled_keys_at}
+use Rattle.deny_codes.specs.Features.{default_enabled_keys_of, default_feature, default_level, feature_banned_keys_at}
+use Rattle.deny_codes.specs.Features.{feature_banned_keys_of, has_default_apart, has_feature, is_default_told}
+use Rattle.deny_codes.specs.Features.{is_enabled, is_mismatch_told, is_mismatched, is_unlisted, leaves_default}
+use Rattle.deny_codes.specs.Features.{mismatched_keys_of, minds_default, missing, tells_unknown}
+use Rattle.deny_codes.specs.Features.{unknown_feature_keys_at, unknown_feature_keys_of, unknown_features, unlisted}
 use Rattle.deny_codes.specs.Members.{is_member}
 use Rattle.deny_facts.specs.Marks.{AddsMarks, mark_at}
 use Rattle.deny_facts.specs.Placed.{ArePlaced}
 use Rattle.deny_facts.proofs.MarkLemmas.{marked-is}
-use Rattle.deny_facts.proofs.PlaceLemmas.{place_of}
+use Rattle.deny_krates.proofs.PlaceLemmas.{place_of, flat_map-place_of}
 use Rattle.deny_features.specs.Crates.{enabled_at, has_feature_at}
-use Rattle.deny_features.specs.private.Keys.{banned_keys_at, default_keys_at, default_keys_of, is_default_enabled_at, is_left_at, leaves_open, minds, tells_unknown_at, unknown_keys_at}
+use Rattle.deny_features.specs.private.Keys.{banned_keys_at, default_keys_at, default_keys_of, is_default_enabled_at}
+use Rattle.deny_features.specs.private.Keys.{is_left_at, leaves_open, minds, tells_unknown_at, unknown_keys_at}
 use Rattle.deny_features.specs.Listed.{has_default_apart_at, is_unlisted_at, unlisted_at}
 use Rattle.deny_features.specs.private.Listed.{is_among, is_mismatched_at}
 
@@ -41,13 +49,6 @@ all_or_some {X} q (x ∷ xs) = by_test (q x) (all_or_some q xs)
         ≡ (length (cond (not b) (x ∷ filter (λ y. not (q y)) xs) (filter (λ y. not (q y)) xs)) == 0)
     by_test true rest = rest
     by_test false rest = sym (ne_eqb (suc (length (filter (λ y. not (q y)) xs))) 0 (omega arith))
-
-flat_on_places : {Y : Type 0} (f : ℕ → List Y) (h : Crate → List Y) (cs : List Crate)
-    → ((c : Crate) → Contains cs c → f c.place ≡ h c) → flat_map f (map place_of cs) ≡ flat_map h cs
-flat_on_places f h [] same = refl
-flat_on_places f h (c ∷ cs) same =
-    ap (λ ys. ys ++ flat_map f (map place_of cs)) (same c (Contains-first c cs))
-    ∙ ap (λ ys. h c ++ ys) (flat_on_places f h cs (λ d is. same d (Contains-rest c cs d is)))
 
 flat-filter : {Y : Type 0} (t : ℕ → Bool) (f : ℕ → List Y) (ns : List ℕ)
     → flat_map f (filter t ns) ≡ flat_map (λ n. cond (t n) (f n) []) ns
@@ -71,7 +72,8 @@ default_flips features = list_any_on (λ feature. same_text feature default_feat
 
 -- ---- marks of the crates of which an entry leaves `default` open
 
-leaves_is : (e : FeatureEntry) (b : Bool) → leaves_open e ≡ b → (c : Crate) → leaves_default c e ≡ (matches e.spec c && b)
+leaves_is : (e : FeatureEntry) (b : Bool) → leaves_open e ≡ b → (c : Crate)
+    → leaves_default c e ≡ (matches e.spec c && b)
 unfolding leaves_default leaves_open
 leaves_is e b is c = ap (λ left. matches e.spec c && left) is
 
@@ -79,10 +81,6 @@ or_neither : (a b : Bool) → (a || (b && false)) ≡ a
 or_neither true b = refl
 or_neither false true = refl
 or_neither false false = refl
-
-and_all : (b : Bool) → (b && true) ≡ b
-and_all true = refl
-and_all false = refl
 
 pub marks_nothing : (crates : List Crate) (e : FeatureEntry) (marks : List Bool) → leaves_open e ≡ false
     → AddsMarks crates (λ c. leaves_default c e) marks marks
@@ -94,8 +92,9 @@ marks_nothing crates e marks closed = record {
 pub marks_open : (crates : List Crate) (e : FeatureEntry) (old new : List Bool) → leaves_open e ≡ true
     → AddsMarks crates (matches e.spec) old new → AddsMarks crates (λ c. leaves_default c e) old new
 marks_open crates e old new left adds = record {
-  is = λ test are. adds.is test are ∙ map_on (λ c. test c || matches e.spec c) (λ c. test c || leaves_default c e) crates
-      (λ c _. ap (λ b. test c || b) (sym (leaves_is e true left c ∙ and_all (matches e.spec c))));
+  is = λ test are. adds.is test are
+      ∙ map_on (λ c. test c || matches e.spec c) (λ c. test c || leaves_default c e) crates
+      (λ c _. ap (λ b. test c || b) (sym (leaves_is e true left c ∙ and-true (matches e.spec c))));
 }
 
 -- ---- features of the crate at a place
@@ -104,7 +103,8 @@ module _ (g : Graph) (placed : ArePlaced g.crates) where
   enabled_is : (c : Crate) → Contains g.crates c → enabled_at g c.place ≡ c.enabled
   enabled_is c is = ap (λ o. option_map_or (λ (d : Crate). d.enabled) o []) (placed.at c is)
 
-  has_feature_is : (c : Crate) (feature : List ℕ) → Contains g.crates c → has_feature_at g c.place feature ≡ has_feature c feature
+  has_feature_is : (c : Crate) (feature : List ℕ) → Contains g.crates c
+      → has_feature_at g c.place feature ≡ has_feature c feature
   has_feature_is c feature is = ap (λ o. option_map_or (λ d. has_feature d feature) o false) (placed.at c is)
 
   -- ---- denied features
@@ -115,8 +115,9 @@ module _ (g : Graph) (placed : ArePlaced g.crates) where
   unfolding feature_banned_keys_of feature_banned_keys_at banned_features banned_keys_at is_enabled
   banned_are e places inexact are =
       ap (flat_map (banned_keys_at g e.deny)) are
-      ∙ flat_on_places (banned_keys_at g e.deny) (feature_banned_keys_at e) (filter (matches e.spec) g.crates)
-      (λ c is. ap (λ fs. map (λ (w : policy.Words). crate_key code.FeatureBanned c.place w.span) (filter (is_among fs) e.deny))
+      ∙ flat_map-place_of (banned_keys_at g e.deny) (feature_banned_keys_at e) (filter (matches e.spec) g.crates)
+      (λ c is. ap (λ fs. map (λ (w : policy.Words). crate_key code.FeatureBanned c.place w.span)
+      (filter (is_among fs) e.deny))
       (enabled_is c (Contains-from_filter (matches e.spec) g.crates c is).0)
       ∙ ap (λ b. map (λ (w : policy.Words). crate_key code.FeatureBanned c.place w.span)
       (cond b [] (filter (is_among c.enabled) e.deny))) (sym inexact))
@@ -132,11 +133,14 @@ module _ (p : Policy) (g : Graph) (placed : ArePlaced g.crates) where
   unfolding unlisted is_unlisted has_default_apart default_level is_member is_unlisted_at has_default_apart_at
   unlisted_is e c is = ap (filter (is_unlisted p g e c)) (enabled_is g placed c is)
 
-  mismatched_is : (e : FeatureEntry) (c : Crate) → Contains g.crates c → is_mismatched_at p g e c.place ≡ is_mismatched p g e c
+  mismatched_is : (e : FeatureEntry) (c : Crate) → Contains g.crates c
+      → is_mismatched_at p g e c.place ≡ is_mismatched p g e c
   unfolding is_mismatched is_mismatched_at missing is_enabled
   mismatched_is e c is =
-      ap (λ fs. not (length fs == 0) || not (list_all (is_among (enabled_at g c.place)) e.allow.value)) (unlisted_is e c is)
-      ∙ (ap (λ fs. not (length (unlisted p g e c) == 0) || not (list_all (is_among fs) e.allow.value)) (enabled_is g placed c is)
+      ap (λ fs. not (length fs == 0) || not (list_all (is_among (enabled_at g c.place)) e.allow.value))
+      (unlisted_is e c is)
+      ∙ (ap (λ fs. not (length (unlisted p g e c) == 0) || not (list_all (is_among fs) e.allow.value))
+      (enabled_is g placed c is)
       ∙ ap (λ b. not (length (unlisted p g e c) == 0) || not b) (all_or_some (is_among c.enabled) e.allow.value))
 
   -- ---- entries that say exactly which features a crate has
@@ -162,7 +166,8 @@ module _ (p : Policy) (g : Graph) (placed : ArePlaced g.crates) where
   unfolding mismatched_keys_of is_mismatch_told
   none_mismatched e inexact =
       ap (map (λ (c : Crate). crate_key code.ExactFeaturesMismatch c.place e.spec.range))
-      (filter-none (is_mismatch_told p g e) g.crates (λ c. ap (λ b. matches e.spec c && (b && is_mismatched p g e c)) inexact
+      (filter-none (is_mismatch_told p g e) g.crates
+      (λ c. ap (λ b. matches e.spec c && (b && is_mismatched p g e c)) inexact
       ∙ and_false (matches e.spec c)))
     where
       and_false : (b : Bool) → (b && false) ≡ false
@@ -174,19 +179,24 @@ module _ (p : Policy) (g : Graph) (placed : ArePlaced g.crates) where
   pub unknown_are : (e : FeatureEntry) (places told : List ℕ) → places ≡ map place_of (filter (matches e.spec) g.crates)
       → told ≡ filter (tells_unknown_at p g e) places
       → flat_map (unknown_keys_at g (e.allow.value ++ e.deny)) told ≡ unknown_feature_keys_of p g e
-  unfolding unknown_feature_keys_of unknown_feature_keys_at unknown_features unknown_keys_at tells_unknown tells_unknown_at
+  unfolding unknown_feature_keys_of unknown_feature_keys_at unknown_features unknown_keys_at tells_unknown
+      tells_unknown_at
   unknown_are e places told are kept =
       let listed = e.allow.value ++ e.deny in
-      let keys = λ (place : ℕ) (ws : List policy.Words). map (λ (w : policy.Words). crate_key code.UnknownFeature place w.span) ws in
+      let keys = λ (place : ℕ) (ws : List policy.Words). map
+      (λ (w : policy.Words). crate_key code.UnknownFeature place w.span) ws in
       ap (flat_map (unknown_keys_at g listed)) (kept ∙ ap (filter (tells_unknown_at p g e)) are)
-      ∙ (flat-filter (tells_unknown_at p g e) (unknown_keys_at g listed) (map place_of (filter (matches e.spec) g.crates))
-      ∙ flat_on_places (λ n. cond (tells_unknown_at p g e n) (unknown_keys_at g listed n) []) (unknown_feature_keys_at p g e)
+      ∙ (flat-filter (tells_unknown_at p g e) (unknown_keys_at g listed)
+      (map place_of (filter (matches e.spec) g.crates))
+      ∙ flat_map-place_of (λ n. cond (tells_unknown_at p g e n) (unknown_keys_at g listed n) [])
+      (unknown_feature_keys_at p g e)
       (filter (matches e.spec) g.crates)
       (λ c of.
       let is = (Contains-from_filter (matches e.spec) g.crates c of).0 in
       ap (λ b. cond (not (e.exact.value && b)) (unknown_keys_at g listed c.place) []) (mismatched_is e c is)
       ∙ by_told c (tells_unknown p g e c)
-      (ap (keys c.place) (filter_on (λ w. not (has_feature_at g c.place w.value)) (λ w. not (has_feature c w.value)) listed
+      (ap (keys c.place) (filter_on (λ w. not (has_feature_at g c.place w.value))
+      (λ w. not (has_feature c w.value)) listed
       (λ w _. ap not (has_feature_is g placed c w.value is))))))
     where
       by_told : (c : Crate) (b : Bool)
@@ -225,7 +235,8 @@ module _ (p : Policy) (g : Graph) (placed : ArePlaced g.crates) where
       ap (λ fs. cond (list_any (same_text default_feature) fs && minds at.value (is_left_at spoken unsettled c.place))
       (crate_key code.DefaultFeatureEnabled c.place at.span ∷ []) []) (enabled_is g placed c is)
       ∙ ap (λ b. cond (list_any (same_text default_feature) c.enabled && b)
-      (crate_key code.DefaultFeatureEnabled c.place at.span ∷ []) []) (minds_is c spoken unsettled at.value is marks others)
+      (crate_key code.DefaultFeatureEnabled c.place at.span ∷ []) [])
+      (minds_is c spoken unsettled at.value is marks others)
 
   pub default_are : (spoken unsettled : List Bool)
       → spoken ≡ map (λ d. list_any (λ (e : FeatureEntry). matches e.spec d) p.features) g.crates
@@ -234,10 +245,11 @@ module _ (p : Policy) (g : Graph) (placed : ArePlaced g.crates) where
   unfolding default_keys_at default_enabled_keys_at default_level is_member
   default_are spoken unsettled marks others =
       ap (flat_map (default_keys_at p g spoken unsettled)) (sym placed.places)
-      ∙ flat_on_places (default_keys_at p g spoken unsettled) (default_enabled_keys_at p g) g.crates
+      ∙ flat_map-place_of (default_keys_at p g spoken unsettled) (default_enabled_keys_at p g) g.crates
       (λ c is. by_level c is (default_level p g c))
     where
       by_level : (c : Crate) → Contains g.crates c → (o : Option (Spanned LintLevel))
-          → option_map_or (default_keys_of g spoken unsettled c.place) o [] ≡ option_map_or (default_enabled_keys_of p c) o []
+          → option_map_or (default_keys_of g spoken unsettled c.place) o []
+          ≡ option_map_or (default_enabled_keys_of p c) o []
       by_level c is None = refl
       by_level c is (Some at) = default_of c spoken unsettled at is marks others

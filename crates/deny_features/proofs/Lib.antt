@@ -1,5 +1,4 @@
 pub mod CrateLemmas
-pub mod FlatLemmas
 pub mod KeyLemmas
 pub mod ListedLemmas
 pub mod NameLemmas

@@ -1,5 +1,6 @@
 -- The keys of a tree with texts as keys are those of its finite map.
-use Rattle.std.proofs.Common.{◌≡◌, ℕ, Bool, true, false, List, [], ◌∷◌, Option, Some, map, is_some, cond, refl, sym, ap, ◌∙◌, subst, String, string_bytes, BTreeMap}
+use Rattle.std.proofs.Common.{◌≡◌, ℕ, Bool, true, false, List, [], ◌∷◌, Option, Some, map, is_some, cond, refl, sym, ap}
+use Rattle.std.proofs.Common.{◌∙◌, subst, String, string_bytes, BTreeMap}
 use Rattle.std.specs.Prelude.{◌||◌, Contains}
 use Rattle.std.specs.FinMap as finite
 use Rattle.std.specs.BTreeMap.{keys}
@@ -22,7 +23,8 @@ module _ {A : Type 0} where
   unfolding texts_of
   found_key name [] = refl
   found_key name (e ∷ es) =
-      by_test (eq_by_cmp (slice_cmp nat_cmp) name (string_bytes e.0)) (finite.find (slice_cmp nat_cmp) name (map with_bytes es))
+      by_test (eq_by_cmp (slice_cmp nat_cmp) name (string_bytes e.0))
+      (finite.find (slice_cmp nat_cmp) name (map with_bytes es))
       ∙ ((λ i. sym (texts_ties name (string_bytes e.0)) i
       || is_some (finite.find (slice_cmp nat_cmp) name (map with_bytes es)))
       ∙ ap (λ b. same_text name (string_bytes e.0) || b) (found_key name es))
@@ -42,14 +44,16 @@ module _ {A : Type 0} where
       ap (λ m. is_some (finite.get m name)) (sym view)
       ∙ (ap is_some (finite.get-from_entries nat_list_cmp_total (map with_bytes es) name) ∙ found_key name es)
 
-  pub are_names : (m : BTreeMap (String A) (List (List ℕ))) (features : TextFinMap (List (List ℕ))) (names : List (List ℕ))
+  pub are_names : (m : BTreeMap (String A) (List (List ℕ))) (features : TextFinMap (List (List ℕ)))
+      (names : List (List ℕ))
       → map_of m.entries ≡ features → names ≡ map string_bytes (keys m) → AreNames features names
   are_names m features names view are =
       subst (λ (texts : List (List ℕ)). AreNames features texts) (sym (are ∙ keys_are m.entries)) (record {
         each = λ name. (
           (λ one. known features m.entries name view
               ∙ any_from (same_text name) (texts_of m.entries) name one (nat_list_eq_equiv.refl name)),
-          (λ some. let found = any_passes (same_text name) (texts_of m.entries) (sym (known features m.entries name view) ∙ some) in
+          (λ some. let found = any_passes (same_text name) (texts_of m.entries)
+              (sym (known features m.entries name view) ∙ some) in
               subst (Contains (texts_of m.entries)) (sym ((bytes_decides name found.one).0 found.passes)) found.member),
         );
       })

@@ -1,5 +1,6 @@
 -- Features that are not allowed, at places and of crates, of one entry and of all.
-use Rattle.std.proofs.Common.{◌≡◌, ◌⊎◌, inl, inr, ℕ, ◌+◌, ◌<◌, ◌++◌, Bool, true, false, List, [], ◌∷◌, Some, filter, length, map, not, is_some, take, refl, sym, ap, ◌∙◌, subst, arith}
+use Rattle.std.proofs.Common.{◌≡◌, ◌⊎◌, inl, inr, ℕ, ◌+◌, ◌<◌, ◌++◌, Bool, true, false, List, [], ◌∷◌, Some, filter}
+use Rattle.std.proofs.Common.{length, map, not, is_some, take, refl, sym, ap, ◌∙◌, subst, arith}
 use Rattle.std.specs.Prelude.{◌==◌, Contains, get_or}
 use Rattle.std.specs.FinMap as finite
 use Rattle.std.proofs.lemmas.List.{take_more}
@@ -8,13 +9,14 @@ use Rattle.deny_base.specs.declared.key.Key.{Key}
 use Rattle.deny_lists.specs.Ascending.{Adds}
 use Rattle.deny_lists.specs.TextMap.{TextFinMap}
 use Rattle.deny_lists.proofs.Adding.{adds_list, adds_same, adds_then}
-use Rattle.deny_lists.proofs.Members.{Contains-by_cases, Contains-filter, Contains-first, Contains-from_filter, Contains-from_map, contains_map, no_member}
+use Rattle.deny_lists.proofs.Members.{Contains-by_cases, Contains-filter, Contains-first, Contains-from_filter}
+use Rattle.deny_lists.proofs.Members.{Contains-from_map, contains_map, no_member}
 use Rattle.deny_model.specs.Graph.{Crate, Graph}
 use Rattle.deny_model.specs.Match.{matches}
 use Rattle.deny_model.specs.Policy.{FeatureEntry, Policy}
 use Rattle.deny_codes.specs.Features.{IsFeatureNotAllowed, Reaches, not_allowed_feature_key}
 use Rattle.deny_facts.specs.Placed.{ArePlaced}
-use Rattle.deny_facts.proofs.PlaceLemmas.{place_of}
+use Rattle.deny_krates.proofs.PlaceLemmas.{place_of}
 use Rattle.deny_features.specs.private.Keys.{IsNotAllowedAt, IsNotAllowedBy, OfOne}
 use Rattle.deny_features.specs.Listed.{unlisted_at}
 use Rattle.deny_features.specs.private.Reached.{AreReachedAt}
@@ -29,10 +31,13 @@ adds_none P old = record {
   sound = λ y is. inl is;
 }
 
-pub adds_one_more : {X T : Type 0} (P : X → T → Type 0) (xs : List X) (x : X) (i : ℕ) (old mid new : List T) → i < length xs
-    → x ≡ get_or xs i x → Adds (OfOne P (take i xs)) old mid → Adds (P x) mid new → Adds (OfOne P (take (i + 1) xs)) old new
+pub adds_one_more : {X T : Type 0} (P : X → T → Type 0) (xs : List X) (x : X) (i : ℕ) (old mid new : List T)
+    → i < length xs
+    → x ≡ get_or xs i x → Adds (OfOne P (take i xs)) old mid → Adds (P x) mid new
+    → Adds (OfOne P (take (i + 1) xs)) old new
 adds_one_more {X} {T} P xs x i old mid new inside is before here =
-    let more : take (i + 1) xs ≡ take i xs ++ x ∷ [] = take_more xs i x inside ∙ ap (λ y. take i xs ++ y ∷ []) (sym is) in
+    let more : take (i + 1) xs ≡ take i xs ++ x ∷ [] =
+    take_more xs i x inside ∙ ap (λ y. take i xs ++ y ∷ []) (sym is) in
     subst (λ (ys : List X). Adds (OfOne P ys) old new) (sym more)
     (adds_same (λ y. OfOne P (take i xs) y ⊎ P x y) (OfOne P (take i xs ++ x ∷ [])) old new
     (adds_then (OfOne P (take i xs)) (P x) old mid new before here) to from)
@@ -50,11 +55,12 @@ adds_one_more {X} {T} P xs x i old mid new inside is before here =
     }
 
     from : (y : T) → OfOne P (take i xs ++ x ∷ []) y → OfOne P (take i xs) y ⊎ P x y
-    from y of = elim (Contains-append_cases (take i xs) (x ∷ []) of.one of.member) as (λ _. OfOne P (take i xs) y ⊎ P x y) [
-      | inl before ↦ inl (record { one = of.one; member = before; gives = of.gives })
-      | inr last ↦ Contains-by_cases x [] of.one last
-          (λ same. inr (subst (λ (z : X). P z y) (sym same) of.gives)) (λ none. absurd (no_member of.one none))
-    ]
+    from y of = elim (Contains-append_cases (take i xs) (x ∷ []) of.one of.member)
+        as (λ _. OfOne P (take i xs) y ⊎ P x y) [
+          | inl before ↦ inl (record { one = of.one; member = before; gives = of.gives })
+          | inr last ↦ Contains-by_cases x [] of.one last
+              (λ same. inr (subst (λ (z : X). P z y) (sym same) of.gives)) (λ none. absurd (no_member of.one none))
+        ]
 
 -- ---- at a place
 
@@ -86,10 +92,12 @@ unreached_are p g e place set old new reached is =
     off true not_on = absurd (not_on refl)
     off false not_on = refl
 
-    to : (key : Key) → Contains (map (not_allowed_feature_key place e.spec.range) left) key → IsNotAllowedAt p g e place key
+    to : (key : Key) → Contains (map (not_allowed_feature_key place e.spec.range) left) key
+        → IsNotAllowedAt p g e place key
     to key one =
         let made = Contains-from_map (not_allowed_feature_key place e.spec.range) left key one in
-        let kept = Contains-from_filter (λ feature. not (is_some (finite.get set feature))) (unlisted_at p g e place) made.from
+        let kept = Contains-from_filter (λ feature. not (is_some (finite.get set feature)))
+        (unlisted_at p g e place) made.from
         made.member in
         record {
           feature = made.from;
@@ -98,7 +106,8 @@ unreached_are p g e place set old new reached is =
           is = sym made.is;
         }
 
-    from : (key : Key) → IsNotAllowedAt p g e place key → Contains (map (not_allowed_feature_key place e.spec.range) left) key
+    from : (key : Key) → IsNotAllowedAt p g e place key
+        → Contains (map (not_allowed_feature_key place e.spec.range) left) key
     from key stands = subst (Contains (map (not_allowed_feature_key place e.spec.range) left)) (sym stands.is)
         (contains_map (not_allowed_feature_key place e.spec.range) left stands.feature
         (Contains-filter (λ feature. not (is_some (finite.get set feature))) (unlisted_at p g e place) stands.feature
@@ -108,7 +117,8 @@ unreached_are p g e place set old new reached is =
 -- ---- of one entry
 
 module _ (p : Policy) (g : Graph) (placed : ArePlaced g.crates) (e : FeatureEntry) where
-  pub none_by : (keys : List Key) → (e.exact.value ≡ true) ⊎ (length e.allow.value ≡ 0) → Adds (IsNotAllowedBy p g e) keys keys
+  pub none_by : (keys : List Key) → (e.exact.value ≡ true) ⊎ (length e.allow.value ≡ 0)
+      → Adds (IsNotAllowedBy p g e) keys keys
   none_by keys passed = record {
     kept = λ key is. is;
     whole = λ key stands. absurd (never key stands passed);
@@ -139,7 +149,8 @@ module _ (p : Policy) (g : Graph) (placed : ArePlaced g.crates) (e : FeatureEntr
               spoken_of = one.1;
               inexact = inexact;
               some = some;
-              unlisted = subst (λ (fs : List (List ℕ)). Contains fs here.feature) (unlisted_is p g placed e made.from one.0)
+              unlisted = subst (λ (fs : List (List ℕ)). Contains fs here.feature)
+                  (unlisted_is p g placed e made.from one.0)
                   here.unlisted;
               unreached = λ w allowed reaches. here.unreached (record {
                 krate = made.from;
@@ -183,7 +194,8 @@ all_are {X} p g view es old new are adds =
     adds_same (OfOne (λ x. IsNotAllowedBy p g (view x)) es) (IsFeatureNotAllowed p g) old new adds
     (λ key of. record {
       entry = view of.one;
-      written = subst (λ (fs : List FeatureEntry). Contains fs (view of.one)) are (contains_map view es of.one of.member);
+      written = subst (λ (fs : List FeatureEntry). Contains fs (view of.one)) are
+          (contains_map view es of.one of.member);
       krate = of.gives.krate;
       known = of.gives.known;
       feature = of.gives.feature;

@@ -1,5 +1,6 @@
 -- Chains of steps on numbers are chains of plain entries on texts.
-use Rattle.std.proofs.Common.{◌≡◌, ℕ, zero, suc, ◌<◌, Bool, true, false, List, [], Option, Some, None, map, is_some, length, refl, sym, ap, ◌∙◌, subst, arith}
+use Rattle.std.proofs.Common.{◌≡◌, ℕ, zero, suc, ◌<◌, Bool, true, false, List, [], Option, Some, None, map, is_some}
+use Rattle.std.proofs.Common.{length, refl, sym, ap, ◌∙◌, subst, arith}
 use Rattle.std.specs.Prelude.{IsTrue, All, Contains, cond, filter_map, slice_get, slice_index_or}
 use Rattle.std.specs.FinMap as finite
 use Rattle.std.specs.Cmp.Lexicographic.{bytes_decides}
@@ -8,7 +9,9 @@ use Rattle.std.proofs.lemmas.Cmp.{nat_list_eq_equiv}
 use Rattle.std.proofs.lemmas.List.{length-map}
 use Rattle.std.proofs.lemmas.List.FromFn.{get_or-range_with_len, length-range_with_len}
 use Rattle.std.proofs.lemmas.Option.{get_or_from_slice_get, none-some, slice_get-get_or, slice_get_within}
-use Rattle.deny_lists.proofs.Members.{Contains-filter, Contains-filter_map, Contains-flat_map, Contains-from_filter, Contains-from_flat_map, any_from, any_passes, from_filter_map, from_there, map_at, no_member, one_there}
+use Rattle.deny_lists.proofs.Members.{Contains-filter, Contains-filter_map, Contains-flat_map, Contains-from_filter}
+use Rattle.deny_lists.proofs.Members.{Contains-from_flat_map, any_from, any_passes, from_filter_map, from_there, map_at}
+use Rattle.deny_lists.proofs.Members.{no_member, one_there}
 use Rattle.deny_lists.specs.TextMap.{TextFinMap}
 use Rattle.deny_lists.specs.Walk.{AreMarks, Chain, IsReached, StaysBelow}
 use Rattle.deny_model.specs.Graph.{Crate}
@@ -24,12 +27,9 @@ never is = (cc)
 
 -- ---- entries of a table
 
-entries_of : Option (List (List ℕ)) → List (List ℕ)
-entries_of None = []
-entries_of (Some entries) = entries
-
 module _ (features : TextFinMap (List (List ℕ))) (c : Crate) (of : c.features ≡ features) where
-  leads_by : (name other : List ℕ) → Contains (enables features name) other → is_plain other ≡ true → LeadsTo c name other
+  leads_by : (name other : List ℕ) → Contains (enables features name) other → is_plain other ≡ true
+      → LeadsTo c name other
   leads_by name other one plain = by_got (finite.get features name) refl one
     where
       by_got : (got : Option (List (List ℕ))) → finite.get features name ≡ got → Contains (enables features name) other
@@ -123,7 +123,8 @@ module _ (features : TextFinMap (List (List ℕ))) (names : List (List ℕ)) (nu
       let to = steps_to n m (slice_index_or names n []) (slice_get-get_or names n [] inside) led in
       slice_get_within names m to.other to.at
 
-  pub roots_inside : (words : List Words) → All (λ root. root < length names) (filter_map (λ w. finite.get numbers w.value) words)
+  pub roots_inside : (words : List Words)
+      → All (λ root. root < length names) (filter_map (λ w. finite.get numbers w.value) words)
   roots_inside words k d inside =
       let given = from_filter_map (λ (w : Words). finite.get numbers w.value) words
       (slice_index_or (filter_map (λ w. finite.get numbers w.value) words) k d) (within _ k d inside) in
@@ -134,7 +135,8 @@ module _ (features : TextFinMap (List (List ℕ))) (names : List (List ℕ)) (nu
 
   -- the same of rows and roots as the code has them
   pub stays_in : (rs : List (List ℕ)) → rs ≡ rows → StaysBelow (λ n. Contains (slice_index_or rs n [])) (length rs)
-  stays_in rs is = subst (λ (all : List (List ℕ)). StaysBelow (λ n. Contains (slice_index_or all n [])) (length all)) (sym is)
+  stays_in rs is = subst (λ (all : List (List ℕ)). StaysBelow (λ n. Contains (slice_index_or all n [])) (length all))
+      (sym is)
       (subst (λ (count : ℕ). StaysBelow leads count) (sym (length-map names (row_of features numbers))) stays)
 
   pub roots_in : (rs : List (List ℕ)) (starts : List ℕ) (words : List Words) → rs ≡ rows
@@ -146,13 +148,15 @@ module _ (features : TextFinMap (List (List ℕ))) (names : List (List ℕ)) (nu
 
   -- ---- from numbers to texts
 
-  goes : (c : Crate) → c.features ≡ features → (steps n m : ℕ) (name last other : List ℕ) → slice_get names n ≡ Some name
+  goes : (c : Crate) → c.features ≡ features → (steps n m : ℕ) (name last other : List ℕ)
+      → slice_get names n ≡ Some name
       → slice_get names m ≡ Some last → Chain leads n m steps → Contains (plain_of features last) other
       → Reaches c name other
   goes c of zero n m name last other at end chain one =
       let is = Contains-from_filter is_plain (enables features last) other one in
       let same : last ≡ name = one_there names n last name (ap (slice_get names) chain ∙ end) at in
-      subst (λ (from : List ℕ). Reaches c from other) same (step last other (leads_by features c of last other is.0 is.1))
+      subst (λ (from : List ℕ). Reaches c from other) same
+      (step last other (leads_by features c of last other is.0 is.1))
   goes c of (suc steps) n m name last other at end chain one =
       let to = steps_to n chain.0 name at chain.1 in
       on name to.other other (leads_by features c of name to.other to.listed to.plain)
@@ -193,7 +197,8 @@ module _ (features : TextFinMap (List (List ℕ))) (names : List (List ℕ)) (nu
         chain = refl;
         last = name;
         at = numbered.sound name first.value first.is;
-        one = Contains-filter is_plain (enables features name) other (led_by features c of name other leads) leads.plain;
+        one = Contains-filter is_plain (enables features name) other
+            (led_by features c of name other leads) leads.plain;
       }
   comes c of _ _ (on name middle other leads rest) =
       let first = number_of name (in_table features c of name middle leads) in
@@ -248,12 +253,14 @@ module _ (features : TextFinMap (List (List ℕ))) (names : List (List ℕ)) (nu
         let same : feature ≡ found.one = (bytes_decides feature found.one).0 found.passes in
         let of = Contains-from_flat_map (led_to_by features names marks) (range_with_len 0 (length names)) found.one
         found.member in
-        by_mark of.from (from_range (length names) of.from of.member) (mark_at marks of.from) refl (subst (Contains (led_to_by features names marks of.from)) (sym same) of.of)
+        by_mark of.from (from_range (length names) of.from of.member) (mark_at marks of.from) refl
+        (subst (Contains (led_to_by features names marks of.from)) (sym same) of.of)
       where
         by_root : (n : ℕ) → IsReached leads roots n → (last : List ℕ) → slice_get names n ≡ Some last
             → Contains (plain_of features last) feature → IsReachedBy features words feature
         by_root n reached last at one =
-            let given = from_filter_map (λ (v : Words). finite.get numbers v.value) words reached.led.root reached.led.is_root in
+            let given = from_filter_map
+            (λ (v : Words). finite.get numbers v.value) words reached.led.root reached.led.is_root in
             record {
               word = given.from;
               one = given.member;
@@ -262,7 +269,8 @@ module _ (features : TextFinMap (List (List ℕ))) (names : List (List ℕ)) (nu
             }
 
         by_mark : (n : ℕ) → n < length names → (b : Bool) → mark_at marks n ≡ b
-            → Contains (cond b (plain_of features (slice_index_or names n [])) []) feature → IsReachedBy features words feature
+            → Contains (cond b (plain_of features (slice_index_or names n [])) []) feature
+            → IsReachedBy features words feature
         by_mark n inside false is one = absurd (no_member feature one)
         by_mark n inside true is one =
             by_root n ((marked.each n).0 is) (slice_index_or names n []) (slice_get-get_or names n [] inside) one
@@ -270,7 +278,8 @@ module _ (features : TextFinMap (List (List ℕ))) (names : List (List ℕ)) (nu
     pub are_reached : AreReached features words set
     are_reached = record { whole = is_whole; sound = is_sound }
 
-  pub are_reached_by : (rs : List (List ℕ)) (starts : List ℕ) (words : List Words) (marks : List Bool) (found : List (List ℕ))
+  pub are_reached_by : (rs : List (List ℕ)) (starts : List ℕ) (words : List Words) (marks : List Bool)
+      (found : List (List ℕ))
       (set : TextFinMap Bool) → rs ≡ rows → starts ≡ filter_map (λ w. finite.get numbers w.value) words
       → AreMarks (λ n. Contains (slice_index_or rs n [])) (length rs) starts marks
       → found ≡ flat_map (led_to_by features names marks) (range_with_len 0 (length names)) → IsSetOf found set

@@ -1,16 +1,14 @@
 -- The entry that a key of builds shows is a range of what the policy says of builds.
 use Rattle.std.proofs.Common.{◌≡◌, ◌∙◌, ◌++◌, ◌∷◌, ℕ, Bool, true, false, List, [], Option, None, Some, ap, inl, inr}
-use Rattle.std.proofs.Common.{not, refl}
-use Rattle.std.proofs.Common.{subst, sym}
+use Rattle.std.proofs.Common.{not, refl, subst, sym}
 use Rattle.std.specs.Prelude.{Contains, filter, is_some, map, option_and_then, if◌then◌else◌}
 use Rattle.std.specs.List.{AllByRecursion, flat_map, list_any}
 use Rattle.std.specs.Option.{option_map_or}
 use Rattle.std.proofs.lemmas.Bool.{false≢true}
 use Rattle.std.proofs.lemmas.List.Elements.{Contains-append_cases, Contains-append_left, Contains-append_right}
-use Rattle.deny_lists.proofs.Each.{all_append, all_flat, all_mapped}
+use Rattle.deny_lists.proofs.Each.{all_append, all_flat, all_mapped, all_from_members}
 use Rattle.deny_lists.proofs.Members.{Contains-first, Contains-flat_map, Contains-from_flat_map, Contains-rest}
-use Rattle.deny_lists.proofs.Members.{at_member}
-use Rattle.deny_lists.proofs.Members.{contains_map, filtered, no_member}
+use Rattle.deny_lists.proofs.Members.{at_member, contains_map, filtered, no_member}
 use Rattle.deny_base.specs.declared.code.Code.{Code}
 use Rattle.deny_base.specs.declared.code.Code.TheVariants as code
 use Rattle.deny_base.specs.declared.code.DiagnosticCode.TheVariants.{Bans}
@@ -33,21 +31,18 @@ use Rattle.deny_codes.specs.Codes.{bans_have_entry}
 use Rattle.deny_codes.specs.Facts.{Facts}
 use Rattle.deny_codes.specs.Features.{has_feature}
 use Rattle.deny_codes.specs.PackageFiles.{ByExtension, ByGlob, ByHeader, ByPath, BySum, ChecksumMatch, ChecksumMismatch}
-use Rattle.deny_codes.specs.PackageFiles.{Step, allows, class_by, class_by_header, class_of, class_of_kind, fits_own}
+use Rattle.deny_codes.specs.PackageFiles.{Step, class_by, class_by_header, class_of, class_of_kind, fits_own}
 use Rattle.deny_codes.specs.PackageFiles.{fits_script, hits_glob, hits_path, is_decided_by, path_of, path_of_used}
 use Rattle.deny_codes.specs.PackageFiles.{path_range, step_allowed, step_by, step_of}
 use Rattle.deny_codes.specs.Packages.{Looking, build_keys, build_keys_in, checks, class_keys, denied_script_keys}
 use Rattle.deny_codes.specs.Packages.{deprecated_key, deprecated_keys, deprecated_keys_in, features_enabled_keys}
-use Rattle.deny_codes.specs.Packages.{file_keys}
-use Rattle.deny_codes.specs.Packages.{folder_key, is_used, looking, package_keys, package_of, path_key}
-use Rattle.deny_codes.specs.Packages.{right_script_keys}
-use Rattle.deny_codes.specs.Packages.{script_keys, script_shown, sum_keys, unmatched_bypass_keys, unmatched_glob_keys}
-use Rattle.deny_codes.specs.Packages.{unmatched_keys, unmatched_path_keys, walked_keys, walks}
-use Rattle.deny_codes.proofs.Kept.{found_member}
-use Rattle.deny_codes.proofs.Parts.{each_from}
+use Rattle.deny_codes.specs.Packages.{file_keys, folder_key, is_used, looking, package_keys, package_of, path_key}
+use Rattle.deny_codes.specs.Packages.{right_script_keys, script_keys, script_shown, sum_keys, unmatched_bypass_keys}
+use Rattle.deny_codes.specs.Packages.{unmatched_glob_keys, unmatched_keys, unmatched_path_keys, walked_keys, walks}
 use Rattle.deny_laws.proofs.Asking.{used_member}
 use Rattle.deny_gate.specs.Labels.{build_ranges, building_ranges, bypass_ranges, older_range, path_ranges, sum_range}
 use Rattle.deny_gate.specs.Labels.{written_globs}
+use Rattle.deny_gate.proofs.BuildOrigins.{path_written}
 
 -- ---- the ranges of a policy
 
@@ -134,10 +129,6 @@ ranges_of_step (BySum sum) = Some sum.span
 ranges_of_step ByExtension = None
 ranges_of_step ByHeader = None
 
-path_written : (y : Bypass) (path : List ℕ) (a : AllowedPath) → path_of y path ≡ Some a → Contains y.allow a
-unfolding path_of
-path_written y path a found = found_member (λ x. allows x path) y.allow a found
-
 module _ (l : Looking) (c : Crate) where
   by_allowed : (y : Bypass) (a : AllowedPath) (by_glob : Bool) (range : Span) → used l.building c ≡ Some y
       → Contains y.allow a → (o : Option (Spanned (List ℕ))) → a.checksum ≡ o
@@ -179,7 +170,7 @@ module _ (l : Looking) (c : Crate) where
 
 -- ---- lists of keys
 
-sum_if : (b : Bool) (o : Option Bypass) (sum : Spanned (List ℕ))
+pub sum_if : (b : Bool) (o : Option Bypass) (sum : Spanned (List ℕ))
     → (if b then option_and_then (λ y. y.script) o else None) ≡ Some sum
     → (y : Bypass) × (o ≡ Some y) × (y.script ≡ Some sum)
 sum_if true None sum is = absurd (cc is)
@@ -191,7 +182,8 @@ same_code d e same = cc same
 
 -- where its code shows an entry, the entry is one of these ranges
 pub IsShown : (l : Looking) → Key → Type 0
-IsShown l key = (d : Code) → key.code ≡ Bans d → bans_have_entry d ≡ true → Contains (building_ranges l.building) key.entry
+IsShown l key = (d : Code) → key.code ≡ Bans d → bans_have_entry d ≡ true
+    → Contains (building_ranges l.building) key.entry
 
 module _ (l : Looking) where
   abbrev Show : List Key → Type 0
@@ -224,11 +216,11 @@ module _ (l : Looking) where
       absurd (false≢true (sym none ∙ (ap bans_have_entry (same_code d e is) ∙ has)))
 
   all_of_map : {X : Type 0} (f : X → Key) (xs : List X) → ((x : X) → Contains xs x → IsShown l (f x)) → Show (map f xs)
-  all_of_map f xs each = all_mapped (IsShown l) f xs (each_from (λ x. IsShown l (f x)) xs each)
+  all_of_map f xs each = all_mapped (IsShown l) f xs (all_from_members (λ x. IsShown l (f x)) xs each)
 
   all_of_flat : {X : Type 0} (f : X → List Key) (xs : List X) → ((x : X) → Show (f x)) → Show (flat_map f xs)
   all_of_flat f xs each = all_flat (λ x. Show (f x)) (IsShown l) f (λ x all. all) xs
-      (each_from (λ x. Show (f x)) xs (λ x is. each x))
+      (all_from_members (λ x. Show (f x)) xs (λ x is. each x))
 
   all_where : (b : Bool) (these those : List Key) → Show these → Show those → Show (if b then these else those)
   all_where true these those one other = one
@@ -285,8 +277,10 @@ module _ (l : Looking) where
         (all_append (IsShown l) (right_script_keys l c sum.span)
         (features_enabled_keys c.place (used l.building c) (required_enabled l.building c))
         (right_show sum.span (wanted_known sum wanted))
-        (enabled_show (used l.building c) (required_enabled l.building c) refl))
-        (path_shown code.ChecksumMismatch c.place sum.span (script_shown (package_of l c)) (wanted_known sum wanted), tt)
+        (enabled_show (used l.building c) (required_enabled l.building c) refl)) (
+          path_shown code.ChecksumMismatch c.place sum.span (script_shown (package_of l c)) (wanted_known sum wanted),
+          tt,
+        )
 
     script_show : Show (script_keys l c)
     unfolding script_keys

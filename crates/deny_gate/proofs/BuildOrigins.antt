@@ -6,8 +6,9 @@ use Rattle.std.specs.Prelude.{Contains, map, if◌then◌else◌}
 use Rattle.std.specs.List.{AllByRecursion, flat_map}
 use Rattle.std.specs.Option.{option_map_or}
 use Rattle.std.proofs.lemmas.List.Elements.{Contains-append_cases}
-use Rattle.deny_lists.proofs.Each.{all_append, all_flat, all_mapped}
+use Rattle.deny_lists.proofs.Each.{all_append, all_flat, all_mapped, all_from_members}
 use Rattle.deny_lists.proofs.Members.{Contains-from_flat_map, at_member, no_member}
+use Rattle.deny_lists.proofs.Finding.{found_member}
 use Rattle.deny_base.specs.declared.code.Code.{Code}
 use Rattle.deny_base.specs.declared.code.Code.TheVariants as code
 use Rattle.deny_base.specs.declared.code.DiagnosticCode.TheVariants.{Bans}
@@ -29,17 +30,14 @@ use Rattle.deny_codes.specs.BuildScripts.{required_unknown, used, wanted_sum}
 use Rattle.deny_codes.specs.Circumstances.{Circumstances}
 use Rattle.deny_codes.specs.Facts.{Facts}
 use Rattle.deny_codes.specs.PackageFiles.{ByExtension, ByGlob, ByHeader, ByPath, BySum, Step, allows, class_by}
-use Rattle.deny_codes.specs.PackageFiles.{class_of}
-use Rattle.deny_codes.specs.PackageFiles.{ChecksumMatch, ChecksumMismatch, class_by_header, class_of_kind, fits_own}
-use Rattle.deny_codes.specs.PackageFiles.{fits_script, is_decided_by, path_of, path_of_used, path_range, step_allowed}
-use Rattle.deny_codes.specs.PackageFiles.{step_by, step_of}
+use Rattle.deny_codes.specs.PackageFiles.{class_of, ChecksumMatch, ChecksumMismatch, class_by_header, class_of_kind}
+use Rattle.deny_codes.specs.PackageFiles.{fits_own, fits_script, is_decided_by, path_of, path_of_used, path_range}
+use Rattle.deny_codes.specs.PackageFiles.{step_allowed, step_by, step_of}
 use Rattle.deny_codes.specs.Packages.{Looking, build_keys, build_keys_in, checks, class_keys, denied_script_keys}
 use Rattle.deny_codes.specs.Packages.{features_enabled_keys, file_keys, folder_key, looking, package_keys, package_of}
 use Rattle.deny_codes.specs.Packages.{path_key, right_script_keys, script_keys, script_shown, sum_keys}
 use Rattle.deny_codes.specs.Packages.{unmatched_bypass_keys, unmatched_glob_keys, unmatched_keys, unmatched_path_keys}
 use Rattle.deny_codes.specs.Packages.{walked_keys, walks}
-use Rattle.deny_codes.proofs.Kept.{found_member}
-use Rattle.deny_codes.proofs.Parts.{each_from}
 
 -- codes of builds that tell no errors
 abbrev pub is_mild : Code → Bool
@@ -80,7 +78,7 @@ pub data Origin (l : Looking) (key : Key) : Type 0 where
   of_sum : (c : Crate) (sum : Spanned (List ℕ)) → key.code ≡ Bans code.ChecksumMismatch → walks l c ≡ true
       → IsPathSum l c sum → key.entry ≡ sum.span → Origin l key
 
-path_written : (y : Bypass) (path : List ℕ) (a : AllowedPath) → path_of y path ≡ Some a → Contains y.allow a
+pub path_written : (y : Bypass) (path : List ℕ) (a : AllowedPath) → path_of y path ≡ Some a → Contains y.allow a
 unfolding path_of
 path_written y path a found = found_member (λ x. allows x path) y.allow a found
 
@@ -107,11 +105,11 @@ module _ (l : Looking) where
   mild_unused entry = mild code.UnmatchedBypass refl refl
 
   all_of_map : {X : Type 0} (f : X → Key) (xs : List X) → ((x : X) → Origin l (f x)) → Come (map f xs)
-  all_of_map f xs each = all_mapped (Origin l) f xs (each_from (λ x. Origin l (f x)) xs (λ x is. each x))
+  all_of_map f xs each = all_mapped (Origin l) f xs (all_from_members (λ x. Origin l (f x)) xs (λ x is. each x))
 
   all_of_flat : {X : Type 0} (f : X → List Key) (xs : List X) → ((x : X) → Come (f x)) → Come (flat_map f xs)
   all_of_flat f xs each = all_flat (λ x. Come (f x)) (Origin l) f (λ x all. all) xs
-      (each_from (λ x. Come (f x)) xs (λ x is. each x))
+      (all_from_members (λ x. Come (f x)) xs (λ x is. each x))
 
   all_where : (b : Bool) (these those : List Key) → (b ≡ true → Come these) → Come those
       → Come (if b then these else those)

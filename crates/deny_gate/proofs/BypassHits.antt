@@ -19,9 +19,9 @@ use Rattle.deny_model.specs.Policy.{Words}
 use Rattle.deny_codes.specs.BuildScripts.{bypass_range, uses}
 use Rattle.deny_codes.specs.PackageFiles.{hits_glob, hits_path, path_range}
 use Rattle.deny_codes.specs.Packages.{Looking, bypass_hit, bypass_hits_of, checks, file_hit, file_hit_at, glob_hit}
-use Rattle.deny_codes.specs.Packages.{if_hit}
-use Rattle.deny_codes.specs.Packages.{meets_file, package_of, path_hit}
-use Rattle.deny_gate.proofs.HitParts.{by_crate, entry}
+use Rattle.deny_codes.specs.Packages.{if_hit, meets_file, package_of, path_hit}
+use Rattle.deny_gate.proofs.HitParts.{by_crate}
+use Rattle.deny_laws.proofs.Taken.{entry}
 
 -- ---- whose hit it is
 
@@ -32,7 +32,8 @@ pub data IsHitOf (l : Looking) (y : Bypass) (h : Hit) : Type 0 where
 
 the_hit : (o : Option Hit) (h : Hit) → Contains (if_hit o) h → o ≡ Some h
 the_hit None h at = absurd (no_member h at)
-the_hit (Some k) h at = Contains-by_cases k [] h at (λ same. ap (λ (x : Hit). Some x) same) (λ later. absurd (no_member h later))
+the_hit (Some k) h at = Contains-by_cases k [] h at (λ same. ap (λ (x : Hit). Some x) same)
+    (λ later. absurd (no_member h later))
 
 pub hit_of_one : (l : Looking) (y : Bypass) (h : Hit) → Contains (bypass_hits_of l y) h → IsHitOf l y h
 unfolding bypass_hits_of
@@ -91,11 +92,14 @@ pub kinds_of : (l : Looking) (y : Bypass) (h : Hit) → IsHitOf l y h
     → (3 ≤ entry_kind_number h.entry.kind) × (entry_kind_number h.entry.kind ≤ 5)
 unfolding entry_kind_number
 kinds_of l y h (of_bypass is) =
-    let of : entry_kind_number h.entry.kind ≡ 3 = ap (λ (e : EntryId). entry_kind_number e.kind) (bypass_told l y h is) in
+    let of : entry_kind_number h.entry.kind ≡ 3 =
+    ap (λ (e : EntryId). entry_kind_number e.kind) (bypass_told l y h is) in
     (omega (arith, of), omega (arith, of))
 kinds_of l y h (of_path a at is) =
-    let of : entry_kind_number h.entry.kind ≡ 4 = ap (λ (e : EntryId). entry_kind_number e.kind) (path_told l y a h is) in
+    let of : entry_kind_number h.entry.kind ≡ 4 =
+    ap (λ (e : EntryId). entry_kind_number e.kind) (path_told l y a h is) in
     (omega (arith, of), omega (arith, of))
 kinds_of l y h (of_glob w at is) =
-    let of : entry_kind_number h.entry.kind ≡ 5 = ap (λ (e : EntryId). entry_kind_number e.kind) (glob_told l y w h is) in
+    let of : entry_kind_number h.entry.kind ≡ 5 =
+    ap (λ (e : EntryId). entry_kind_number e.kind) (glob_told l y w h is) in
     (omega (arith, of), omega (arith, of))

@@ -1,7 +1,5 @@
 -- No two hits of bypasses, their paths and their globs are of one entry, since no two of these have one range.
-use Rattle.std.proofs.Common.{◌≡◌, ◌∙◌, ◌++◌, List, [], ◌∷◌, Option, None, Some, ap}
-use Rattle.std.proofs.Common.{refl}
-use Rattle.std.proofs.Common.{subst, sym}
+use Rattle.std.proofs.Common.{◌≡◌, ◌∙◌, ◌++◌, List, [], ◌∷◌, Option, None, Some, ap, refl, subst, sym}
 use Rattle.std.specs.Prelude.{Contains, IfSome, map, option_map}
 use Rattle.std.specs.List.{AllZip, AllByRecursion, flat_map}
 use Rattle.std.specs.Option.{option_map_or}
@@ -35,13 +33,12 @@ use Rattle.deny_model.specs.Policy.{Words}
 use Rattle.deny_codes.specs.BuildScripts.{bypass_range}
 use Rattle.deny_codes.specs.Facts.{Facts}
 use Rattle.deny_codes.specs.PackageFiles.{path_range}
-use Rattle.deny_codes.specs.Packages.{Looking, bypass_hits, bypass_hits_of}
-use Rattle.deny_codes.specs.Packages.{glob_hit, path_hit}
+use Rattle.deny_codes.specs.Packages.{Looking, bypass_hits, bypass_hits_of, glob_hit, path_hit}
 use Rattle.deny_gate.proofs.ApartLemmas.{AreApart, apart_left, apart_of, apart_right, one_of}
 use Rattle.deny_gate.proofs.BypassHits.{IsHitOf, bypass_told, glob_told, hit_of_one, kinds_of, of_bypass, of_glob}
-use Rattle.deny_gate.proofs.BypassHits.{of_path}
-use Rattle.deny_gate.proofs.BypassHits.{path_told}
-use Rattle.deny_gate.proofs.HitParts.{Part, entry, no_part}
+use Rattle.deny_gate.proofs.BypassHits.{of_path, path_told}
+use Rattle.deny_gate.proofs.HitParts.{Part, no_part}
+use Rattle.deny_laws.proofs.Taken.{entry}
 
 abbrev pub looking_at : Graph → Facts → List Package → Building → Looking
 looking_at g f packages b = record { building = b; graph = g; packages = packages; reached = f.reached }

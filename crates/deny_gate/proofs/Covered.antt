@@ -74,7 +74,8 @@ found_is (w ∷ wrappers) parent some = elim (cases_Bool (same_text w.value pare
       }
       | inr e ↦
           let test : Words → Bool = λ v. same_text v.value parent.name in
-          let skip : find test (w ∷ wrappers) ≡ find test wrappers = cond-false (test w) (Some w) (find test wrappers) e in
+          let skip : find test (w ∷ wrappers) ≡ find test wrappers =
+          cond-false (test w) (Some w) (find test wrappers) e in
           let rest = found_is wrappers parent (sym (ap (λ (o : Option Words). is_none o) skip) ∙ some) in
           record {
             wrapper = rest.wrapper;

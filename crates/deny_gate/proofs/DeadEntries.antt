@@ -79,7 +79,8 @@ module _ (total : IsTotalOrder entry_cmp) (exact : IsAntisymmetric entry_cmp) (k
   unhit_of : (e : EntryId) → is_among (map entry_of hits) e ≡ false → (h : Hit) → Contains hits h → h.entry ≡ e → ⊥
   unhit_of e free h at same = false≢true
       (sym free
-      ∙ is_there total (map entry_of hits) e (subst (Contains (map entry_of hits)) same (contains_map entry_of hits h at)))
+      ∙ is_there total (map entry_of hits) e
+      (subst (Contains (map entry_of hits)) same (contains_map entry_of hits h at)))
 
   pub dead_listed : (entries dead : List EntryId) → entries ≡ filter_map (dead_entry (map entry_of hits)) keys
       → Lists entry_cmp (Contains entries) dead → AreDead keys hits dead

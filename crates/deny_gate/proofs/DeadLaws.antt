@@ -125,7 +125,8 @@ module _ (law : DeadCanGo) (c : Circumstances) (taken : List EntryId) (report : 
     same_severity : (f : Finding) → Contains report.findings f
         → (words_told (without_in c taken) f.diag.key).severity ≡ f.diag.diag.severity
     same_severity f at =
-        let from = from_contains_map (finding_told c) is.keys f (subst (λ (fs : List Finding). Contains fs f) is.told at)
+        let from = from_contains_map (finding_told c) is.keys f
+        (subst (λ (fs : List Finding). Contains fs f) is.told at)
         in subst (λ (g : Finding). (words_told (without_in c taken) g.diag.key).severity ≡ g.diag.diag.severity) from.2
         (severity_told c (without_in c taken) from.0
         (severity_alike c taken from.0 (mismatches from.0 from.1)))

@@ -3,7 +3,7 @@ use Rattle.std.proofs.Common.{◌≡◌, ◌∙◌, ◌==◌, ◌+◌, ◌-◌, 
 use Rattle.std.proofs.Common.{None, Some, ap, arith, refl, subst, sym}
 use Rattle.std.specs.Prelude.{◌&&◌, ◌||◌, ℤ, pos, filter, if◌then◌else◌, is_some, length, map, min, nat_lt}
 use Rattle.std.specs.List.{list_any}
-use Rattle.std.proofs.lemmas.Bool.{false≢true}
+use Rattle.std.proofs.lemmas.Bool.{false≢true, and_right}
 use Rattle.std.proofs.lemmas.Bool.Decides.{nat_tests}
 use Rattle.deny_base.specs.declared.check.Check.{Check}
 use Rattle.deny_base.specs.declared.check.Check.TheVariants as check
@@ -75,15 +75,11 @@ of_bans Deprecated c facts key none is = refl
 of_bans (Bans d) c facts key none is = refl
 of_bans (License d) c facts key none is = absurd (none_licensed d c.licensing c.graph key none is)
 
-and_none : (a b : Bool) → b ≡ false → (a && b) ≡ false
-and_none true b is = is
-and_none false b is = refl
-
 passes_licences : (c : Circumstances) (facts : Facts) (key : Key) → c.licensing ≡ None → Stands c facts key
     → fails_as check.Licenses (finding_told c key) ≡ false
 unfolding fails_as finding_told
 passes_licences c facts key none is =
-    and_none (has_error (finding_told c key)) (same_check (check_told key.code) check.Licenses)
+    and_right (has_error (finding_told c key)) (same_check (check_told key.code) check.Licenses)
     (of_bans key.code c facts key none is)
 
 no_licence_fails : (c : Circumstances) (facts : Facts) (keys : List Key) → c.licensing ≡ None

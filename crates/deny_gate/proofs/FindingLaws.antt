@@ -1,6 +1,6 @@
 -- The findings of packs that tell keys, and the hits: those of the bans check, and then those of the licence check.
 use Rattle.std.proofs.Common.{◌≡◌, ◌++◌, ℕ, Bool, false, List, [], ◌∷◌, Option, None, Some, refl, sym, ap, subst, ◌∙◌}
-use Rattle.std.specs.Prelude.{filter, is_some, map, option_map}
+use Rattle.std.specs.Prelude.{filter, is_some, map}
 use Rattle.std.specs.List.{flat_map}
 use Rattle.std.specs.List.Sorted.{IsStrictlySortedBy}
 use Rattle.std.proofs.lemmas.List.{append-nil, map-append}
@@ -14,6 +14,7 @@ use Rattle.deny_lists.specs.Ascending.{Lists}
 use Rattle.deny_lists.proofs.Agreement.{filter_on, map_on}
 use Rattle.deny_lists.proofs.Filters.{filter-none}
 use Rattle.deny_lists.proofs.Members.{no_member}
+use Rattle.deny_lists.proofs.Options.{is_some-option_map}
 use Rattle.deny_cfg.specs.LicensingView.{licensing_of, licensing_view}
 use Rattle.deny_cfg.specs.PolicyText.{policy_files}
 use Rattle.deny_cfg.specs.PolicyView.{AreGlobsRead, building_of, builtin_file_of, policy_view}
@@ -127,7 +128,8 @@ none_listed c facts none = record {
   sound = λ key is. absurd (no_member key is);
 }
 
-licence_keys : (c : Circumstances) (licensing : Option Licensing) (facts : Facts) (old new : List Pack) (hits : List Hit)
+licence_keys : (c : Circumstances) (licensing : Option Licensing) (facts : Facts) (old new : List Pack)
+    (hits : List Hit)
     → IsLicensedIf licensing c.graph c.files.policy old new hits
     → LicenceKeys (licensed c licensing) facts old new hits
 licence_keys c None facts old new hits same = record {
@@ -216,7 +218,8 @@ module _ (laws : CheckLaws) where
 -- no two hits of both checks are of one entry, where no two entries have one range
 pub hits_differ : (said : cfg.Policy) (g : Graph) (table : List ℕ) (file lock : ℕ) (view : View)
     (packages : List Package) (none between packs : List Pack) (end : BansEnd) (others : List Hit)
-    → AreGlobsRead said.bans → AreEntriesApart said → IsChecked (checked_by said g table file lock view packages) none between end
+    → AreGlobsRead said.bans → AreEntriesApart said
+    → IsChecked (checked_by said g table file lock view packages) none between end
     → IsLicensedIf (licensing_of said.licenses) g file between packs others → IsOneEach (end.hits ++ others)
 hits_differ said g table file lock view packages none between packs end others read apart checked tells =
     let c = checked_by said g table file lock view packages in
@@ -226,11 +229,6 @@ hits_differ said g table file lock view packages none between packs end others r
     ∙ ap (λ (hits : List Hit). hits_in c checked.listed.facts ++ hits) more.hits_are))
     (hits_apart said.bans said.licenses g checked.listed.facts (said_by table) packages more.counts read apart.bans
     apart.licences)
-
--- whether a policy speaks of licences is what its text says
-speaks : {X Y : Type 0} (f : X → Y) (o : Option X) → is_some (option_map f o) ≡ is_some o
-speaks f None = refl
-speaks f (Some x) = refl
 
 -- with what was seen of files, what is dead, the counts of the findings, and the verdict on them
 pub seen_report : (before after : Disk) (said : cfg.Policy) (g : Graph) (extras : Extras) (first new : List File)
@@ -256,7 +254,8 @@ seen_report before after said g extras first new looked report of in_files graph
           report.malformed of.view) (sym unread)
           (subst (λ (paths : List (List ℕ)). IsSeen before.files g extras.registries first new
           (of_manifests looked.unread) paths of.view) (sym malformed) of.seen));
-      looked_at = subst (λ (us : List Unread). AreSeenBy before.files building extras.home g (of_packages us) of.packages)
+      looked_at = subst (λ (us : List Unread). AreSeenBy before.files building extras.home g
+          (of_packages us) of.packages)
           (sym unread) of.looked_at;
       causes = subst (λ (us : List Unread). HaveCauses before after building extras.home g (of_packages us) of.packages)
           (sym unread) of.causes;
@@ -273,7 +272,8 @@ seen_report before after said g extras first new looked report of in_files graph
         hits = subst (AreHits (both_hits all is.listed.facts is.counts)) (sym hits) is.hits;
         dead = subst (λ (keys : List Key). AreDead keys report.hits report.dead)
             (ap keys_in (findings ∙ is.findings) ∙ keys_told all is.keys) dead;
-        stats = stats ∙ sym (ap (λ (has : Bool). all_stats has report.findings) (speaks licensing_view said.licenses));
+        stats = stats ∙ sym (ap (λ (has : Bool). all_stats has report.findings)
+            (is_some-option_map licensing_view said.licenses));
         verdict = verdict;
       };
     }

@@ -1,12 +1,11 @@
 -- What holds of what is found, of what is made of it, and of what is made of each of several.
-use Rattle.std.proofs.Common.{◌≡◌, ◌∙◌, ℕ, Bool, List, [], ◌∷◌, All, Contains, Option, None, Some, refl, sym}
-use Rattle.std.proofs.Common.{subst, inl, inr}
+use Rattle.std.proofs.Common.{◌≡◌, ℕ, Bool, List, [], ◌∷◌, All, Contains, Option, None, Some, refl, sym, subst, inl}
+use Rattle.std.proofs.Common.{inr}
 use Rattle.std.specs.Prelude.{find, slice_get}
 use Rattle.std.specs.List.{flat_map}
 use Rattle.std.specs.Option.{option_flatten, option_map_or}
 use Rattle.std.proofs.lemmas.Bool.{cases_Bool, cond-true, cond-false}
 use Rattle.std.proofs.lemmas.List.Elements.{All-nil, All-append}
-use Rattle.std.proofs.lemmas.Option.{same_Some}
 use Rattle.deny_lists.proofs.Members.{Contains-first, Contains-rest, from_there}
 
 -- what holds of nothing, and of each element, holds of what is made of the one that is found
@@ -21,14 +20,6 @@ of_found {X} {Y} P f test (x ∷ xs) none each = elim (cases_Bool (test x))
           subst (λ (o : Option X). P (option_map_or f o [])) (sym (cond-false (test x) (Some x) (find test xs) e))
           (of_found P f test xs none (λ y is. each y (Contains-rest x xs y is)))
     ]
-
-pub found_in : {X : Type 0} (test : X → Bool) (xs : List X) (x : X) → find test xs ≡ Some x → Contains xs x
-found_in test [] x is = absurd (cc is)
-found_in {X} test (y ∷ xs) x is = elim (cases_Bool (test y)) as (λ _. Contains (y ∷ xs) x) [
-  | inl e ↦ subst (λ (z : X). Contains (y ∷ xs) z)
-      (same_Some y x (sym (cond-true (test y) (Some y) (find test xs) e) ∙ is)) (Contains-first y xs)
-  | inr e ↦ Contains-rest y xs x (found_in test xs x (sym (cond-false (test y) (Some y) (find test xs) e) ∙ is))
-]
 
 -- what holds of nothing, and of what a value gives, holds of what is given
 pub of_option : {X Y : Type 0} (P : List Y → Type 0) (f : X → List Y) (o : Option X) → P []

@@ -39,6 +39,7 @@ module _ (total : IsTotalOrder entry_cmp) (exact : IsAntisymmetric entry_cmp) wh
   }
 
 -- their entries ascend as they do
-pub entries_ascend : (hits : List Hit) → IsStrictlySortedBy hit_cmp hits → IsStrictlySortedBy entry_cmp (map entry_of hits)
+pub entries_ascend : (hits : List Hit) → IsStrictlySortedBy hit_cmp hits
+    → IsStrictlySortedBy entry_cmp (map entry_of hits)
 entries_ascend hits up = ascends_map hit_cmp entry_cmp entry_of (λ h. ⊤) hits (λ h k one other below. below)
     (λ h at. tt) up

@@ -13,16 +13,15 @@ use Rattle.deny_base.specs.declared.span.Span.{Span}
 use Rattle.deny_model.specs.Graph.{Crate, kid_of}
 use Rattle.deny_model.specs.Hits.{hit_of}
 use Rattle.deny_gate.specs.Hits.{IsOneEach}
-
-abbrev pub entry : EntryKind → Span → EntryId
-entry kind range = record { kind = kind; range = range }
+use Rattle.deny_laws.proofs.Taken.{entry}
 
 -- ---- hits of one kind, and of several
 
 -- no two of these are of one entry, and their kinds lie between two
 pub record Part (low high : ℕ) (hits : List Hit) : Type 0 where
   pub once : IsOneEach hits
-  pub kinds : (h : Hit) → Contains hits h → (low ≤ entry_kind_number h.entry.kind) × (entry_kind_number h.entry.kind ≤ high)
+  pub kinds : (h : Hit) → Contains hits h
+      → (low ≤ entry_kind_number h.entry.kind) × (entry_kind_number h.entry.kind ≤ high)
 
 pub no_part : (low high : ℕ) → Part low high []
 no_part low high = record {
@@ -30,7 +29,8 @@ no_part low high = record {
   kinds = λ h at. absurd (no_member h at);
 }
 
-pub joined_parts : (low mid next high : ℕ) (xs ys : List Hit) → Part low mid xs → Part next high ys → mid < next → low ≤ next
+pub joined_parts : (low mid next high : ℕ) (xs ys : List Hit) → Part low mid xs → Part next high ys → mid < next
+    → low ≤ next
     → mid ≤ high → Part low high (xs ++ ys)
 joined_parts low mid next high xs ys one other past up down = record {
   once = λ h k at_h at_k same. elim (Contains-append_cases xs ys h at_h) as (λ _. h ≡ k) [

@@ -1,6 +1,6 @@
 -- No two hits are of one entry, since no two entries have one range.
-use Rattle.std.proofs.Common.{◌≡◌, ◌∙◌, ◌++◌, ◌+◌, ℕ, Bool, List, [], ◌∷◌, Option, None, Some, ap, arith}
-use Rattle.std.proofs.Common.{refl, subst, sym}
+use Rattle.std.proofs.Common.{◌≡◌, ◌∙◌, ◌++◌, ◌+◌, ℕ, Bool, List, [], ◌∷◌, Option, None, Some, ap, arith, refl, subst}
+use Rattle.std.proofs.Common.{sym}
 use Rattle.std.specs.Prelude.{Contains, IfSome, filter_map, find, map, option_and_then, option_map}
 use Rattle.std.specs.List.{flat_map}
 use Rattle.std.specs.Option.{option_map_or}
@@ -49,8 +49,9 @@ use Rattle.deny_codes.specs.Saying.{Saying}
 use Rattle.deny_codes.specs.StdReplacements.{hits_ignore, ignore_hit, ignore_hits, ignore_range}
 use Rattle.deny_gate.specs.Hits.{IsOneEach}
 use Rattle.deny_gate.proofs.BypassHitsApart.{bypasses_part, looking_at}
-use Rattle.deny_gate.proofs.HitParts.{Part, by_crate, entry, given_part, joined_parts, no_part, part_turned}
+use Rattle.deny_gate.proofs.HitParts.{Part, by_crate, given_part, joined_parts, no_part, part_turned}
 use Rattle.deny_gate.proofs.ApartLemmas.{AreApart, apart_left, apart_of, apart_right, one_mapped, one_of}
+use Rattle.deny_laws.proofs.Taken.{entry}
 
 -- ---- skips
 
@@ -85,7 +86,8 @@ skips_part g f es apart = given_part kind.Skip (λ (s : Entry). s.spec.range) (s
 ignore_told : (s : Replacing) (g : Graph) (said : Saying) (e : Entry) (h : Hit) → ignore_hit s g said e ≡ Some h
     → h.entry ≡ entry kind.ReplacementIgnore (ignore_range e)
 unfolding ignore_hit
-ignore_told s g said e h is = by_crate kind.ReplacementIgnore (ignore_range e) (find (hits_ignore s g said e) g.crates) h
+ignore_told s g said e h is =
+    by_crate kind.ReplacementIgnore (ignore_range e) (find (hits_ignore s g said e) g.crates) h
     is
 
 ignores_part : (std : Option StdReplacementConfig) (g : Graph) (said : Saying)
@@ -132,7 +134,8 @@ hit_by_spec g t u same = ap (λ (s : policy.Spec). option_map
 roots_part : (g : Graph) (es : List (PackageSpecOrExtended TreeSkipExtended))
     → AreApart (flat_map (with_spec no_range) es) → Part 1 1 (filter_map (root_hit g) (roots_from 0 es))
 unfolding entry_kind_number
-roots_part g es apart = given_part kind.SkipRoot (λ (t : Root). t.spec.range) (root_hit g) (root_told g) (roots_from 0 es)
+roots_part g es apart = given_part kind.SkipRoot (λ (t : Root). t.spec.range) (root_hit g) (root_told g)
+    (roots_from 0 es)
     (λ t u at_t at_u same. hit_by_spec g t u (one_spec t u (root_of 0 es t at_t) (root_of 0 es u at_u) same))
   where
     named : (e : PackageSpecOrExtended TreeSkipExtended) → Contains (with_spec no_range e) e.spec.name.span
@@ -265,11 +268,13 @@ unfolding entry_kind_number
 licences_part counts g None lawful = no_part 7 8
 licences_part counts g (Some config) lawful =
     let l = licensing_view config in
-    joined_parts 7 7 8 8 (filter_map (allowance_hit counts l g) l.allow) (filter_map (exception_hit counts l g) l.exceptions)
+    joined_parts 7 7 8 8 (filter_map (allowance_hit counts l g) l.allow)
+    (filter_map (exception_hit counts l g) l.exceptions)
     (given_part kind.LicenseAllow allowance_range (allowance_hit counts l g) (allowance_told counts l g) l.allow
     (λ a b at_a at_b same. ap (allowance_hit counts l g)
     (one_mapped (λ (x : Spanned Requirement). x.span) config.allow a b lawful.allow at_a at_b same)))
-    (given_part kind.LicenseException exception_range (exception_hit counts l g) (exception_told counts l g) l.exceptions
+    (given_part kind.LicenseException exception_range (exception_hit counts l g)
+    (exception_told counts l g) l.exceptions
     (λ d e at_d at_e same. ap (exception_hit counts l g) (one_exception d e at_d at_e same)))
     (omega arith) (omega arith) (omega arith)
   where

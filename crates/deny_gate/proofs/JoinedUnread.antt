@@ -1,7 +1,6 @@
 -- What could not be read of manifests and of packages, put together: each part can be told from the other by what was
 -- wanted, and says what it said alone.
-use Rattle.std.proofs.Common.{◌≡◌, ◌++◌, ◌∷◌, [], ℕ, Bool, false, true, not, List, Option, None, Some, ap, refl}
-use Rattle.std.proofs.Common.{subst, inl, inr}
+use Rattle.std.proofs.Common.{◌≡◌, ◌++◌, ℕ, Bool, false, true, not, List, Option, None, Some, ap, subst, inl, inr}
 use Rattle.std.specs.Prelude.{Contains}
 use Rattle.std.specs.List.{list_any}
 use Rattle.std.specs.List.Sorted.{IsStrictlySortedBy}
@@ -10,8 +9,8 @@ use Rattle.std.proofs.lemmas.List.Elements.{Contains-append_cases, Contains-appe
 use Rattle.std.proofs.lemmas.List.Kept.{IsStrictlySortedBy-filter}
 use Rattle.deny_lists.specs.Ascending.{Lists}
 use Rattle.deny_lists.proofs.Booleans.{tests_agree}
-use Rattle.deny_lists.proofs.Members.{Contains-filter, Contains-first, Contains-from_filter, any_from, any_passes}
-use Rattle.deny_lists.proofs.Members.{no_member, passes_filter}
+use Rattle.deny_lists.proofs.Members.{Contains-filter, Contains-from_filter, any_from, any_passes, no_member}
+use Rattle.deny_lists.proofs.Members.{passes_filter, empty_from_no_member}
 use Rattle.deny_lists.proofs.Sorted.{one_ascending}
 use Rattle.deny_base.specs.declared.span.Kid.{Kid}
 use Rattle.deny_build_model.specs.Building.{Building}
@@ -95,10 +94,6 @@ because_wider folder old between new later u failure is = record {
 
 -- ---- the two parts
 
-none_left : {X : Type 0} (xs : List X) → ((x : X) → Contains xs x → ⊥) → xs ≡ []
-none_left [] none = refl
-none_left (x ∷ xs) none = absurd (none x (Contains-first x xs))
-
 module _ (manifests packages joined : List Unread) (listed : Lists unread_cmp (Contains (manifests ++ packages)) joined)
     (mine : (u : Unread) → Contains manifests u → for_manifest u ≡ true)
     (others : (u : Unread) → Contains packages u → for_manifest u ≡ false) where
@@ -158,7 +153,7 @@ module _ (manifests packages joined : List Unread) (listed : Lists unread_cmp (C
       (contents : List Package) → AreSeenBy told building home g packages contents
       → AreSeenBy told building home g (of_packages joined) contents
   seen_by_joined told None home g contents seen = (
-    none_left (of_packages joined) (λ u at.
+    empty_from_no_member (of_packages joined) (λ u at.
         no_member u (subst (λ (vs : List Unread). Contains vs u) seen.0 (of_second u at))),
     seen.1,
   )

@@ -1,7 +1,6 @@
 -- The labels of findings mark ranges of the policy, of the lock text and of manifests.
 use Rattle.std.proofs.Common.{◌≡◌, ◌++◌, ℕ, Bool, true, false, List, [], ◌∷◌, All, Contains, Option, None, Some, refl}
-use Rattle.std.proofs.Common.{sym, ap}
-use Rattle.std.proofs.Common.{subst, inl, inr}
+use Rattle.std.proofs.Common.{sym, ap, subst, inl, inr}
 use Rattle.std.specs.Prelude.{codes, filter, if◌then◌else◌, map, not, slice_get}
 use Rattle.std.specs.Option.{option_and_then, option_map_or}
 use Rattle.std.proofs.lemmas.Option.{none-some}
@@ -21,8 +20,8 @@ use Rattle.deny_base.specs.declared.license_code.LicenseCode.TheVariants as lice
 use Rattle.deny_base.specs.declared.span.Span.{Span}
 use Rattle.deny_base.specs.declared.span.Spanned.{Spanned}
 use Rattle.deny_lists.proofs.Members.{Contains-by_cases, Contains-filter, Contains-first, Contains-from_flat_map}
-use Rattle.deny_lists.proofs.Members.{Contains-rest}
-use Rattle.deny_lists.proofs.Members.{contains_map, filtered, from_contains_map, no_member}
+use Rattle.deny_lists.proofs.Members.{Contains-rest, contains_map, filtered, from_contains_map, no_member}
+use Rattle.deny_lists.proofs.Finding.{found_member}
 use Rattle.deny_spdx.specs.declared.requirement.Requirement.{Requirement}
 use Rattle.deny_build_cfg.specs.Builtin.{builtin_file}
 use Rattle.deny_build_model.specs.Building.{Building, Bypass, ScriptGlob}
@@ -51,16 +50,14 @@ use Rattle.deny_codes.specs.Features.{banned_features, default_enabled_keys, def
 use Rattle.deny_codes.specs.Features.{default_enabled_keys_of, default_enabled_told, default_level, feature_banned_keys}
 use Rattle.deny_codes.specs.Features.{feature_banned_keys_at, feature_banned_keys_of, feature_banned_told}
 use Rattle.deny_codes.specs.Features.{feature_not_allowed_told, has_feature, is_default_told, is_enabled}
-use Rattle.deny_codes.specs.Features.{mismatch_labels}
-use Rattle.deny_codes.specs.Features.{mismatched_told, missing, spoken_of, tells_unknown, unknown_feature_keys}
-use Rattle.deny_codes.specs.Features.{unknown_feature_keys_at, unknown_feature_keys_of, unknown_feature_told}
-use Rattle.deny_codes.specs.Features.{unknown_features}
+use Rattle.deny_codes.specs.Features.{mismatch_labels, mismatched_told, missing, spoken_of, tells_unknown}
+use Rattle.deny_codes.specs.Features.{unknown_feature_keys, unknown_feature_keys_at, unknown_feature_keys_of}
+use Rattle.deny_codes.specs.Features.{unknown_feature_told, unknown_features}
 use Rattle.deny_codes.specs.Licences.{IsOfLicences, accepted_told, exception_not_encountered_keys}
 use Rattle.deny_codes.specs.Licences.{exception_not_encountered_told, grants_by_allowance, grants_by_exception}
-use Rattle.deny_codes.specs.Licences.{is_hit_by}
-use Rattle.deny_codes.specs.Licences.{license_key, not_encountered_keys, not_encountered_told, not_encountered_told_in}
-use Rattle.deny_codes.specs.Licences.{parse_error_told, rejected_told, rejected_told_in, skipped_private_told}
-use Rattle.deny_codes.specs.Licences.{unlicensed_told}
+use Rattle.deny_codes.specs.Licences.{is_hit_by, license_key, not_encountered_keys, not_encountered_told}
+use Rattle.deny_codes.specs.Licences.{not_encountered_told_in, parse_error_told, rejected_told, rejected_told_in}
+use Rattle.deny_codes.specs.Licences.{skipped_private_told, unlicensed_told}
 use Rattle.deny_codes.specs.Members.{is_member}
 use Rattle.deny_codes.specs.PackageFiles.{globs_of, is_decided_by}
 use Rattle.deny_codes.specs.PackagesTold.{bypassed_by_glob_told, checksum_match_told, checksum_mismatch_told}
@@ -86,7 +83,7 @@ use Rattle.deny_gate.specs.Report.{IsReport, finding_told, lock_id, policy_id}
 use Rattle.deny_gate.specs.declared.report.Finding.{Finding}
 use Rattle.deny_gate.specs.declared.report.Report.{Report}
 use Rattle.deny_gate.proofs.BuildEntries.{entry_known, feature_there, glob_there, of_bypass, of_extension, older_known}
-use Rattle.deny_gate.proofs.Found.{found_in, of_found}
+use Rattle.deny_gate.proofs.Found.{of_found}
 use Rattle.deny_gate.proofs.LockLabels.{lock_placed}
 use Rattle.deny_gate.proofs.ManifestLabels.{duplicate_placed, no_labels, unresolved_placed, unused_placed}
 use Rattle.deny_gate.proofs.ManifestLabels.{wildcard_placed}
@@ -110,7 +107,8 @@ module _ (p : Policy) (file : ℕ) where
 
   one_more : (label : Label) (labels : List Label) → label.file_id ≡ file → Contains (ranges_of p) label.span
       → AreOf (ranges_of p) file labels → AreOf (ranges_of p) file (label ∷ labels)
-  one_more label labels at is others = All-cons (IsOf (ranges_of p) file) label labels (record { in_file = at; known = is }) others
+  one_more label labels at is others =
+      All-cons (IsOf (ranges_of p) file) label labels (record { in_file = at; known = is }) others
 
   at_words : (message : List ℕ) (o : Option Words)
       → ((range : Span) → Contains (range_of o) range → Contains (ranges_of p) range)
@@ -131,7 +129,8 @@ module _ (p : Policy) (file : ℕ) where
       (label_at file (codes "use instead") use_instead) (at_words (codes "reason") reason why)
       (at_words (codes "use instead") use_instead other))
 
-  of_ban_entry : (message : List ℕ) (ban : Ban) → Contains p.deny ban → AreOf (ranges_of p) file (ban_labels file message ban)
+  of_ban_entry : (message : List ℕ) (ban : Ban) → Contains p.deny ban
+      → AreOf (ranges_of p) file (ban_labels file message ban)
   of_ban_entry message ban written =
       of_spec message ban.spec ban.reason ban.use_instead (ban_known p ban ban.spec.range written (ban_name ban))
       (λ range is. ban_known p ban range written (ban_reason ban range is))
@@ -140,7 +139,8 @@ module _ (p : Policy) (file : ℕ) where
   nothing : (range : Span) → Contains (range_of None) range → Contains (ranges_of p) range
   nothing range is = absurd (no_member range is)
 
-  of_allowed : (message : List ℕ) (e : Entry) → Contains p.allow e → AreOf (ranges_of p) file (entry_labels file message e)
+  of_allowed : (message : List ℕ) (e : Entry) → Contains p.allow e
+      → AreOf (ranges_of p) file (entry_labels file message e)
   of_allowed message e written =
       of_spec message e.spec e.reason None (allow_known p e e.spec.range written (entry_name e))
       (λ range is. allow_known p e range written (entry_reason e range is)) nothing
@@ -150,7 +150,8 @@ module _ (p : Policy) (file : ℕ) where
       of_spec message e.spec e.reason None (skip_known p e e.spec.range written (entry_name e))
       (λ range is. skip_known p e range written (entry_reason e range is)) nothing
 
-  of_root : (message : List ℕ) (t : Root) → Contains p.skip_tree t → AreOf (ranges_of p) file (root_labels file message t)
+  of_root : (message : List ℕ) (t : Root) → Contains p.skip_tree t
+      → AreOf (ranges_of p) file (root_labels file message t)
   of_root message t written =
       of_spec message t.spec t.reason None (tree_known p t t.spec.range written (root_name t))
       (λ range is. tree_known p t range written (root_reason t range is)) nothing
@@ -168,7 +169,7 @@ module _ (p : Policy) (file : ℕ) where
       → Contains ban.wrappers w
   unfolding wrapper_of
   wrapper_in ban None w is = absurd (cc is)
-  wrapper_in ban (Some parent) w is = found_in (λ (v : Words). same_text v.value parent.name) ban.wrappers w is
+  wrapper_in ban (Some parent) w is = found_member (λ (v : Words). same_text v.value parent.name) ban.wrappers w is
 
   of_ignore : (r : Replacing) (e : Entry) → p.replacing ≡ Some r → Contains r.ignore e
       → AreOf (ranges_of p) file (ignore_labels file e)
@@ -208,7 +209,8 @@ module _ (p : Policy) (file : ℕ) where
   of_mismatch e (Some c) written =
       let absent : Words → Bool = λ w. not (is_enabled c w.value) in
       one_more (primary file e.exact.span (codes "exact enabled here"))
-      (map (λ (w : Words). primary file w.span (codes "allowed feature not present")) (filter absent e.allow.value)) refl
+      (map (λ (w : Words). primary file w.span (codes "allowed feature not present")) (filter absent e.allow.value))
+      refl
       (feature_known p e e.exact.span written (feature_flag e))
       (of_words (codes "allowed feature not present") (filter absent e.allow.value)
       (λ w is. feature_known p e w.span written (feature_allowed e w (filtered absent e.allow.value w is))))
@@ -432,8 +434,8 @@ pub record HasGlobsFile (c : Circumstances) (files : List File) : Type 0 where
   pub there : slice_get files number ≡ Some builtin_file
 
 -- The files are the policy's text, the built-in globs where there are some, the lock text and what more there is: the
--- ranges of what the policy says lie in the first, those of built-in globs in theirs, the lines of the graph's crates in
--- the lock text, and what was seen of manifests in theirs.
+-- ranges of what the policy says lie in the first, those of built-in globs in theirs, the lines of the graph's crates
+-- in the lock text, and what was seen of manifests in theirs.
 pub record AreRanges (c : Circumstances) (text : List ℕ) (files : List File) : Type 0 where
   pub first : c.files.policy ≡ policy_id
   pub second : c.files.lock ≡ Some (lock_id c.files.globs)
@@ -539,7 +541,8 @@ module _ (c : Circumstances) (facts : Facts) (text : List ℕ) (files : List Fil
         (filtered (λ w. is_decided_by f w.value) (globs_of (used_by_key b c key)) w at)))
 
     extension_by : (e : ScriptGlob) (o : Bool) → e.built_in ≡ o → Contains b.extensions e
-        → IsPlaced files (if o then secondary (option_map_or (λ number. number) c.files.globs 0) e.range (codes "builtin")
+        → IsPlaced files (if o then secondary (option_map_or (λ number. number) c.files.globs 0) e.range
+        (codes "builtin")
         else secondary c.files.policy e.range [])
     extension_by e true is written =
         let mine = Contains-filter (λ (g : ScriptGlob). g.built_in) b.extensions e written is in
@@ -628,12 +631,14 @@ module _ (c : Circumstances) (facts : Facts) (text : List ℕ) (files : List Fil
   of_code code.Banned key coded is = in_policy _ (of_found LabelsOf (ban_labels c.files.policy (codes "banned here"))
       (λ ban. same_span ban.spec.range key.entry) c.policy.deny (none c.policy c.files.policy)
       (λ ban written. of_ban_entry c.policy c.files.policy (codes "banned here") ban written))
-  of_code code.Allowed key coded is = in_policy _ (of_found LabelsOf (entry_labels c.files.policy (codes "allowed here"))
+  of_code code.Allowed key coded is =
+      in_policy _ (of_found LabelsOf (entry_labels c.files.policy (codes "allowed here"))
       (λ e. same_span e.spec.range key.entry) c.policy.allow (none c.policy c.files.policy)
       (λ e written. of_allowed c.policy c.files.policy (codes "allowed here") e written))
   of_code code.NotAllowed key coded is = unlabelled
   of_code code.Duplicate key coded is = of_duplicate key is
-  of_code code.Skipped key coded is = in_policy _ (of_found LabelsOf (entry_labels c.files.policy (codes "skipped here"))
+  of_code code.Skipped key coded is =
+      in_policy _ (of_found LabelsOf (entry_labels c.files.policy (codes "skipped here"))
       (λ e. same_span e.spec.range key.entry) c.policy.skip (none c.policy c.files.policy)
       (λ e written. of_skip c.policy c.files.policy (codes "skipped here") e written))
   of_code code.UnmatchedSkip key coded is = in_policy _ (of_found LabelsOf

@@ -41,7 +41,8 @@ lines_of : (g : Graph) → AllZip (IsLineOf (lock_text g.crates)) g.crates (map 
 lines_of g zip ascend = record {
   each = λ c known.
       let at = there g.crates c known in
-      let line = zip_at (IsLineOf (lock_text g.crates)) g.crates (map (lock_span_at g.crates) g.crates) at.0 c zip at.1 in
+      let line = zip_at (IsLineOf (lock_text g.crates)) g.crates
+      (map (lock_span_at g.crates) g.crates) at.0 c zip at.1 in
       subst (λ (span : LockSpan). IsLineOf (lock_text g.crates) c span)
       (same_Some line.0 (lock_span_at g.crates c)
       (sym line.1 ∙ map_at (lock_span_at g.crates) g.crates at.0 c at.1)) line.2;
@@ -50,7 +51,8 @@ lines_of g zip ascend = record {
 
 pub lines_of_spans : (g : Graph) (spans : KrateSpans) → AreSpansOf g spans → LinesAscend g.crates → AreLockLines g
 lines_of_spans g spans are ascend =
-    lines_of g (subst (λ (lines : List LockSpan). AllZip (IsLineOf (lock_text g.crates)) g.crates lines) are.lock are.lines)
+    lines_of g (subst (λ (lines : List LockSpan). AllZip (IsLineOf (lock_text g.crates)) g.crates lines) are.lock
+    are.lines)
     ascend
 
 -- of two crates of one name that of the lower version stands first

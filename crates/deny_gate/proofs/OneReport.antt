@@ -1,8 +1,7 @@
--- Texts have one report on a disk that tells its files; by what was seen they are told alike on every disk, and what asks
--- nothing of files whatever was seen.
+-- Texts have one report on a disk that tells its files; by what was seen they are told alike on every disk, and what
+-- asks nothing of files whatever was seen.
 use Rattle.std.proofs.Common.{◌≡◌, ◌∙◌, ◌++◌, ◌<◌, ℕ, Bool, true, false, List, [], ◌∷◌, Option, None, Some, map, ap}
-use Rattle.std.proofs.Common.{refl}
-use Rattle.std.proofs.Common.{sym, subst, arith}
+use Rattle.std.proofs.Common.{refl, sym, subst, arith}
 use Rattle.std.specs.Prelude.{Contains, IsTrue, filter, is_some}
 use Rattle.std.specs.Cmp.{nat_cmp_total, on_total}
 use Rattle.std.specs.List.{AllZip}
@@ -355,6 +354,7 @@ pub nothing_failed : (told : Option Files) (texts : Texts) (report : Report) (of
     → building_of of.by.said.bans ≡ None → failures_in of.packages ≡ []
 nothing_failed told texts report of none =
     let seen : AreSeenBy told None texts.home of.by.graph (of_packages report.unread) of.packages =
-    subst (λ (o : Option Building). AreSeenBy told o texts.home of.by.graph (of_packages report.unread) of.packages) none
+    subst (λ (o : Option Building). AreSeenBy told o texts.home of.by.graph (of_packages report.unread) of.packages)
+    none
     of.by.looked_at in
     ap failures_in seen.1

@@ -1,12 +1,11 @@
 -- An error of builds comes only where the policy minds what it tells: a script where it lists the crates that may have
 -- one, and a file where it minds executables.
-use Rattle.std.proofs.Common.{◌≡◌, ◌&&◌, ◌||◌, ◌∙◌, ℕ, Bool, true, false, not, List, Contains, Option, None, Some}
-use Rattle.std.proofs.Common.{ap, refl}
-use Rattle.std.proofs.Common.{subst, sym}
-use Rattle.std.specs.Prelude.{is_none, is_some, option_and_then, if◌then◌else◌}
+use Rattle.std.proofs.Common.{◌≡◌, ◌&&◌, ◌||◌, ◌∙◌, ℕ, Bool, true, false, not, List, Contains, Option, None, Some, ap}
+use Rattle.std.proofs.Common.{refl, sym}
+use Rattle.std.specs.Prelude.{is_none, is_some, if◌then◌else◌}
 use Rattle.std.specs.List.{list_any}
 use Rattle.std.specs.Option.{option_map_or}
-use Rattle.std.proofs.lemmas.Bool.{and_parts, false≢true}
+use Rattle.std.proofs.lemmas.Bool.{and_parts, false≢true, not-true}
 use Rattle.deny_lists.proofs.Members.{any_from}
 use Rattle.deny_base.specs.declared.code.Code.{Code}
 use Rattle.deny_base.specs.declared.code.Code.TheVariants as code
@@ -15,14 +14,14 @@ use Rattle.deny_base.specs.declared.key.Key.{Key}
 use Rattle.deny_base.specs.declared.level.Severity.TheVariants as severity
 use Rattle.deny_base.specs.declared.span.Span.{Span}
 use Rattle.deny_base.specs.declared.span.Spanned.{Spanned}
-use Rattle.deny_build_model.specs.Building.{Building, Bypass}
+use Rattle.deny_build_model.specs.Building.{Building}
 use Rattle.deny_model.specs.Graph.{Crate}
 use Rattle.deny_model.specs.Match.{matches}
 use Rattle.deny_model.specs.Policy.{Spec}
 use Rattle.deny_model.specs.Wrappers.{same_span}
+use Rattle.deny_model.proofs.SpanLemmas.{same_span-true}
 use Rattle.deny_codes.specs.BuildScripts.{is_checked, is_minded, is_script_denied, is_script_ok, is_walked}
-use Rattle.deny_codes.specs.BuildScripts.{may_have_script}
-use Rattle.deny_codes.specs.BuildScripts.{passes_by_script, script_of, used, wanted_sum}
+use Rattle.deny_codes.specs.BuildScripts.{may_have_script, passes_by_script, script_of, used, wanted_sum}
 use Rattle.deny_codes.specs.Circumstances.{Circumstances}
 use Rattle.deny_codes.specs.Facts.{Facts}
 use Rattle.deny_codes.specs.Packages.{Looking, build_keys_in, looking, package_of, walks}
@@ -31,10 +30,10 @@ use Rattle.deny_codes.specs.Telling.{not_built}
 use Rattle.deny_codes.specs.Told.{words_as}
 use Rattle.deny_codes.specs.declared.words.Words.{Words}
 use Rattle.deny_laws.proofs.Asking.{used_member}
-use Rattle.deny_laws.proofs.FirstMatch.{same_itself}
 use Rattle.deny_gate.specs.Report.{is_error}
-use Rattle.deny_gate.proofs.BuildOrigins.{Origin, denied, is_mild, is_of_files, mild, of_file, of_script}
-use Rattle.deny_gate.proofs.BuildOrigins.{of_sum, origin_of}
+use Rattle.deny_gate.proofs.BuildOrigins.{Origin, denied, is_mild, is_of_files, mild, of_file, of_script, of_sum}
+use Rattle.deny_gate.proofs.BuildOrigins.{origin_of}
+use Rattle.deny_gate.proofs.BuildEntries.{sum_if}
 
 -- ---- what a policy minds
 
@@ -79,10 +78,6 @@ listed_by None c true is = absurd (false≢true (sym is))
 listed_by None c false is = absurd (false≢true (sym is))
 listed_by (Some specs) c none is = refl
 
-not_true : (b : Bool) → not b ≡ true → b ≡ false
-not_true true is = absurd (false≢true is)
-not_true false is = refl
-
 denied_listed : (l : Looking) (c : Crate)
     → is_script_denied l.building l.graph l.reached (package_of l c) c ≡ true → lists_scripts l.building ≡ true
 unfolding is_script_denied is_script_ok may_have_script
@@ -91,18 +86,9 @@ denied_listed l c is =
     (not (is_script_ok l.building c) && not (passes_by_script l.building (package_of l c) c)) is in
     let bad = and_parts (not (is_script_ok l.building c)) (not (passes_by_script l.building (package_of l c) c))
     both.1 in
-    listed_by l.building.scripts c (is_none (script_of c)) (not_true (is_script_ok l.building c) bad.0)
+    listed_by l.building.scripts c (is_none (script_of c)) (not-true (is_script_ok l.building c) bad.0)
 
 -- ---- the checksum of a script, which is told as a warning
-
-sum_if : (b : Bool) (o : Option Bypass) (sum : Spanned (List ℕ))
-    → (if b then option_and_then (λ y. y.script) o else None) ≡ Some sum → (y : Bypass) × (o ≡ Some y) × (y.script ≡ Some sum)
-sum_if true None sum is = absurd (cc is)
-sum_if true (Some y) sum is = (y, refl, is)
-sum_if false o sum is = absurd (cc is)
-
-same_range : (r s : Span) → r ≡ s → same_span r s ≡ true
-same_range r s is = subst (λ (t : Span). same_span r t ≡ true) is (same_itself r)
 
 pub script_sum_there : (l : Looking) (c : Crate) (sum : Spanned (List ℕ)) (range : Span)
     → wanted_sum l.building c ≡ Some sum → range ≡ sum.span → is_script_sum l.building range ≡ true
@@ -111,7 +97,7 @@ script_sum_there l c sum range wanted same =
     let of = sum_if (is_some (script_of c)) (used l.building c) sum wanted in
     any_from (is_sum_of_script range) l.building.bypass of.0 (used_member l.building c of.0 of.1)
     (ap (λ (o : Option (Spanned (List ℕ))). option_map_or (λ s. same_span s.span range) o false) of.2
-    ∙ same_range sum.span range (sym same))
+    ∙ same_span-true sum.span range (sym same))
 
 mild_script : (l : Looking) (c : Crate) (sum : Spanned (List ℕ)) (key : Key) → wanted_sum l.building c ≡ Some sum
     → key.entry ≡ sum.span → is_error (mismatch_severity l.building key) ≡ false

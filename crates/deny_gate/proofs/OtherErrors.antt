@@ -5,7 +5,7 @@ use Rattle.std.proofs.Common.{None, Some, refl, sym, ap, subst, inl, inr}
 use Rattle.std.specs.Prelude.{◌||◌, codes, is_some, map, option_and_then, option_map, if◌then◌else◌}
 use Rattle.std.specs.Option.{option_map_or}
 use Rattle.std.specs.Str.{bytes_eq}
-use Rattle.std.proofs.lemmas.Bool.{false≢true}
+use Rattle.std.proofs.lemmas.Bool.{false≢true, or_right}
 use Rattle.std.proofs.lemmas.List.{length-map}
 use Rattle.deny_base.specs.declared.span.Span.{Span}
 use Rattle.deny_base.specs.Level.{severity_of}
@@ -21,6 +21,7 @@ use Rattle.deny_base.specs.declared.license_code.LicenseCode.{LicenseCode}
 use Rattle.deny_base.specs.declared.license_code.LicenseCode.TheVariants as license
 use Rattle.deny_base.specs.declared.span.Spanned.{Spanned}
 use Rattle.deny_lists.proofs.Members.{Contains-from_flat_map, no_member}
+use Rattle.deny_lists.proofs.Options.{is_some-option_map}
 use Rattle.deny_toml.specs.Calls.{array_in, below_name, table_in, text_in, value_at}
 use Rattle.deny_toml.specs.Deserialize.{ReadsArray, ReadsEach}
 use Rattle.deny_toml.specs.Value.{entries_in}
@@ -196,14 +197,10 @@ mild_features : (b : Building) (c : Circumstances) (k : Key) → is_error (featu
 unfolding features_enabled_told
 mild_features b c k = refl
 
-or_other : (a b : Bool) → b ≡ true → (a || b) ≡ true
-or_other true b is = refl
-or_other false b is = is
-
 -- or by one on builds
 by_build : (d : Code) (c : Circumstances) → minds_build_in d c.building ≡ true
     → IsGrave c.policy c.licensing c.building (Bans d)
-by_build d c is = inr (or_other (minds_as d c.policy) (minds_build_in d c.building) is)
+by_build d c is = inr (or_right (minds_as d c.policy) (minds_build_in d c.building) is)
 
 no_build_error : (told : Building → Words) (o : Option Building) → ((b : Building) → is_error (told b).severity ≡ false)
     → is_error (option_map_or told o not_built).severity ≡ true → ⊥
@@ -521,10 +518,6 @@ files_seen next older (Some b) (Some v) both minded =
 
 -- ---- what the rules see is what was read
 
-seen : {X Y : Type 0} (view : X → Y) (o : Option X) → is_some (option_map view o) ≡ is_some o
-seen view None = refl
-seen view (Some x) = refl
-
 none_minded : (o : Option Building) → option_map_or (λ b. false) o false ≡ true → ⊥
 none_minded None minded = false≢true minded
 none_minded (Some b) minded = false≢true minded
@@ -556,7 +549,7 @@ module _ (text : List ℕ) (said : cfg.Policy) (is : IsPolicyOf text policy_id s
   std_read : is_some (option_map replacing_view said.bans.std_replacements) ≡ true
       → is_some config.std_replacements ≡ true
   std_read some = ap (λ (o : Option StdReplacementConfig). is_some o) (sym is.valid.std_replacements)
-      ∙ (sym (seen replacing_view said.bans.std_replacements) ∙ some)
+      ∙ (sym (is_some-option_map replacing_view said.bans.std_replacements) ∙ some)
 
   wildcards_read : denies_wildcards said.bans.wildcards ≡ true → denies_wildcards config.wildcards ≡ true
   wildcards_read denied =
@@ -566,7 +559,7 @@ module _ (text : List ℕ) (said : cfg.Policy) (is : IsPolicyOf text policy_id s
       → is_some config.workspace_dependencies ≡ true
   sharing_read some = ap (λ (o : Option WorkspaceDepsConfig). is_some o)
       (sym is.valid.workspace_dependencies)
-      ∙ (sym (seen sharing_view said.bans.workspace_dependencies) ∙ some)
+      ∙ (sym (is_some-option_map sharing_view said.bans.workspace_dependencies) ∙ some)
 
   bans_written : (d : Code) → minds_as d (policy_view said.bans) ≡ true
       → option_map_or (bans_write d) (below_name (codes "bans") tree) false ≡ true
@@ -617,7 +610,7 @@ module _ (text : List ℕ) (said : cfg.Policy) (is : IsPolicyOf text policy_id s
 
   licenses_there : is_some (licensing_of said.licenses) ≡ true → has_key (codes "licenses") tree ≡ true
   licenses_there some = there_if_read (ReadsTable ReadsLicenses) (below_name (codes "licenses") tree) said.licenses
-      is.says.reads_licenses (sym (seen licensing_view said.licenses) ∙ some)
+      is.says.reads_licenses (sym (is_some-option_map licensing_view said.licenses) ∙ some)
 
   licenses_written : (d : LicenseCode) → minds_licensed d (licensing_of said.licenses) ≡ true
       → licenses_write d tree ≡ true

@@ -1,6 +1,6 @@
 -- The ranges of a policy are those of the configuration that it is seen from, and so lie in the text where those do.
-use Rattle.std.proofs.Common.{◌≡◌, ◌++◌, ◌+◌, ℕ, List, [], ◌∷◌, Option, None, Some, Result, Ok, Err, map}
-use Rattle.std.proofs.Common.{ap, refl, subst, sym, ◌∙◌}
+use Rattle.std.proofs.Common.{◌≡◌, ◌++◌, ◌+◌, ℕ, List, [], ◌∷◌, Option, None, Some, Result, Ok, Err, map, ap, refl}
+use Rattle.std.proofs.Common.{subst, sym, ◌∙◌}
 use Rattle.std.specs.Prelude.{All, Contains, IfOk, IfSome, slice_get, option_map, option_and_then}
 use Rattle.std.specs.List.{flat_map}
 use Rattle.std.proofs.lemmas.List.Elements.{All-from_recursion, recursion_from_All}
@@ -18,10 +18,8 @@ use Rattle.deny_build_cfg.specs.Builtin.{builtin_file}
 use Rattle.deny_build_cfg.specs.declared.valid.ValidBuildConfig.{ValidBuildConfig}
 use Rattle.deny_build_model.specs.Building.{Building, ScriptGlob}
 use Rattle.deny_cfg.specs.PolicyText.{IsPolicyOf, globs_files, policy_file}
-use Rattle.deny_cfg.specs.PolicyView.{building_of, builtin_file_of}
-use Rattle.deny_cfg.specs.PolicyView.{ban_view, entry_view, feature_view, policy_view, reason_words, replacing_view}
-use Rattle.deny_cfg.specs.PolicyView.{root_view}
-use Rattle.deny_cfg.specs.PolicyView.{roots_from, words_or_none}
+use Rattle.deny_cfg.specs.PolicyView.{building_of, builtin_file_of, ban_view, entry_view, feature_view, policy_view}
+use Rattle.deny_cfg.specs.PolicyView.{reason_words, replacing_view, root_view, roots_from, words_or_none}
 use Rattle.deny_cfg.specs.StdReplacementConfig.{StdReplacementConfig}
 use Rattle.deny_cfg.specs.TreeSkipExtended.{TreeSkipExtended}
 use Rattle.deny_cfg.specs.declared.bans.cfg.valid.KrateBan.{KrateBan}
@@ -252,7 +250,8 @@ module _ (text : List ℕ) where
   build_lies : (cfg : ValidConfig) → Lie text (word_labels cfg) → Lie text (of_some written.build_ranges cfg.build)
   unfolding word_labels
   build_lies cfg lie =
-      let denied = flat_map (with_spec written.ban_ranges) cfg.denied ++ flat_map spec_range cfg.denied_multiple_versions in
+      let denied = flat_map (with_spec written.ban_ranges) cfg.denied
+      ++ flat_map spec_range cfg.denied_multiple_versions in
       let from_allowed = lie_rest text denied _ lie in
       let from_external = lie_rest text (flat_map (with_spec reason_range) cfg.allowed) _ from_allowed in
       let from_workspace = lie_rest text (of_some written.own_range cfg.external_default_features) _ from_external in
@@ -334,7 +333,8 @@ pub labels_then : (old new : Disk) (texts : Texts) (said : Policy) (read : List 
     → All (IsRange read) (written.older_range said.bans) → IfOk result (IsReportOn old new said texts)
     → IfOk result (λ report. AreLabelled report.files report.findings)
 labels_then old new texts said read (Ok report) same is bans licences older on =
-    report_labelled (circumstances_of said on.graph texts.replacements on.seen.view on.seen.packages) texts.policy report
+    report_labelled (circumstances_of said on.graph texts.replacements on.seen.view on.seen.packages) texts.policy
+    report
     (all_ranges texts.policy old new texts.metadata (extras_of texts) said report
     (subst (λ (text : List ℕ). IsPolicyOf text policy_id said) same is) on.graph on.is_graph
     (subst (λ (text : List ℕ). AreLabels text (word_labels said.bans)) same bans)

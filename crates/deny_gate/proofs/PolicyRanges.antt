@@ -89,7 +89,8 @@ feature_list e = Contains-first e.allow.span (e.exact.span ∷ named e)
 
 pub feature_flag : (e : FeatureEntry) → Contains (feature_ranges e) e.exact.span
 unfolding feature_ranges
-feature_flag e = Contains-rest e.allow.span (e.exact.span ∷ named e) e.exact.span (Contains-first e.exact.span (named e))
+feature_flag e = Contains-rest e.allow.span (e.exact.span ∷ named e) e.exact.span
+    (Contains-first e.exact.span (named e))
 
 -- the features that the entry names stand behind these two
 among_named : (e : FeatureEntry) (range : Span) → Contains (named e) range → Contains (feature_ranges e) range

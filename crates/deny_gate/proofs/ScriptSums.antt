@@ -1,11 +1,9 @@
 -- The checksum of a script is told at one level whether or not entries are taken out that nothing hits: those that stay
 -- write it, and no path has the same range.
-use Rattle.std.proofs.Common.{◌≡◌, ◌∙◌, ◌==◌, ℕ, Bool, true, false, List, Option, None, Some, ap, refl}
-use Rattle.std.proofs.Common.{sym, arith}
+use Rattle.std.proofs.Common.{◌≡◌, ◌∙◌, ℕ, Bool, true, false, List, Option, None, Some, ap, refl, sym}
 use Rattle.std.specs.Prelude.{Contains, filter, if◌then◌else◌}
 use Rattle.std.specs.Option.{option_map_or}
-use Rattle.std.proofs.lemmas.Bool.{and_parts, false≢true}
-use Rattle.std.proofs.lemmas.Bool.Decides.{nat_tests}
+use Rattle.std.proofs.lemmas.Bool.{false≢true, false_from_ne_true}
 use Rattle.deny_lists.proofs.Members.{any_passes, filtered, from_contains_map}
 use Rattle.deny_base.specs.declared.code.Code.TheVariants as code
 use Rattle.deny_base.specs.declared.code.DiagnosticCode.TheVariants.{Bans}
@@ -17,6 +15,7 @@ use Rattle.deny_base.specs.declared.span.Spanned.{Spanned}
 use Rattle.deny_build_model.specs.Building.{AllowedPath, Building, Bypass}
 use Rattle.deny_model.specs.Graph.{Crate}
 use Rattle.deny_model.specs.Wrappers.{same_span}
+use Rattle.deny_model.proofs.SpanLemmas.{same-span}
 use Rattle.deny_codes.specs.Packages.{Looking}
 use Rattle.deny_codes.specs.PackagesTold.{is_script_sum, is_sum_of_script, mismatch_severity}
 use Rattle.deny_laws.specs.Asking.{AreAskedAlike}
@@ -31,16 +30,6 @@ abbrev pub SumsDiffer : Building → Type 0
 SumsDiffer b = (y z : Bypass) → Contains b.bypass y → Contains b.bypass z → (sum : Spanned (List ℕ))
     → y.script ≡ Some sum → (a : AllowedPath) → Contains z.allow a → (other : Spanned (List ℕ))
     → a.checksum ≡ Some other → sum.span ≡ other.span → ⊥
-
-spans_equal : (a b : Span) → same_span a b ≡ true → a ≡ b
-spans_equal a b same =
-    let both = and_parts (a.start == b.start) (a.end == b.end) same in
-    let start : a.start ≡ b.start = numbers_equal a.start b.start both.0 in
-    let end : a.end ≡ b.end = numbers_equal a.end b.end both.1 in
-    λ i. record { start = start i; end = end i }
-  where
-    numbers_equal : (m n : ℕ) → (m == n) ≡ true → m ≡ n
-    numbers_equal m n e = grind (arith, nat_tests)
 
 -- a checksum of a script with this range
 record IsScriptSumOf (b : Building) (range : Span) : Type 0 where
@@ -58,7 +47,7 @@ sum_by b range y written (Some sum) at is = record {
   written = written;
   sum = sum;
   is = at;
-  same = spans_equal sum.span range is;
+  same = same-span sum.span range is;
 }
 
 script_sum_of : (b : Building) (range : Span) → is_script_sum b range ≡ true → IsScriptSumOf b range
@@ -71,17 +60,14 @@ script_sum_of b range is =
 cut_sum : (b : Building) (taken : List EntryId) (range : Span) → IsScriptSumOf (cut_building taken b) range
     → IsScriptSumOf b range
 cut_sum b taken range of =
-    let from = from_contains_map (cut_bypass taken) (filter (stays_bypass taken) b.bypass) of.bypass of.written in record {
+    let from = from_contains_map (cut_bypass taken) (filter (stays_bypass taken) b.bypass) of.bypass of.written in
+    record {
       bypass = from.0;
       written = filtered (stays_bypass taken) b.bypass from.0 from.1;
       sum = of.sum;
       is = ap (λ (y : Bypass). y.script) from.2 ∙ of.is;
       same = of.same;
     }
-
-not_so : (b : Bool) → (b ≡ true → ⊥) → b ≡ false
-not_so true never = absurd (never refl)
-not_so false never = refl
 
 module _ (l : Looking) (taken : List EntryId) (stay : AreAskedAlike l (cut_building taken l.building) taken)
     (differ : SumsDiffer l.building) (key : Key) (coded : key.code ≡ Bans code.ChecksumMismatch) where
@@ -106,9 +92,9 @@ module _ (l : Looking) (taken : List EntryId) (stay : AreAskedAlike l (cut_build
       script_sum_there (record l { building = rest }) c sum key.entry (stay.sums c known checked ∙ wanted) same
       ∙ sym (script_sum_there l c sum key.entry wanted same)
   sums_alike (of_sum c sum code_is walked path same) =
-      not_so (is_script_sum rest key.entry) (λ is. no_script c sum path same
+      false_from_ne_true (is_script_sum rest key.entry) (λ is. no_script c sum path same
       (cut_sum l.building taken key.entry (script_sum_of rest key.entry is)))
-      ∙ sym (not_so (is_script_sum l.building key.entry) (λ is. no_script c sum path same
+      ∙ sym (false_from_ne_true (is_script_sum l.building key.entry) (λ is. no_script c sum path same
       (script_sum_of l.building key.entry is)))
 
   pub mismatch_alike : Origin l key → mismatch_severity rest key ≡ mismatch_severity l.building key

@@ -131,8 +131,10 @@ as_alike code.UnusedWrapper c taken key coded sums = refl
 as_alike code.WorkspaceDuplicate c taken key coded sums = refl
 as_alike code.UnresolvedWorkspaceDependency c taken key coded sums = refl
 as_alike code.UnusedWorkspaceDependency c taken key coded sums = refl
-as_alike code.ReplacedInStd c taken key coded sums = replaced_alike taken c.policy.replacing c.graph (said_by c.table) key
-as_alike code.UnmatchedReplacementIgnore c taken key coded sums = ignore_alike taken c.policy.replacing c.files.policy key
+as_alike code.ReplacedInStd c taken key coded sums =
+    replaced_alike taken c.policy.replacing c.graph (said_by c.table) key
+as_alike code.UnmatchedReplacementIgnore c taken key coded sums =
+    ignore_alike taken c.policy.replacing c.files.policy key
 
 licensed_alike : (d : LicenseCode) (taken : List EntryId) (o : Option Licensing) (g : Graph) (file : ℕ) (key : Key)
     → (words_licensed d (option_map (cut_licensing taken) o) g file key).severity

@@ -1,7 +1,6 @@
 -- What is known of keys that stand: those of duplicates ask nothing of files; and what stands in the sections of the
 -- licence check is of a licence, and of no duplicate.
-use Rattle.std.proofs.Common.{◌≡◌, ◌∙◌, Bool, false, List, Option, None, Some, refl}
-use Rattle.std.proofs.Common.{sym}
+use Rattle.std.proofs.Common.{◌≡◌, ◌∙◌, Bool, false, List, Option, None, Some, refl, sym}
 use Rattle.std.specs.Prelude.{◌&&◌, IsTrue, filter}
 use Rattle.deny_lists.proofs.Agreement.{filter_on}
 use Rattle.deny_lists.proofs.Filters.{filter-filter}
@@ -10,18 +9,16 @@ use Rattle.deny_base.specs.declared.code.Code.TheVariants as code
 use Rattle.deny_base.specs.declared.code.DiagnosticCode.{DiagnosticCode}
 use Rattle.deny_base.specs.declared.code.DiagnosticCode.TheVariants.{Deprecated, Bans, License}
 use Rattle.deny_base.specs.declared.key.Key.{Key}
-use Rattle.deny_base.specs.declared.key.Section.{Section}
 use Rattle.deny_base.specs.declared.key.Section.TheVariants as section
 use Rattle.deny_base.specs.declared.license_code.LicenseCode.{LicenseCode}
 use Rattle.deny_base.specs.declared.license_code.LicenseCode.TheVariants as license
 use Rattle.deny_model.specs.Graph.{Graph}
 use Rattle.deny_model.specs.Licensing.{Licensing}
 use Rattle.deny_codes.specs.Circumstances.{Circumstances}
-use Rattle.deny_codes.specs.Codes.{asks_no_file, is_free, is_of_bans, is_of_licenses}
-use Rattle.deny_codes.specs.Codes.{unseeing}
+use Rattle.deny_codes.specs.Codes.{asks_no_file, is_free, is_of_licenses, unseeing}
 use Rattle.deny_codes.specs.Facts.{Facts}
 use Rattle.deny_codes.specs.Standing.{StandsBy, StandsIn, StandsLicensed}
-use Rattle.deny_codes.proofs.Sections.{as_code, as_deprecated}
+use Rattle.deny_codes.proofs.Sections.{as_code, as_deprecated, two_checks}
 use Rattle.deny_dup_edges.specs.DupEdges.{is_duplicate, is_of_duplicate}
 
 -- ---- what asks nothing of files
@@ -48,15 +45,10 @@ duplicates_seen keys =
 
 -- ---- the sections of the licence check
 
-one_check : (s : Section) → IsTrue (is_of_bans s) → IsTrue (is_of_licenses s) → ⊥
-one_check section.Licenses bans licences = absurd (cc bans)
-one_check section.LicensesUnused bans licences = absurd (cc bans)
-one_check _ bans licences = absurd (cc licences)
-
 no_duplicate_by : (d : DiagnosticCode) (c : Circumstances) (facts : Facts) (key : Key) → StandsBy d c facts key
     → IsTrue (is_of_licenses key.section) → is_duplicate d ≡ false
 no_duplicate_by Deprecated c facts key is mine = refl
-no_duplicate_by (Bans d) c facts key is mine = absurd (one_check key.section (as_code d c facts key is) mine)
+no_duplicate_by (Bans d) c facts key is mine = absurd (two_checks key.section (as_code d c facts key is) mine)
 no_duplicate_by (License d) c facts key is mine = refl
 
 pub no_duplicate : (c : Circumstances) (facts : Facts) (key : Key) → StandsIn is_of_licenses c facts key
@@ -73,8 +65,8 @@ none_licensed _ (Some l) g key none is = absurd (cc none)
 
 none_by : (d : DiagnosticCode) (c : Circumstances) (facts : Facts) (key : Key) → c.licensing ≡ None
     → IsTrue (is_of_licenses key.section) → StandsBy d c facts key → ⊥
-none_by Deprecated c facts key none mine is = one_check key.section (as_deprecated c key is) mine
-none_by (Bans d) c facts key none mine is = one_check key.section (as_code d c facts key is) mine
+none_by Deprecated c facts key none mine is = two_checks key.section (as_deprecated c key is) mine
+none_by (Bans d) c facts key none mine is = two_checks key.section (as_code d c facts key is) mine
 none_by (License d) c facts key none mine is = none_licensed d c.licensing c.graph key none is
 
 pub none_of_licences : (c : Circumstances) (facts : Facts) (key : Key) → c.licensing ≡ None

@@ -1,14 +1,12 @@
--- What of hits and dead entries asks nothing of files: entries of kinds that no file decides are hit whatever was seen of
--- packages, and what names them as unused asks nothing of files either.
-use Rattle.std.proofs.Common.{◌≡◌, ◌∙◌, Bool, true, false, List, Option, None, Some, ap, refl, subst}
-use Rattle.std.proofs.Common.{sym}
+-- What of hits and dead entries asks nothing of files: entries of kinds that no file decides are hit whatever was seen
+-- of packages, and what names them as unused asks nothing of files either.
+use Rattle.std.proofs.Common.{◌≡◌, ◌∙◌, Bool, true, false, List, Option, None, Some, ap, refl, subst, sym}
 use Rattle.std.specs.Prelude.{Contains, option_map}
 use Rattle.std.specs.Option.{option_map_or}
 use Rattle.std.proofs.lemmas.Bool.{false≢true}
 use Rattle.std.proofs.lemmas.List.Kept.{IsStrictlySortedBy-filter}
 use Rattle.std.proofs.lemmas.Option.{none-some, same_Some}
-use Rattle.deny_lists.proofs.Members.{Contains-filter, Contains-filter_map, from_filter_map}
-use Rattle.deny_lists.proofs.Members.{filtered, passes_filter}
+use Rattle.deny_lists.proofs.Members.{Contains-filter, Contains-filter_map, from_filter_map, filtered, passes_filter}
 use Rattle.deny_lists.proofs.Sorted.{one_ascending}
 use Rattle.deny_base.proofs.EntryEqual.{entry_cmp-total}
 use Rattle.deny_base.specs.declared.code.Code.{Code}

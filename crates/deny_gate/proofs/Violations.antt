@@ -145,7 +145,8 @@ denied_from p crates is = elim (cases_Bool (list_any (is_denied_multiple p) crat
           let one = any_passes (is_denied_multiple p) crates some in
           let by = any_passes (λ (s : Spec). matches s one.one) p.deny_multiple one.passes in
           inl (record { krate = one.one; one = one.member; spec = by.one; written = by.member; spoken_of = by.passes })
-      | inr none ↦ inr (sym (cond-false (list_any (is_denied_multiple p) crates) level.Deny p.multiple_versions none) ∙ is)
+      | inr none ↦ inr (sym (cond-false (list_any (is_denied_multiple p) crates) level.Deny p.multiple_versions none)
+          ∙ is)
     ]
 
 denied_to : (p : Policy) (crates : List Crate) → IsDeniedMultiple p crates ⊎ (p.multiple_versions ≡ level.Deny)

@@ -50,8 +50,7 @@ use Rattle.deny_gate.specs.declared.checks.Extras as handed
 use Rattle.deny_gate.specs.declared.checks.Looked.{Looked}
 use Rattle.deny_gate.specs.declared.checks.Told.{Told}
 use Rattle.deny_gate.specs.declared.report.GateError.{GateError}
-use Rattle.deny_gate.specs.declared.report.GateError.TheVariants.{Config, Invalid, Metadata, Replacement}
-use Rattle.deny_gate.specs.declared.report.GateError.TheVariants.{Memory}
+use Rattle.deny_gate.specs.declared.report.GateError.TheVariants.{Config, Invalid, Metadata, Replacement, Memory}
 use Rattle.deny_gate.specs.declared.report.Inputs.{Inputs}
 use Rattle.deny_gate.specs.declared.report.Report.{Report}
 
@@ -118,11 +117,11 @@ IsTableFor p replacements = IsTrue (asks_for_table p) → HasTable replacements
 abbrev pub first_files : List ℕ → Policy → Graph → List File
 first_files text said g = policy_files text said.bans ++ lock_file g.root g ∷ []
 
--- The metadata has a graph, there is the table that the policy asks for, and this is the report of the one on the other,
--- by this view of manifests and these packages. They are what was seen on a disk that may tell its files: the files of
--- the report are those of the policy, the lock text and what was read of manifests, and it says what is malformed, and
--- what was not read, ascending, each once: of manifests exactly those that are missing of what was seen of them, and
--- besides exactly what is missing of packages.
+-- The metadata has a graph, there is the table that the policy asks for, and this is the report of the one on the
+-- other, by this view of manifests and these packages. They are what was seen on a disk that may tell its files: the
+-- files of the report are those of the policy, the lock text and what was read of manifests, and it says what is
+-- malformed, and what was not read, ascending, each once: of manifests exactly those that are missing of what was seen
+-- of them, and besides exactly what is missing of packages.
 pub record IsReportBy (told : Option Files) (texts : Texts) (view : View) (packages : List Package) (report : Report)
     : Type 0 where
   pub said : Policy

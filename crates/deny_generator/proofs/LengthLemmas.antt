@@ -1,11 +1,14 @@
 -- How long the texts are that are made, for up to 20000 crates.
-use Rattle.std.proofs.Common.{◌+◌, ◌*◌, ◌/◌, ◌%◌, ◌<◌, ◌≤◌, ◌^◌, ◌==◌, ◌++◌, ℕ, zero, suc, Bool, true, false, List, [], length, codes, arith, if◌then◌else◌}
+use Rattle.std.proofs.Common.{◌+◌, ◌*◌, ◌/◌, ◌%◌, ◌<◌, ◌≤◌, ◌^◌, ◌==◌, ◌++◌, ℕ, zero, suc, Bool, true, false, List, []}
+use Rattle.std.proofs.Common.{length, codes, arith, if◌then◌else◌}
 use Rattle.std.specs.Fmt.{decimal}
 use Rattle.std.specs.List.{flat_map, range_with_len}
 use Rattle.std.proofs.lemmas.Fmt.{length-decimal-le}
 use Rattle.std.proofs.lemmas.List.{length-append}
 use Rattle.deny_generator.specs.Made.{below, name_at, name_of, version_at}
-use Rattle.deny_generator.specs.MetadataText.{declaration_text, dep_text, id_at, member_text, metadata_text, naming_text, node_text, nodes_text, package_text, packages_text, path_text, placing_text, registry, workspace_text}
+use Rattle.deny_generator.specs.MetadataText.{declaration_text, dep_text, id_at, member_text, metadata_text}
+use Rattle.deny_generator.specs.MetadataText.{naming_text, node_text, nodes_text, package_text, packages_text}
+use Rattle.deny_generator.specs.MetadataText.{path_text, placing_text, registry, workspace_text}
 use Rattle.deny_generator.specs.PolicyText.{divided, name_count, policy_text, skip_text}
 
 -- ---- texts of parts

@@ -1,5 +1,6 @@
 -- Reading piece by piece gives the tokens of the grammar, and only those.
-use Rattle.std.proofs.Common.{◌≡◌, ℕ, suc, ◌<◌, List, [], ◌∷◌, ◌++◌, length, Bool, true, false, refl, sym, ap, subst, ◌∙◌, arith, rules, append_assoc, append-nil, cond}
+use Rattle.std.proofs.Common.{◌≡◌, ℕ, suc, ◌<◌, List, [], ◌∷◌, ◌++◌, length, Bool, true, false, refl, sym, ap, subst}
+use Rattle.std.proofs.Common.{◌∙◌, arith, rules, append_assoc, append-nil, cond}
 use Rattle.std.specs.Prelude.{Option, Some, None, nat_lt, option_and_then}
 use Rattle.deny_globs.specs.declared.token.Token.{Token}
 use Rattle.deny_globs.specs.declared.token.Token.TheVariants.{Character, AnyText, MiddleFolders, Alternatives}
@@ -8,7 +9,8 @@ use Rattle.deny_globs.specs.declared.piece.Piece.TheVariants.{Token as Whole, Mi
 use Rattle.deny_globs.specs.declared.reading.Opened.{Opened}
 use Rattle.deny_globs.specs.declared.reading.Reading.{Reading}
 use Rattle.deny_globs.specs.Characters.{slash, comma}
-use Rattle.deny_globs.specs.Tree.{most_braces, AreTokens, nothing, token, middle, middle_inside, comma_outside, braces, AreAlternatives, last, more}
+use Rattle.deny_globs.specs.Tree.{most_braces, AreTokens, nothing, token, middle, middle_inside, comma_outside, braces}
+use Rattle.deny_globs.specs.Tree.{AreAlternatives, last, more}
 use Rattle.deny_globs.specs.Reading.{middle_of, parted, closed, after_piece}
 
 abbrev pub state : List Opened → List Token → Reading

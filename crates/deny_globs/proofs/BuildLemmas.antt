@@ -1,10 +1,14 @@
 -- Each step of compiling, from what its parts do.
-use Rattle.std.proofs.Common.{◌≡◌, ℕ, ◌+◌, ◌<◌, ◌≤◌, List, [], ◌∷◌, ◌++◌, length, take, IsTrue, refl, sym, ap, subst, inl, inr, ◌∙◌, arith, append_assoc, append-nil, get_or, length-append}
-use Rattle.std.specs.Prelude.{◌⊎◌, ◌↔◌, Some, None, Result, Ok, Err, OnErr, slice_get}
+use Rattle.std.proofs.Common.{◌≡◌, ℕ, ◌+◌, ◌<◌, ◌≤◌, List, [], ◌∷◌, ◌++◌, length, take, IsTrue, refl, sym, ap, subst}
+use Rattle.std.proofs.Common.{inl, inr, ◌∙◌, arith, append_assoc, append-nil, get_or, length-append}
+use Rattle.std.specs.Prelude.{◌⊎◌, ◌↔◌, Some, None, slice_get}
 use Rattle.std.proofs.lemmas.List.{take_more}
 use Rattle.std.proofs.lemmas.List.Sums.{sum_by-append, sum_by-cons}
+use Rattle.deny_lists.proofs.Places.{slice_get-push}
+use Rattle.deny_lists.proofs.Options.{some_inj}
 use Rattle.deny_globs.specs.declared.token.Token.{Token}
-use Rattle.deny_globs.specs.declared.token.Token.TheVariants.{Character, AnyCharacter, OneOf, AnyText, LeadingFolders, TrailingPath, MiddleFolders, Alternatives}
+use Rattle.deny_globs.specs.declared.token.Token.TheVariants.{Character, AnyCharacter, OneOf, AnyText, LeadingFolders}
+use Rattle.deny_globs.specs.declared.token.Token.TheVariants.{TrailingPath, MiddleFolders, Alternatives}
 use Rattle.deny_globs.specs.declared.token.Class.{Class}
 use Rattle.deny_globs.specs.declared.state.State.{State}
 use Rattle.deny_globs.specs.declared.state.State.TheVariants as state
@@ -13,10 +17,14 @@ use Rattle.deny_globs.specs.Fits.{any_text, Fits}
 use Rattle.deny_globs.specs.States.{end_of, IsAtOnce, IsBehind, Leads, ends, over, aside, PointsBelow}
 use Rattle.deny_globs.specs.Sizes.{states_in, states_of, states_of_all}
 use Rattle.deny_globs.specs.Compiled.{IsProgram, Grows, IsPushed, StandsFor, IsBuilt, IsBuiltOver, IsBuiltBeside}
-use Rattle.deny_globs.proofs.FitsLemmas.{split_first, fits_joined, TakesOne, takes, character_takes, any_character_takes, class_takes_one}
-use Rattle.deny_globs.proofs.FormLemmas.{above_fits, above_from_fits, trailing_fits, trailing_from_fits, middle_fits, middle_from_fits, one_from_fits, fits_from_one, none_fits, one_of_more, more_of_one}
-use Rattle.deny_globs.proofs.SizeLemmas.{size_character, size_any_character, size_class, size_any_text, size_leading, size_trailing, size_middle, size_alternatives, size_cons, size_one}
-use Rattle.deny_globs.proofs.StateLemmas.{slice_get_last, some_inj, leads_more, leads_before, Turn, ended, took, moved, turn, push_program}
+use Rattle.deny_globs.proofs.FitsLemmas.{split_first, fits_joined, TakesOne, takes, character_takes}
+use Rattle.deny_globs.proofs.FitsLemmas.{any_character_takes, class_takes_one}
+use Rattle.deny_globs.proofs.FormLemmas.{above_fits, above_from_fits, trailing_fits, trailing_from_fits, middle_fits}
+use Rattle.deny_globs.proofs.FormLemmas.{middle_from_fits, one_from_fits, fits_from_one, none_fits, one_of_more}
+use Rattle.deny_globs.proofs.FormLemmas.{more_of_one}
+use Rattle.deny_globs.proofs.SizeLemmas.{size_character, size_any_character, size_class, size_any_text, size_leading}
+use Rattle.deny_globs.proofs.SizeLemmas.{size_trailing, size_middle, size_alternatives, size_cons, size_one}
+use Rattle.deny_globs.proofs.StateLemmas.{leads_more, leads_before, Turn, ended, took, moved, turn, push_program}
 
 pub grows_same : {old new : List State} → new ≡ old → Grows old new
 grows_same {old} e = record { more = []; whole = e ∙ sym (append-nil old) }
@@ -59,7 +67,7 @@ pub pushed_at : {state : State} {old new : List State} {number : ℕ} → IsPush
     → slice_get new number ≡ Some state
 pushed_at {state} {old} {new} {number} pushed =
     subst (λ n. slice_get new n ≡ Some state) (sym pushed.is_last)
-    (subst (λ l. slice_get l (length old) ≡ Some state) (sym pushed.whole) (slice_get_last old state))
+    (subst (λ l. slice_get l (length old) ≡ Some state) (sym pushed.whole) (slice_get-push old state))
 
 pub pushed_program : {state : State} {old new : List State} {number : ℕ} → IsProgram old
     → PointsBelow (length old) state → IsPushed state old new number → IsProgram new
@@ -431,7 +439,3 @@ built_for {token} {same} {next} {number} {old} {new} e b = subst (λ t. IsBuilt 
 pub built_over_same : {some same : List (List Token)} {next number : ℕ} {old new : List State} → some ≡ same
     → IsBuiltOver some next old new number → IsBuiltOver same next old new number
 built_over_same {some} {same} {next} {number} {old} {new} e b = subst (λ l. IsBuiltOver l next old new number) e b
-
-pub on_err_of : {T X P : Type 0} (r : Result T X) → P → OnErr r P
-on_err_of (Ok x) h = tt
-on_err_of (Err e) h = h

@@ -1,8 +1,10 @@
 -- The members of a class, one after the other.
-use Rattle.std.proofs.Common.{◌≡◌, ℕ, ◌+◌, ◌<◌, ◌≤◌, List, [], ◌∷◌, ◌++◌, length, get_or, take, drop, Bool, true, false, IsTrue, refl, sym, ap, subst, inl, inr, ◌∙◌, arith, rules, append_assoc}
+use Rattle.std.proofs.Common.{◌≡◌, ℕ, ◌+◌, ◌<◌, ◌≤◌, List, [], ◌∷◌, ◌++◌, length, get_or, take, drop, Bool, true, false}
+use Rattle.std.proofs.Common.{IsTrue, refl, sym, ap, subst, inl, inr, ◌∙◌, arith, rules, append_assoc}
 use Rattle.std.proofs.lemmas.List.{take-append-drop, length-take-le}
 use Rattle.deny_globs.proofs.Seams.{seam}
 use Rattle.std.specs.Prelude.{◌==◌, ◌&&◌, ◌||◌, not}
+use Rattle.deny_lists.proofs.Booleans.{and-true, and-false}
 use Rattle.deny_globs.specs.declared.token.CharacterRange.{CharacterRange}
 use Rattle.deny_globs.specs.declared.stop.Stop.{Stop}
 use Rattle.deny_globs.specs.declared.stop.Stop.TheVariants.{Fault, Memory}
@@ -59,14 +61,6 @@ pub added_one : (rest : List ℕ) (c : ℕ) (old new : List CharacterRange) → 
 added_one [] c old new h p f e = absurd (omega arith)
 added_one (a ∷ rest) c old new h p f e = adds_one (ap (λ x. x ∷ rest) (sym f)) h refl e
 
-pub and_yes : (b : Bool) → (b && true) ≡ b
-and_yes true = refl
-and_yes false = refl
-
-pub and_no : (b : Bool) → (b && false) ≡ false
-and_no true = refl
-and_no false = refl
-
 -- a member more, behind others
 
 snoc_range : {is_first : Bool} {cs : List ℕ} {ranges : List CharacterRange} (first last : ℕ) (behind : List ℕ)
@@ -74,23 +68,23 @@ snoc_range : {is_first : Bool} {cs : List ℕ} {ranges : List CharacterRange} (f
     IsTrue (may_be_member (is_first && is_empty cs) first) → IsTrue (not (last == close_bracket)) → first ≤ last →
     AreMembers is_first (cs ++ first ∷ dash ∷ last ∷ []) behind (ranges ++ record { first = first; last = last } ∷ [])
 snoc_range {is_first} first last behind no_more m l le = range
-    (subst (λ b. IsTrue (may_be_member b first)) (and_yes is_first) m) l le no_more
+    (subst (λ b. IsTrue (may_be_member b first)) (and-true is_first) m) l le no_more
 snoc_range first last behind (range {is_first} x y z rest) m l le = range x y z
-    (snoc_range first last behind rest (subst (λ b. IsTrue (may_be_member b first)) (and_no is_first) m) l le)
+    (snoc_range first last behind rest (subst (λ b. IsTrue (may_be_member b first)) (and-false is_first) m) l le)
 snoc_range first last behind (one {is_first} {cs = cs} x y rest) m l le =
     one x (subst (λ ds. begins_range ds ≡ false) (sym (append_assoc cs (first ∷ dash ∷ last ∷ []) behind)) y)
-    (snoc_range first last behind rest (subst (λ b. IsTrue (may_be_member b first)) (and_no is_first) m) l le)
+    (snoc_range first last behind rest (subst (λ b. IsTrue (may_be_member b first)) (and-false is_first) m) l le)
 
 snoc_one : {is_first : Bool} {cs : List ℕ} {ranges : List CharacterRange} (c : ℕ) (behind : List ℕ)
     → AreMembers is_first cs (c ∷ behind) ranges →
     IsTrue (may_be_member (is_first && is_empty cs) c) → begins_range behind ≡ false →
     AreMembers is_first (cs ++ c ∷ []) behind (ranges ++ record { first = c; last = c } ∷ [])
-snoc_one {is_first} c behind no_more m b = one (subst (λ t. IsTrue (may_be_member t c)) (and_yes is_first) m) b no_more
+snoc_one {is_first} c behind no_more m b = one (subst (λ t. IsTrue (may_be_member t c)) (and-true is_first) m) b no_more
 snoc_one c behind (range {is_first} x y z rest) m b = range x y z
-    (snoc_one c behind rest (subst (λ t. IsTrue (may_be_member t c)) (and_no is_first) m) b)
+    (snoc_one c behind rest (subst (λ t. IsTrue (may_be_member t c)) (and-false is_first) m) b)
 snoc_one c behind (one {is_first} {cs = cs} x y rest) m b =
     one x (subst (λ ds. begins_range ds ≡ false) (sym (append_assoc cs (c ∷ []) behind)) y)
-    (snoc_one c behind rest (subst (λ t. IsTrue (may_be_member t c)) (and_no is_first) m) b)
+    (snoc_one c behind rest (subst (λ t. IsTrue (may_be_member t c)) (and-false is_first) m) b)
 
 -- the loop over the members
 
@@ -102,10 +96,11 @@ pub record AreMembersTo (body : List ℕ) (next : ℕ) (ranges : List CharacterR
 may_stand : (body : List ℕ) (next c : ℕ) (rest : List ℕ) → next ≤ length body → drop next body ≡ c ∷ rest
     → GoesOnAt body next → IsTrue (may_be_member (is_empty (take next body)) c)
 may_stand body next c rest p e (inl z) = rw z refl
-may_stand body next c rest p e (inr n) = other (is_empty (take next body)) (subst (λ l. begins close_bracket l ≡ false) e n) where
-  other : (b : Bool) → (c == close_bracket) ≡ false → IsTrue (b || not (c == close_bracket))
-  other true h = refl
-  other false h = ap not h
+may_stand body next c rest p e (inr n) =
+    other (is_empty (take next body)) (subst (λ l. begins close_bracket l ≡ false) e n) where
+      other : (b : Bool) → (c == close_bracket) ≡ false → IsTrue (b || not (c == close_bracket))
+      other true h = refl
+      other false h = ap not h
 
 pub members_more : (body : List ℕ) (next size : ℕ) (old new : List CharacterRange) → AreMembersTo body next old
     → AddsMember (drop next body) size old new →

@@ -2,12 +2,16 @@
 use Rattle.std.proofs.Common.{◌≡◌, ℕ, List, [], ◌∷◌, ◌++◌, refl, sym, ap, subst, inl, inr, ◌∙◌, rules, append_assoc}
 use Rattle.std.specs.Prelude.{◌⊎◌}
 use Rattle.deny_globs.specs.declared.token.Token.{Token}
-use Rattle.deny_globs.specs.declared.token.Token.TheVariants.{Character, AnyText, LeadingFolders, TrailingPath, MiddleFolders, Alternatives}
+use Rattle.deny_globs.specs.declared.token.Token.TheVariants.{Character, AnyText, LeadingFolders, TrailingPath}
+use Rattle.deny_globs.specs.declared.token.Token.TheVariants.{MiddleFolders, Alternatives}
 use Rattle.deny_globs.specs.declared.token.Token.TheOpen.{Token-F}
-use Rattle.deny_globs.specs.declared.token.Token.TheViews.{out-Token, outs-Character, outs-AnyCharacter, outs-OneOf, outs-AnyText, outs-LeadingFolders, outs-TrailingPath, outs-MiddleFolders, outs-Alternatives}
+use Rattle.deny_globs.specs.declared.token.Token.TheViews.{out-Token, outs-Character, outs-AnyCharacter, outs-OneOf}
+use Rattle.deny_globs.specs.declared.token.Token.TheViews.{outs-AnyText, outs-LeadingFolders, outs-TrailingPath}
+use Rattle.deny_globs.specs.declared.token.Token.TheViews.{outs-MiddleFolders, outs-Alternatives}
 use Rattle.deny_globs.specs.Characters.{slash}
 use Rattle.deny_globs.specs.Compiled.{OneFits, the_first, another}
-use Rattle.deny_globs.specs.Fits.{IsText, itself, any_character, member, any_text, at_the_start, below_the_start, at_the_end, one_slash, between_slashes, alternative, IsTextOfOne, first, later, Fits}
+use Rattle.deny_globs.specs.Fits.{IsText, itself, any_character, member, any_text, at_the_start, below_the_start}
+use Rattle.deny_globs.specs.Fits.{at_the_end, one_slash, between_slashes, alternative, IsTextOfOne, first, later, Fits}
 use Rattle.deny_globs.proofs.FitsLemmas.{split_first, fits_joined, split_list, fits_list, character_takes}
 
 pub above_fits : (rest : List Token) (cs : List ℕ) → Fits rest cs ⊎ Fits (AnyText ∷ Character slash ∷ rest) cs

@@ -1,9 +1,11 @@
 -- The loop that reads a pattern.
-use Rattle.std.proofs.Common.{◌≡◌, ℕ, suc, ◌+◌, ◌<◌, ◌≤◌, List, [], ◌∷◌, ◌++◌, length, map, take, drop, Bool, true, false, refl, sym, ap, subst, inl, inr, ◌∙◌, arith, rules, cond}
+use Rattle.std.proofs.Common.{◌≡◌, ℕ, suc, ◌+◌, ◌<◌, ◌≤◌, List, [], ◌∷◌, ◌++◌, length, map, take, drop, Bool, true}
+use Rattle.std.proofs.Common.{false, refl, sym, ap, subst, inl, inr, ◌∙◌, arith, rules, cond}
 use Rattle.std.specs.Prelude.{reverse, Some, None, nat_lt}
 use Rattle.std.proofs.Math.Nat.{zero-add}
 use Rattle.std.proofs.Math.Seq.{take-length, drop-length}
 use Rattle.std.proofs.lemmas.List.{take-append-drop, length-take-le, map-append, reverse-append, length-reverse}
+use Rattle.deny_lists.proofs.Options.{some_inj}
 use Rattle.deny_globs.specs.declared.token.Token.{Token}
 use Rattle.deny_globs.specs.declared.piece.Piece.{Piece}
 use Rattle.deny_globs.specs.declared.piece.Piece.TheVariants.{Token as Whole, Middle, Open, Comma, Close}
@@ -14,9 +16,11 @@ use Rattle.deny_globs.specs.declared.reading.Reading.{Reading}
 use Rattle.deny_globs.specs.Characters.{open_brace, close_brace}
 use Rattle.deny_globs.specs.Pieces.{IsPiece, open_braces, close_braces, Spells, nothing}
 use Rattle.deny_globs.specs.Tree.{most_braces, IsGlob}
-use Rattle.deny_globs.specs.Faults.{open_behind, outermost, IsReadTo, FirstFault, unopened, too_deep, nothing_escaped, falling_range, unclosed_class, unclosed_brace}
+use Rattle.deny_globs.specs.Faults.{open_behind, outermost, IsReadTo, FirstFault, unopened, too_deep, nothing_escaped}
+use Rattle.deny_globs.specs.Faults.{falling_range, unclosed_class, unclosed_brace}
 use Rattle.deny_globs.specs.Steps.{IsPieceOf, IsStop, escapes_nothing, has_falling_range, is_unclosed}
-use Rattle.deny_globs.specs.Reading.{inner_first, after_piece, brace_of, parted, closed, outermost_of, StopsEnd, ReadsOn, StopsNext, StopsGlob}
+use Rattle.deny_globs.specs.Reading.{inner_first, after_piece, brace_of, parted, closed, outermost_of, StopsEnd}
+use Rattle.deny_globs.specs.Reading.{ReadsOn, StopsNext, StopsGlob}
 use Rattle.deny_globs.proofs.Braces.{state, start, brace, run, run_more, tokens_of_run, after_some}
 use Rattle.deny_globs.proofs.Seams.{seam}
 use Rattle.deny_globs.proofs.Spelling.{spells_more}
@@ -216,9 +220,6 @@ none_open : (opened : List Opened) (tokens : List Token) → closed opened token
 none_open [] tokens e = refl
 none_open (b ∷ opened) tokens e = cc
 
-number_is : {a i : ℕ} → Some a ≡ Some i → a ≡ i
-number_is e = cc
-
 parts_of : (rest : List ℕ) (size : ℕ) (front : List ℕ) → take size rest ≡ front → rest ≡ front ++ drop size rest
 parts_of rest size front e = sym (take-append-drop size rest) ∙ ap (λ l. l ++ drop size rest) e
 
@@ -237,7 +238,7 @@ bad_brace characters next old i size (Open at) so p a b =
     let deep : length inner ≡ most_braces = too_many (nat_lt (length inner) most_braces) (length inner)
     (state (brace at old.tokens [] ∷ inner) []) refl a few in
     let place : length (take next characters) ≡ i = length-take-le next characters so.within ∙ sym shape.1
-    ∙ number_is b in
+    ∙ some_inj b in
     subst (FirstFault characters) place
     (too_deep (take next characters) (drop size (drop next characters)) (places inner)
     (subst (λ l. IsReadTo characters (take next characters) l (places inner)) rest (read_to characters next old so))
@@ -249,7 +250,7 @@ bad_brace characters next old i size (Close at) so p a b =
     size (close_brace ∷ []) shape.0 in
     let none : places inner ≡ [] = ap places (none_open inner old.tokens a) in
     let place : length (take next characters) ≡ i = length-take-le next characters so.within ∙ sym shape.1
-    ∙ number_is b in
+    ∙ some_inj b in
     subst (FirstFault characters) place
     (unopened (take next characters) (drop size (drop next characters))
     (subst (IsReadTo characters (take next characters) (close_brace ∷ drop size (drop next characters))) none

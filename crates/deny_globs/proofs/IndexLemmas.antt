@@ -1,5 +1,6 @@
 -- The index, as globs come.
-use Rattle.std.proofs.Common.{◌≡◌, ◌≢◌, ℕ, zero, suc, ◌<◌, ◌≤◌, List, [], ◌∷◌, ◌++◌, length, map, true, false, refl, sym, ap, subst, inl, inr, ◌∙◌, arith}
+use Rattle.std.proofs.Common.{◌≡◌, ◌≢◌, ℕ, zero, suc, ◌<◌, ◌≤◌, List, [], ◌∷◌, ◌++◌, length, map, true, false, refl}
+use Rattle.std.proofs.Common.{sym, ap, subst, inl, inr, ◌∙◌, arith}
 use Rattle.std.specs.Prelude.{◌⊎◌, ◌↔◌, Some, None, Contains, slice_get, slice_set, insert}
 use Rattle.std.specs.List.{AllByRecursion}
 use Rattle.std.specs.Ordering.{nat_cmp}
@@ -10,35 +11,19 @@ use Rattle.std.proofs.lemmas.Bool.{cases_eq, cases_lt, false≢true}
 use Rattle.std.proofs.lemmas.Option.{slice_get_within}
 use Rattle.std.proofs.lemmas.List.Elements.{Contains-push, Contains-push_cases, Contains-append_left}
 use Rattle.deny_lists.proofs.Orders.{not_below_itself}
+use Rattle.deny_lists.proofs.Options.{none_is_no_some, some_inj}
+use Rattle.deny_lists.proofs.Places.{slice_get-push_last, slice_get-push_left, slice_get-push_cases, slice_get-set_same}
+use Rattle.deny_lists.proofs.Places.{slice_get-set_other, slice_get-set_cases}
+use Rattle.deny_lists.proofs.Members.{contains_none}
 use Rattle.deny_globs.proofs.FindLemmas.{ascends}
 use Rattle.deny_globs.specs.declared.extensions.Extension.{Extension}
-use Rattle.deny_globs.specs.Index.{name_of, Ascend, IsNamedAt, IsGap, IsNumbered, IsExtended, numbered, inserted, IsIndexed}
+use Rattle.deny_globs.specs.Index.{name_of, Ascend, IsNamedAt, IsGap, IsNumbered, IsExtended, numbered, inserted}
+use Rattle.deny_globs.specs.Index.{IsIndexed}
 use Rattle.deny_globs.specs.Patterns.{Pattern, characters_of}
 use Rattle.deny_globs.specs.Sets.{is_simple, extension_of, AsksFor}
 use Rattle.deny_globs.proofs.Ascending.{sorted_push, sorted_none}
-use Rattle.deny_globs.proofs.MarkedLemmas.{contains_none}
-use Rattle.deny_globs.proofs.StateLemmas.{slice_get_last, some_inj}
 
 -- what is at a place of a list with one item more
-
-pub get_more : {A : Type 0} (xs : List A) (y : A) (i : ℕ) {x : A} → slice_get (xs ++ y ∷ []) i ≡ Some x
-    → (slice_get xs i ≡ Some x) ⊎ ((i ≡ length xs) × (x ≡ y))
-get_more [] y zero e = inr (refl, sym (some_inj e))
-get_more [] y (suc i) e = cc
-get_more (x ∷ xs) y zero e = inl e
-get_more (x ∷ xs) y (suc i) e = elim (get_more xs y i e) [
-  | inl old ↦ inl old
-  | inr last ↦ inr (ap suc last.0, last.1)
-]
-
-pub get_left : {A : Type 0} (xs : List A) (y : A) (i : ℕ) {x : A} → slice_get xs i ≡ Some x
-    → slice_get (xs ++ y ∷ []) i ≡ Some x
-get_left [] y i e = cc
-get_left (x ∷ xs) y zero e = e
-get_left (x ∷ xs) y (suc i) e = get_left xs y i e
-
-pub get_last : {A : Type 0} (xs : List A) (y : A) (i : ℕ) → i ≡ length xs → slice_get (xs ++ y ∷ []) i ≡ Some y
-get_last xs y i e = subst (λ k. slice_get (xs ++ y ∷ []) k ≡ Some y) (sym e) (slice_get_last xs y)
 
 -- the names, as an extension is put at a place
 
@@ -76,33 +61,6 @@ names_set (x ∷ xs) zero e new at same = ap (λ n. n ∷ map name_of xs) (same 
 names_set (x ∷ xs) (suc p) e new at same = ap (λ ns. x.name ∷ ns) (names_set xs p e new at same)
 
 -- what stands where then
-
-pub get_set : {A : Type 0} (xs : List A) (p : ℕ) (new : A) (q : ℕ) (x : A)
-    → slice_get (slice_set xs p new) q ≡ Some x → ((q ≡ p) × (x ≡ new)) ⊎ ((q ≢ p) × (slice_get xs q ≡ Some x))
-get_set [] p new q x at = absurd (none_some at) where
-  none_some : {A : Type 0} {y : A} → None ≡ Some y → ⊥
-  none_some e = cc
-get_set (y ∷ ys) zero new zero x at = inl (refl, sym (some_inj at))
-get_set (y ∷ ys) zero new (suc q) x at = inr (λ e. omega (arith, e), at)
-get_set (y ∷ ys) (suc p) new zero x at = inr (λ e. omega (arith, e), at)
-get_set (y ∷ ys) (suc p) new (suc q) x at = elim (get_set ys p new q x at) [
-  | inl same ↦ inl (ap suc same.0, same.1)
-  | inr other ↦ inr (λ e. other.0 (omega (arith, e)), other.1)
-]
-
-pub set_here : {A : Type 0} (xs : List A) (p : ℕ) (new : A) (e : A) → slice_get xs p ≡ Some e
-    → slice_get (slice_set xs p new) p ≡ Some new
-set_here [] p new e at = cc
-set_here (y ∷ ys) zero new e at = refl
-set_here (y ∷ ys) (suc p) new e at = set_here ys p new e at
-
-pub set_other : {A : Type 0} (xs : List A) (p : ℕ) (new : A) (q : ℕ) → q ≢ p
-    → slice_get (slice_set xs p new) q ≡ slice_get xs q
-set_other [] p new q other = refl
-set_other (y ∷ ys) zero new zero other = absurd (other refl)
-set_other (y ∷ ys) zero new (suc q) other = refl
-set_other (y ∷ ys) (suc p) new zero other = refl
-set_other (y ∷ ys) (suc p) new (suc q) other = set_other ys p new q (λ e. other (ap suc e))
 
 get_inserted : (xs : List Extension) (p : ℕ) (y : Extension) (q : ℕ) (x : Extension)
     → slice_get (insert xs p y) q ≡ Some x → (x ≡ y) ⊎ ((r : ℕ) × (slice_get xs r ≡ Some x))
@@ -153,12 +111,12 @@ one_name extensions p q {x} {y} up at there other same = elim (cases_lt q p) [
 asks_more : (globs : List Pattern) (glob : Pattern) (i : ℕ) (name : List ℕ) → AsksFor globs i name
     → AsksFor (globs ++ glob ∷ []) i name
 asks_more globs glob i name h = record
-    { glob = h.glob; at = get_left globs glob i h.at; simple = h.simple; named = h.named }
+    { glob = h.glob; at = slice_get-push_left globs glob i h.at; simple = h.simple; named = h.named }
 
 asks_by : (globs : List Pattern) (glob : Pattern) (i : ℕ) (name : List ℕ) → AsksFor (globs ++ glob ∷ []) i name →
     AsksFor globs i name ⊎
     ((i ≡ length globs) × (is_simple (characters_of glob) ≡ true) × (extension_of (characters_of glob) ≡ name))
-asks_by globs glob i name h = elim (get_more globs glob i h.at) [
+asks_by globs glob i name h = elim (slice_get-push_cases globs glob i h.at) [
   | inl old ↦ inl (record { glob = h.glob; at = old; simple = h.simple; named = h.named })
   | inr new ↦ inr (
     new.0,
@@ -177,7 +135,7 @@ asks_old globs glob i name isnt h = elim (asks_by globs glob i name h) [
 asks_last : (globs : List Pattern) (glob : Pattern) (i : ℕ) (name : List ℕ) → is_simple (characters_of glob) ≡ true
     → i ≡ length globs → extension_of (characters_of glob) ≡ name → AsksFor (globs ++ glob ∷ []) i name
 asks_last globs glob i name is last named = record
-    { glob = glob; at = get_last globs glob i last; simple = is; named = named }
+    { glob = glob; at = slice_get-push_last globs glob i last; simple = is; named = named }
 
 asks_inside : (globs : List Pattern) (i : ℕ) (name : List ℕ) → AsksFor globs i name → i < length globs
 asks_inside globs i name h = slice_get_within globs i h.glob h.at
@@ -256,62 +214,68 @@ indexed_numbered : (globs : List Pattern) (glob : Pattern) (old new : List Exten
     → is_simple (characters_of glob) ≡ true → extension_of (characters_of glob) ≡ name →
     IsIndexed globs old → IsNamedAt old name place → IsNumbered old place (length globs) new
     → IsIndexed (globs ++ glob ∷ []) new
-indexed_numbered globs glob old new name place is named x at n = subst (IsIndexed (globs ++ glob ∷ [])) (sym n.whole) (indexed_from up each all) where
-  own : Extension
-  own = record { name = n.extension.name; globs = n.extension.globs ++ length globs ∷ [] }
+indexed_numbered globs glob old new name place is named x at n =
+    subst (IsIndexed (globs ++ glob ∷ [])) (sym n.whole) (indexed_from up each all) where
+      own : Extension
+      own = record { name = n.extension.name; globs = n.extension.globs ++ length globs ∷ [] }
 
-  own_named : n.extension.name ≡ name
-  own_named = ap name_of (some_inj (sym n.at ∙ at.at)) ∙ at.named
+      own_named : n.extension.name ≡ name
+      own_named = ap name_of (some_inj (sym n.at ∙ at.at)) ∙ at.named
 
-  up : Ascend (slice_set old place own)
-  up = subst (IsStrictlySortedBy (slice_cmp nat_cmp)) (sym (names_set old place n.extension own n.at refl)) x.ascend
+      up : Ascend (slice_set old place own)
+      up = subst (IsStrictlySortedBy (slice_cmp nat_cmp)) (sym (names_set old place n.extension own n.at refl)) x.ascend
 
-  entry : IsEntry (globs ++ glob ∷ []) own
-  entry = entry_more globs glob n.extension.name n.extension.globs is (named ∙ sym own_named)
-      (x.once place n.extension n.at) (x.numbers place n.extension n.at)
+      entry : IsEntry (globs ++ glob ∷ []) own
+      entry = entry_more globs glob n.extension.name n.extension.globs is (named ∙ sym own_named)
+          (x.once place n.extension n.at) (x.numbers place n.extension n.at)
 
-  each : (p : ℕ) (e : Extension) → slice_get (slice_set old place own) p ≡ Some e → IsEntry (globs ++ glob ∷ []) e
-  each p e there = elim (get_set old place own p e there) [
-    | inl same ↦ subst (IsEntry (globs ++ glob ∷ [])) (sym same.1) entry
-    | inr other ↦ entry_kept globs glob e
-        (λ h. one_name old place p x.ascend n.at other.1 other.0 (sym h ∙ (named ∙ sym own_named)))
-        (entry_of p e x other.1)
-  ]
+      each : (p : ℕ) (e : Extension) → slice_get (slice_set old place own) p ≡ Some e → IsEntry (globs ++ glob ∷ []) e
+      each p e there = elim (slice_get-set_cases old place own p e there) [
+        | inl same ↦ subst (IsEntry (globs ++ glob ∷ [])) (sym same.1) entry
+        | inr other ↦ entry_kept globs glob e
+            (λ h. one_name old place p x.ascend n.at other.1 other.0 (sym h ∙ (named ∙ sym own_named)))
+            (entry_of p e x other.1)
+      ]
 
-  place_of : (i : ℕ) (wanted : List ℕ)
-      → AsksFor globs i wanted ⊎
-      ((i ≡ length globs) × (is_simple (characters_of glob) ≡ true) × (extension_of (characters_of glob) ≡ wanted)) →
-      (p : ℕ) × IsNamedAt (slice_set old place own) wanted p
-  place_of i wanted (inr h) = (
-    place,
-    record { extension = own; at = set_here old place own n.extension n.at; named = own_named ∙ (sym named ∙ h.2) },
-  )
-  place_of i wanted (inl h) = let f = x.all i wanted h in elim (cases_eq f.0 place) [
-    | inl same ↦
-        let e : n.extension ≡ f.1.extension = some_inj (sym n.at
-        ∙ subst (λ k. slice_get old k ≡ Some f.1.extension) same f.1.at) in (
-          place,
+      place_of : (i : ℕ) (wanted : List ℕ)
+          → AsksFor globs i wanted ⊎
+          ((i ≡ length globs) × (is_simple (characters_of glob) ≡ true) × (extension_of (characters_of glob) ≡ wanted)) →
+          (p : ℕ) × IsNamedAt (slice_set old place own) wanted p
+      place_of i wanted (inr h) = (
+        place,
+        record {
+          extension = own;
+          at = slice_get-set_same old place own n.extension n.at;
+          named = own_named
+              ∙ (sym named ∙ h.2);
+        },
+      )
+      place_of i wanted (inl h) = let f = x.all i wanted h in elim (cases_eq f.0 place) [
+        | inl same ↦
+            let e : n.extension ≡ f.1.extension = some_inj (sym n.at
+            ∙ subst (λ k. slice_get old k ≡ Some f.1.extension) same f.1.at) in (
+              place,
+              record {
+                extension = own;
+                at = slice_get-set_same old place own n.extension n.at;
+                named = ap name_of e
+                    ∙ f.1.named;
+              },
+            )
+        | inr other ↦ (
+          f.0,
           record {
-            extension = own;
-            at = set_here old place own n.extension n.at;
-            named = ap name_of e
-                ∙ f.1.named;
+            extension = f.1.extension;
+            at = slice_get-set_other old place own f.0 other
+                ∙ f.1.at;
+            named = f.1.named;
           },
         )
-    | inr other ↦ (
-      f.0,
-      record {
-        extension = f.1.extension;
-        at = set_other old place own f.0 other
-            ∙ f.1.at;
-        named = f.1.named;
-      },
-    )
-  ]
+      ]
 
-  all : (i : ℕ) (wanted : List ℕ) → AsksFor (globs ++ glob ∷ []) i wanted
-      → (p : ℕ) × IsNamedAt (slice_set old place own) wanted p
-  all i wanted h = place_of i wanted (asks_by globs glob i wanted h)
+      all : (i : ℕ) (wanted : List ℕ) → AsksFor (globs ++ glob ∷ []) i wanted
+          → (p : ℕ) × IsNamedAt (slice_set old place own) wanted p
+      all i wanted h = place_of i wanted (asks_by globs glob i wanted h)
 
 gap_apart : (old : List Extension) (name : List ℕ) (place : ℕ) → IsGap old name place → (p : ℕ) (y : Extension)
     → slice_get old p ≡ Some y → y.name ≡ name → ⊥
@@ -331,7 +295,8 @@ indexed_inserted : (globs : List Pattern) (glob : Pattern) (old new : List Exten
     → new ≡ insert old place (record { name = name; globs = length globs ∷ [] })
     → IsIndexed (globs ++ glob ∷ []) new
 indexed_inserted globs glob old new name place is named x gap e =
-    subst (IsIndexed (globs ++ glob ∷ [])) (sym e) (indexed_from (ascend_inserted old place own x.ascend gap.below gap.above) each all) where
+    subst (IsIndexed (globs ++ glob ∷ [])) (sym e)
+    (indexed_from (ascend_inserted old place own x.ascend gap.below gap.above) each all) where
       own : Extension
       own = record { name = name; globs = length globs ∷ [] }
 
@@ -376,9 +341,6 @@ none_ascend : Ascend []
 unfolding IsStrictlySortedBy
 none_ascend = tt
 
-pub none_at : {A P : Type 0} {x : A} → None ≡ Some x → P
-none_at h = cc
-
 pub indexed_none : {extensions : List Extension} → extensions ≡ [] → IsIndexed [] extensions
 indexed_none {extensions} e = subst (IsIndexed []) (sym e)
-    (indexed_from none_ascend (λ p x at. none_at at) (λ i name h. none_at h.at))
+    (indexed_from none_ascend (λ p x at. none_is_no_some at) (λ i name h. none_is_no_some h.at))

@@ -1,5 +1,6 @@
 -- The characters that tokens begin and end with, token by token.
-use Rattle.std.proofs.Common.{◌≡◌, ℕ, zero, suc, ◌+◌, ◌<◌, List, [], ◌∷◌, ◌++◌, length, drop, get_or, reverse, sym, ap, subst, ◌∙◌, append_assoc, arith, rules}
+use Rattle.std.proofs.Common.{◌≡◌, ℕ, zero, suc, ◌+◌, ◌<◌, List, [], ◌∷◌, ◌++◌, length, drop, get_or, reverse, sym, ap}
+use Rattle.std.proofs.Common.{subst, ◌∙◌, append_assoc, arith, rules}
 use Rattle.std.proofs.lemmas.List.{reverse-append}
 use Rattle.deny_globs.specs.declared.token.Token.{Token}
 use Rattle.deny_globs.specs.declared.token.Token.TheVariants.{Character}
@@ -13,7 +14,8 @@ drop_suc [] k p is e = absurd (omega (arith, p))
 drop_suc (t ∷ ts) zero p is e = ap (λ x. x ∷ ts) (sym is ∙ e)
 drop_suc (t ∷ ts) (suc k) p is e = drop_suc ts k (omega (arith, p)) is e
 
-pub drop_token : (tokens : List Token) (k : ℕ) {token : Token} {c : ℕ} → k < length tokens → token ≡ get_or tokens k token
+pub drop_token : (tokens : List Token) (k : ℕ) {token : Token} {c : ℕ} → k < length tokens
+    → token ≡ get_or tokens k token
     → token ≡ Character c → drop k tokens ≡ Character c ∷ drop (k + 1) tokens
 drop_token tokens k {token} {c} p is e = subst (λ n. drop k tokens ≡ Character c ∷ drop n tokens) one
     (drop_suc tokens k p is e) where

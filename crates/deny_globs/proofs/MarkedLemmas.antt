@@ -1,13 +1,13 @@
 -- The marks at a place, as they come and go.
-use Rattle.std.proofs.Common.{◌≡◌, ◌≢◌, ℕ, zero, suc, ◌+◌, ◌<◌, ◌≤◌, List, [], ◌∷◌, ◌++◌, length, take, set, replicate, Bool, true, false, refl, sym, ap, subst, inl, inr, ◌∙◌, arith, rules, append-nil, append_assoc, get_or}
+use Rattle.std.proofs.Common.{◌≡◌, ◌≢◌, ℕ, zero, suc, ◌+◌, ◌<◌, ◌≤◌, List, [], ◌∷◌, ◌++◌, length, take, set, replicate}
+use Rattle.std.proofs.Common.{Bool, true, false, refl, sym, ap, subst, inl, inr, ◌∙◌, arith, rules, append-nil}
+use Rattle.std.proofs.Common.{append_assoc, get_or}
 use Rattle.std.specs.Prelude.{◌⊎◌, Contains}
 use Rattle.std.proofs.lemmas.Bool.{cases_eq, false≢true}
 use Rattle.std.proofs.lemmas.List.{length_push, take_more, get_or-set_same, get_or-set_other, get_or_default}
 use Rattle.std.proofs.lemmas.List.Elements.{Contains-push, Contains-push_cases, Contains-append_left}
+use Rattle.deny_lists.proofs.Members.{contains_none}
 use Rattle.deny_globs.specs.Marked.{marks_in, IsMarked, Extends, Marks, MarksIf}
-
-pub contains_none : {A P : Type 0} {x : A} → Contains [] x → P
-contains_none h = absurd (omega (arith, h.1))
 
 pub contains_in : {A : Type 0} {old new : List A} {x : A} → new ≡ old → Contains new x → Contains old x
 contains_in {A} {old} {new} {x} e h = subst (λ l. Contains l x) e h
@@ -169,13 +169,14 @@ starts_only starts {now} {later} {n} old is m i h = go (m.only i h) where
 pub starts_all : (starts : List ℕ) {now later : List ℕ} (k n : ℕ) → k < length starts → n ≡ get_or starts k 0
     → ((i : ℕ) → Contains (take k starts) i → Contains now i) → Marks n now later → (i : ℕ)
     → Contains (take (k + 1) starts) i → Contains later i
-starts_all starts {now} {later} k n less is old m i h = go (Contains-push_cases (take k starts) n i (subst (λ l. Contains l i) more h)) where
-  more : take (k + 1) starts ≡ take k starts ++ n ∷ []
-  more = take_more starts k 0 less ∙ ap (λ x. take k starts ++ x ∷ []) (sym is)
+starts_all starts {now} {later} k n less is old m i h =
+    go (Contains-push_cases (take k starts) n i (subst (λ l. Contains l i) more h)) where
+      more : take (k + 1) starts ≡ take k starts ++ n ∷ []
+      more = take_more starts k 0 less ∙ ap (λ x. take k starts ++ x ∷ []) (sym is)
 
-  go : Contains (take k starts) i ⊎ (n ≡ i) → Contains later i
-  go (inl c) = extended_contains m.extends (old i c)
-  go (inr e) = subst (λ x. Contains later x) e m.is_there
+      go : Contains (take k starts) i ⊎ (n ≡ i) → Contains later i
+      go (inl c) = extended_contains m.extends (old i c)
+      go (inr e) = subst (λ x. Contains later x) e m.is_there
 
 pub take_all : {A : Type 0} (xs : List A) (k : ℕ) → length xs ≤ k → take k xs ≡ xs
 take_all [] zero p = refl

@@ -1,29 +1,34 @@
 -- A text has one list of tokens at most, and none where it has a fault.
-use Rattle.std.proofs.Common.{◌≡◌, cond, ℕ, zero, suc, ◌+◌, ◌<◌, ◌≤◌, List, [], ◌∷◌, ◌++◌, length, get_or, drop, Bool, true, false, IsTrue, refl, sym, ap, subst, ◌∙◌, arith, rules, append_assoc, append-nil, length-append, add_assoc}
+use Rattle.std.proofs.Common.{◌≡◌, cond, ℕ, zero, suc, ◌+◌, ◌<◌, List, [], ◌∷◌, ◌++◌, length, get_or, drop, Bool, true}
+use Rattle.std.proofs.Common.{false, IsTrue, refl, sym, ap, subst, ◌∙◌, arith, rules, append_assoc, append-nil}
+use Rattle.std.proofs.Common.{length-append, add_assoc}
 use Rattle.std.specs.Prelude.{◌==◌, ◌&&◌, not, Option, Some, None, option_map, option_and_then, nat_le, nat_lt}
 use Rattle.std.specs.List.{list_all, prefix_len}
 use Rattle.std.proofs.Math.Nat.{zero-add, add-zero}
 use Rattle.std.proofs.lemmas.List.{append_cancel_right, drop_at}
+use Rattle.std.proofs.lemmas.Bool.{not-true, cond-true, cond-false}
+use Rattle.deny_lists.proofs.Numbers.{nat_le-true}
+use Rattle.deny_lists.proofs.Booleans.{and-true, and-false}
 use Rattle.deny_globs.specs.declared.token.CharacterRange.{CharacterRange}
-use Rattle.deny_globs.specs.declared.token.Token.TheVariants.{Character, AnyCharacter, OneOf, AnyText, LeadingFolders, TrailingPath}
+use Rattle.deny_globs.specs.declared.token.Token.TheVariants.{Character, AnyCharacter, OneOf, AnyText, LeadingFolders}
+use Rattle.deny_globs.specs.declared.token.Token.TheVariants.{TrailingPath}
 use Rattle.deny_globs.specs.declared.piece.Piece.{Piece}
 use Rattle.deny_globs.specs.declared.piece.Piece.TheVariants.{Token, Middle, Open, Comma, Close}
-use Rattle.deny_globs.specs.Characters.{slash, star, question_mark, backslash, open_bracket, close_bracket, comma, open_brace, close_brace, is_mark, is_plain, begins, begins_mark}
-use Rattle.deny_globs.specs.Pieces.{may_be_member, begins_range, AreMembers, no_more, range, one, IsMark, negates, no_mark, is_leading, is_trailing, is_middle, IsPiece, question, leading, stars, middle, trailing, lone_slash, escaped, class, open_braces, parting_comma, close_braces, itself, Spells, nothing, next}
-use Rattle.deny_globs.specs.Faults.{is_empty, FallsAt, falls, open_behind, IsReadTo, FirstFault, unopened, too_deep, nothing_escaped, falling_range, unclosed_class, unclosed_brace}
+use Rattle.deny_globs.specs.Characters.{slash, star, question_mark, backslash, open_bracket, close_bracket, comma}
+use Rattle.deny_globs.specs.Characters.{open_brace, close_brace, is_mark, is_plain, begins, begins_mark}
+use Rattle.deny_globs.specs.Pieces.{may_be_member, begins_range, AreMembers, no_more, range, one, IsMark, negates}
+use Rattle.deny_globs.specs.Pieces.{no_mark, is_leading, is_trailing, is_middle, IsPiece, question, leading, stars}
+use Rattle.deny_globs.specs.Pieces.{middle, trailing, lone_slash, escaped, class, open_braces, parting_comma}
+use Rattle.deny_globs.specs.Pieces.{close_braces, itself, Spells, nothing, next}
+use Rattle.deny_globs.specs.Faults.{is_empty, FallsAt, falls, open_behind, IsReadTo, FirstFault, unopened, too_deep}
+use Rattle.deny_globs.specs.Faults.{nothing_escaped, falling_range, unclosed_class, unclosed_brace}
 use Rattle.deny_globs.specs.declared.token.Token.{Token as Token'}
 use Rattle.deny_globs.specs.Tree.{most_braces, IsGlob}
 use Rattle.deny_globs.proofs.Braces.{state, start, run, run_of_tokens}
 use Rattle.deny_globs.proofs.GlobLemmas.{some_is, open_run}
-use Rattle.deny_globs.proofs.ClassLemmas.{same_number, and_yes, and_no}
+use Rattle.deny_globs.proofs.ClassLemmas.{same_number}
 use Rattle.deny_globs.proofs.PieceLemmas.{is_star}
 use Rattle.deny_globs.proofs.ClassLemmas.{both_true}
-
-pub cond_true : {A : Type 0} (b : Bool) (x y : A) → b ≡ true → cond b x y ≡ x
-cond_true b x y e = ap (λ c. cond c x y) e
-
-pub cond_false : {A : Type 0} (b : Bool) (x y : A) → b ≡ false → cond b x y ≡ y
-cond_false b x y e = ap (λ c. cond c x y) e
 
 -- the members of a class, after so many characters of the last one, and what is behind the `]`
 
@@ -56,32 +61,29 @@ with_one : (r : CharacterRange) (rs : List CharacterRange) (o : Members)
 with_one r rs None = refl
 with_one r rs (Some p) = refl
 
-pub nat_le_true : (a b : ℕ) → a ≤ b → nat_le a b ≡ true
-nat_le_true a b p = search rules
-
 pub nat_le_false : (a b : ℕ) → b < a → nat_le a b ≡ false
 nat_le_false a b p = search rules
 
 members_read : {is_first : Bool} {cs behind : List ℕ} {ranges : List CharacterRange}
     → AreMembers is_first cs behind ranges →
     members_at is_first zero (cs ++ behind) ≡ with_ranges ranges (members_at (is_first && is_empty cs) zero behind)
-members_read {is_first} {behind = behind} no_more = ap (λ b. members_at b zero behind) (sym (and_yes is_first))
+members_read {is_first} {behind = behind} no_more = ap (λ b. members_at b zero behind) (sym (and-true is_first))
     ∙ sym (with_none (members_at (is_first && true) zero behind))
 members_read {is_first} {behind = behind} (range {first = x} {last = y} {cs} {ranges = rs} m l le rest) =
     let r : CharacterRange = record { first = x; last = y } in
-    cond_true (may_be_member is_first x) _ _ m
-    ∙ cond_true (not (y == close_bracket)) _ _ l
-    ∙ cond_true (nat_le x y) _ _ (nat_le_true x y le)
+    cond-true (may_be_member is_first x) _ _ m
+    ∙ cond-true (not (y == close_bracket)) _ _ l
+    ∙ cond-true (nat_le x y) _ _ (nat_le-true x y le)
     ∙ ap (with_range r) (members_read rest)
     ∙ with_one r rs (members_at false zero behind)
-    ∙ ap (λ b. with_ranges (r ∷ rs) (members_at b zero behind)) (sym (and_no is_first))
+    ∙ ap (λ b. with_ranges (r ∷ rs) (members_at b zero behind)) (sym (and-false is_first))
 members_read {is_first} {behind = behind} (one {c = c} {cs} {ranges = rs} m b rest) =
     let r : CharacterRange = record { first = c; last = c } in
-    cond_true (may_be_member is_first c) _ _ m
-    ∙ cond_false (begins_range (cs ++ behind)) _ _ b
+    cond-true (may_be_member is_first c) _ _ m
+    ∙ cond-false (begins_range (cs ++ behind)) _ _ b
     ∙ ap (with_range r) (members_read rest)
     ∙ with_one r rs (members_at false zero behind)
-    ∙ ap (λ b. with_ranges (r ∷ rs) (members_at b zero behind)) (sym (and_no is_first))
+    ∙ ap (λ b. with_ranges (r ∷ rs) (members_at b zero behind)) (sym (and-false is_first))
 
 not_empty : (cs : List ℕ) → 0 < length cs → is_empty cs ≡ false
 not_empty [] p = absurd (omega arith)
@@ -101,8 +103,8 @@ members_open cs ranges m = ap (members_at true zero) (sym (append-nil cs)) ∙ m
 members_falling : {body : List ℕ} {into : ℕ} → FallsAt body into → members_at true zero body ≡ None
 members_falling (falls {ranges} members behind x y m may l lt) =
     members_read m
-    ∙ ap (with_ranges ranges) (cond_true (may_be_member (is_empty members) x) _ _ may
-    ∙ cond_true (not (y == close_bracket)) _ _ l ∙ cond_false (nat_le x y) _ _ (nat_le_false x y lt))
+    ∙ ap (with_ranges ranges) (cond-true (may_be_member (is_empty members) x) _ _ may
+    ∙ cond-true (not (y == close_bracket)) _ _ l ∙ cond-false (nat_le x y) _ _ (nat_le_false x y lt))
 
 -- what the characters begin with, if with a piece, and what is behind it
 
@@ -143,10 +145,6 @@ piece_at at (c ∷ cs) =
     (cond (c == close_brace) (Some (Close at, cs))
     (Some (Token (Character c), cs)))))))))
 
-not_true : (b : Bool) → not b ≡ true → b ≡ false
-not_true true e = cc
-not_true false e = refl
-
 plain_at : (at c : ℕ) (cs : List ℕ) → IsTrue (is_plain c) → IsTrue (not (c == slash))
     → piece_at at (c ∷ cs) ≡ Some (Token (Character c), cs)
 plain_at at c cs p s =
@@ -156,23 +154,23 @@ plain_at at c cs p s =
     let e = both_true (not (c == open_bracket)) _ d.1 in
     let f = both_true (not (c == comma)) _ e.1 in
     let g = both_true (not (c == open_brace)) (not (c == close_brace)) f.1 in
-    cond_false (c == question_mark) _ _ (not_true _ a.0)
-    ∙ cond_false (c == star) _ _ (not_true _ b.0)
-    ∙ cond_false (c == slash) _ _ (not_true _ s)
-    ∙ cond_false (c == backslash) _ _ (not_true _ d.0)
-    ∙ cond_false (c == open_bracket) _ _ (not_true _ e.0)
-    ∙ cond_false (c == comma) _ _ (not_true _ f.0)
-    ∙ cond_false (c == open_brace) _ _ (not_true _ g.0)
-    ∙ cond_false (c == close_brace) _ _ (not_true _ g.1)
+    cond-false (c == question_mark) _ _ (not-true _ a.0)
+    ∙ cond-false (c == star) _ _ (not-true _ b.0)
+    ∙ cond-false (c == slash) _ _ (not-true _ s)
+    ∙ cond-false (c == backslash) _ _ (not-true _ d.0)
+    ∙ cond-false (c == open_bracket) _ _ (not-true _ e.0)
+    ∙ cond-false (c == comma) _ _ (not-true _ f.0)
+    ∙ cond-false (c == open_brace) _ _ (not-true _ g.0)
+    ∙ cond-false (c == close_brace) _ _ (not-true _ g.1)
 
 stars_len : (front behind : List ℕ) → IsTrue (list_all (λ c. c == star) front) → begins star behind ≡ false
     → prefix_len is_star (front ++ behind) ≡ length front
 stars_len [] [] a b = refl
-stars_len [] (c ∷ behind) a b = cond_false (c == star) _ _ b
+stars_len [] (c ∷ behind) a b = cond-false (c == star) _ _ b
 stars_len (c ∷ front) behind a b =
     let h = both_true (c == star) (list_all (λ d. d == star) front) a in
     let n : prefix_len is_star (front ++ behind) ≡ length front = stars_len front behind h.1 b in
-    cond_true (c == star) _ _ h.0 ∙ (omega arith)
+    cond-true (c == star) _ _ h.0 ∙ (omega arith)
 
 stars_begun : (at : ℕ) (front behind : List ℕ) → IsTrue (list_all (λ c. c == star) front) → 0 < length front
     → begins star behind ≡ false → is_leading at (length front) behind ≡ false →
@@ -187,16 +185,16 @@ stars_begun at (c ∷ front) behind a p b l =
     let no : is_leading at (prefix_len is_star ((c ∷ front) ++ behind))
     (drop (prefix_len is_star ((c ∷ front) ++ behind)) ((c ∷ front) ++ behind)) ≡ false =
     ap (is_leading at (prefix_len is_star ((c ∷ front) ++ behind))) d ∙ ap (λ k. is_leading at k behind) n ∙ l in
-    cond_false (c == question_mark) _ _ (ap (λ x. x == question_mark) is)
-    ∙ cond_true (c == star) _ _ h.0
-    ∙ cond_false (is_leading at (prefix_len is_star ((c ∷ front) ++ behind))
+    cond-false (c == question_mark) _ _ (ap (λ x. x == question_mark) is)
+    ∙ cond-true (c == star) _ _ h.0
+    ∙ cond-false (is_leading at (prefix_len is_star ((c ∷ front) ++ behind))
     (drop (prefix_len is_star ((c ∷ front) ++ behind)) ((c ∷ front) ++ behind))) _ _ no
     ∙ ap (λ r. Some (Token AnyText, r)) d
 
 class_marked : {mark : List ℕ} {negated : Bool} (body : List ℕ) → IsMark mark body negated
     → class_at (mark ++ body) ≡ class_of negated (members_at true zero body)
-class_marked body (negates {c} m) = cond_true (is_mark c) _ _ m
-class_marked body (no_mark b) = cond_false (begins_mark body) _ _ b
+class_marked body (negates {c} m) = cond-true (is_mark c) _ _ m
+class_marked body (no_mark b) = cond-false (begins_mark body) _ _ b
 
 class_begun : (at : ℕ) (negated : Bool) (ranges : List CharacterRange) (mark members behind : List ℕ)
     → IsMark mark (members ++ close_bracket ∷ behind) negated → AreMembers true members (close_bracket ∷ behind) ranges
@@ -217,7 +215,7 @@ begun {behind = behind} (leading e) = subst
 begun {at} {front} {behind} (stars a p b l) = stars_begun at front behind a p b l
 begun middle = refl
 begun trailing = refl
-begun {behind = behind} (lone_slash t m) = cond_false (is_trailing behind) _ _ t ∙ cond_false (is_middle behind) _ _ m
+begun {behind = behind} (lone_slash t m) = cond-false (is_trailing behind) _ _ t ∙ cond-false (is_middle behind) _ _ m
 begun escaped = refl
 begun {at} {behind = behind} (class {negated = negated} {ranges} mark members m a p) = class_begun at negated ranges
     mark members behind m a p
@@ -340,13 +338,14 @@ open_append [] more opened = refl
 open_append (Token t ∷ first) more opened = open_append first more opened
 open_append (Middle ∷ first) more opened = open_append first more opened
 open_append (Comma ∷ first) more opened = open_append first more opened
-open_append (Open at ∷ first) more opened = cases (nat_lt (length opened) most_braces) (open_append first more (at ∷ opened)) where
-  cases : (b : Bool) → open_behind (at ∷ opened) (first ++ more) ≡ option_and_then (λ o. open_behind o more)
-      (open_behind (at ∷ opened) first) →
-      cond b (open_behind (at ∷ opened) (first ++ more)) None ≡ option_and_then (λ o. open_behind o more)
-      (cond b (open_behind (at ∷ opened) first) None)
-  cases true e = e
-  cases false e = refl
+open_append (Open at ∷ first) more opened =
+    cases (nat_lt (length opened) most_braces) (open_append first more (at ∷ opened)) where
+      cases : (b : Bool) → open_behind (at ∷ opened) (first ++ more) ≡ option_and_then (λ o. open_behind o more)
+          (open_behind (at ∷ opened) first) →
+          cond b (open_behind (at ∷ opened) (first ++ more)) None ≡ option_and_then (λ o. open_behind o more)
+          (cond b (open_behind (at ∷ opened) first) None)
+      cases true e = e
+      cases false e = refl
 open_append (Close at ∷ first) more [] = refl
 open_append (Close at ∷ first) more (o ∷ opened) = open_append first more opened
 

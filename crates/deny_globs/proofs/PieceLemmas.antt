@@ -1,5 +1,6 @@
 -- Where a piece stands in what is left of a pattern.
-use Rattle.std.proofs.Common.{◌≡◌, cond, ℕ, ◌+◌, ◌<◌, ◌≤◌, List, [], ◌∷◌, ◌++◌, length, get_or, take, drop, Bool, true, false, IsTrue, refl, sym, ap, subst, inl, inr, ◌∙◌, arith, append_assoc, length-append}
+use Rattle.std.proofs.Common.{◌≡◌, cond, ℕ, ◌+◌, ◌<◌, ◌≤◌, List, [], ◌∷◌, ◌++◌, length, get_or, take, drop, Bool, true}
+use Rattle.std.proofs.Common.{false, IsTrue, refl, sym, ap, subst, inl, inr, ◌∙◌, arith, append_assoc, length-append}
 use Rattle.std.specs.Prelude.{◌==◌, ◌&&◌}
 use Rattle.std.proofs.lemmas.List.{take-append-drop, length-take-le, take_at, drop_at}
 use Rattle.deny_globs.specs.declared.token.CharacterRange.{CharacterRange}
@@ -12,10 +13,11 @@ use Rattle.deny_globs.specs.declared.piece.Piece.TheVariants.{Token, Middle}
 use Rattle.deny_globs.specs.declared.stop.Stop.{Stop}
 use Rattle.deny_globs.specs.declared.stop.Stop.TheVariants.{Fault, Memory}
 use Rattle.deny_globs.specs.Characters.{slash, star, backslash, open_bracket, close_bracket, begins, begins_mark}
-use Rattle.deny_globs.specs.Pieces.{AreMembers, IsMark, negates, no_mark, is_leading, is_trailing, is_middle, IsPiece, leading, stars, middle, trailing, lone_slash, escaped, class}
-use Rattle.deny_globs.specs.Steps.{IsClosedClass, StopsMembers, IsPieceOf, IsStop, escapes_nothing, has_falling_range, is_unclosed, StopsPiece, piece_of_class}
-use Rattle.deny_globs.proofs.ClassLemmas.{same_number}
-use Rattle.deny_globs.proofs.ClassLemmas.{both_true, and_true}
+use Rattle.deny_globs.specs.Pieces.{AreMembers, IsMark, negates, no_mark, is_leading, is_trailing, is_middle, IsPiece}
+use Rattle.deny_globs.specs.Pieces.{leading, stars, middle, trailing, lone_slash, escaped, class}
+use Rattle.deny_globs.specs.Steps.{IsClosedClass, StopsMembers, IsPieceOf, IsStop, escapes_nothing, has_falling_range}
+use Rattle.deny_globs.specs.Steps.{is_unclosed, StopsPiece, piece_of_class}
+use Rattle.deny_globs.proofs.ClassLemmas.{same_number, both_true, and_true}
 
 pub piece_of : (at : ℕ) (rest : List ℕ) (size : ℕ) (piece : Piece) (front behind : List ℕ) → rest ≡ front ++ behind
     → size ≡ length front → 0 < size → IsPiece at front behind piece → IsPieceOf at rest size piece

@@ -1,21 +1,31 @@
 -- A text has one first fault.
-use Rattle.std.proofs.Common.{◌≡◌, cond, ℕ, zero, suc, ◌+◌, List, [], ◌∷◌, ◌++◌, length, get_or, take, drop, Bool, true, false, refl, sym, ap, subst, inl, inr, ◌∙◌, arith, append_assoc, append-nil, length-append, add_assoc}
-use Rattle.std.specs.Prelude.{◌⊎◌, ◌==◌, ◌&&◌, not, Option, Some, None, option_and_then, nat_le, nat_lt, encode_utf8_all}
-use Rattle.std.specs.Prelude.{Result, Err}
+use Rattle.std.proofs.Common.{◌≡◌, cond, ℕ, zero, suc, ◌+◌, List, [], ◌∷◌, ◌++◌, length, get_or, take, drop, Bool, true}
+use Rattle.std.proofs.Common.{false, refl, sym, ap, subst, inl, inr, ◌∙◌, arith, append_assoc, append-nil}
+use Rattle.std.proofs.Common.{length-append, add_assoc}
+use Rattle.std.specs.Prelude.{◌⊎◌, ◌==◌, ◌&&◌, not, Option, Some, None, option_and_then, nat_le, nat_lt}
+use Rattle.std.specs.Prelude.{encode_utf8_all, Result, Err}
 use Rattle.std.specs.Str.{chars}
 use Rattle.deny_globs.specs.declared.error.GlobError.{GlobError}
 use Rattle.deny_globs.specs.declared.error.GlobError.TheVariants.{Bad}
 use Rattle.std.proofs.Math.Nat.{zero-add, add-zero}
 use Rattle.std.proofs.lemmas.List.{append_cancel_right}
+use Rattle.std.proofs.lemmas.Bool.{cond-true, cond-false}
+use Rattle.deny_lists.proofs.Options.{some_inj}
+use Rattle.deny_lists.proofs.Booleans.{and-true, and-false}
+use Rattle.deny_lists.proofs.Numbers.{nat_le-true}
 use Rattle.deny_globs.specs.declared.token.CharacterRange.{CharacterRange}
 use Rattle.deny_globs.specs.declared.piece.Piece.{Piece}
 use Rattle.deny_globs.specs.declared.piece.Piece.TheVariants.{Open, Close}
-use Rattle.deny_globs.specs.Characters.{backslash, open_bracket, close_bracket, open_brace, close_brace, is_mark, begins_mark}
-use Rattle.deny_globs.specs.Pieces.{may_be_member, begins_range, AreMembers, no_more, range, one, IsMark, negates, no_mark, Spells, nothing, next}
-use Rattle.deny_globs.specs.Faults.{is_empty, FallsAt, falls, open_behind, outermost, IsReadTo, FirstFault, unopened, too_deep, nothing_escaped, falling_range, unclosed_class, unclosed_brace, IsBadAt}
+use Rattle.deny_globs.specs.Characters.{backslash, open_bracket, close_bracket, open_brace, close_brace, is_mark}
+use Rattle.deny_globs.specs.Characters.{begins_mark}
+use Rattle.deny_globs.specs.Pieces.{may_be_member, begins_range, AreMembers, no_more, range, one, IsMark, negates}
+use Rattle.deny_globs.specs.Pieces.{no_mark, Spells, nothing, next}
+use Rattle.deny_globs.specs.Faults.{is_empty, FallsAt, falls, open_behind, outermost, IsReadTo, FirstFault, unopened}
+use Rattle.deny_globs.specs.Faults.{too_deep, nothing_escaped, falling_range, unclosed_class, unclosed_brace, IsBadAt}
 use Rattle.deny_globs.specs.Tree.{most_braces}
-use Rattle.deny_globs.proofs.ClassLemmas.{same_number, and_yes, and_no}
-use Rattle.deny_globs.proofs.Once.{begun_by, piece_at, class_at, class_of, Members, with_range, members_at, same_piece, begun, first_of_pair, open_append, cond_true, cond_false, nat_le_true, nat_le_false}
+use Rattle.deny_globs.proofs.ClassLemmas.{same_number}
+use Rattle.deny_globs.proofs.Once.{begun_by, piece_at, class_at, class_of, Members, with_range, members_at, same_piece}
+use Rattle.deny_globs.proofs.Once.{begun, first_of_pair, open_append, nat_le_false}
 
 -- how the members of a class end, so many characters into it: none where a `]` closes it
 
@@ -38,23 +48,23 @@ end_read : {is_first : Bool} {cs behind : List ℕ} {ranges : List CharacterRang
     → AreMembers is_first cs behind ranges →
     members_end is_first zero into (cs ++ behind) ≡ members_end (is_first && is_empty cs) zero (into + length cs) behind
 end_read {is_first} {behind = behind} into no_more =
-    ap (λ b. members_end b zero into behind) (sym (and_yes is_first))
+    ap (λ b. members_end b zero into behind) (sym (and-true is_first))
     ∙ ap (λ n. members_end (is_first && true) zero n behind) (sym (add-zero into))
 end_read {is_first} {behind = behind} into (range {first = x} {last = y} {cs} m l le rest) =
-    cond_true (may_be_member is_first x) _ _ m
-    ∙ cond_true (not (y == close_bracket)) _ _ l
-    ∙ cond_true (nat_le x y) _ _ (nat_le_true x y le)
+    cond-true (may_be_member is_first x) _ _ m
+    ∙ cond-true (not (y == close_bracket)) _ _ l
+    ∙ cond-true (nat_le x y) _ _ (nat_le-true x y le)
     ∙ end_read (suc (suc (suc into))) rest
     ∙ ap (λ n. members_end false zero n behind)
     (let h : suc (suc (suc into)) + length cs ≡ into + suc (suc (suc (length cs))) = omega arith in h)
-    ∙ ap (λ b. members_end b zero (into + suc (suc (suc (length cs)))) behind) (sym (and_no is_first))
+    ∙ ap (λ b. members_end b zero (into + suc (suc (suc (length cs)))) behind) (sym (and-false is_first))
 end_read {is_first} {behind = behind} into (one {c = c} {cs} m b rest) =
-    cond_true (may_be_member is_first c) _ _ m
-    ∙ cond_false (begins_range (cs ++ behind)) _ _ b
+    cond-true (may_be_member is_first c) _ _ m
+    ∙ cond-false (begins_range (cs ++ behind)) _ _ b
     ∙ end_read (suc into) rest
     ∙ ap (λ n. members_end false zero n behind) (let h : suc into + length cs ≡ into + suc (length cs) = omega arith in
     h)
-    ∙ ap (λ b'. members_end b' zero (into + suc (length cs)) behind) (sym (and_no is_first))
+    ∙ ap (λ b'. members_end b' zero (into + suc (length cs)) behind) (sym (and-false is_first))
 
 end_open : (cs : List ℕ) (ranges : List CharacterRange) → AreMembers true cs [] ranges
     → members_end true zero 0 cs ≡ goes_on
@@ -63,9 +73,9 @@ end_open cs ranges m = ap (members_end true zero 0) (sym (append-nil cs)) ∙ en
 end_falling : {body : List ℕ} {into : ℕ} → FallsAt body into → members_end true zero 0 body ≡ falls_at into
 end_falling (falls {ranges} members behind x y m may l lt) =
     end_read 0 m
-    ∙ cond_true (may_be_member (is_empty members) x) _ _ may
-    ∙ cond_true (not (y == close_bracket)) _ _ l
-    ∙ cond_false (nat_le x y) _ _ (nat_le_false x y lt)
+    ∙ cond-true (may_be_member (is_empty members) x) _ _ may
+    ∙ cond-true (not (y == close_bracket)) _ _ l
+    ∙ cond-false (nat_le x y) _ _ (nat_le_false x y lt)
     ∙ ap falls_at (zero-add (length members))
 
 -- where the text is bad at what comes next, if it is
@@ -107,11 +117,11 @@ class_place_is : {mark : List ℕ} {negated : Bool} (at : ℕ) (opened body : Li
     → class_place at opened (mark ++ body) ≡ end_place (at + 1 + length mark) (outermost opened at)
     (members_end true zero 0 body)
 class_place_is at opened body (negates {c} m) =
-    cond_true (is_mark c) _ _ m
+    cond-true (is_mark c) _ _ m
     ∙ ap (λ n. end_place n (outermost opened at) (members_end true zero 0 body))
     (let h : at + 2 ≡ at + 1 + 1 = omega arith in h)
 class_place_is at opened body (no_mark b) =
-    cond_false (begins_mark body) _ _ b
+    cond-false (begins_mark body) _ _ b
     ∙ ap (λ n. end_place n (outermost opened at) (members_end true zero 0 body)) (sym (add-zero (at + 1)))
 
 deep_place : (at : ℕ) (opened : List ℕ) → length opened ≡ most_braces
@@ -325,9 +335,6 @@ begins_with {at} {left = left} (next front more is rest) = (
 spells_none : {at : ℕ} {cs left : List ℕ} → Spells at cs left [] → cs ≡ []
 spells_none nothing = refl
 
-same_some : {a b : ℕ} → Some a ≡ Some b → a ≡ b
-same_some e = cc
-
 same_list : {a b : List ℕ} → Some a ≡ Some b → a ≡ b
 same_list e = cc
 
@@ -344,7 +351,7 @@ at_same characters i j s t l = cases l.more l.pieces l.spelled where
       let opened : s.opened
       ≡ t.opened = same_list (sym s.read.braces ∙ ap (open_behind []) (sym (append-nil s.read.pieces) ∙ sym e)
       ∙ t.read.braces) in
-      same_some (sym s.is_at ∙ ap (λ b. place_at (length b) s.opened s.behind) before
+      some_inj (sym s.is_at ∙ ap (λ b. place_at (length b) s.opened s.behind) before
       ∙ ap (λ o. place_at (length t.before) o s.behind) opened ∙ ap (place_at (length t.before) t.opened) behind
       ∙ t.is_at)
   cases (q ∷ more) e sp =

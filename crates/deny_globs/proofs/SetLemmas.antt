@@ -1,5 +1,6 @@
 -- A set with a glob more, and what it finds.
-use Rattle.std.proofs.Common.{◌≡◌, ◌≢◌, ℕ, zero, suc, ◌+◌, ◌*◌, ◌^◌, ◌<◌, ◌≤◌, List, [], ◌∷◌, ◌++◌, length, map, Bool, true, false, get_or, refl, sym, ap, subst, inl, inr, ◌∙◌, arith, append-nil}
+use Rattle.std.proofs.Common.{◌≡◌, ◌≢◌, ℕ, zero, suc, ◌+◌, ◌*◌, ◌^◌, ◌<◌, ◌≤◌, List, [], ◌∷◌, ◌++◌, length, map, Bool}
+use Rattle.std.proofs.Common.{true, false, get_or, refl, sym, ap, subst, inl, inr, ◌∙◌, arith, append-nil}
 use Rattle.std.specs.Prelude.{◌⊎◌, ◌↔◌, Option, Some, None, Contains, IsSomeAnd, slice_get, if◌then◌else◌}
 use Rattle.std.specs.Option.{option_map}
 use Rattle.std.specs.Cmp.Lexicographic.{nat_list_cmp_total}
@@ -13,6 +14,9 @@ use Rattle.std.specs.Ordering.{nat_cmp}
 use Rattle.std.proofs.lemmas.Map.Keys.{IsStrictlyIncreasing-from_sorted}
 use Rattle.deny_lists.proofs.Sorted.{length-ascending}
 use Rattle.deny_lists.specs.Ascending.{Lists}
+use Rattle.deny_lists.proofs.Places.{slice_get-push_cases, slice_get-push_left, slice_get-push_last}
+use Rattle.deny_lists.proofs.Options.{none_is_no_some, some_inj}
+use Rattle.deny_lists.proofs.Members.{contains_none}
 use Rattle.deny_globs.specs.declared.extensions.Extension.{Extension}
 use Rattle.deny_globs.specs.declared.starts.Starts.{Starts}
 use Rattle.deny_globs.specs.declared.token.Token.{Token}
@@ -21,28 +25,31 @@ use Rattle.deny_globs.specs.declared.state.State.{State}
 use Rattle.deny_globs.specs.declared.state.State.TheVariants.{End}
 use Rattle.deny_globs.specs.Compiled.{Grows, IsPushed, IsBuilt, StandsFor, AddsStates}
 use Rattle.deny_globs.specs.Fits.{Fits, nothing}
-use Rattle.deny_globs.specs.Index.{name_of, IsNamedAt, IsGap, IsExtended, IsIndexed, AreCompiled, FitsSimply, NotesNamed, BoundsNamed, BoundsSimple, Indexes}
+use Rattle.deny_globs.specs.Index.{name_of, IsNamedAt, IsGap, IsExtended, IsIndexed, AreCompiled, FitsSimply}
+use Rattle.deny_globs.specs.Index.{NotesNamed, BoundsNamed, BoundsSimple, Indexes}
 use Rattle.deny_globs.specs.Patterns.{Pattern, characters_of, tokens_of}
-use Rattle.deny_globs.specs.Sets.{FitsAt, is_simple, extension_of, AsksFor, FitsOther, HasExtensions, weight, weight_of, KeepsBound, AreFitting, AreFirstFitting}
+use Rattle.deny_globs.specs.Sets.{FitsAt, is_simple, extension_of, AsksFor, FitsOther, HasExtensions, weight, weight_of}
+use Rattle.deny_globs.specs.Sets.{KeepsBound, AreFitting, AreFirstFitting}
 use Rattle.deny_globs.specs.Starts.{Starting, AddsStart, KeepsStarts, SomeStarts}
 use Rattle.deny_globs.specs.States.{end_of, Leads, ends}
 use Rattle.deny_globs.specs.Tree.{IsGlob}
 use Rattle.deny_globs.specs.Walk.{Notes}
-use Rattle.deny_globs.proofs.BuildLemmas.{grows_on, grows_push, length_grown, length_pushed, leads_grown, leads_ungrown, pushed_at}
+use Rattle.deny_globs.proofs.BuildLemmas.{grows_on, grows_push, length_grown, length_pushed, leads_grown, leads_ungrown}
+use Rattle.deny_globs.proofs.BuildLemmas.{pushed_at}
 use Rattle.deny_globs.proofs.FitsLemmas.{nothing_fits, split_list}
 use Rattle.deny_globs.proofs.FormLemmas.{one_from_fits, none_fits}
 use Rattle.deny_globs.proofs.GlobSizes.{glob_states}
-use Rattle.deny_globs.proofs.IndexLemmas.{get_more, get_left, get_last, none_at, no_asks, indexed_simple, indexed_other}
-use Rattle.deny_globs.proofs.MarkedLemmas.{contains_none, contains_in}
+use Rattle.deny_globs.proofs.IndexLemmas.{no_asks, indexed_simple, indexed_other}
+use Rattle.deny_globs.proofs.MarkedLemmas.{contains_in}
 use Rattle.deny_globs.proofs.SimpleLemmas.{simple_fits}
 use Rattle.deny_globs.proofs.StartLemmas.{none_start, tree_none}
-use Rattle.deny_globs.proofs.StateLemmas.{some_inj, Turn, ended, took, moved, turn}
+use Rattle.deny_globs.proofs.StateLemmas.{Turn, ended, took, moved, turn}
 use Rattle.deny_globs.proofs.WalkLemmas.{notes_same, notes_on, notes_none}
 
 globs_more : (globs : List Pattern) (glob : Pattern) → IsGlob (characters_of glob) (tokens_of glob)
     → ((i : ℕ) (g : Pattern) → slice_get globs i ≡ Some g → IsGlob (characters_of g) (tokens_of g)) →
     (i : ℕ) (g : Pattern) → slice_get (globs ++ glob ∷ []) i ≡ Some g → IsGlob (characters_of g) (tokens_of g)
-globs_more globs glob own old i g e = elim (get_more globs glob i e) [
+globs_more globs glob own old i g e = elim (slice_get-push_cases globs glob i e) [
   | inl h ↦ old i g h
   | inr same ↦ subst (λ p. IsGlob (characters_of p) (tokens_of p)) (sym same.1) own
 ]
@@ -61,12 +68,12 @@ weight_other glob isnt = ap (λ b. if b then 0 else 2 * length (characters_of gl
 other_more : (globs : List Pattern) (glob : Pattern) (i : ℕ) (path : List ℕ) → FitsOther globs i path
     → FitsOther (globs ++ glob ∷ []) i path
 other_more globs glob i path h = record
-    { glob = h.glob; at = get_left globs glob i h.at; not_simple = h.not_simple; fits = h.fits }
+    { glob = h.glob; at = slice_get-push_left globs glob i h.at; not_simple = h.not_simple; fits = h.fits }
 
 other_cases : (globs : List Pattern) (glob : Pattern) (i : ℕ) (path : List ℕ) → FitsOther (globs ++ glob ∷ []) i path →
     FitsOther globs i path ⊎
     ((i ≡ length globs) × (is_simple (characters_of glob) ≡ false) × Fits (tokens_of glob) path)
-other_cases globs glob i path h = elim (get_more globs glob i h.at) [
+other_cases globs glob i path h = elim (slice_get-push_cases globs glob i h.at) [
   | inl old ↦ inl (record { glob = h.glob; at = old; not_simple = h.not_simple; fits = h.fits })
   | inr new ↦ inr (
     new.0,
@@ -172,7 +179,7 @@ compiled_other globs glob states states' starts starts' isnt x a = record {
   at_new i path l (inr other) = absurd (none i path other l)
   at_new i path l (inl same) = record {
     glob = glob;
-    at = get_last globs glob i same;
+    at = slice_get-push_last globs glob i same;
     not_simple = isnt;
     fits = (own path).0 (subst (λ k. Leads states' k a.start path) same l);
   }
@@ -189,7 +196,12 @@ compiled_other globs glob states states' starts starts' isnt x a = record {
       ((i ≡ length globs) × (is_simple (characters_of glob) ≡ false) × Fits (tokens_of glob) path)
       → SomeStarts states' starts' i path
   from i path (inl h) = let s = (x.leads i path).1 h in
-      record { number = s.number; starts_here = a.started.kept path s.number s.starts_here; leads = leads_grown grows s.leads }
+      record {
+        number = s.number;
+        starts_here = a.started.kept path s.number s.starts_here;
+        leads =
+            leads_grown grows s.leads;
+      }
   from i path (inr h) = record {
     number = a.start;
     starts_here = a.started.added path h.2;
@@ -200,11 +212,11 @@ compiled_other globs glob states states' starts starts' isnt x a = record {
 pub compiled_none : {states : List State} {starts : Starts} → states ≡ [] → starts.beginnings.items ≡ []
     → starts.endings.items ≡ [] → AreCompiled [] states starts
 compiled_none {states} {starts} e f g = subst (λ s. AreCompiled [] s starts) (sym e) (record {
-  globs_are = λ i glob at. none_at at;
-  program = record { points = λ n s at. none_at at };
+  globs_are = λ i glob at. none_is_no_some at;
+  program = record { points = λ n s at. none_is_no_some at };
   are = record { beginnings = tree_none f; endings = tree_none g };
   within = λ path n h. absurd (none_start starts f g h);
-  leads = λ i path. (λ s. absurd (none_start starts f g s.starts_here), λ h. none_at h.at);
+  leads = λ i path. (λ s. absurd (none_start starts f g s.starts_here), λ h. none_is_no_some h.at);
   size = omega arith;
 })
 
@@ -229,11 +241,12 @@ pub index_kept : {globs globs' : List Pattern} {extensions extensions' : List Ex
     {old new : Starts} → IsIndexed globs extensions × AreCompiled globs states old → globs' ≡ globs →
     extensions' ≡ extensions → states' ≡ states → KeepsStarts old new
     → IsIndexed globs' extensions' × AreCompiled globs' states' new
-index_kept {globs} {globs'} {extensions} {extensions'} {states} {states'} {old} {new} x same extensions_are states_are keeps = (
-  subst (λ gs. IsIndexed gs extensions') (sym same) (subst (λ es. IsIndexed globs es) (sym extensions_are) x.0),
-  subst (λ gs. AreCompiled gs states' new) (sym same)
-      (subst (λ ss. AreCompiled globs ss new) (sym states_are) (compiled_kept x.1 keeps)),
-)
+index_kept {globs} {globs'} {extensions} {extensions'} {states} {states'} {old}
+    {new} x same extensions_are states_are keeps = (
+      subst (λ gs. IsIndexed gs extensions') (sym same) (subst (λ es. IsIndexed globs es) (sym extensions_are) x.0),
+      subst (λ gs. AreCompiled gs states' new) (sym same)
+          (subst (λ ss. AreCompiled globs ss new) (sym states_are) (compiled_kept x.1 keeps)),
+    )
 
 -- the whole index, with a glob more
 
@@ -253,7 +266,8 @@ indexes_simple {glob} {number} {name} {extensions} {extensions'} {states} {start
 
 pub adds_states : {glob : Pattern} {number end start : ℕ} {old mid new : List State} {starts starts' : Starts}
     {tokens spelled : List Token} → IsGlob (characters_of glob) (tokens_of glob) → IsPushed (End number) old mid end →
-    spelled ≡ tokens_of glob → IsBuilt spelled end mid new start → tokens ≡ spelled → AddsStart tokens start starts starts'
+    spelled ≡ tokens_of glob → IsBuilt spelled end mid new start → tokens ≡ spelled
+    → AddsStart tokens start starts starts'
     → AddsStates glob number old starts new starts'
 adds_states {glob} {number} {end} {start} {old} {mid} {new} {starts} {starts'} own pushed is built same a = record {
   is_glob = own;
@@ -358,7 +372,12 @@ first_of_none globs path {indices} e = subst (AreFirstFitting globs path) (sym e
 
 pub names_fewer : (globs : List Pattern) (extensions : List Extension) (names : List (List ℕ))
     → IsIndexed globs extensions → HasExtensions globs names → length extensions ≤ length names
-names_fewer globs extensions names x has = omega (arith, length-ascending nat_list_cmp_total (map name_of extensions) names x.ascend there, length-map extensions name_of) where
+names_fewer globs extensions names x has = omega (
+  arith,
+  length-ascending nat_list_cmp_total
+      (map name_of extensions) names x.ascend there,
+  length-map extensions name_of,
+) where
   mapped : (o : Option Extension) (z : List ℕ) → option_map name_of o ≡ Some z
       → (e : Extension) × (o ≡ Some e) × (e.name ≡ z)
   mapped None z e = cc

@@ -1,25 +1,25 @@
 -- A simple glob fits exactly the paths with its extension behind their last `.`.
-use Rattle.std.proofs.Common.{◌≡◌, ◌≢◌, ℕ, zero, suc, ◌+◌, ◌<◌, List, [], ◌∷◌, ◌++◌, length, take, drop, get_or, Bool, true, false, IsTrue, refl, sym, ap, subst, ◌∙◌, arith, rules}
+use Rattle.std.proofs.Common.{◌≡◌, ◌≢◌, ℕ, zero, suc, ◌+◌, ◌<◌, List, [], ◌∷◌, ◌++◌, length, take, drop, get_or, Bool}
+use Rattle.std.proofs.Common.{true, false, IsTrue, refl, sym, ap, subst, ◌∙◌, arith, rules}
 use Rattle.std.specs.Prelude.{◌↔◌, Option, Some, None, ◌==◌, ◌&&◌, not, nat_eq, if◌then◌else◌}
 use Rattle.std.specs.List.{list_all}
 use Rattle.std.specs.Char.{is_ascii_alphanumeric}
 use Rattle.std.proofs.lemmas.Bool.{false≢true}
+use Rattle.deny_lists.proofs.Options.{some_inj}
 use Rattle.deny_globs.specs.declared.token.Token.{Token}
 use Rattle.deny_globs.specs.declared.token.Token.TheVariants.{Character, AnyText}
 use Rattle.deny_globs.specs.declared.piece.Piece.{Piece}
 use Rattle.deny_globs.specs.declared.piece.Piece.TheVariants.{Token as Whole}
-use Rattle.deny_globs.specs.Characters.{slash, star, dot, question_mark, backslash, open_bracket, comma, open_brace, close_brace, is_plain}
+use Rattle.deny_globs.specs.Characters.{slash, star, dot, question_mark, backslash, open_bracket, comma, open_brace}
+use Rattle.deny_globs.specs.Characters.{close_brace, is_plain}
 use Rattle.deny_globs.specs.Fits.{any_text, Fits, nothing, joined, itself}
 use Rattle.deny_globs.specs.Index.{or_else, behind_last_dot}
-use Rattle.deny_globs.specs.Pieces.{stars, Spells, next}
-use Rattle.deny_globs.specs.Pieces.{itself as plain_piece, nothing as no_pieces}
+use Rattle.deny_globs.specs.Pieces.{stars, Spells, next, itself as plain_piece, nothing as no_pieces}
 use Rattle.deny_globs.specs.Sets.{is_simple, extension_of}
-use Rattle.deny_globs.specs.Tree.{IsGlob, AreTokens, token}
-use Rattle.deny_globs.specs.Tree.{nothing as no_tokens}
+use Rattle.deny_globs.specs.Tree.{IsGlob, AreTokens, token, nothing as no_tokens}
 use Rattle.deny_globs.proofs.ClassLemmas.{and_true, both_true}
 use Rattle.deny_globs.proofs.FitsLemmas.{split_first, fits_joined, nothing_fits, character_takes}
 use Rattle.deny_globs.proofs.Once.{glob_once}
-use Rattle.deny_globs.proofs.StateLemmas.{some_inj}
 
 same_is : (a b : ℕ) → IsTrue (nat_eq a b) → a ≡ b
 same_is a b h = search rules

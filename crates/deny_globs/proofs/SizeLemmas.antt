@@ -5,7 +5,11 @@ use Rattle.std.specs.List.{sum_by}
 use Rattle.std.proofs.lemmas.List.Sums.{sum-map, sum_by-cons}
 use Rattle.deny_globs.specs.declared.token.Class.{Class}
 use Rattle.deny_globs.specs.declared.token.Token.{Token, fold-roll-Token}
-use Rattle.deny_globs.specs.declared.token.Token.TheVariants.{Character, AnyCharacter, OneOf, AnyText, LeadingFolders, TrailingPath, MiddleFolders, Alternatives, rolls-Character, rolls-AnyCharacter, rolls-OneOf, rolls-AnyText, rolls-LeadingFolders, rolls-TrailingPath, rolls-MiddleFolders, rolls-Alternatives}
+use Rattle.deny_globs.specs.declared.token.Token.TheVariants.{Character, AnyCharacter, OneOf, AnyText, LeadingFolders}
+use Rattle.deny_globs.specs.declared.token.Token.TheVariants.{TrailingPath, MiddleFolders, Alternatives}
+use Rattle.deny_globs.specs.declared.token.Token.TheVariants.{rolls-Character, rolls-AnyCharacter, rolls-OneOf}
+use Rattle.deny_globs.specs.declared.token.Token.TheVariants.{rolls-AnyText, rolls-LeadingFolders, rolls-TrailingPath}
+use Rattle.deny_globs.specs.declared.token.Token.TheVariants.{rolls-MiddleFolders, rolls-Alternatives}
 use Rattle.deny_globs.specs.declared.token.Token.TheOpen as open_token
 use Rattle.deny_globs.specs.Sizes.{states_step, states_in, states_of, states_of_all}
 

@@ -1,5 +1,6 @@
 -- Pieces, one behind the other.
-use Rattle.std.proofs.Common.{◌≡◌, ℕ, ◌+◌, List, [], ◌∷◌, ◌++◌, length, refl, sym, ap, subst, ◌∙◌, append_assoc, append-nil, length-append, add_assoc}
+use Rattle.std.proofs.Common.{◌≡◌, ℕ, ◌+◌, List, [], ◌∷◌, ◌++◌, length, refl, sym, ap, subst, ◌∙◌, append_assoc}
+use Rattle.std.proofs.Common.{append-nil, length-append, add_assoc}
 use Rattle.std.proofs.Math.Nat.{add-zero}
 use Rattle.deny_globs.specs.declared.piece.Piece.{Piece}
 use Rattle.deny_globs.specs.Pieces.{IsPiece, Spells, nothing, next}

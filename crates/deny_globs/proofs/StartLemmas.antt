@@ -1,6 +1,8 @@
 -- The states at which walks start, as one comes.
 use Rattle.std.proofs.Common.{◌≡◌, ℕ, List, reverse, refl, sym, subst, inl, inr}
 use Rattle.std.specs.Prelude.{◌⊎◌, ◌↔◌, Contains, [], Some, slice_get}
+use Rattle.deny_lists.proofs.Options.{none_is_no_some}
+use Rattle.deny_lists.proofs.Members.{contains_none}
 use Rattle.deny_globs.specs.declared.starts.Starts.{Starts}
 use Rattle.deny_globs.specs.declared.state.State.{State}
 use Rattle.deny_globs.specs.declared.token.Token.{Token}
@@ -9,8 +11,6 @@ use Rattle.deny_globs.specs.Literals.{BeginsAll, EndsAll}
 use Rattle.deny_globs.specs.Starts.{AreStarts, Starting, KeepsStarts, AddsStart, SomeStarts}
 use Rattle.deny_globs.specs.States.{SomeLeads}
 use Rattle.deny_globs.specs.Words.{IsTree, Finds, ends_here, goes_on, Keeps, AddsWord}
-use Rattle.deny_globs.proofs.IndexLemmas.{none_at}
-use Rattle.deny_globs.proofs.MarkedLemmas.{contains_none}
 use Rattle.deny_globs.proofs.WordLemmas.{keeps_same}
 
 map_left : {A B C : Type 0} → (A → B) → A ⊎ C → B ⊎ C
@@ -85,8 +85,8 @@ added_ending {tokens} {own} {word} {old} {new} are ends adds same = record {
 -- nothing starts where nothing is
 
 no_node : {nodes : List Node} {number found : ℕ} {path : List ℕ} → nodes ≡ [] → Finds nodes number path found → ⊥
-no_node {number = number} e (ends_here node at has) = none_at (subst (λ l. slice_get l number ≡ Some node) e at)
-no_node {number = number} e (goes_on edge rest) = none_at
+no_node {number = number} e (ends_here node at has) = none_is_no_some (subst (λ l. slice_get l number ≡ Some node) e at)
+no_node {number = number} e (goes_on edge rest) = none_is_no_some
     (subst (λ l. slice_get l number ≡ Some edge.node) e edge.at)
 
 pub none_start : (starts : Starts) {path : List ℕ} {number : ℕ} → starts.beginnings.items ≡ []
@@ -95,7 +95,7 @@ none_start starts e f (inl h) = no_node e h
 none_start starts e f (inr h) = no_node f h
 
 pub tree_none : {nodes : List Node} → nodes ≡ [] → IsTree nodes
-tree_none {nodes} e = subst IsTree (sym e) (record { within = λ n c next edge. none_at edge.at })
+tree_none {nodes} e = subst IsTree (sym e) (record { within = λ n c next edge. none_is_no_some edge.at })
 
 -- the states that are found are those at which a walk starts
 

@@ -1,24 +1,16 @@
 -- What leads from a state to a glob's end, as states come behind.
-use Rattle.std.proofs.Common.{◌≡◌, ℕ, zero, suc, ◌<◌, ◌≤◌, List, [], ◌∷◌, ◌++◌, length, refl, sym, subst, inl, inr, ◌∙◌, arith, length-append}
+use Rattle.std.proofs.Common.{◌≡◌, ℕ, ◌<◌, ◌≤◌, List, [], ◌∷◌, ◌++◌, length, sym, subst, inl, inr, ◌∙◌, arith}
+use Rattle.std.proofs.Common.{length-append}
 use Rattle.std.specs.Prelude.{◌⊎◌, Some, slice_get}
 use Rattle.std.proofs.lemmas.Bool.{cases_lt}
 use Rattle.std.proofs.lemmas.Option.{slice_get_within}
+use Rattle.deny_lists.proofs.Options.{some_inj}
+use Rattle.deny_lists.proofs.Places.{slice_get-append_left, slice_get-push}
 use Rattle.deny_globs.specs.declared.state.State.{State}
-use Rattle.deny_globs.specs.declared.state.State.TheVariants.{End, Character, AnyCharacter, OneOf, AnyText, Either, Never}
+use Rattle.deny_globs.specs.declared.state.State.TheVariants.{End, Character, AnyCharacter, OneOf, AnyText, Either}
+use Rattle.deny_globs.specs.declared.state.State.TheVariants.{Never}
 use Rattle.deny_globs.specs.States.{IsAtOnce, IsBehind, Leads, ends, over, aside, PointsBelow}
 use Rattle.deny_globs.specs.Compiled.{IsProgram}
-
-pub slice_get_left : {A : Type 0} (xs ys : List A) (i : ℕ) → i < length xs → slice_get (xs ++ ys) i ≡ slice_get xs i
-slice_get_left [] ys i p = absurd (omega arith)
-slice_get_left (x ∷ xs) ys zero p = refl
-slice_get_left (x ∷ xs) ys (suc i) p = slice_get_left xs ys i (omega arith)
-
-pub slice_get_last : {A : Type 0} (xs : List A) (x : A) → slice_get (xs ++ x ∷ []) (length xs) ≡ Some x
-slice_get_last [] x = refl
-slice_get_last (y ∷ ys) x = slice_get_last ys x
-
-pub some_inj : {A : Type 0} {x y : A} → Some x ≡ Some y → x ≡ y
-some_inj e = cc
 
 -- the states that come next are below a state, or it is one itself
 at_once_below : (n : ℕ) (state : State) (number : ℕ) → PointsBelow n state → IsAtOnce state number → number < n
@@ -58,20 +50,20 @@ behind_in {states} number c {next} {state} program at h =
 pub leads_more : {old : List State} {glob number : ℕ} {cs : List ℕ} (more : List State) → Leads old glob number cs
     → Leads (old ++ more) glob number cs
 leads_more {old} {glob} {number} more (ends at) = ends
-    (slice_get_left old more number (slice_get_within old number _ at) ∙ at)
+    (slice_get-append_left old more number (slice_get_within old number _ at) ∙ at)
 leads_more {old} {glob} {number} more (over state at h l) = over state
-    (slice_get_left old more number (slice_get_within old number _ at) ∙ at) h (leads_more more l)
+    (slice_get-append_left old more number (slice_get_within old number _ at) ∙ at) h (leads_more more l)
 leads_more {old} {glob} {number} more (aside state at h l) = aside state
-    (slice_get_left old more number (slice_get_within old number _ at) ∙ at) h (leads_more more l)
+    (slice_get-append_left old more number (slice_get_within old number _ at) ∙ at) h (leads_more more l)
 
 pub leads_before : {old : List State} (more : List State) {glob number : ℕ} {cs : List ℕ} → IsProgram old
     → number < length old → Leads (old ++ more) glob number cs → Leads old glob number cs
-leads_before {old} more {glob} {number} program p (ends at) = ends (sym (slice_get_left old more number p) ∙ at)
+leads_before {old} more {glob} {number} program p (ends at) = ends (sym (slice_get-append_left old more number p) ∙ at)
 leads_before {old} more {glob} {number} program p (over state at h l) =
-    let here = sym (slice_get_left old more number p) ∙ at in
+    let here = sym (slice_get-append_left old more number p) ∙ at in
     over state here h (leads_before more program (behind_in number _ program here h) l)
 leads_before {old} more {glob} {number} program p (aside state at h l) =
-    let here = sym (slice_get_left old more number p) ∙ at in
+    let here = sym (slice_get-append_left old more number p) ∙ at in
     aside state here h (leads_before more program (at_once_in number program here h) l)
 
 -- what a known state leads to
@@ -102,9 +94,9 @@ pub push_program : (old : List State) (state : State) → IsProgram old → Poin
 push_program old state program p = record { points = each } where
   each : (number : ℕ) (other : State) → slice_get (old ++ state ∷ []) number ≡ Some other → PointsBelow number other
   each number other at = elim (inside_or_last old state number (slice_get_within _ number other at)) [
-    | inl inside ↦ program.points number other (sym (slice_get_left old (state ∷ []) number inside) ∙ at)
+    | inl inside ↦ program.points number other (sym (slice_get-append_left old (state ∷ []) number inside) ∙ at)
     | inr last ↦
-        let same : state ≡ other = some_inj (sym (slice_get_last old state)
+        let same : state ≡ other = some_inj (sym (slice_get-push old state)
         ∙ subst (λ n. slice_get (old ++ state ∷ []) n ≡ Some other) last at) in
         subst (λ n. PointsBelow n other) (sym last) (subst (PointsBelow (length old)) same p)
   ]

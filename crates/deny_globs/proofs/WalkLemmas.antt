@@ -1,25 +1,25 @@
 -- What the walk finds, place by place.
-use Rattle.std.proofs.Common.{◌≡◌, ℕ, zero, suc, ◌+◌, ◌*◌, ◌<◌, ◌≤◌, List, [], ◌∷◌, ◌++◌, length, take, drop, Bool, true, refl, sym, ap, subst, inl, inr, ◌∙◌, arith, get_or}
+use Rattle.std.proofs.Common.{◌≡◌, ℕ, zero, suc, ◌+◌, ◌*◌, ◌<◌, ◌≤◌, List, [], ◌∷◌, ◌++◌, length, take, drop, Bool}
+use Rattle.std.proofs.Common.{true, refl, sym, ap, subst, inl, inr, ◌∙◌, arith, get_or}
 use Rattle.std.specs.Prelude.{◌⊎◌, ◌↔◌, Some, None, Contains, nat_eq, slice_get}
 use Rattle.std.proofs.lemmas.Bool.{cases_lt, false≢true}
 use Rattle.std.proofs.lemmas.List.{take_more, get_or_append_left, get_or_default}
 use Rattle.std.proofs.lemmas.List.Elements.{Contains-get_or, Contains-push, Contains-push_cases, Contains-append_left}
 use Rattle.std.proofs.lemmas.Option.{slice_get_read}
+use Rattle.deny_lists.proofs.Members.{tail-same, contains_none}
+use Rattle.deny_lists.proofs.Options.{some_inj}
 use Rattle.deny_globs.specs.declared.state.State.{State}
-use Rattle.deny_globs.specs.declared.state.State.TheVariants.{End, Character, AnyCharacter, OneOf, AnyText, Either, Never}
+use Rattle.deny_globs.specs.declared.state.State.TheVariants.{End, Character, AnyCharacter, OneOf, AnyText, Either}
+use Rattle.deny_globs.specs.declared.state.State.TheVariants.{Never}
 use Rattle.deny_globs.specs.declared.token.Class.{Class}
 use Rattle.deny_globs.specs.Class.{class_takes}
 use Rattle.deny_globs.specs.Marked.{Extends, Marks, MarksIf}
 use Rattle.deny_globs.specs.States.{end_of, IsAtOnce, IsBehind, Leads, ends, over, aside, SomeLeads}
 use Rattle.deny_globs.specs.Walk.{first_passes, StepsOver, HasEnd, Passes, Notes}
-use Rattle.deny_globs.proofs.MarkedLemmas.{contains_none, extends_same, extends_on, extended_contains}
-use Rattle.deny_globs.proofs.StateLemmas.{some_inj}
+use Rattle.deny_globs.proofs.MarkedLemmas.{extends_same, extends_on, extended_contains}
 
 head_same : {A : Type 0} {x y : A} {xs ys : List A} → x ∷ xs ≡ y ∷ ys → x ≡ y
 head_same e = cc
-
-tail_same : {A : Type 0} {x y : A} {xs ys : List A} → x ∷ xs ≡ y ∷ ys → xs ≡ ys
-tail_same e = cc
 
 nil_is : {A P : Type 0} {x : A} {xs : List A} → [] ≡ x ∷ xs → P
 nil_is e = cc
@@ -254,7 +254,7 @@ advance {states} {rest} {now} {next} {glob} {number} closed e same h
     (over {next = t} {c = d} {cs = es} state at b l) = record {
       number = t;
       is_marked = closed.behind number t glob d es state h at (sym same) b l;
-      leads = subst (λ x. Leads states glob t x) (tail_same (same ∙ e)) l;
+      leads = subst (λ x. Leads states glob t x) (tail-same (same ∙ e)) l;
     }
 advance {states} {rest} {now} {next} {glob} {number} closed e same h (aside {next = t} state at b l) =
     advance closed e same (closed.at_once number t glob state h at b (subst (λ x. Leads states glob t x) same l)) l
@@ -296,7 +296,8 @@ at_first_place only all = record {
   );
 }
 
-pub drop_one : (path : List ℕ) (place : ℕ) → place < length path → (c : ℕ) × (drop place path ≡ c ∷ drop (suc place) path)
+pub drop_one : (path : List ℕ) (place : ℕ) → place < length path
+    → (c : ℕ) × (drop place path ≡ c ∷ drop (suc place) path)
 drop_one [] place p = absurd (omega arith)
 drop_one (c ∷ cs) zero p = (c, refl)
 drop_one (c ∷ cs) (suc place) p = drop_one cs place (omega (arith, p))
@@ -317,19 +318,20 @@ no_more {glob = glob} e at s = nothing_leads e ((at.leads glob).0 s)
 pub at_next_place : {states : List State} {starts path : List ℕ} (place : ℕ) {rest before now next : List ℕ}
     → place < length path → rest ≡ drop place path → IsAtPlace states starts path place before →
     Passes states rest before now next → IsAtPlace states starts path (place + 1) next
-at_next_place {states} {starts} {path} place {rest} {before} {now} {next} less is at passes = subst (λ n. IsAtPlace states starts path n next) one here where
-  one : suc place ≡ place + 1
-  one = omega arith
+at_next_place {states} {starts} {path} place {rest} {before} {now} {next} less is at passes =
+    subst (λ n. IsAtPlace states starts path n next) one here where
+      one : suc place ≡ place + 1
+      one = omega arith
 
-  here : IsAtPlace states starts path (suc place) next
-  here = record {
-    leads = λ glob.
-        let d = drop_one path place less in
-        let on = passes.on d.0 (drop (suc place) path) (is ∙ d.1) glob in (
-          λ s. on.0 (subst (λ r. SomeLeads states before glob r) (sym is) ((at.leads glob).0 s)),
-          λ s. (at.leads glob).1 (subst (λ r. SomeLeads states before glob r) is (on.1 s)),
-        );
-  }
+      here : IsAtPlace states starts path (suc place) next
+      here = record {
+        leads = λ glob.
+            let d = drop_one path place less in
+            let on = passes.on d.0 (drop (suc place) path) (is ∙ d.1) glob in (
+              λ s. on.0 (subst (λ r. SomeLeads states before glob r) (sym is) ((at.leads glob).0 s)),
+              λ s. (at.leads glob).1 (subst (λ r. SomeLeads states before glob r) is (on.1 s)),
+            );
+      }
 
 pub at_last_place : {states : List State} {starts path : List ℕ} (place : ℕ) {rest before now next : List ℕ}
     → place ≡ length path → rest ≡ drop (length path) path → IsAtPlace states starts path place before →
@@ -348,7 +350,12 @@ rest_at_end path is = is ∙ drop_all path
 
 pub notes_same : {P Q : ℕ → Type 0} {old new : List ℕ} → ((glob : ℕ) → P glob ↔ Q glob) → Notes P old new
     → Notes Q old new
-notes_same same notes = record { each = λ glob. (λ e. map_right (same glob).0 ((notes.each glob).0 e), λ h. (notes.each glob).1 (map_right (same glob).1 h)) } where
+notes_same same notes = record {
+  each = λ glob. (
+    λ e. map_right (same glob).0 ((notes.each glob).0 e),
+    λ h. (notes.each glob).1 (map_right (same glob).1 h),
+  );
+} where
   map_right : {A B C : Type 0} → (B → C) → A ⊎ B → A ⊎ C
   map_right f (inl a) = inl a
   map_right f (inr b) = inr (f b)
@@ -432,7 +439,8 @@ notes_end states {number} {kind} inside is notes = notes_same same notes where
   same glob = (λ e. at ∙ ap Some (is_end_of kind glob e), λ e. ap end_of (some_inj (sym at ∙ e)))
 
 -- one more of the marked
-pub notes_more : {states : List State} (marked : List ℕ) {k n : ℕ} {old mid new : List ℕ} → k < length marked → n ≡ get_or marked k 0 →
+pub notes_more : {states : List State} (marked : List ℕ) {k n : ℕ} {old mid new : List ℕ} → k < length marked
+    → n ≡ get_or marked k 0 →
     Notes (HasEnd states (take k marked)) old mid → Notes (λ glob. slice_get states n ≡ Some (End glob)) mid new
     → Notes (HasEnd states (take (k + 1) marked)) old new
 notes_more {states} marked {k} {n} {old} {mid} {new} less is first second = notes_on apart joined first second where
@@ -476,18 +484,19 @@ notes_back same notes = notes_same (λ glob. ((same glob).1, (same glob).0)) not
 pub notes_listed : (globs : List ℕ) {k n : ℕ} {old mid new : List ℕ} → k < length globs
     → n ≡ get_or globs k 0 → Notes (Contains (take k globs)) old mid → Notes (λ other. other ≡ n) mid new →
     Notes (Contains (take (k + 1) globs)) old new
-notes_listed globs {k} {n} less is first second = notes_on (λ glob h. apart glob (Contains-push_cases (take k globs) n glob (subst (λ l. Contains l glob) more h))) joined first second where
-  more : take (k + 1) globs ≡ take k globs ++ n ∷ []
-  more = take_more globs k 0 less ∙ ap (λ m. take k globs ++ m ∷ []) (sym is)
+notes_listed globs {k} {n} less is first second = notes_on (λ glob h. apart glob
+    (Contains-push_cases (take k globs) n glob (subst (λ l. Contains l glob) more h))) joined first second where
+      more : take (k + 1) globs ≡ take k globs ++ n ∷ []
+      more = take_more globs k 0 less ∙ ap (λ m. take k globs ++ m ∷ []) (sym is)
 
-  apart : (glob : ℕ) → Contains (take k globs) glob ⊎ (n ≡ glob) → Contains (take k globs) glob ⊎ (glob ≡ n)
-  apart glob (inl h) = inl h
-  apart glob (inr e) = inr (sym e)
+      apart : (glob : ℕ) → Contains (take k globs) glob ⊎ (n ≡ glob) → Contains (take k globs) glob ⊎ (glob ≡ n)
+      apart glob (inl h) = inl h
+      apart glob (inr e) = inr (sym e)
 
-  joined : (glob : ℕ) → Contains (take k globs) glob ⊎ (glob ≡ n) → Contains (take (k + 1) globs) glob
-  joined glob (inl h) = subst (λ l. Contains l glob) (sym more) (Contains-append_left (take k globs) (n ∷ []) glob h)
-  joined glob (inr e) = subst (λ l. Contains l glob) (sym more)
-      (subst (λ g. Contains (take k globs ++ n ∷ []) g) (sym e) (Contains-push (take k globs) n))
+      joined : (glob : ℕ) → Contains (take k globs) glob ⊎ (glob ≡ n) → Contains (take (k + 1) globs) glob
+      joined glob (inl h) = subst (λ l. Contains l glob) (sym more) (Contains-append_left (take k globs) (n ∷ []) glob h)
+      joined glob (inr e) = subst (λ l. Contains l glob) (sym more)
+          (subst (λ g. Contains (take k globs ++ n ∷ []) g) (sym e) (Contains-push (take k globs) n))
 
 pub notes_unlisted : (old : List ℕ) → Notes (Contains []) old old
 notes_unlisted old = notes_none refl (λ glob h. contains_none h)

@@ -1,5 +1,7 @@
 -- A tree of words, as nodes, edges and numbers come.
-use Rattle.std.proofs.Common.{◌≡◌, ◌≢◌, ℕ, zero, suc, ◌+◌, ◌-◌, ◌<◌, ◌≤◌, List, [], ◌∷◌, ◌++◌, length, drop, get_or, Bool, true, false, refl, sym, ap, subst, inl, inr, ◌∙◌, arith, append_assoc, length-append, length-set}
+use Rattle.std.proofs.Common.{◌≡◌, ◌≢◌, ℕ, zero, suc, ◌+◌, ◌-◌, ◌<◌, ◌≤◌, List, [], ◌∷◌, ◌++◌, length, drop, get_or}
+use Rattle.std.proofs.Common.{Bool, true, false, refl, sym, ap, subst, inl, inr, ◌∙◌, arith, append_assoc}
+use Rattle.std.proofs.Common.{length-append, length-set}
 use Rattle.std.specs.Prelude.{◌⊎◌, ◌↔◌, Option, Some, None, Contains, slice_get, slice_set}
 use Rattle.std.specs.BTreeMap.{BTreeMap, get, is_at, Updates, IsEmpty}
 use Rattle.std.specs.Cmp.{Equal-is}
@@ -8,16 +10,20 @@ use Rattle.std.specs.Map.{lookup}
 use Rattle.std.specs.Ordering.{nat_cmp}
 use Rattle.std.proofs.lemmas.Bool.{cases_eq, cases_lt}
 use Rattle.std.proofs.lemmas.Option.{slice_get_within, slice_get_past, slice_get_read}
-use Rattle.std.proofs.lemmas.List.Elements.{Contains-push, Contains-push_cases, Contains-append_left, Contains-append_right, Contains-append_cases}
+use Rattle.std.proofs.lemmas.List.Elements.{Contains-push, Contains-push_cases, Contains-append_left}
+use Rattle.std.proofs.lemmas.List.Elements.{Contains-append_right, Contains-append_cases}
+use Rattle.deny_lists.proofs.Members.{tail-same, contains_none}
+use Rattle.deny_lists.proofs.Places.{slice_get-push_cases, slice_get-push_left, slice_get-push_last, slice_get-set_same}
+use Rattle.deny_lists.proofs.Places.{slice_get-set_cases, slice_get-set_other}
+use Rattle.deny_lists.proofs.Options.{none_is_no_some, some_inj}
 use Rattle.deny_globs.specs.declared.words.Node.{Node}
-use Rattle.deny_globs.specs.Words.{next_of, IsEdge, HasNoEdge, IsTree, Finds, ends_here, goes_on, IsBare, AddsBare, PutsEdge, PutsNoEdge, PutsNumber, Keeps, AddsWord}
-use Rattle.deny_globs.proofs.IndexLemmas.{get_more, get_left, get_last, get_set, set_here, set_other, none_at}
-use Rattle.deny_globs.proofs.MarkedLemmas.{contains_none}
-use Rattle.deny_globs.proofs.StateLemmas.{some_inj}
+use Rattle.deny_globs.specs.Words.{next_of, IsEdge, HasNoEdge, IsTree, Finds, ends_here, goes_on, IsBare, AddsBare}
+use Rattle.deny_globs.specs.Words.{PutsEdge, PutsNoEdge, PutsNumber, Keeps, AddsWord}
 use Rattle.deny_globs.proofs.WalkLemmas.{drop_one}
 
-none_led : {entries : List (ℕ × ℕ)} (c : ℕ) {next : ℕ} → entries ≡ [] → lookup (is_at (nat_cmp c)) entries ≡ Some next → ⊥
-none_led {entries} c {next} e h = none_at (subst (λ l. lookup (is_at (nat_cmp c)) l ≡ Some next) e h)
+none_led : {entries : List (ℕ × ℕ)} (c : ℕ) {next : ℕ} → entries ≡ [] → lookup (is_at (nat_cmp c)) entries ≡ Some next
+    → ⊥
+none_led {entries} c {next} e h = none_is_no_some (subst (λ l. lookup (is_at (nat_cmp c)) l ≡ Some next) e h)
 
 pub bare_new : {numbers : List ℕ} {edges : BTreeMap ℕ ℕ} → numbers ≡ [] → IsEmpty edges
     → IsBare (record { numbers = numbers; edges = edges })
@@ -66,26 +72,26 @@ keeps_pushed {old} {new} node tree bare e = subst (λ l. Keeps old l) (sym e) (r
   size = length-append old (node ∷ [])
 
   on : (n c next : ℕ) → IsEdge old n c next → IsEdge (old ++ node ∷ []) n c next
-  on n c next edge = record { node = edge.node; at = get_left old node n edge.at; leads = edge.leads }
+  on n c next edge = record { node = edge.node; at = slice_get-push_left old node n edge.at; leads = edge.leads }
 
   inside : (n c next : ℕ) → IsEdge old n c next → next < length old
   inside n c next edge = tree.within n c next edge
 
   back : (n c next : ℕ) → IsEdge (old ++ node ∷ []) n c next → IsEdge old n c next
-  back n c next edge = elim (get_more old node n edge.at) [
+  back n c next edge = elim (slice_get-push_cases old node n edge.at) [
     | inl there ↦ record { node = edge.node; at = there; leads = edge.leads }
     | inr last ↦ absurd (bare.edges c next (subst (λ (x : Node). get nat_cmp x.edges c ≡ Some next) last.1 edge.leads))
   ]
 
   to : {n found : ℕ} {path : List ℕ} → Finds (old ++ node ∷ []) n path found → Finds old n path found
-  to {n} {found} (ends_here x at has) = elim (get_more old node n at) [
+  to {n} {found} (ends_here x at has) = elim (slice_get-push_cases old node n at) [
     | inl there ↦ ends_here x there has
     | inr last ↦ absurd (bare.numbers found (subst (λ (y : Node). Contains y.numbers found) last.1 has))
   ]
   to {n} (goes_on {c = c} {next = next} edge rest) = goes_on (back n c next edge) (to rest)
 
   from : {n found : ℕ} {path : List ℕ} → Finds old n path found → Finds (old ++ node ∷ []) n path found
-  from {n} (ends_here x at has) = ends_here x (get_left old node n at) has
+  from {n} (ends_here x at has) = ends_here x (slice_get-push_left old node n at) has
   from {n} (goes_on {c = c} {next = next} edge rest) = goes_on (on n c next edge) (from rest)
 
 -- a node changes
@@ -116,7 +122,7 @@ keeps_set {old} {new} number node node' tree at same led leads e = subst (λ l. 
   size = length-set old number node'
 
   here : slice_get set number ≡ Some node'
-  here = set_here old number node' node at
+  here = slice_get-set_same old number node' node at
 
   on : (n c next : ℕ) → IsEdge old n c next → IsEdge set n c next
   on n c next edge = elim (cases_eq n number) [
@@ -128,11 +134,11 @@ keeps_set {old} {new} number node node' tree at same led leads e = subst (λ l. 
           leads = led c next (subst (λ (x : Node). get nat_cmp x.edges c ≡ Some next) is edge.leads);
         }
     | inr other ↦ record
-        { node = edge.node; at = set_other old number node' n other ∙ edge.at; leads = edge.leads }
+        { node = edge.node; at = slice_get-set_other old number node' n other ∙ edge.at; leads = edge.leads }
   ]
 
   back : (n c next : ℕ) → IsEdge set n c next → IsEdge old n c next ⊎ IsBareApart old number next
-  back n c next edge = elim (get_set old number node' n edge.node edge.at) [
+  back n c next edge = elim (slice_get-set_cases old number node' n edge.node edge.at) [
     | inl own ↦ elim (leads c next (subst (λ (x : Node). get nat_cmp x.edges c ≡ Some next) own.1 edge.leads)) [
       | inl there ↦ inl (record
           { node = node; at = subst (λ k. slice_get old k ≡ Some node) (sym own.0) at; leads = there })
@@ -146,14 +152,15 @@ keeps_set {old} {new} number node node' tree at same led leads e = subst (λ l. 
   inside n c next (inr bare) = slice_get_within old next bare.node bare.at
 
   to : {n found : ℕ} {path : List ℕ} → Finds set n path found → Finds old n path found
-  to {n} {found} (ends_here x there has) = elim (get_set old number node' n x there) [
+  to {n} {found} (ends_here x there has) = elim (slice_get-set_cases old number node' n x there) [
     | inl own ↦ ends_here node (subst (λ k. slice_get old k ≡ Some node) (sym own.0) at)
         (subst (λ l. Contains l found) (ap (λ (y : Node). y.numbers) own.1 ∙ same) has)
     | inr other ↦ ends_here x other.1 has
   ]
   to {n} {found} (goes_on {c = c} {next = next} edge rest) = elim (back n c next edge) [
     | inl there ↦ goes_on there (to rest)
-    | inr bare ↦ absurd (bare_finds bare.node (set_other old number node' next bare.apart ∙ bare.at) bare.bare rest)
+    | inr bare ↦ absurd (bare_finds bare.node
+        (slice_get-set_other old number node' next bare.apart ∙ bare.at) bare.bare rest)
   ]
 
   from : {n found : ℕ} {path : List ℕ} → Finds old n path found → Finds set n path found
@@ -162,7 +169,7 @@ keeps_set {old} {new} number node node' tree at same led leads e = subst (λ l. 
         let is : x ≡ node = some_inj (sym there ∙ subst (λ k. slice_get old k ≡ Some node) (sym own) at) in
         ends_here node' (subst (λ k. slice_get set k ≡ Some node') (sym own) here)
         (subst (λ l. Contains l found) (ap (λ (y : Node). y.numbers) is ∙ sym same) has)
-    | inr other ↦ ends_here x (set_other old number node' n other ∙ there) has
+    | inr other ↦ ends_here x (slice_get-set_other old number node' n other ∙ there) has
   ]
   from {n} (goes_on {c = c} {next = next} edge rest) = goes_on (on n c next edge) (from rest)
 
@@ -183,7 +190,7 @@ edge_kept old new c own d next updates fresh e = by_test (is_at (nat_cmp c) d) r
   by_test : (test : Bool) → is_at (nat_cmp c) d ≡ test → get nat_cmp new d ≡ Some next
   by_test true is =
       let same : c ≡ d = nat_cmp-IsAntisymmetric c d ((Equal-is (nat_cmp c d)).0 is) in
-      none_at (sym (subst (λ k. get nat_cmp old k ≡ None) same fresh) ∙ e)
+      none_is_no_some (sym (subst (λ k. get nat_cmp old k ≡ None) same fresh) ∙ e)
   by_test false isnt = updates.2 d isnt ∙ e
 
 -- a word comes
@@ -230,7 +237,7 @@ word_added {first} {old} {new} {word} {number} {own} node node' keeps along at m
       size = length-set old number node'
 
       here : slice_get set number ≡ Some node'
-      here = set_here old number node' node at
+      here = slice_get-set_same old number node' node at
 
       on : (n c next : ℕ) → IsEdge old n c next → IsEdge set n c next
       on n c next edge = elim (cases_eq n number) [
@@ -243,11 +250,11 @@ word_added {first} {old} {new} {word} {number} {own} node node' keeps along at m
               leads = subst (λ m. get nat_cmp m c ≡ Some next) (ap (λ (x : Node). x.edges) is ∙ sym same) edge.leads;
             }
         | inr other ↦ record
-            { node = edge.node; at = set_other old number node' n other ∙ edge.at; leads = edge.leads }
+            { node = edge.node; at = slice_get-set_other old number node' n other ∙ edge.at; leads = edge.leads }
       ]
 
       back : (n c next : ℕ) → IsEdge set n c next → IsEdge old n c next
-      back n c next edge = elim (get_set old number node' n edge.node edge.at) [
+      back n c next edge = elim (slice_get-set_cases old number node' n edge.node edge.at) [
         | inl there ↦ record {
           node = node;
           at = subst (λ k. slice_get old k ≡ Some node) (sym there.0) at;
@@ -263,12 +270,12 @@ word_added {first} {old} {new} {word} {number} {own} node node' keeps along at m
             ends_here node' (subst (λ k. slice_get set k ≡ Some node') (sym is_it) here)
             (subst (λ l. Contains l found) (sym more) (Contains-append_left node.numbers (own ∷ []) found
             (subst (λ (y : Node). Contains y.numbers found) is has)))
-        | inr other ↦ ends_here x (set_other old number node' n other ∙ there) has
+        | inr other ↦ ends_here x (slice_get-set_other old number node' n other ∙ there) has
       ]
       from {n} (goes_on {c = c} {next = next} edge rest) = goes_on (on n c next edge) (from rest)
 
       to : {n found : ℕ} {path : List ℕ} → Finds set n path found → Finds old n path found ⊎ (found ≡ own)
-      to {n} {found} (ends_here x there has) = elim (get_set old number node' n x there) [
+      to {n} {found} (ends_here x there has) = elim (slice_get-set_cases old number node' n x there) [
         | inl is_it ↦ elim (Contains-push_cases node.numbers own found
             (subst (λ l. Contains l found) (ap (λ (y : Node). y.numbers) is_it.1 ∙ more) has)) [
               | inl old_one ↦ inl (ends_here node (subst (λ k. slice_get old k ≡ Some node) (sym is_it.0) at) old_one)
@@ -311,12 +318,9 @@ pub record IsReading (nodes : List Node) (path first found : List ℕ) (number :
 pub reading_first : (nodes : List Node) (path first : List ℕ) → IsReading nodes path first first 0 path
 reading_first nodes path first = record { same = λ k. (λ h. h, λ h. h) }
 
-head_rest : {A : Type 0} {x y : A} {xs ys : List A} → x ∷ xs ≡ y ∷ ys → xs ≡ ys
-head_rest e = cc
-
 no_turn : {nodes : List Node} {node : Node} {rest : List ℕ} {k : ℕ} → next_of node rest ≡ None
     → Turn nodes node rest k → ⊥
-no_turn none t = none_at (sym none ∙ t.leads)
+no_turn none t = none_is_no_some (sym none ∙ t.leads)
 
 pub reading_last : {nodes : List Node} {path first found after : List ℕ} {number : ℕ} {rest : List ℕ} (node : Node)
     → slice_get nodes number ≡ Some node → after ≡ found ++ node.numbers → next_of node rest ≡ None →
@@ -340,8 +344,8 @@ reading_last {nodes} {path} {first} {found} {after} {number} {rest} node at e no
 
 past_none : {nodes : List Node} {number found : ℕ} {path : List ℕ} → length nodes ≤ number
     → Finds nodes number path found → ⊥
-past_none {nodes} {number} past (ends_here node at has) = none_at (sym (slice_get_past nodes number past) ∙ at)
-past_none {nodes} {number} past (goes_on edge more) = none_at (sym (slice_get_past nodes number past) ∙ edge.at)
+past_none {nodes} {number} past (ends_here node at has) = none_is_no_some (sym (slice_get_past nodes number past) ∙ at)
+past_none {nodes} {number} past (goes_on edge more) = none_is_no_some (sym (slice_get_past nodes number past) ∙ edge.at)
 
 pub reading_past : {nodes : List Node} {path first found : List ℕ} {number : ℕ} {rest : List ℕ}
     → length nodes ≤ number → IsReading nodes path first found number rest → (k : ℕ)
@@ -358,28 +362,29 @@ pub reading_more : {nodes : List Node} {path first found after : List ℕ} {numb
     (node : Node) → slice_get nodes number ≡ Some node → after ≡ found ++ node.numbers →
     next_of node rest ≡ Some next → rest ≡ c ∷ cs → IsReading nodes path first found number rest
     → IsReading nodes path first after next cs
-reading_more {nodes} {path} {first} {found} {after} {number} {next} {c} {rest} {cs} node at e leads whole reading = record {
-  same = λ k. (λ h. to k ((reading.same k).0 h), λ h. (reading.same k).1 (from k h));
-} where
-  edge : IsEdge nodes number c next
-  edge = record { node = node; at = at; leads = subst (λ l. next_of node l ≡ Some next) whole leads }
+reading_more {nodes} {path} {first} {found} {after} {number} {next} {c} {rest} {cs} node at e leads whole reading =
+    record {
+      same = λ k. (λ h. to k ((reading.same k).0 h), λ h. (reading.same k).1 (from k h));
+    } where
+      edge : IsEdge nodes number c next
+      edge = record { node = node; at = at; leads = subst (λ l. next_of node l ≡ Some next) whole leads }
 
-  by_turn : (k : ℕ) → Contains node.numbers k ⊎ Turn nodes node rest k → Contains after k ⊎ Finds nodes next cs k
-  by_turn k (inl h) = inl (subst (λ l. Contains l k) (sym e) (Contains-append_right found node.numbers k h))
-  by_turn k (inr t) = inr (subst (λ l. Finds nodes next l k) (head_rest (sym t.whole ∙ whole))
-      (subst (λ n. Finds nodes n t.cs k) (some_inj (sym t.leads ∙ leads)) t.finds))
+      by_turn : (k : ℕ) → Contains node.numbers k ⊎ Turn nodes node rest k → Contains after k ⊎ Finds nodes next cs k
+      by_turn k (inl h) = inl (subst (λ l. Contains l k) (sym e) (Contains-append_right found node.numbers k h))
+      by_turn k (inr t) = inr (subst (λ l. Finds nodes next l k) (tail-same (sym t.whole ∙ whole))
+          (subst (λ n. Finds nodes n t.cs k) (some_inj (sym t.leads ∙ leads)) t.finds))
 
-  to : (k : ℕ) → Contains found k ⊎ Finds nodes number rest k → Contains after k ⊎ Finds nodes next cs k
-  to k (inl h) = inl (subst (λ l. Contains l k) (sym e) (Contains-append_left found node.numbers k h))
-  to k (inr h) = by_turn k (turn node at h)
+      to : (k : ℕ) → Contains found k ⊎ Finds nodes number rest k → Contains after k ⊎ Finds nodes next cs k
+      to k (inl h) = inl (subst (λ l. Contains l k) (sym e) (Contains-append_left found node.numbers k h))
+      to k (inr h) = by_turn k (turn node at h)
 
-  by_cases : (k : ℕ) → Contains found k ⊎ Contains node.numbers k → Contains found k ⊎ Finds nodes number rest k
-  by_cases k (inl h) = inl h
-  by_cases k (inr h) = inr (ends_here node at h)
+      by_cases : (k : ℕ) → Contains found k ⊎ Contains node.numbers k → Contains found k ⊎ Finds nodes number rest k
+      by_cases k (inl h) = inl h
+      by_cases k (inr h) = inr (ends_here node at h)
 
-  from : (k : ℕ) → Contains after k ⊎ Finds nodes next cs k → Contains found k ⊎ Finds nodes number rest k
-  from k (inl h) = by_cases k (Contains-append_cases found node.numbers k (subst (λ l. Contains l k) e h))
-  from k (inr h) = inr (subst (λ l. Finds nodes number l k) (sym whole) (goes_on edge h))
+      from : (k : ℕ) → Contains after k ⊎ Finds nodes next cs k → Contains found k ⊎ Finds nodes number rest k
+      from k (inl h) = by_cases k (Contains-append_cases found node.numbers k (subst (λ l. Contains l k) e h))
+      from k (inr h) = inr (subst (λ l. Finds nodes number l k) (sym whole) (goes_on edge h))
 
 read_at : (nodes : List Node) (number : ℕ) (node : Node) → number < length nodes → node ≡ get_or nodes number node
     → slice_get nodes number ≡ Some node
@@ -396,34 +401,36 @@ pub reading_step : (nodes : List Node) (path : List ℕ) (place : ℕ) {first fo
     two ≡ get_or nodes number two → slice ≡ one.numbers → after ≡ found ++ slice → rest ≡ drop place path →
     next_of two rest ≡ Some next → place ≤ length path → IsReading nodes path first found number (drop place path)
     → IsReading nodes path first after next (drop (place + 1) path) × (place + 1 ≤ length path)
-reading_step nodes path place {first} {found} {after} {slice} {rest} {number} {next} one two less is same has added whole leads inside reading = elim (cases_lt place (length path)) [
-  | inl below ↦
-      let d = drop_one path place below in (
-        subst (λ n. IsReading nodes path first after next (drop n path)) step
-            (reading_more one at (added ∙ ap (λ l. found ++ l) has) leads_one d.1 reading),
-        omega (arith, below),
-      )
-  | inr past ↦ none_at (subst (λ r. next_of one r ≡ Some next) (drop_past path place past) leads_one)
-] where
-  at : slice_get nodes number ≡ Some one
-  at = read_at nodes number one less is
+reading_step nodes path place {first} {found} {after} {slice} {rest} {number}
+    {next} one two less is same has added whole leads inside reading = elim (cases_lt place (length path)) [
+      | inl below ↦
+          let d = drop_one path place below in (
+            subst (λ n. IsReading nodes path first after next (drop n path)) step
+                (reading_more one at (added ∙ ap (λ l. found ++ l) has) leads_one d.1 reading),
+            omega (arith, below),
+          )
+      | inr past ↦ none_is_no_some (subst (λ r. next_of one r ≡ Some next) (drop_past path place past) leads_one)
+    ] where
+      at : slice_get nodes number ≡ Some one
+      at = read_at nodes number one less is
 
-  equal : two ≡ one
-  equal = some_inj (sym (read_at nodes number two less same) ∙ at)
+      equal : two ≡ one
+      equal = some_inj (sym (read_at nodes number two less same) ∙ at)
 
-  leads_one : next_of one (drop place path) ≡ Some next
-  leads_one = subst (λ (n : Node). next_of n (drop place path) ≡ Some next) equal
-      (subst (λ r. next_of two r ≡ Some next) whole leads)
+      leads_one : next_of one (drop place path) ≡ Some next
+      leads_one = subst (λ (n : Node). next_of n (drop place path) ≡ Some next) equal
+          (subst (λ r. next_of two r ≡ Some next) whole leads)
 
-  step : suc place ≡ place + 1
-  step = omega arith
+      step : suc place ≡ place + 1
+      step = omega arith
 
 pub reading_end : (nodes : List Node) (path : List ℕ) (place : ℕ) {first found after slice rest : List ℕ} {number : ℕ}
     (one two : Node) → number < length nodes → one ≡ get_or nodes number one → two ≡ get_or nodes number two →
     slice ≡ one.numbers → after ≡ found ++ slice → rest ≡ drop place path → next_of two rest ≡ None
     → IsReading nodes path first found number (drop place path) →
     (k : ℕ) → Contains after k ↔ (Contains first k ⊎ Finds nodes 0 path k)
-reading_end nodes path place {first} {found} {after} {slice} {rest} {number} one two less is same has added whole none reading =
+reading_end nodes path place {first} {found} {after} {slice} {rest}
+    {number} one two less is same has added whole none reading =
     reading_last one at (added ∙ ap (λ l. found ++ l) has) none_one reading where
       at : slice_get nodes number ≡ Some one
       at = read_at nodes number one less is
@@ -458,13 +465,14 @@ bare_some {old} adds = omega (arith, ap length adds.whole, length-append old (ad
 
 pub edge_read : (nodes : List Node) (number c : ℕ) {next : ℕ} (node : Node) → number < length nodes
     → node ≡ get_or nodes number node → get nat_cmp node.edges c ≡ Some next → IsEdge nodes number c next
-edge_read nodes number c node less is leads = record { node = node; at = read_at nodes number node less is; leads = leads }
+edge_read nodes number c node less is leads =
+    record { node = node; at = read_at nodes number node less is; leads = leads }
 
 pub no_edge_read : (nodes : List Node) (number c : ℕ) (node : Node) → number < length nodes
     → node ≡ get_or nodes number node → get nat_cmp node.edges c ≡ None → HasNoEdge nodes number c
 no_edge_read nodes number c node less is none next edge =
     let same : edge.node ≡ node = some_inj (sym edge.at ∙ read_at nodes number node less is) in
-    none_at (sym none ∙ subst (λ (n : Node). get nat_cmp n.edges c ≡ Some next) same edge.leads)
+    none_is_no_some (sym none ∙ subst (λ (n : Node). get nat_cmp n.edges c ≡ Some next) same edge.leads)
 
 pub edge_put : {nodes : List Node} {new : List Node} {number c next : ℕ} → PutsEdge nodes number c next new
     → IsEdge new number c next
@@ -472,7 +480,7 @@ edge_put {nodes} {new} {number} {c} {next} puts = record {
   node = record { numbers = puts.node.numbers; edges = puts.edges };
   at = subst (λ l. slice_get l number ≡ Some (record { numbers = puts.node.numbers; edges = puts.edges }))
       (sym puts.whole)
-      (set_here nodes number (record { numbers = puts.node.numbers; edges = puts.edges }) puts.node puts.at);
+      (slice_get-set_same nodes number (record { numbers = puts.node.numbers; edges = puts.edges }) puts.node puts.at);
   leads = puts.updates.1;
 }
 
@@ -494,7 +502,7 @@ keeps_led {old} {mid} {new} {number} {c} tree inside fresh adds puts = keeps_on 
       there node (inr h) = absurd (omega (arith, inside, h.0))
 
       before : slice_get old number ≡ Some puts.node
-      before = there puts.node (get_more old adds.node number
+      before = there puts.node (slice_get-push_cases old adds.node number
           (subst (λ l. slice_get l number ≡ Some puts.node) adds.whole puts.at))
 
       none : get nat_cmp puts.node.edges c ≡ None
@@ -505,7 +513,7 @@ keeps_led {old} {mid} {new} {number} {c} tree inside fresh adds puts = keeps_on 
       bare = record {
         node = adds.node;
         at = subst (λ l. slice_get l (length old) ≡ Some adds.node) (sym adds.whole)
-            (get_last old adds.node (length old) refl);
+            (slice_get-push_last old adds.node (length old) refl);
         bare = adds.bare;
         apart = λ e. omega (arith, inside, e);
       }

@@ -62,7 +62,8 @@ pub record IsBuiltBeside (tokens : List Token) (next others : ℕ) (old new : Li
   pub size : length new ≤ length old + (states_of tokens + 1)
 
 -- states have come that stand for the glob, and the state at which it starts
-pub record AddsStates (glob : Pattern) (number : ℕ) (old : List State) (starts : Starts) (new : List State) (starts' : Starts) : Type 0 where
+pub record AddsStates (glob : Pattern) (number : ℕ) (old : List State) (starts : Starts) (new : List State)
+    (starts' : Starts) : Type 0 where
   pub is_glob : IsGlob (characters_of glob) (tokens_of glob)
   pub mid : List State
   pub end : ℕ

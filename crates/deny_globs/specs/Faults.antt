@@ -1,5 +1,6 @@
 -- Where a text that is no glob is bad.
-use Rattle.std.specs.Prelude.{ℕ, ◌+◌, ◌<◌, ◌≡◌, List, [], ◌∷◌, ◌++◌, length, take, Bool, true, false, IsTrue, ◌==◌, not, nat_lt, Option, Some, None, encode_utf8_all, if◌then◌else◌}
+use Rattle.std.specs.Prelude.{ℕ, ◌+◌, ◌<◌, ◌≡◌, List, [], ◌∷◌, ◌++◌, length, take, Bool, true, false, IsTrue, ◌==◌, not}
+use Rattle.std.specs.Prelude.{nat_lt, Option, Some, None, encode_utf8_all, if◌then◌else◌}
 use Rattle.std.specs.Str.{chars}
 use Rattle.deny_globs.specs.declared.token.CharacterRange.{CharacterRange}
 use Rattle.deny_globs.specs.declared.piece.Piece.{Piece}

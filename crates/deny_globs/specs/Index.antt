@@ -1,5 +1,6 @@
 -- The simple globs by their extensions, and the others as states.
-use Rattle.std.specs.Prelude.{ℕ, ◌≡◌, ◌<◌, ◌≤◌, ◌↔◌, List, [], ◌∷◌, ◌++◌, length, map, ◌==◌, if◌then◌else◌, Option, Some, None, Contains, slice_get, slice_set, insert, ◌+◌, ◌^◌}
+use Rattle.std.specs.Prelude.{ℕ, ◌≡◌, ◌<◌, ◌≤◌, ◌↔◌, List, [], ◌∷◌, ◌++◌, length, map, ◌==◌, if◌then◌else◌, Option}
+use Rattle.std.specs.Prelude.{Some, None, Contains, slice_get, slice_set, insert, ◌+◌, ◌^◌}
 use Rattle.std.specs.Ordering.{nat_cmp}
 use Rattle.std.specs.declared.cmp.Ordering.TheVariants.{Less}
 use Rattle.std.specs.Cmp.Lexicographic.{slice_cmp}
@@ -126,7 +127,8 @@ BoundsSimple extensions path old new = (globs : List Pattern) (hits : List ℕ) 
     ((i : ℕ) → FitsSimply globs path i → Contains hits i) → length extensions < 2 ^ d → new ≤ old + d + length hits
 
 -- with one glob more the index stands for it too
-pub record Indexes (glob : Pattern) (number : ℕ) (extensions : List Extension) (states : List State) (starts : Starts) (extensions' : List Extension) (states' : List State) (starts' : Starts) : Type 0 where
+pub record Indexes (glob : Pattern) (number : ℕ) (extensions : List Extension) (states : List State) (starts : Starts)
+    (extensions' : List Extension) (states' : List State) (starts' : Starts) : Type 0 where
   pub more : (globs : List Pattern) → length globs ≡ number → IsIndexed globs extensions
       → AreCompiled globs states starts →
       IsIndexed (globs ++ glob ∷ []) extensions' × AreCompiled (globs ++ glob ∷ []) states' starts'

@@ -1,11 +1,14 @@
 -- A pattern's characters as pieces.
-use Rattle.std.specs.Prelude.{ℕ, ◌+◌, ◌<◌, ◌≤◌, ◌≡◌, List, [], ◌∷◌, ◌++◌, length, Bool, true, false, IsTrue, ◌==◌, ◌&&◌, ◌||◌, not}
+use Rattle.std.specs.Prelude.{ℕ, ◌+◌, ◌<◌, ◌≤◌, ◌≡◌, List, [], ◌∷◌, ◌++◌, length, Bool, true, false, IsTrue, ◌==◌, ◌&&◌}
+use Rattle.std.specs.Prelude.{◌||◌, not}
 use Rattle.std.specs.List.{list_all}
 use Rattle.deny_globs.specs.declared.token.CharacterRange.{CharacterRange}
-use Rattle.deny_globs.specs.declared.token.Token.TheVariants.{Character, AnyCharacter, OneOf, AnyText, LeadingFolders, TrailingPath}
+use Rattle.deny_globs.specs.declared.token.Token.TheVariants.{Character, AnyCharacter, OneOf, AnyText, LeadingFolders}
+use Rattle.deny_globs.specs.declared.token.Token.TheVariants.{TrailingPath}
 use Rattle.deny_globs.specs.declared.piece.Piece.{Piece}
 use Rattle.deny_globs.specs.declared.piece.Piece.TheVariants.{Token, Middle, Open, Comma, Close}
-use Rattle.deny_globs.specs.Characters.{slash, star, question_mark, backslash, open_bracket, close_bracket, dash, comma, open_brace, close_brace, is_mark, is_plain, begins, begins_mark}
+use Rattle.deny_globs.specs.Characters.{slash, star, question_mark, backslash, open_bracket, close_bracket, dash, comma}
+use Rattle.deny_globs.specs.Characters.{open_brace, close_brace, is_mark, is_plain, begins, begins_mark}
 
 -- a `]` is a member of a class only where it comes first
 abbrev pub may_be_member : Bool → ℕ → Bool

@@ -1,5 +1,6 @@
 -- Reading on by a piece, with the innermost open brace first.
-use Rattle.std.specs.Prelude.{ℕ, ◌≡◌, ◌<◌, ◌⊎◌, List, [], ◌∷◌, ◌++◌, length, reverse, drop, Option, Some, None, nat_lt, if◌then◌else◌}
+use Rattle.std.specs.Prelude.{ℕ, ◌≡◌, ◌<◌, ◌⊎◌, List, [], ◌∷◌, ◌++◌, length, reverse, drop, Option, Some, None, nat_lt}
+use Rattle.std.specs.Prelude.{if◌then◌else◌}
 use Rattle.deny_globs.specs.declared.token.Token.{Token}
 use Rattle.deny_globs.specs.declared.token.Token.TheVariants.{Character, AnyText, MiddleFolders, Alternatives}
 use Rattle.deny_globs.specs.declared.piece.Piece.{Piece}

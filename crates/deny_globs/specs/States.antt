@@ -1,7 +1,8 @@
 -- A compiled glob: its states, and what leads from one of them to the glob's end.
 use Rattle.std.specs.Prelude.{ℕ, ◌≡◌, ◌<◌, ◌⊎◌, List, [], ◌∷◌, Option, Some, None, IsTrue, Contains, slice_get, nat_eq}
 use Rattle.deny_globs.specs.declared.state.State.{State}
-use Rattle.deny_globs.specs.declared.state.State.TheVariants.{End, Character, AnyCharacter, OneOf, AnyText, Either, Never}
+use Rattle.deny_globs.specs.declared.state.State.TheVariants.{End, Character, AnyCharacter, OneOf, AnyText, Either}
+use Rattle.deny_globs.specs.declared.state.State.TheVariants.{Never}
 use Rattle.deny_globs.specs.Class.{class_takes}
 
 -- the glob whose end the state is

@@ -1,5 +1,6 @@
 -- What the functions that read a pattern promise one another.
-use Rattle.std.specs.Prelude.{ℕ, ◌+◌, ◌<◌, ◌≤◌, ◌≡◌, ◌⊎◌, List, [], ◌∷◌, ◌++◌, length, take, drop, IsTrue, ◌==◌, not, Bool, true, false}
+use Rattle.std.specs.Prelude.{ℕ, ◌+◌, ◌<◌, ◌≤◌, ◌≡◌, ◌⊎◌, List, [], ◌∷◌, ◌++◌, length, take, drop, IsTrue, ◌==◌, not}
+use Rattle.std.specs.Prelude.{Bool, true, false}
 use Rattle.deny_globs.specs.declared.token.CharacterRange.{CharacterRange}
 use Rattle.deny_globs.specs.declared.token.Token.TheVariants.{OneOf}
 use Rattle.deny_globs.specs.declared.piece.Piece.{Piece}

@@ -11,7 +11,8 @@ use Rattle.deny_base.specs.declared.edge.DepKind.TheVariants.{Normal, Dev, Build
 use Rattle.deny_base.specs.declared.files.File.{File}
 use Rattle.deny_base.specs.declared.finding.Diagnostic.{Diagnostic}
 use Rattle.deny_base.specs.declared.label.Label.{Label}
-use Rattle.deny_json.specs.Diagnostics.{code_member, diagnostic_value, fields_after_code, fields_after_labels, fields_of, labels_member, notes_member, notes_of, severity_word, tells}
+use Rattle.deny_json.specs.Diagnostics.{code_member, diagnostic_value, fields_after_code, fields_after_labels}
+use Rattle.deny_json.specs.Diagnostics.{fields_of, labels_member, notes_member, notes_of, severity_word, tells}
 use Rattle.deny_json.specs.Graphs.{krate_value}
 use Rattle.deny_json.specs.Labels.{label_value}
 

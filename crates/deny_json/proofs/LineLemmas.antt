@@ -1,5 +1,6 @@
 -- The line of a finding, from its parts.
-use Rattle.std.proofs.Common.{◌≡◌, ℕ, true, false, List, [], ◌∷◌, ◌++◌, Option, Some, None, codes, ap, ap₂, refl, ◌∙◌, sym, append_assoc}
+use Rattle.std.proofs.Common.{◌≡◌, ℕ, true, false, List, [], ◌∷◌, ◌++◌, Option, Some, None, codes, ap, ap₂, refl, ◌∙◌}
+use Rattle.std.proofs.Common.{sym, append_assoc}
 use Rattle.serde_json.proofs.OnLiterals.{serde_json_on_literals}
 use Rattle.serde_json.specs.Data.{Members, object, string}
 use Rattle.serde_json.specs.Written.{compact_text, members_text}
@@ -43,7 +44,8 @@ with_code (Some code) graphs others =
 
 finding_text : (files : List File) (d : Diagnostic) (graphs : List GraphNode)
     → line_with files d graphs
-    ≡ codes "{\"fields\":{" ++ (members_text false (finding_fields files d graphs) ++ codes ",\"type\":\"diagnostic\"}\n")
+    ≡ codes "{\"fields\":{" ++ (members_text false (finding_fields files d graphs)
+    ++ codes ",\"type\":\"diagnostic\"}\n")
 unfolding serde_json_on_literals line_with finding_value
 finding_text files d graphs =
     ap (λ (text : List ℕ). codes "{\"fields\":{" ++ text)

@@ -1,5 +1,7 @@
 -- Findings and their trees are plain values.
-use Rattle.std.proofs.Common.{◌≡◌, ℕ, zero, suc, ◌+◌, ◌-◌, ◌*◌, ◌<◌, ◌≤◌, ◌^◌, inl, inr, Bool, true, false, List, [], ◌∷◌, length, Option, None, Some, refl, subst, sym, arith, take, get_or, length-take, length-drop}
+use Rattle.std.proofs.Common.{◌≡◌, ℕ, zero, suc, ◌+◌, ◌-◌, ◌*◌, ◌<◌, ◌≤◌, ◌^◌, inl, inr, Bool, true, false, List, []}
+use Rattle.std.proofs.Common.{◌∷◌, length, Option, None, Some, refl, subst, sym, arith, take, get_or, length-take}
+use Rattle.std.proofs.Common.{length-drop}
 use Rattle.std.specs.Prelude.{All, IfSome, codes, map, slice_get, ⊤, if◌then◌else◌}
 use Rattle.std.specs.Str.{chars, chars_after, continuation_len, lead_bits}
 use Rattle.std.proofs.lemmas.Option.{slice_get_cases}
@@ -7,7 +9,8 @@ use Rattle.std.proofs.lemmas.List.Elements.{All-head, All-tail, All-weaker}
 use Rattle.std.proofs.lemmas.List.Sums.{count_by-le-length}
 use Rattle.serde_json.specs.Data.{Data, Members, member, no_members, string}
 use Rattle.serde_json.specs.View.{items_of}
-use Rattle.deny_base.specs.Files.{characters_before, is_boundary, is_newline, location_at, location_in, location_in_file}
+use Rattle.deny_base.specs.Files.{characters_before, is_boundary, is_newline, location_at, location_in}
+use Rattle.deny_base.specs.Files.{location_in_file}
 use Rattle.deny_base.specs.declared.code.DiagnosticCode.{DiagnosticCode}
 use Rattle.deny_base.specs.declared.edge.DepKind.{DepKind}
 use Rattle.deny_base.specs.declared.edge.DepKind.TheVariants.{Normal, Dev, Build}
@@ -15,14 +18,17 @@ use Rattle.deny_base.specs.declared.files.File.{File}
 use Rattle.deny_base.specs.declared.files.Location.{Location}
 use Rattle.deny_base.specs.declared.finding.Diagnostic.{Diagnostic}
 use Rattle.deny_base.specs.declared.label.Label.{Label}
-use Rattle.deny_trees.specs.declared.node.GraphNode.{GraphNode, GraphNode-F, ind-GraphNode, map-GraphNode, roll-GraphNode}
+use Rattle.deny_trees.specs.declared.node.GraphNode.{GraphNode, GraphNode-F, ind-GraphNode, map-GraphNode}
+use Rattle.deny_trees.specs.declared.node.GraphNode.{roll-GraphNode}
 use Rattle.deny_trees.specs.declared.node.NodeInner.{NodeInner}
 use Rattle.deny_trees.specs.declared.node.NodeInner.TheVariants.{Krate, Feature}
-use Rattle.deny_json.specs.Diagnostics.{code_member, diagnostic_value, fields_after_code, fields_after_labels, fields_of, labels_member, notes_member, severity_word, tells}
+use Rattle.deny_json.specs.Diagnostics.{code_member, diagnostic_value, fields_after_code, fields_after_labels}
+use Rattle.deny_json.specs.Diagnostics.{fields_of, labels_member, notes_member, severity_word, tells}
 use Rattle.deny_json.specs.Findings.{finding_fields, finding_value, graphs_member}
 use Rattle.deny_json.specs.Graphs.{graph_value, krate_value, node_value, parents_member, repeat_member}
 use Rattle.deny_json.specs.Labels.{column_of, label_value, line_of}
-use Rattle.deny_json.specs.Reading.{AreCounted, AreShort, IsBeforeNext, IsCounted, IsPlain, ItemsArePlain, MembersArePlain}
+use Rattle.deny_json.specs.Reading.{AreCounted, AreShort, IsBeforeNext, IsCounted, IsPlain, ItemsArePlain}
+use Rattle.deny_json.specs.Reading.{MembersArePlain}
 use Rattle.deny_json.proofs.GraphLemmas.{value_of_node}
 
 -- ---- lines and columns
@@ -115,7 +121,8 @@ each_told f (x ∷ xs) are = (
   each_told f xs (All-tail (λ x. IsPlain (f x)) x xs are),
 )
 
-each_plain : {X : Type 0} (f : X → Data) → ((x : X) → IsPlain (f x)) → (xs : List X) → ItemsArePlain (items_of (map f xs))
+each_plain : {X : Type 0} (f : X → Data) → ((x : X) → IsPlain (f x)) → (xs : List X)
+    → ItemsArePlain (items_of (map f xs))
 each_plain f each [] = tt
 each_plain f each (x ∷ xs) = (each x, each_plain f each xs)
 

@@ -1,5 +1,6 @@
 -- A plain value is read back from its text.
-use Rattle.std.proofs.Common.{◌≡◌, ℕ, List, [], Option, Some, ap, ap₂, refl, sym, ◌∙◌, arith, append-nil, option_map, option_and_then, suc}
+use Rattle.std.proofs.Common.{◌≡◌, ℕ, List, [], Option, Some, ap, ap₂, refl, sym, ◌∙◌, arith, append-nil, option_map}
+use Rattle.std.proofs.Common.{option_and_then, suc}
 use Rattle.std.specs.Prelude.{max, ⊤}
 use Rattle.std.specs.Cmp.Lexicographic.{slice_cmp}
 use Rattle.std.specs.Ordering.{match_ordering, nat_cmp, ordering_reverse}
@@ -15,7 +16,8 @@ use Rattle.json.specs.Token.{Token}
 use Rattle.json.specs.Tree as tree
 use Rattle.serde_json.proofs.Numbers.{number_of-decimal}
 use Rattle.serde_json.proofs.Texts.{print-outline}
-use Rattle.serde_json.specs.Data.{Data, null, boolean, number, string, array, object, unsigned, negative, float, Items, no_items, item, Members, no_members, member, put, depth, items_depth, members_depth}
+use Rattle.serde_json.specs.Data.{Data, null, boolean, number, string, array, object, unsigned, negative, float, Items}
+use Rattle.serde_json.specs.Data.{no_items, item, Members, no_members, member, put, depth, items_depth, members_depth}
 use Rattle.serde_json.specs.Read.{max_depth, of_items, of_json, of_members}
 use Rattle.serde_json.specs.Written.{compact_text, items_outline, members_outline, outline}
 use Rattle.deny_json.specs.Reading.{IsBeforeNext, IsJsonOf, IsPlain, ItemsArePlain, MembersArePlain}
@@ -69,11 +71,13 @@ after_twice : (first key next : List ℕ) → slice_cmp nat_cmp key first ≡ Gr
     → slice_cmp nat_cmp next first ≡ Greater
 after_twice first key next before less =
     nat_list_cmp_total.antisymm next first
-    ∙ ap ordering_reverse (nat_list_cmp_total.trans first key next (nat_list_cmp_total.antisymm first key ∙ ap ordering_reverse before) less)
+    ∙ ap ordering_reverse (nat_list_cmp_total.trans first key next
+    (nat_list_cmp_total.antisymm first key ∙ ap ordering_reverse before) less)
 
 before_next : (found : Members) (key next : List ℕ) (value : Data) → AllBefore found key
     → slice_cmp nat_cmp key next ≡ Less → AllBefore (joined found (member key value no_members)) next
-before_next no_members key next value before less = (nat_list_cmp_total.antisymm next key ∙ ap ordering_reverse less, tt)
+before_next no_members key next value before less =
+    (nat_list_cmp_total.antisymm next key ∙ ap ordering_reverse less, tt)
 before_next (member first held others) key next value before less =
     (after_twice first key next before.0 less, before_next others key next value before.1 less)
 
@@ -105,14 +109,16 @@ mutual
   items_read : (values : Items) → ItemsArePlain values → of_items (items_outline values) ≡ Some values
   items_read no_items are = refl
   items_read (item value others) are =
-      ap (option_and_then (λ (d : Data). option_map (item d) (of_items (items_outline others)))) (value_read value are.0)
+      ap (option_and_then (λ (d : Data). option_map (item d) (of_items (items_outline others))))
+      (value_read value are.0)
       ∙ ap (option_map (item value)) (items_read others are.1)
 
   members_read : (members found : Members) → MembersArePlain members → AreBefore found members
       → of_members (members_outline members) found ≡ Some (joined found members)
   members_read no_members found are before = ap Some (sym (joined-none found))
   members_read (member key value others) found are before =
-      ap (option_and_then (λ (d : Data). of_members (members_outline others) (put key d found))) (value_read value are.1)
+      ap (option_and_then (λ (d : Data). of_members (members_outline others) (put key d found)))
+      (value_read value are.1)
       ∙ (ap (of_members (members_outline others)) (put_behind found key value before)
       ∙ (members_read others (joined found (member key value no_members)) are.2
       (still_before found key value others before are.0)

@@ -1,5 +1,6 @@
 -- The text of trees, node by node.
-use Rattle.std.proofs.Common.{◌≡◌, ℕ, ◌+◌, ◌<◌, Bool, true, false, List, [], ◌∷◌, ◌++◌, ◌≢◌, codes, length, ap, refl, ◌∙◌, sym, arith, append_assoc, append-nil}
+use Rattle.std.proofs.Common.{◌≡◌, ℕ, ◌+◌, ◌<◌, Bool, true, false, List, [], ◌∷◌, ◌++◌, ◌≢◌, codes, length, ap, refl}
+use Rattle.std.proofs.Common.{◌∙◌, sym, arith, append_assoc, append-nil}
 use Rattle.std.specs.Prelude.{map, sum_by}
 use Rattle.std.proofs.lemmas.List.Sums.{sum_by_push}
 use Rattle.serde_json.proofs.OnLiterals.{serde_json_on_literals}

@@ -1,5 +1,6 @@
 -- Labels as JSON: where they lie, and what they mark.
-use Rattle.std.specs.Prelude.{ℕ, ◌+◌, ◌-◌, ◌==◌, ◌&&◌, nat_le, List, [], ◌∷◌, Option, Some, None, codes, drop, reverse, slice_get, take, if◌then◌else◌}
+use Rattle.std.specs.Prelude.{ℕ, ◌+◌, ◌-◌, ◌==◌, ◌&&◌, nat_le, List, [], ◌∷◌, Option, Some, None, codes, drop, reverse}
+use Rattle.std.specs.Prelude.{slice_get, take, if◌then◌else◌}
 use Rattle.serde_json.specs.Data.{Data, string, number, unsigned, object, member, no_members}
 use Rattle.deny_base.specs.Files.{is_boundary, location_in}
 use Rattle.deny_base.specs.declared.files.File.{File}
@@ -7,7 +8,8 @@ use Rattle.deny_base.specs.declared.files.Location.{Location}
 use Rattle.deny_base.specs.declared.label.Label.{Label}
 use Rattle.deny_base.specs.declared.span.Span.{Span}
 
--- lines and columns are told from 1. Every label of a report lies in its file; of one that did not, 0 would be told, and no text
+-- lines and columns are told from 1. Every label of a report lies in its file; of one that did not, 0 would be told,
+-- and no text
 abbrev pub line_of : Option Location → ℕ
 line_of None = 0
 line_of (Some at) = at.line + 1

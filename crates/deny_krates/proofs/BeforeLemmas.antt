@@ -1,17 +1,19 @@
 -- Runs in a list that ascends by two numbers.
-use Rattle.std.proofs.Common.{◌≡◌, ◌<◌, ◌≤◌, ◌+◌, ◌-◌, ◌∙◌, ◌⊎◌, ℕ, zero, suc, inl, inr, List, [], ◌∷◌, Bool, true, false, length, drop, take, refl, sym, ap, subst, arith}
+use Rattle.std.proofs.Common.{◌≡◌, ◌<◌, ◌≤◌, ◌+◌, ◌-◌, ◌∙◌, ◌⊎◌, ℕ, zero, suc, inl, inr, List, [], ◌∷◌, Bool, true}
+use Rattle.std.proofs.Common.{false, length, drop, take, refl, sym, ap, subst, arith}
 use Rattle.std.specs.Prelude.{◌==◌, ◌&&◌, filter, nat_lt, not, slice_index_or}
 use Rattle.std.specs.List.Sorted.{IsPartitionPoint, IsPartitionedBy, IsStrictlySortedBy}
-use Rattle.std.specs.Cmp.{nat_cmp_is}
 use Rattle.std.specs.FinMap.{nat_cmp-IsAntisymmetric}
 use Rattle.std.specs.Ordering.{nat_cmp, on, ordering_then, then_cmp}
 use Rattle.std.specs.declared.cmp.Ordering.{Ordering}
 use Rattle.std.specs.declared.cmp.Ordering.TheVariants.{Less, Equal, Greater}
 use Rattle.std.proofs.Math.Seq.{take-nil, drop-nil}
-use Rattle.std.proofs.lemmas.Bool.{and_from, and_parts, cases_eq, cases_lt, eq-eqb, eqb-true, lt-ltb, ltb-true, or_cases, or_left, or_right}
+use Rattle.std.proofs.lemmas.Bool.{and_from, and_parts, cases_eq, cases_lt, eq-eqb, eqb-true, lt-ltb, ltb-true}
+use Rattle.std.proofs.lemmas.Bool.{or_cases, or_left, or_right}
 use Rattle.std.proofs.lemmas.Option.{slice_get-get_or}
 use Rattle.deny_lists.proofs.Orders.{below_or_tie}
 use Rattle.deny_lists.proofs.Sorted.{ascends_at}
+use Rattle.deny_lists.proofs.Numbers.{less_from_nat_cmp}
 use Rattle.deny_krates.specs.private.Resolved.{is_before}
 
 -- where the items before s, and those at s and the n after it, are parted by two tests, the latter are those that pass
@@ -76,19 +78,6 @@ before_later a b c d e up is = elim (from_before a b c d is) as (λ _. is_before
   | inr tie ↦ let further : b < e = omega (arith, up, tie.1) in to_before a b c e (inr (tie.0, further))
 ]
 
-less_is : (a b : ℕ) → nat_cmp a b ≡ Less → a < b
-less_is a b less = elim (cases_lt a b) as (λ _. a < b) [
-  | inl below ↦ below
-  | inr not_below ↦ absurd (elim (cases_eq a b) as (λ _. ⊥) [
-    | inl same ↦ differ Equal (λ e. absurd (cc)) (sym less ∙ sym (nat_cmp_is a b Equal same))
-    | inr other ↦ let above : b < a = omega (arith, not_below, other) in
-        differ Greater (λ e. absurd (cc)) (sym less ∙ sym (nat_cmp_is a b Greater above))
-  ])
-]
-  where
-    differ : (o : Ordering) → (Less ≡ o → ⊥) → Less ≡ o → ⊥
-    differ o never e = never e
-
 tie_is : (a b : ℕ) → nat_cmp a b ≡ Equal → a ≡ b
 tie_is a b tie = nat_cmp-IsAntisymmetric a b tie
 
@@ -119,15 +108,16 @@ partitioned_before {A} one two rest xs a b up i j d below inside holds = elim (c
         → is_before k l a b ≡ true → is_before m n a b ≡ true
     earlier m n k l r less later = elim (from_before k l a b later) as (λ _. is_before m n a b ≡ true) [
       | inl k_below ↦ elim (below_or_tie (nat_cmp m k) _ less) as (λ _. is_before m n a b ≡ true) [
-        | inl m_below ↦ let lower = less_is m k m_below in to_before m n a b (inl (omega (arith, lower, k_below)))
+        | inl m_below ↦ let lower =
+            less_from_nat_cmp m k m_below in to_before m n a b (inl (omega (arith, lower, k_below)))
         | inr tie ↦ let same = tie_is m k tie in to_before m n a b (inl (omega (arith, same, k_below)))
       ]
       | inr k_tie ↦ elim (below_or_tie (nat_cmp m k) _ less) as (λ _. is_before m n a b ≡ true) [
-        | inl m_below ↦ let lower = less_is m k m_below in
+        | inl m_below ↦ let lower = less_from_nat_cmp m k m_below in
             to_before m n a b (inl (omega (arith, lower, k_tie.0)))
         | inr tie ↦ elim (below_or_tie (nat_cmp n l) r (after_tie (nat_cmp m k) _ less tie)) as
             (λ _. is_before m n a b ≡ true) [
-              | inl n_below ↦ let lower = less_is n l n_below in
+              | inl n_below ↦ let lower = less_from_nat_cmp n l n_below in
                   to_before m n a b (inr (tie_is m k tie ∙ k_tie.0, omega (arith, lower, k_tie.1)))
               | inr n_tie ↦ let same = tie_is n l n_tie in
                   to_before m n a b (inr (tie_is m k tie ∙ k_tie.0, omega (arith, same, k_tie.1)))

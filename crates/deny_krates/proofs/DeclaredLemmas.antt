@@ -1,5 +1,7 @@
 -- The declarations that resolve: as they are gathered, and those of two crates.
-use Rattle.std.proofs.Common.{◌≡◌, ◌<◌, ◌≤◌, ◌+◌, ◌++◌, ◌∙◌, ◌⊎◌, ℕ, zero, suc, inl, inr, List, [], ◌∷◌, Bool, true, false, Option, Some, None, length, drop, map, refl, sym, ap, subst, arith, add-one, add-zero, append-nil}
+use Rattle.std.proofs.Common.{◌≡◌, ◌<◌, ◌≤◌, ◌+◌, ◌++◌, ◌∙◌, ◌⊎◌, ℕ, zero, suc, inl, inr, List, [], ◌∷◌, Bool, true}
+use Rattle.std.proofs.Common.{false, Option, Some, None, length, drop, map, refl, sym, ap, subst, arith, add-one}
+use Rattle.std.proofs.Common.{add-zero, append-nil}
 use Rattle.std.specs.Prelude.{◌&&◌, Contains, filter, not, option_map, slice_get, slice_index_or}
 use Rattle.std.specs.List.{cons_option}
 use Rattle.std.specs.Option.{option_and_then}
@@ -8,9 +10,12 @@ use Rattle.std.proofs.Math.Seq.{drop-cons}
 use Rattle.std.proofs.lemmas.Bool.{and_from, and_parts, cases_lt, false_from_ne_true, not_from_false}
 use Rattle.std.proofs.lemmas.Option.{none-some, same_Some}
 use Rattle.deny_lists.proofs.Loops.{appended}
-use Rattle.deny_lists.proofs.Members.{Contains-by_cases, Contains-filter, Contains-first, Contains-flat_map, Contains-from_filter, Contains-from_flat_map, Contains-rest, from_there, no_member, there}
+use Rattle.deny_lists.proofs.Members.{Contains-by_cases, Contains-filter, Contains-first, Contains-flat_map}
+use Rattle.deny_lists.proofs.Members.{Contains-from_filter, Contains-from_flat_map, Contains-rest, from_there}
+use Rattle.deny_lists.proofs.Members.{no_member, there}
 use Rattle.deny_krates.specs.Crates.{crates_from, dependency_view}
-use Rattle.deny_krates.specs.private.Resolved.{AreBetween, AreResolved, IsResolvedAt, is_before, resolved_from, resolved_in, resolved_to}
+use Rattle.deny_krates.specs.private.Resolved.{AreBetween, AreResolved, IsResolvedAt, is_before, resolved_from}
+use Rattle.deny_krates.specs.private.Resolved.{resolved_in, resolved_to}
 use Rattle.deny_krates.specs.declared.krate.Dependency.{Dependency as Declared}
 use Rattle.deny_krates.specs.declared.krate.Krate.{Krate}
 use Rattle.deny_krates.specs.declared.resolved.ResolvedAt.{ResolvedAt}
@@ -28,7 +33,8 @@ resolved_next : (g : Graph) (parent i : ℕ) (ds : List Declared) (d : Declared)
     (resolved_from g parent (i + 1) (map dependency_view (drop (i + 1) ds)))
 resolved_next g parent i ds d inside is = rw (drop-cons ds i d inside, ← is, add-one) refl
 
-pub resolved_some : (g : Graph) (parent i child : ℕ) (ds : List Declared) (d : Declared) (old new whole : List ResolvedAt)
+pub resolved_some : (g : Graph) (parent i child : ℕ) (ds : List Declared) (d : Declared)
+    (old new whole : List ResolvedAt)
     → i < length ds → d ≡ slice_index_or ds i d → Some child ≡ resolution g parent (dependency_view d)
     → new ≡ old ++ resolved_to parent i child ∷ []
     → old ++ resolved_from g parent i (map dependency_view (drop i ds)) ≡ whole
@@ -127,7 +133,8 @@ to_resolved : (g : Graph) (parent first : ℕ) (ds : List Dependency) (n child :
 to_resolved g parent first [] n child d at resolves = absurd (none-some d at)
 to_resolved g parent first (x ∷ ds) zero child d at resolves =
     let is : resolution g parent x ≡ Some child = ap (resolution g parent) (same_Some x d at) ∙ resolves in
-    subst (λ (n : ℕ). Contains (resolved_from g parent first (x ∷ ds)) (resolved_to parent n child)) (sym (add-zero first))
+    subst (λ (n : ℕ). Contains (resolved_from g parent first (x ∷ ds)) (resolved_to parent n child))
+    (sym (add-zero first))
     (subst (λ (o : Option ℕ). Contains
     (cons_option (option_map (resolved_to parent first) o) (resolved_from g parent (first + 1) ds))
     (resolved_to parent first child)) (sym is)
@@ -138,7 +145,8 @@ to_resolved g parent first (x ∷ ds) (suc n) child d at resolves =
     (behind (option_map (resolved_to parent first) (resolution g parent x))
     (to_resolved g parent (first + 1) ds n child d at resolves))
   where
-    behind : (o : Option ResolvedAt) → Contains (resolved_from g parent (first + 1) ds) (resolved_to parent ((first + 1) + n) child)
+    behind : (o : Option ResolvedAt)
+        → Contains (resolved_from g parent (first + 1) ds) (resolved_to parent ((first + 1) + n) child)
         → Contains (cons_option o (resolved_from g parent (first + 1) ds)) (resolved_to parent ((first + 1) + n) child)
     behind None stands = stands
     behind (Some r) stands = Contains-rest r (resolved_from g parent (first + 1) ds)
@@ -178,7 +186,8 @@ module _ (g : Graph) (placed : ArePlaced g) where
           (to_resolved g parent 0 c.deps index child d here resolves)))
 
       by_crate : (o : Option Crate) → slice_get g.crates parent ≡ o
-          → option_and_then (resolution g parent) (option_and_then (λ (c : Crate). slice_get c.deps index) o) ≡ Some child
+          → option_and_then (resolution g parent) (option_and_then (λ (c : Crate). slice_get c.deps index) o)
+          ≡ Some child
           → Contains (resolved_in g g.crates) (resolved_to parent index child)
       by_crate None at resolves = absurd (none-some child resolves)
       by_crate (Some c) at resolves = by_declaration c at (slice_get c.deps index) refl resolves

@@ -1,6 +1,7 @@
 -- The direct dependents that are sorted out of incoming are those of the graph.
 use Rattle.deny_lists.proofs.Members.{contains_map, filter_keeps, from_contains_map, from_there, there}
-use Rattle.std.proofs.Common.{◌≡◌, ◌⊎◌, ◌<◌, ◌≤◌, ◌+◌, ◌++◌, ℕ, zero, suc, inl, inr, List, [], ◌∷◌, Bool, true, false, Some, length, map, refl, sym, ap, ◌∙◌, subst, arith, add-zero, append_assoc, append-nil}
+use Rattle.std.proofs.Common.{◌≡◌, ◌⊎◌, ◌<◌, ◌≤◌, ◌+◌, ◌++◌, ℕ, zero, suc, inl, inr, List, [], ◌∷◌, Bool, true, false}
+use Rattle.std.proofs.Common.{Some, length, map, refl, sym, ap, ◌∙◌, subst, arith, add-zero, append_assoc, append-nil}
 use Rattle.std.specs.Prelude.{◌==◌, ◌||◌, All, Contains, cond, fold, slice_get, slice_index_or}
 use mathlib.Core.Path.{fun_ext}
 use Rattle.std.specs.Cmp.{nat_cmp_total}
@@ -14,9 +15,11 @@ use Rattle.std.specs.declared.cmp.Ordering.{Ordering}
 use Rattle.std.specs.declared.cmp.Ordering.TheVariants.{Less, Equal, Greater}
 use Rattle.std.proofs.lemmas.Bool.{and_parts, cases_eq, cases_lt, eq-eqb, eqb-true, ne_eqb}
 use Rattle.std.proofs.lemmas.Bool.Decides.{nat_tests}
-use Rattle.std.proofs.lemmas.List.Elements.{All-contains, Contains-append_left, Contains-append_right, Contains-push, Contains-push_cases, filter_passes}
+use Rattle.std.proofs.lemmas.List.Elements.{All-contains, Contains-append_left, Contains-append_right, Contains-push}
+use Rattle.std.proofs.lemmas.List.Elements.{Contains-push_cases, filter_passes}
 use Rattle.std.proofs.lemmas.List.{map-id}
-use Rattle.std.proofs.lemmas.Option.{none-some, get_or_from_slice_get, slice_get_within, slice_get-get_or, same_Some}
+use Rattle.std.proofs.lemmas.Option.{none-some, get_or_from_slice_get, slice_get_within, slice_get-get_or}
+use Rattle.std.proofs.lemmas.Map.Keys.{any_passes_from_place}
 use Rattle.deny_lists.specs.Ascending.{Lists}
 use Rattle.deny_base.specs.Edge.{kind_cmp, kind_number}
 use Rattle.deny_base.specs.declared.edge.DepKind.{DepKind}
@@ -24,13 +27,16 @@ use Rattle.deny_base.specs.declared.edge.Edge.{Edge}
 use Rattle.deny_model.specs.Graph.{Crate, dependents, leads}
 use Rattle.deny_krates.specs.Crates.{crate_view, crates_from, graph_of}
 use Rattle.deny_krates.specs.Dependents.{AreDirectDependents, IsLeastKind}
-use Rattle.deny_krates.specs.private.Direct.{AreRanks, incoming_cmp, incoming_of, id_in, is_last, rank_in, with_incoming}
+use Rattle.deny_krates.specs.private.Direct.{AreRanks, incoming_cmp, incoming_of, id_in, is_last, rank_in}
+use Rattle.deny_krates.specs.private.Direct.{with_incoming}
 use Rattle.deny_krates.specs.declared.direct.IncomingEdge.{IncomingEdge}
 use Rattle.deny_krates.specs.declared.krate.DirectDependent.{DirectDependent}
 use Rattle.deny_krates.specs.declared.krate.Krate.{Krate}
 use Rattle.deny_lists.proofs.Orders.{below_or_tie, not_below_itself}
 use Rattle.deny_krates.proofs.GraphLemmas.{last_is}
 use Rattle.deny_lists.proofs.Sorted.{ascends_at, ascends_map}
+use Rattle.deny_lists.proofs.Places.{slice_get-append_some}
+use Rattle.deny_lists.proofs.Numbers.{less_from_nat_cmp}
 use Rattle.deny_model.specs.declared.target_edge.TargetEdge.{TargetEdge}
 
 abbrev pub rank_order : (ℕ → ℕ) → DirectDependent → DirectDependent → Ordering
@@ -38,9 +44,6 @@ rank_order rank = on (λ d. rank d.place) nat_cmp
 
 nat_same : (m n : ℕ) → m ≡ n → nat_cmp m n ≡ Equal
 nat_same m n same = grind (arith, nat_tests)
-
-nat_below : (m n : ℕ) → nat_cmp m n ≡ Less → m < n
-nat_below m n below = grind (arith, nat_tests)
 
 -- an incoming edge whose dependent a row holds, with the least kind
 pub record HasIncoming (child : ℕ) (done : List IncomingEdge) (d : DirectDependent) : Type 0 where
@@ -100,8 +103,11 @@ last_or_below rank row k d up at =
     after : suc k < length row → (e : DirectDependent) × Contains row e × (rank_order rank d e ≡ Less)
     after more =
         let e = slice_index_or row (suc k) d in
-        let there_is = slice_get-get_or row (suc k) d more in
-        (e, from_there row (suc k) e there_is, ascends_at (rank_order rank) row k (suc k) d e up (omega arith) at there_is)
+        let there_is = slice_get-get_or row (suc k) d more in (
+          e,
+          from_there row (suc k) e there_is,
+          ascends_at (rank_order rank) row k (suc k) d e up (omega arith) at there_is,
+        )
 
 -- that a row ends with a dependent says that it has it
 ends : (row : List DirectDependent) (place : ℕ) → is_last row place ≡ true → HasDependent row place
@@ -226,7 +232,8 @@ module _ (rank : ℕ → ℕ) (child : ℕ) (done : List IncomingEdge) (row : Li
           true-false : true ≡ false → ⊥
           true-false e = absurd (cc)
 
-          not_back : (e : DirectDependent) × Contains row e × (rank_order rank d e ≡ Less) → rank d.place ≡ rank a.parent → ⊥
+          not_back : (e : DirectDependent) × Contains row e × (rank_order rank d e ≡ Less)
+              → rank d.place ≡ rank a.parent → ⊥
           not_back up same = elim (rank_upto up.0 up.1 own) as (λ _. ⊥) [
             | inl below ↦ not_below_itself nat_cmp nat_cmp_total (rank d.place) (rank a.parent) same
                 (nat_cmp_total.trans (rank d.place) (rank up.0.place) (rank a.parent) up.2 below)
@@ -320,11 +327,6 @@ no_row rank child = record {
   whole = λ a stands own. absurd (none-some a (there [] a stands).1);
 }
 
-get_left : {A : Type 0} (xs ys : List A) (k : ℕ) (x : A) → slice_get xs k ≡ Some x → slice_get (xs ++ ys) k ≡ Some x
-get_left [] ys k x at = absurd (none-some x at)
-get_left (z ∷ xs) ys zero x at = at
-get_left (z ∷ xs) ys (suc k) x at = get_left xs ys k x at
-
 get_seam : {A : Type 0} (xs : List A) (y : A) (ys : List A) → slice_get (xs ++ y ∷ ys) (length xs) ≡ Some y
 get_seam [] y ys = refl
 get_seam (x ∷ xs) y ys = get_seam xs y ys
@@ -347,7 +349,7 @@ rows_on rank child done (a ∷ rest) row is named apart up =
     (λ b stands same. apart b a (before b stands) here same)
     (λ b stands. let at = there done b stands in
     ascends_at incoming_cmp (done ++ a ∷ rest) at.0 (length done) b a up (slice_get_within done at.0 b at.1)
-    (get_left done (a ∷ rest) at.0 b at.1) (get_seam done a rest)) in
+    (slice_get-append_some done (a ∷ rest) at.0 b at.1) (get_seam done a rest)) in
     let P : List IncomingEdge → Type 0 = λ xs. IsRow rank child xs
     (fold (with_incoming child) (with_incoming child row a) rest) in
     subst P whole (rows_on rank child (done ++ a ∷ []) rest (with_incoming child row a) next
@@ -380,16 +382,6 @@ any_one {A} p (x ∷ xs) is = by_test (any_one p xs) (p x) refl is
     by_test rest true passes e = (x, from_there (x ∷ xs) 0 x refl, passes)
     by_test rest false fails e = let later =
         rest e in let at = there xs later.0 later.1 in (later.0, from_there (x ∷ xs) (suc at.0) later.0 at.1, later.2)
-
-one_any : {A : Type 0} (p : A → Bool) (xs : List A) (k : ℕ) (x : A) → slice_get xs k ≡ Some x → p x ≡ true
-    → list_any p xs ≡ true
-one_any p [] k x at is = absurd (none-some x at)
-one_any {A} p (y ∷ xs) zero x at is = rw (subst (λ (z : A). p z ≡ true) (sym (same_Some y x at)) is) refl
-one_any p (y ∷ xs) (suc k) x at is = or_true (p y) (list_any p xs) (one_any p xs k x at is)
-  where
-    or_true : (a b : Bool) → b ≡ true → (a || b) ≡ true
-    or_true true b e = refl
-    or_true false b e = e
 
 leads_from : (parent child : ℕ) (e : Edge) → leads parent child e ≡ true → (e.parent ≡ parent) × (e.child ≡ child)
 unfolding leads
@@ -426,7 +418,8 @@ edge_is e parent child kind a b c =
     let same : edge_again e.parent e.child e.kind ≡ edge_again parent child kind = cc in
     sym (edge_again-is e) ∙ same
 
-module _ (targeted : List TargetEdge) (root : List ℕ) (krates : List Krate) (members : List ℕ) (edges : List Edge) (incoming : List IncomingEdge)
+module _ (targeted : List TargetEdge) (root : List ℕ) (krates : List Krate) (members : List ℕ) (edges : List Edge)
+    (incoming : List IncomingEdge)
     (ranks : List ℕ) (are : AreRanks krates ranks)
     (lists : Lists incoming_cmp (Contains (map (incoming_of ranks) edges)) incoming)
     (parents : All (λ e. e.parent < length krates) edges) where
@@ -452,7 +445,8 @@ module _ (targeted : List TargetEdge) (root : List ℕ) (krates : List Krate) (m
   dependents_are child = record {
     ascending = subst (λ (f : ℕ → List ℕ). IsStrictlySortedBy (on (λ d. f d.place) (slice_cmp nat_cmp))
         (fold (with_incoming child) [] incoming)) (sym (fun_ext (λ p. id_in_graph 0 krates p))) by_ids;
-    whole = λ k d inside. crate_there (slice_index_or (dependents (graph_of targeted root krates members edges) child) k d)
+    whole = λ k d inside. crate_there
+        (slice_index_or (dependents (graph_of targeted root krates members edges) child) k d)
         (from_there (dependents (graph_of targeted root krates members edges) child) k _
         (slice_get-get_or (dependents (graph_of targeted root krates members edges) child) k d inside));
     sound = λ k d inside. dependent_there (slice_index_or (fold (with_incoming child) [] incoming) k d)
@@ -480,7 +474,7 @@ module _ (targeted : List TargetEdge) (root : List ℕ) (krates : List Krate) (m
           (ascends_map (rank_order (rank_in ranks)) (on (λ d. id_in krates d.place) (slice_cmp nat_cmp))
           (λ (d : DirectDependent). d) (λ d. d.place < length krates) (fold (with_incoming child) [] incoming)
           (λ d e in_d in_e below. are.below d.place e.place in_d in_e
-          (nat_below (rank_in ranks d.place) (rank_in ranks e.place) below)) inside row.ascending)
+          (less_from_nat_cmp (rank_in ranks d.place) (rank_in ranks e.place) below)) inside row.ascending)
 
       crate_there : (c : Crate) → Contains (dependents (graph_of targeted root krates members edges) child) c
           → Contains (map (λ d. d.place) (fold (with_incoming child) [] incoming)) c.place
@@ -499,7 +493,8 @@ module _ (targeted : List TargetEdge) (root : List ℕ) (krates : List Krate) (m
           had.dependent had.stands)
 
       dependent_there : (d : DirectDependent) → Contains (fold (with_incoming child) [] incoming) d
-          → Contains (map (λ (c : Crate). c.place) (dependents (graph_of targeted root krates members edges) child)) d.place
+          → Contains (map (λ (c : Crate). c.place) (dependents (graph_of targeted root krates members edges) child))
+          d.place
       dependent_there d stands =
           let had = row.sound d stands in
           let edge = incoming_edge had.edge had.stands in
@@ -509,7 +504,8 @@ module _ (targeted : List TargetEdge) (root : List ℕ) (krates : List Krate) (m
           (subst (λ (n : ℕ). n < length krates) had.parent (incoming_inside had.edge had.stands)) in
           let place : c.0.place ≡ d.place = c.2 ∙ zero_plus d.place in
           let at = there edges edge.0 edge.1 in
-          let passes : list_any (leads c.0.place child) edges ≡ true = one_any (leads c.0.place child) edges at.0 edge.0
+          let passes : list_any (leads c.0.place child) edges ≡ true =
+          any_passes_from_place (leads c.0.place child) edges at.0 edge.0
           at.1 (leads_to c.0.place child edge.0 (parent ∙ sym place) own) in
           subst (λ (p : ℕ). Contains (map (λ (c : Crate). c.place)
           (dependents (graph_of targeted root krates members edges) child)) p) place

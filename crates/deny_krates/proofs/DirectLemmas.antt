@@ -35,7 +35,8 @@ pub rows_are_kept : (krates : List Krate) (ranks : List ℕ) (edges : List Edge)
     → Lists incoming_cmp (Contains (map (incoming_of ranks) edges)) incoming → length direct ≡ length krates
     → ((child : ℕ) → child < length krates → slice_index_or direct child [] ≡ fold (with_incoming child) [] incoming)
     → (targeted : List TargetEdge) (root members : List ℕ)
-    → AreRows (graph_of targeted root krates members edges) (AreDirectDependents (graph_of targeted root krates members edges)) direct
+    → AreRows (graph_of targeted root krates members edges)
+    (AreDirectDependents (graph_of targeted root krates members edges)) direct
 rows_are_kept krates ranks edges incoming direct are parents lists long rows targeted root members = record {
   length = long ∙ sym (length-crates_from 0 krates);
   each = λ place row at.
@@ -60,7 +61,8 @@ any_reversed a b (e ∷ edges) =
     ap (λ r. r || list_any (leads a b) (map reversed edges)) (and_comm (e.child == a) (e.parent == b))
     ∙ ap (λ r. ((e.parent == b) && (e.child == a)) || r) (any_reversed a b edges)
 
-dependents_reversed : (targeted : List TargetEdge) (root : List ℕ) (krates : List Krate) (members : List ℕ) (edges : List Edge) (place : ℕ)
+dependents_reversed : (targeted : List TargetEdge) (root : List ℕ) (krates : List Krate) (members : List ℕ)
+    (edges : List Edge) (place : ℕ)
     → dependents (graph_of targeted root krates members (map reversed edges)) place ≡ dependencies
     (graph_of targeted root krates members edges) place
 unfolding dependents dependencies
@@ -73,7 +75,8 @@ reversed_back edges e stands =
     let from = from_contains_map reversed edges (reversed e) stands in
     subst (λ (x : Edge). Contains edges x) (ap reversed from.2) from.1
 
-reversed_row : (targeted : List TargetEdge) (root : List ℕ) (krates : List Krate) (members : List ℕ) (edges : List Edge) (place : ℕ)
+reversed_row : (targeted : List TargetEdge) (root : List ℕ) (krates : List Krate) (members : List ℕ) (edges : List Edge)
+    (place : ℕ)
     (row : List DirectDependent)
     → AreDirectDependents (graph_of targeted root krates members (map reversed edges)) place row
     → AreDirectDependencies (graph_of targeted root krates members edges) place row
@@ -95,11 +98,13 @@ reversed_row targeted root krates members edges place row are =
           }) row are.kinds;
     }
 
-pub rows_reversed : (targeted : List TargetEdge) (root : List ℕ) (krates : List Krate) (members : List ℕ) (edges : List Edge)
+pub rows_reversed : (targeted : List TargetEdge) (root : List ℕ) (krates : List Krate) (members : List ℕ)
+    (edges : List Edge)
     (rows : List (List DirectDependent))
     → AreRows (graph_of targeted root krates members (map reversed edges))
     (AreDirectDependents (graph_of targeted root krates members (map reversed edges))) rows
-    → AreRows (graph_of targeted root krates members edges) (AreDirectDependencies (graph_of targeted root krates members edges)) rows
+    → AreRows (graph_of targeted root krates members edges)
+    (AreDirectDependencies (graph_of targeted root krates members edges)) rows
 rows_reversed targeted root krates members edges rows are = record {
   length = are.length;
   each = λ place row at. reversed_row targeted root krates members edges place row (are.each place row at);

@@ -1,5 +1,6 @@
 -- What is reached by links from place to place is what chains of edges lead to.
-use Rattle.std.proofs.Common.{◌≡◌, ◌<◌, ◌≤◌, ◌+◌, ◌++◌, ℕ, zero, suc, inl, inr, List, [], ◌∷◌, Bool, true, false, Some, length, map, take, refl, sym, ap, ◌∙◌, subst, arith, add-one, append-nil}
+use Rattle.std.proofs.Common.{◌≡◌, ◌<◌, ◌≤◌, ◌+◌, ◌++◌, ℕ, zero, suc, inl, inr, List, [], ◌∷◌, Bool, true, false, Some}
+use Rattle.std.proofs.Common.{length, map, take, refl, sym, ap, ◌∙◌, subst, arith, add-one, append-nil}
 use Rattle.std.specs.Prelude.{◌==◌, ◌&&◌, not, All, Contains, filter, slice_get, slice_set, slice_index_or}
 use Rattle.std.proofs.lemmas.Bool.{cases_eq, cases_lt, eq-eqb, eqb-true, ne_eqb}
 use Rattle.std.proofs.lemmas.List.{map-append, length-set}
@@ -16,7 +17,8 @@ use Rattle.deny_krates.specs.private.OtherLinks.{AreWays, is_way, link_of, links
 use Rattle.deny_krates.specs.private.Reach.{AreReached, Reaches, from_start, by_link, links_at}
 use Rattle.deny_metadata.specs.declared.checked.Link.{Link}
 use Rattle.deny_metadata.specs.declared.checked.ResolvedNode.{ResolvedNode}
-use Rattle.deny_lists.proofs.Members.{contains_map, filter_keeps, filtered, from_contains_map, from_there, passes_filter, there}
+use Rattle.deny_lists.proofs.Members.{contains_map, filter_keeps, filtered, from_contains_map, from_there}
+use Rattle.deny_lists.proofs.Members.{passes_filter, there}
 
 -- ---- rows of links, edge by edge
 

@@ -1,6 +1,7 @@
 -- The graph that is put together by numbers is the graph of the metadata.
 use Rattle.deny_lists.proofs.Orders.{not_below_itself, then_below}
-use Rattle.std.proofs.Common.{◌≡◌, ◌⊎◌, ◌<◌, ◌+◌, ℕ, zero, suc, inl, inr, List, [], ◌∷◌, Bool, Option, Some, length, map, refl, sym, ap, ◌∙◌, subst, arith, add-zero}
+use Rattle.std.proofs.Common.{◌≡◌, ◌⊎◌, ◌<◌, ◌+◌, ℕ, zero, suc, inl, inr, List, [], ◌∷◌, Bool, Option, Some, length}
+use Rattle.std.proofs.Common.{map, refl, sym, ap, ◌∙◌, subst, arith, add-zero}
 use Rattle.std.specs.Prelude.{◌≢◌, All, AllPairs, Contains, slice_get, slice_index_or}
 use Rattle.std.specs.Ordering.{nat_cmp}
 use Rattle.std.specs.declared.cmp.Ordering.TheVariants.{Less}
@@ -11,7 +12,8 @@ use Rattle.deny_base.specs.Edge.{edge_cmp}
 use Rattle.deny_base.specs.declared.edge.DepKind.{DepKind}
 use Rattle.deny_base.specs.declared.edge.Edge.{Edge}
 use Rattle.deny_metadata.specs.Checked.{node_ids}
-use Rattle.deny_krates.specs.private.Graph.{IsInverse, IsKeptNode, edge_to, edges_from, kept_cmp, listed, no_package, place_at}
+use Rattle.deny_krates.specs.private.Graph.{IsInverse, IsKeptNode, edge_to, edges_from, kept_cmp, listed, no_package}
+use Rattle.deny_krates.specs.private.Graph.{place_at}
 use Rattle.deny_krates.specs.private.Numbered.{IsNumbered}
 use Rattle.deny_krates.specs.Packages.{package_cmp, rank_cmp, rank_of}
 use Rattle.deny_krates.specs.private.Reach.{Reaches, from_start, by_link, links_at}
@@ -25,10 +27,13 @@ use Rattle.deny_metadata.specs.declared.document.Package.{Package}
 use Rattle.deny_krates.specs.declared.graph.KeptPackage.{KeptPackage}
 use Rattle.deny_krates.specs.declared.graph.Rank.{Rank}
 use Rattle.deny_krates.proofs.GraphLemmas.{listed_is, one_kept}
-use Rattle.deny_lists.proofs.Members.{contains_map, from_contains_map, from_map_at, from_there, map_at, one_there, there}
+use Rattle.deny_lists.proofs.Members.{contains_map, from_contains_map, from_map_at, from_there, map_at, one_there}
+use Rattle.deny_lists.proofs.Members.{there}
 use Rattle.deny_lists.proofs.Sorted.{ascends_at, ascends_map}
 use Rattle.deny_krates.proofs.OrderLemmas.{kept_cmp-total, rank_cmp-exact}
-use Rattle.deny_krates.proofs.ResolvedLemmas.{IsAt, apart, link_needs, linked_row, member_is, need_links, needs_for, needs_of, node_at, owner_at, reached_id, reached_number, row_is, row_of_node, start_is}
+use Rattle.deny_krates.proofs.ResolvedLemmas.{IsAt, apart, link_needs, linked_row, member_is, need_links, needs_for}
+use Rattle.deny_krates.proofs.ResolvedLemmas.{needs_of, node_at, owner_at, reached_id, reached_number, row_is}
+use Rattle.deny_krates.proofs.ResolvedLemmas.{row_of_node, start_is}
 use Rattle.deny_model.specs.declared.target_edge.TargetEdge.{TargetEdge}
 
 module _ (doc : Document) (starting : List ℕ) (rows : List ResolvedNode) (marks : List Bool) (kept : List KeptPackage)

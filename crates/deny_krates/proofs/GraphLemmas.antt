@@ -1,6 +1,7 @@
 -- Lists of the graph that grow by one.
 use Rattle.deny_lists.proofs.Members.{one_there}
-use Rattle.std.proofs.Common.{◌≡◌, ◌<◌, ◌≤◌, ◌+◌, ◌++◌, ℕ, zero, suc, inl, inr, List, [], ◌∷◌, Bool, true, false, Some, length, map, take, drop, refl, sym, ap, ◌∙◌, subst, arith, add-one, length-append}
+use Rattle.std.proofs.Common.{◌≡◌, ◌<◌, ◌≤◌, ◌+◌, ◌++◌, ℕ, zero, suc, inl, inr, List, [], ◌∷◌, Bool, true, false, Some}
+use Rattle.std.proofs.Common.{length, map, take, drop, refl, sym, ap, ◌∙◌, subst, arith, add-one, length-append}
 use Rattle.std.specs.Prelude.{◌==◌, ◌≢◌, All, AllPairs, Contains, fold, slice_get, slice_set, slice_index_or, replicate}
 use Rattle.std.specs.List.{AllZip}
 use Rattle.std.specs.Option.{option_map_or}
@@ -8,7 +9,7 @@ use Rattle.std.proofs.lemmas.Bool.{cases_eq, eq-eqb, ne_eqb}
 use Rattle.std.proofs.lemmas.List.{length-set, get_or-set_same, get_or-set_other}
 use Rattle.std.proofs.lemmas.List.Elements.{All-contains, All-push, Contains-push, Contains-append_left}
 use Rattle.std.proofs.lemmas.List.Sums.{fold-append}
-use Rattle.std.proofs.lemmas.Option.{slice_get_read, slice_get_within, get_or_from_slice_get}
+use Rattle.std.proofs.lemmas.Option.{slice_get_within, get_or_from_slice_get}
 use Rattle.std.proofs.Math.Seq.{drop-cons, take-suc}
 use Rattle.std.specs.declared.cmp.Ordering.{Ordering}
 use Rattle.deny_lists.specs.Ascending.{Lists}
@@ -25,10 +26,6 @@ use Rattle.deny_krates.specs.declared.direct.IncomingEdge.{IncomingEdge}
 use Rattle.deny_krates.specs.declared.graph.KeptPackage.{KeptPackage}
 use Rattle.deny_krates.specs.declared.krate.DirectDependent.{DirectDependent}
 use Rattle.deny_krates.specs.declared.krate.Krate.{Krate}
-
-pub read_at : {A : Type 0} (xs : List A) (i : ℕ) (x : A) → i < length xs → x ≡ slice_index_or xs i x
-    → slice_get xs i ≡ Some x
-read_at xs i x inside is = slice_get_read xs (length xs) i x refl inside is
 
 pub links_of_row : (rows : List ResolvedNode) (node : ℕ) (r : ResolvedNode) → slice_get rows node ≡ Some r
     → links_at rows node ≡ r.links

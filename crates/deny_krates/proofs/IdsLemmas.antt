@@ -1,6 +1,9 @@
 -- The crates that ids name, and their ranks.
-use Rattle.std.proofs.Common.{◌≡◌, ◌<◌, ◌≤◌, ◌+◌, ◌++◌, ℕ, zero, suc, inl, inr, List, [], ◌∷◌, Bool, true, false, Option, Some, None, length, drop, map, refl, sym, ap, ◌∙◌, subst, arith, add-one, add-zero, append-nil}
-use Rattle.std.specs.Prelude.{◌≢◌, All, AllPairs, Contains, IfNone, IfSome, MatchOption, cond, find, option_copied, option_map, slice_get, slice_index_or}
+use Rattle.std.proofs.Common.{◌≡◌, ◌<◌, ◌≤◌, ◌+◌, ◌++◌, ℕ, zero, suc, inl, inr, List, [], ◌∷◌, Bool, true, false}
+use Rattle.std.proofs.Common.{Option, Some, None, length, drop, map, refl, sym, ap, ◌∙◌, subst, arith, add-one}
+use Rattle.std.proofs.Common.{add-zero, append-nil}
+use Rattle.std.specs.Prelude.{◌≢◌, All, AllPairs, Contains, IfNone, IfSome, MatchOption, cond, find, option_copied}
+use Rattle.std.specs.Prelude.{option_map, slice_get, slice_index_or}
 use Rattle.std.specs.Borrow.{Bor}
 use Rattle.std.specs.Cmp.{IsTotalOrder, nat_cmp_total, on_total, then_total}
 use Rattle.std.specs.Cmp.Lexicographic.{slice_cmp, nat_list_cmp_total}
@@ -59,7 +62,8 @@ ids_sorted entries up k d low inside =
     let x = slice_index_or entries k d in
     let y = slice_index_or entries (k + 1) d in
     let below = below_or_tie (slice_cmp nat_cmp x.id y.id) (nat_cmp x.place y.place)
-    (ascends_at id_entry_cmp entries k (k + 1) x y up (omega arith) (slice_get-get_or entries k d (omega (arith, inside)))
+    (ascends_at id_entry_cmp entries k (k + 1) x y up (omega arith)
+    (slice_get-get_or entries k d (omega (arith, inside)))
     (slice_get-get_or entries (k + 1) d inside)) in
     not_less x.id y.id below
 
@@ -188,7 +192,8 @@ crate_from first (x ∷ ks) (suc n) k at =
     let moved : (first + 1) + n ≡ first + suc n = omega arith in
     crate_from (first + 1) ks n k at ∙ ap (λ p. Some (crate_view p k)) moved
 
-module _ (targeted : List TargetEdge) (root : List ℕ) (krates : List Krate) (members : List ℕ) (edges : List Edge) (entries : List Entry)
+module _ (targeted : List TargetEdge) (root : List ℕ) (krates : List Krate) (members : List ℕ) (edges : List Edge)
+    (entries : List Entry)
     (apart : AreApart krates) (ids : AreIds krates entries) where
   -- the place that stands with an id is that of the crate of the id
   pub found_crate : (id : List ℕ) (place : ℕ) → Contains entries (record { id = id; place = place })

@@ -1,5 +1,6 @@
 -- What leads from one node to another: lists of features, and declarations.
-use Rattle.std.proofs.Common.{◌≡◌, ◌<◌, ◌≤◌, ◌+◌, ◌++◌, ◌∙◌, ℕ, inl, inr, List, [], ◌∷◌, Bool, true, false, get_or, length, drop, refl, sym, ap, arith}
+use Rattle.std.proofs.Common.{◌≡◌, ◌<◌, ◌≤◌, ◌+◌, ◌++◌, ◌∙◌, ℕ, inl, inr, List, [], ◌∷◌, Bool, true, false, get_or}
+use Rattle.std.proofs.Common.{length, drop, refl, sym, ap, arith}
 use Rattle.std.specs.Prelude.{◌==◌, ◌&&◌, ◌||◌, cond, slice_get, slice_index_or}
 use Rattle.std.specs.Cmp.Lexicographic.{nat_list_cmp_total, slice_cmp}
 use Rattle.std.specs.List.{after_first, before_first, list_any, position_or_len}
@@ -10,7 +11,7 @@ use Rattle.std.proofs.lemmas.List.{at_drop_all, at_drop_more}
 use Rattle.std.proofs.lemmas.List.Folds.{list_any-append}
 use Rattle.std.proofs.lemmas.Option.{slice_get-get_or}
 use Rattle.std.proofs.lemmas.Slice.Eq.{bytes_eq-Decides}
-use Rattle.deny_lists.proofs.Booleans.{tests_agree}
+use Rattle.deny_lists.proofs.Booleans.{tests_agree, or-false}
 use Rattle.deny_lists.proofs.Members.{any_from, any_passes, from_there}
 use Rattle.deny_lists.proofs.Orders.{not_below_itself, text_cmp-exact}
 use Rattle.deny_krates.specs.Nodes.{asked, default_feature, is_called, is_slash, leads_over}
@@ -23,7 +24,8 @@ use Rattle.deny_model.specs.Text.{same_text}
 pub text_found : (texts : List (List ℕ)) (text : List ℕ) (at : ℕ) (d : List ℕ) → at < length texts
     → slice_cmp nat_cmp (slice_index_or texts at d) text ≡ Equal → slice_get texts at ≡ slice_get (text ∷ []) 0
 text_found texts text at d inside tie =
-    slice_get-get_or texts at d inside ∙ ap (λ x. slice_get (x ∷ []) 0) (text_cmp-exact (slice_index_or texts at d) text tie)
+    slice_get-get_or texts at d inside
+    ∙ ap (λ x. slice_get (x ∷ []) 0) (text_cmp-exact (slice_index_or texts at d) text tie)
 
 pub text_missing : (texts : List (List ℕ)) (text : List ℕ) (i : ℕ)
     → ((k : ℕ) (d : List ℕ) → k < i → slice_cmp nat_cmp (slice_index_or texts k d) text ≡ Less)
@@ -51,7 +53,8 @@ pub any_stopped : {X : Type 0} (p : X → Bool) (xs : List X) (x : X) (i : ℕ) 
     → p x ≡ true → list_any p (drop i xs) ≡ list_any p xs → true ≡ list_any p xs
 any_stopped p xs x i inside is passes so =
     sym (at_drop_more (list_any p) xs i x inside
-    ∙ (ap (λ y. p y || list_any p (drop (i + 1) xs)) (sym is) ∙ ap (λ b. b || list_any p (drop (i + 1) xs)) passes)) ∙ so
+    ∙ (ap (λ y. p y || list_any p (drop (i + 1) xs)) (sym is) ∙ ap (λ b. b || list_any p (drop (i + 1) xs)) passes))
+    ∙ so
 
 pub any_more : {X : Type 0} (p : X → Bool) (xs : List X) (x : X) (i : ℕ) → i < length xs → x ≡ get_or xs i x
     → p x ≡ false → list_any p (drop i xs) ≡ list_any p xs → list_any p (drop (i + 1) xs) ≡ list_any p xs
@@ -65,10 +68,6 @@ any_none p xs i past so = sym (at_drop_all (list_any p) xs i past) ∙ so
 
 -- ---- what a declaration asks for
 
-or_false : (b : Bool) → (b || false) ≡ b
-or_false true = refl
-or_false false = refl
-
 pub any_asked : (test : List ℕ → Bool) (d : Dependency)
     → list_any test (asked d) ≡ (list_any test d.features || (d.uses_default_features && test default_feature))
 unfolding asked
@@ -77,8 +76,8 @@ any_asked test d = by_default d.uses_default_features
     by_default : (b : Bool) → list_any test (cond b (d.features ++ default_feature ∷ []) d.features)
         ≡ (list_any test d.features || (b && test default_feature))
     by_default true = list_any-append test d.features (default_feature ∷ [])
-        ∙ ap (λ b. list_any test d.features || b) (or_false (test default_feature))
-    by_default false = sym (or_false (list_any test d.features))
+        ∙ ap (λ b. list_any test d.features || b) (or-false (test default_feature))
+    by_default false = sym (or-false (list_any test d.features))
 
 -- ---- an entry with a slash
 

@@ -13,6 +13,7 @@ pub mod GraphLemmas
 pub mod IdsLemmas
 pub mod InOrderLemmas
 pub mod LeadLemmas
+pub mod NeighbourLemmas
 pub mod NodeLemmas
 pub mod NodeRows
 pub mod NumberLemmas
@@ -20,6 +21,7 @@ pub mod OrderLemmas
 pub mod OrderlyLemmas
 pub mod ParentLemmas
 pub mod PassedLemmas
+pub mod PlaceLemmas
 pub mod ReachLemmas
 pub mod ResolutionLemmas
 pub mod ResolvedLemmas

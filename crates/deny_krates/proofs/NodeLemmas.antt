@@ -1,6 +1,7 @@
 -- Nodes, and their numbers in a graph that is kept.
-use Rattle.std.proofs.Common.{◌≡◌, ◌<◌, ◌≤◌, ◌+◌, ◌-◌, ◌^◌, ◌∙◌, ℕ, List, [], ◌∷◌, Bool, true, false, Option, Some, None, length, refl, sym, ap, subst, arith}
-use Rattle.std.specs.Prelude.{All, Contains, cond, find, option_map, slice_get, slice_index_or, unwrap_or}
+use Rattle.std.proofs.Common.{◌≡◌, ◌<◌, ◌≤◌, ◌+◌, ◌-◌, ◌^◌, ◌∙◌, ℕ, List, [], ◌∷◌, true, false, Option, Some, None}
+use Rattle.std.proofs.Common.{length, refl, sym, ap, subst, arith}
+use Rattle.std.specs.Prelude.{All, cond, option_map, slice_get, slice_index_or, unwrap_or}
 use Rattle.std.specs.Cmp.Lexicographic.{slice_cmp}
 use Rattle.std.specs.List.{list_any}
 use Rattle.std.specs.List.Sorted.{IsStrictlySortedBy}
@@ -9,18 +10,21 @@ use Rattle.std.specs.Ordering.{nat_cmp}
 use Rattle.std.proofs.lemmas.List.Elements.{All-contains}
 use Rattle.std.proofs.lemmas.Option.{none-some, same_Some, slice_get-get_or, slice_get_within}
 use Rattle.std.proofs.lemmas.Slice.Eq.{bytes_eq-Decides}
-use Rattle.deny_lists.proofs.Members.{Contains-first, Contains-rest, any_from, from_there, some_at, there}
+use Rattle.deny_lists.proofs.Members.{any_from, from_there, some_at, there}
+use Rattle.deny_lists.proofs.Finding.{found_member}
 use Rattle.deny_base.specs.declared.edge.DepKind.{DepKind}
 use Rattle.deny_krates.specs.Bounds.{node_count}
 use Rattle.deny_krates.specs.Crates.{crate_view, crates_from}
 use Rattle.deny_krates.specs.Dependents.{id_at}
 use Rattle.deny_krates.specs.Ids.{crate_of}
-use Rattle.deny_krates.specs.Nodes.{Incoming, Node, crate_node, feature_node, incoming_at, is_enabled, node_at, node_in, node_named, nodes_of}
+use Rattle.deny_krates.specs.Nodes.{Incoming, Node, crate_node, feature_node, incoming_at, is_enabled, node_at, node_in}
+use Rattle.deny_krates.specs.Nodes.{node_named, nodes_of}
 use Rattle.deny_krates.specs.private.NodeNumbers.{IsLastUpTo, features_from, first_features_of}
 use Rattle.deny_krates.specs.private.Sources.{node_here}
 use Rattle.deny_krates.specs.declared.krate.Krate.{Krate}
 use Rattle.deny_krates.specs.declared.nodes.InEdge.{InEdge}
-use Rattle.deny_krates.proofs.NumberLemmas.{ArePlaced, crate_node_at, feature_count, feature_inside, feature_node_at, length-first_features, length-nodes, node_count-is}
+use Rattle.deny_krates.proofs.NumberLemmas.{ArePlaced, crate_node_at, feature_count, feature_inside, feature_node_at}
+use Rattle.deny_krates.proofs.NumberLemmas.{length-first_features, length-nodes, node_count-is}
 use Rattle.deny_krates.proofs.ResolutionLemmas.{crates-at}
 use Rattle.deny_krates.proofs.Runs.{length-crates_from}
 use Rattle.deny_model.specs.Graph.{Crate, Graph}
@@ -81,7 +85,8 @@ module _ (ks : List Krate) (g : Graph) (same : crates_from 0 ks ≡ g.crates) wh
   pub some_starts : (n : ℕ) → length ks ≤ n → n < length (nodes_of g) → 0 < length (first_features_of g)
   some_starts n past inside = by_crates g.crates as_many (omega (arith, past, inside, length-nodes g, as_many))
     where
-      by_crates : (cs : List Crate) → length ks ≡ length cs → 0 < feature_count cs → 0 < length (features_from (length g.crates) cs)
+      by_crates : (cs : List Crate) → length ks ≡ length cs → 0 < feature_count cs
+          → 0 < length (features_from (length g.crates) cs)
       by_crates [] long some = absurd (omega (arith, some))
       by_crates (c ∷ cs) long some = omega arith
 
@@ -156,16 +161,6 @@ number_of_crate g n inside =
 pub crate_within : (g : Graph) (n : ℕ) → n < length g.crates → n < length (nodes_of g)
 crate_within g n inside = omega (arith, inside, length-nodes g)
 
--- what is found stands in the list
-find_stands : {A : Type 0} (p : A → Bool) (xs : List A) (x : A) → find p xs ≡ Some x → Contains xs x
-find_stands p [] x is = absurd (none-some x is)
-find_stands {A} p (y ∷ xs) x is = by_test (p y) (find_stands p xs x) is
-  where
-    by_test : (b : Bool) → (find p xs ≡ Some x → Contains xs x) → cond b (Some y) (find p xs) ≡ Some x
-        → Contains (y ∷ xs) x
-    by_test true rest is = subst (λ (z : A). Contains (y ∷ xs) z) (same_Some y x is) (Contains-first y xs)
-    by_test false rest is = Contains-rest y xs x (rest is)
-
 -- the node that an id and a feature name, by the place of its crate
 pub named_here : (g : Graph) (place : ℕ) (id : List ℕ) (feature : Option (List ℕ)) → ArePlaced g
     → Some place ≡ option_map (λ (c : Crate). c.place) (crate_of g id)
@@ -177,7 +172,7 @@ named_here g place id feature placed is = by_crate (crate_of g id) refl is
         → (node_here g place feature ≡ option_and_then (node_in feature) (crate_of g id)) × (place < length g.crates)
     by_crate None found is = absurd (none-some place (sym is))
     by_crate (Some c) found is =
-        let at = there g.crates c (find_stands (λ (d : Crate). same_text d.id id) g.crates c found) in
+        let at = there g.crates c (found_member (λ (d : Crate). same_text d.id id) g.crates c found) in
         let place_is : at.0 ≡ place = sym (placed.each at.0 c at.1) ∙ same_Some c.place place (sym is) in
         let here : slice_get g.crates place ≡ Some c = subst (λ (n : ℕ). slice_get g.crates n ≡ Some c) place_is at.1 in
         (ap (option_and_then (node_in feature)) (here ∙ sym found), slice_get_within g.crates place c here)
@@ -187,7 +182,8 @@ pub not_named : (g : Graph) (id : List ℕ) (feature : Option (List ℕ))
 unfolding node_named
 not_named g id feature is = by_crate (crate_of g id) is
   where
-    by_crate : (o : Option Crate) → None ≡ option_map (λ (c : Crate). c.place) o → option_and_then (node_in feature) o ≡ None
+    by_crate : (o : Option Crate) → None ≡ option_map (λ (c : Crate). c.place) o
+        → option_and_then (node_in feature) o ≡ None
     by_crate None is = refl
     by_crate (Some c) is = absurd (none-some c.place is)
 

@@ -9,7 +9,11 @@ use Rattle.deny_base.specs.declared.edge.DepKind.{DepKind}
 use Rattle.deny_base.specs.declared.edge.DepKind.TheVariants.{Normal, Dev, Build}
 use Rattle.deny_base.specs.declared.edge.Edge.{Edge}
 use Rattle.deny_krates.specs.InOrder.{in_order}
-use Rattle.deny_krates.specs.Nodes.{Incoming, Node, asked, asks_for, asks_in_vain, declared, declares, entries_of, feature_leads, has_edge, holds_plain, incoming_cmp, incoming_in, is_called, is_enabled, is_plain, leads_by_asking, leads_in_vain, leads_over, leads_undeclared, manifest_name, node_in, node_named, nodes_of, of_parents, own_features, own_leading, resolves_to, sources_at, sources_of_crate, sources_of_feature}
+use Rattle.deny_krates.specs.Nodes.{Incoming, Node, asked, asks_for, asks_in_vain, declared, declares, entries_of}
+use Rattle.deny_krates.specs.Nodes.{feature_leads, has_edge, holds_plain, incoming_cmp, incoming_in, is_called}
+use Rattle.deny_krates.specs.Nodes.{is_enabled, is_plain, leads_by_asking, leads_in_vain, leads_over, leads_undeclared}
+use Rattle.deny_krates.specs.Nodes.{manifest_name, node_in, node_named, nodes_of, of_parents, own_features, own_leading}
+use Rattle.deny_krates.specs.Nodes.{resolves_to, sources_at, sources_of_crate, sources_of_feature}
 use Rattle.deny_model.specs.Graph.{Crate, Dependency, Graph, dependents, leads}
 use Rattle.deny_model.specs.Groups.{has_name}
 use Rattle.deny_model.specs.Resolution.{agreeing, resolution, suits}
@@ -40,7 +44,10 @@ crate place name table enabled deps = record {
 -- `lib`, whose `default` enables `fast`, and not `slow`
 lib : Crate
 lib = crate 1 (codes "lib")
-    ((codes "default", codes "fast" ∷ codes "dep:slow" ∷ []) ∷ (codes "fast", codes "extra/slow" ∷ []) ∷ (codes "slow", []) ∷ [])
+    ((codes "default", codes "fast" ∷ codes "dep:slow" ∷ []) ∷ (codes "fast", codes "extra/slow" ∷ []) ∷ (
+      codes "slow",
+      [],
+    ) ∷ [])
     (codes "default" ∷ codes "fast" ∷ []) []
 
 to_lib : DepKind → Edge
@@ -103,7 +110,8 @@ on_cases = tt
 
 -- what a table says of a feature
 get_in : (table : Table) (feature : List ℕ)
-    → finite.get {R = slice_cmp nat_cmp} (finite.from_entries table) feature ≡ finite.find (slice_cmp nat_cmp) feature table
+    → finite.get {R = slice_cmp nat_cmp} (finite.from_entries table) feature
+    ≡ finite.find (slice_cmp nat_cmp) feature table
 get_in table feature = finite.get-from_entries nat_list_cmp_total table feature
 
 -- ---- nodes
@@ -211,7 +219,8 @@ unfolding on_cases renamed
 by_old_name = simp get_in
 
 -- an entry is divided at its first `/`, and may not name the dependency alone
-not_of_lib : incoming_in (app_on_lib (codes "lib/fast/er" ∷ codes "dep:lib" ∷ codes "lib" ∷ []) (plainly Normal ∷ []) (Normal ∷ []))
+not_of_lib : incoming_in
+    (app_on_lib (codes "lib/fast/er" ∷ codes "dep:lib" ∷ codes "lib" ∷ []) (plainly Normal ∷ []) (Normal ∷ []))
     (of_lib (Some (codes "fast"))) ≡ by_default ∷ []
 unfolding on_cases
 not_of_lib = simp get_in

@@ -1,5 +1,7 @@
 -- The numbers of nodes: where each node stands, and that no two numbers have one node.
-use Rattle.std.proofs.Common.{◌≡◌, ◌<◌, ◌≤◌, ◌+◌, ◌-◌, ◌++◌, ◌∙◌, ◌⊎◌, ℕ, zero, suc, inl, inr, List, [], ◌∷◌, true, false, Some, None, length, drop, map, refl, sym, ap, subst, arith, add-one, append_assoc, append-nil, length-append}
+use Rattle.std.proofs.Common.{◌≡◌, ◌<◌, ◌≤◌, ◌+◌, ◌-◌, ◌++◌, ◌∙◌, ◌⊎◌, ℕ, zero, suc, inl, inr, List, [], ◌∷◌, true}
+use Rattle.std.proofs.Common.{false, Some, None, length, drop, map, refl, sym, ap, subst, arith, add-one, append_assoc}
+use Rattle.std.proofs.Common.{append-nil, length-append}
 use Rattle.std.specs.Prelude.{All, AllPairs, ◌≢◌, nat_le, option_map, slice_get, slice_index_or}
 use Rattle.std.specs.List.{flat_map}
 use Rattle.std.specs.Cmp.Lexicographic.{nat_list_cmp_total, slice_cmp}
@@ -14,6 +16,7 @@ use Rattle.std.proofs.lemmas.Option.{none-some, same_Some, slice_get-get_or, sli
 use Rattle.deny_lists.proofs.Members.{from_there, one_there, some_at}
 use Rattle.deny_lists.proofs.Orders.{not_below_itself}
 use Rattle.deny_lists.proofs.Sorted.{ascends_at}
+use Rattle.deny_lists.proofs.Places.{slice_get-append_left}
 use Rattle.deny_model.specs.Graph.{Crate, Graph}
 use Rattle.deny_krates.specs.Bounds.{node_count}
 use Rattle.deny_krates.specs.Crates.{crate_view, crates_from}
@@ -38,7 +41,8 @@ next_crate krates i k inside is = rw (drop-cons krates i k inside, ← is, add-o
 
 pub starts_more : (krates : List Krate) (i next : ℕ) (k : Krate) (starts new : List ℕ) → i < length krates
     → k ≡ slice_index_or krates i k → new ≡ starts ++ next ∷ []
-    → starts ++ features_from next (crates_from i (drop i krates)) ≡ features_from (length krates) (crates_from 0 krates)
+    → starts ++ features_from next (crates_from i (drop i krates))
+    ≡ features_from (length krates) (crates_from 0 krates)
     → new ++ features_from (next + length k.enabled) (crates_from (i + 1) (drop (i + 1) krates))
     ≡ features_from (length krates) (crates_from 0 krates)
 starts_more krates i next k starts new inside is pushed so =
@@ -48,7 +52,8 @@ starts_more krates i next k starts new inside is pushed so =
     ∙ (ap (λ cs. starts ++ features_from next cs) (sym (next_crate krates i k inside is)) ∙ so))
 
 pub starts_done : (krates : List Krate) (i next : ℕ) (starts : List ℕ) → length krates ≤ i
-    → starts ++ features_from next (crates_from i (drop i krates)) ≡ features_from (length krates) (crates_from 0 krates)
+    → starts ++ features_from next (crates_from i (drop i krates))
+    ≡ features_from (length krates) (crates_from 0 krates)
     → starts ≡ features_from (length krates) (crates_from 0 krates)
 starts_done krates i next starts past so =
     sym (append-nil starts)
@@ -90,7 +95,8 @@ partitioned_starts cs first number starts is i j d below inside holds =
     let m = slice_index_or starts i d in
     let n = slice_index_or starts j d in
     let lower : n ≤ number = leb-true n number holds in
-    let at = subst (λ (ns : List ℕ). slice_get ns i ≡ Some m) is (slice_get-get_or starts i d (omega (arith, below, inside))) in
+    let at = subst (λ (ns : List ℕ). slice_get ns i ≡ Some m) is
+    (slice_get-get_or starts i d (omega (arith, below, inside))) in
     let at' = subst (λ (ns : List ℕ). slice_get ns j ≡ Some n) is (slice_get-get_or starts j d inside) in
     let low : m ≤ n = up cs first i j m n below at at' in
     le-leb m number (omega (arith, low, lower))
@@ -109,7 +115,8 @@ last_up_to starts number point some first within below above =
         up_to = leb-true (slice_index_or starts (point - 1) 0) number (below (point - 1) 0 (omega (arith, positive)));
         next = λ later after past at.
             let inside = slice_get_within starts later after at in
-            let same = same_Some (slice_index_or starts later 0) after (sym (slice_get-get_or starts later 0 inside) ∙ at) in
+            let same = same_Some (slice_index_or starts later 0) after
+            (sym (slice_get-get_or starts later 0 inside) ∙ at) in
             let high : number < slice_index_or starts later 0 = leb-false (slice_index_or starts later 0) number
             (above later 0 (omega (arith, past, positive)) inside) in
             omega (arith, high, same);
@@ -127,12 +134,8 @@ last_up_to starts number point some first within below above =
 
 -- ---- where the nodes of features stand
 
-pub slice_get-left : {A : Type 0} (xs ys : List A) (n : ℕ) → n < length xs → slice_get (xs ++ ys) n ≡ slice_get xs n
-slice_get-left [] ys n inside = absurd (omega (arith, inside))
-slice_get-left (x ∷ xs) ys zero inside = refl
-slice_get-left (x ∷ xs) ys (suc n) inside = slice_get-left xs ys n (omega (arith, inside))
-
-pub slice_get-right : {A : Type 0} (xs ys : List A) (n m : ℕ) → n ≡ length xs + m → slice_get (xs ++ ys) n ≡ slice_get ys m
+pub slice_get-right : {A : Type 0} (xs ys : List A) (n m : ℕ) → n ≡ length xs + m
+    → slice_get (xs ++ ys) n ≡ slice_get ys m
 slice_get-right [] ys n m is = let same : n ≡ m = omega (arith, is) in ap (slice_get ys) same
 slice_get-right (x ∷ xs) ys zero m is = absurd (omega (arith, is))
 slice_get-right (x ∷ xs) ys (suc n) m is = slice_get-right xs ys n m (omega (arith, is))
@@ -157,7 +160,8 @@ feature_at (x ∷ cs) first zero s j m c f at of start is =
     let index : m ≡ j = omega (arith, here, is) in
     let inside : j < length x.enabled = subst (λ (y : Crate). j < length y.enabled) (sym same)
     (slice_get_within c.enabled j f of) in
-    slice_get-left (feature_nodes x) (flat_map feature_nodes cs) m (omega (arith, index, inside, length-feature_nodes x))
+    slice_get-append_left (feature_nodes x) (flat_map feature_nodes cs) m
+    (omega (arith, index, inside, length-feature_nodes x))
     ∙ (ap (slice_get (feature_nodes x)) index
     ∙ (slice_get-map (feature_node x) x.enabled j
     ∙ subst (λ (y : Crate). option_map (feature_node y) (slice_get y.enabled j) ≡ Some (feature_node c f)) (sym same)
@@ -197,7 +201,7 @@ pub crate_node_at : (g : Graph) (p : ℕ) (c : Crate) → slice_get g.crates p �
     → slice_get (nodes_of g) p ≡ Some (crate_node c)
 unfolding nodes_of
 crate_node_at g p c at =
-    slice_get-left (map crate_node g.crates) (flat_map feature_nodes g.crates) p
+    slice_get-append_left (map crate_node g.crates) (flat_map feature_nodes g.crates) p
     (omega (arith, slice_get_within g.crates p c at, length-map g.crates crate_node))
     ∙ (slice_get-map crate_node g.crates p ∙ ap (option_map crate_node) at)
 
@@ -325,7 +329,8 @@ module _ (g : Graph) (placed : ArePlaced g)
       other.start (subst (λ (p : ℕ). slice_get (features_from (length g.crates) g.crates) p ≡ Some at.start) owner
       at.starts) other.starts in
       let of : slice_get other.krate.enabled at.index ≡ Some other.feature =
-      subst (λ (c : Crate). slice_get c.enabled at.index ≡ Some other.feature) krate (at.of ∙ ap (λ f. Some f) feature) in
+      subst (λ (c : Crate). slice_get c.enabled at.index ≡ Some other.feature) krate
+      (at.of ∙ ap (λ f. Some f) feature) in
       let sorted = All-contains (λ (c : Crate). IsStrictlySortedBy (slice_cmp nat_cmp) c.enabled) g.crates other.krate
       ascend (from_there g.crates other.owner other.krate other.at) in
       let index = one_index other.krate.enabled at.index other.index other.feature sorted of other.of in

@@ -1,5 +1,6 @@
 -- Crates of kept packages, and that they are orderly.
-use Rattle.std.proofs.Common.{◌≡◌, ◌<◌, ◌+◌, ℕ, zero, suc, inl, inr, List, [], ◌∷◌, Bool, false, Some, Ok, length, map, refl, sym, ap, ◌∙◌, subst, arith}
+use Rattle.std.proofs.Common.{◌≡◌, ◌<◌, ◌+◌, ℕ, zero, suc, inl, inr, List, [], ◌∷◌, Bool, false, Some, Ok, length, map}
+use Rattle.std.proofs.Common.{refl, sym, ap, ◌∙◌, subst, arith}
 use Rattle.std.specs.Prelude.{All, Contains, slice_get, slice_index_or}
 use Rattle.std.proofs.lemmas.Bool.{cases_lt}
 use Rattle.std.specs.Cmp.Lexicographic.{slice_cmp}
@@ -244,17 +245,20 @@ joined_names doc starts rows marks kept is krates zip =
 
 -- ---- what an orderly graph says of its crates and edges
 
-pub parents_inside : (targeted : List TargetEdge) (root : List ℕ) (krates : List Krate) (members : List ℕ) (edges : List Edge)
+pub parents_inside : (targeted : List TargetEdge) (root : List ℕ) (krates : List Krate) (members : List ℕ)
+    (edges : List Edge)
     → IsOrderly (graph_of targeted root krates members edges) → All (λ e. e.parent < length krates) edges
 parents_inside targeted root krates members edges is =
     subst (λ (n : ℕ). All (λ e. e.parent < n) edges) (length-crates_from 0 krates) is.parents
 
-pub children_inside : (targeted : List TargetEdge) (root : List ℕ) (krates : List Krate) (members : List ℕ) (edges : List Edge)
+pub children_inside : (targeted : List TargetEdge) (root : List ℕ) (krates : List Krate) (members : List ℕ)
+    (edges : List Edge)
     → IsOrderly (graph_of targeted root krates members edges) → All (λ e. e.child < length krates) edges
 children_inside targeted root krates members edges is =
     subst (λ (n : ℕ). All (λ e. e.child < n) edges) (length-crates_from 0 krates) is.children
 
-pub members_inside : (targeted : List TargetEdge) (root : List ℕ) (krates : List Krate) (members : List ℕ) (edges : List Edge)
+pub members_inside : (targeted : List TargetEdge) (root : List ℕ) (krates : List Krate) (members : List ℕ)
+    (edges : List Edge)
     → IsOrderly (graph_of targeted root krates members edges) → All (λ place. place < length krates) members
 members_inside targeted root krates members edges is =
     subst (λ (n : ℕ). All (λ place. place < n) members) (length-crates_from 0 krates) is.members
@@ -265,7 +269,8 @@ crate_id first [] p c inside = absurd (omega (arith, inside))
 crate_id first (k ∷ ks) zero c inside = refl
 crate_id first (k ∷ ks) (suc p) c inside = crate_id (first + 1) ks p c (omega (arith, inside))
 
-pub ids_of_places : (targeted : List TargetEdge) (root : List ℕ) (krates : List Krate) (members : List ℕ) (edges : List Edge)
+pub ids_of_places : (targeted : List TargetEdge) (root : List ℕ) (krates : List Krate) (members : List ℕ)
+    (edges : List Edge)
     → IsOrderly (graph_of targeted root krates members edges) → (p q : ℕ) → p < length krates → q < length krates
     → id_in krates p ≡ id_in krates q → p ≡ q
 ids_of_places targeted root [] members edges is p q a b same = absurd (omega (arith, a))

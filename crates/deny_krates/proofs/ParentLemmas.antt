@@ -1,5 +1,6 @@
 -- What leads from a crate, or a feature of it, to another crate or a feature of that.
-use Rattle.std.proofs.Common.{◌≡◌, ◌∙◌, ℕ, List, [], ◌∷◌, ◌++◌, Bool, true, false, None, Some, IsTrue, append-nil, append_assoc, map, refl, sym, ap, subst}
+use Rattle.std.proofs.Common.{◌≡◌, ◌∙◌, ℕ, List, [], ◌∷◌, ◌++◌, Bool, true, false, None, Some, IsTrue, append-nil}
+use Rattle.std.proofs.Common.{append_assoc, map, refl, sym, ap, subst}
 use Rattle.std.specs.Prelude.{◌&&◌, ◌||◌, ◌↔◌, Contains, cond, filter, not, slice_get}
 use Rattle.std.specs.List.{flat_map, list_any}
 use Rattle.std.proofs.lemmas.List.{map-append}
@@ -8,7 +9,10 @@ use Rattle.deny_base.specs.declared.edge.DepKind.{DepKind}
 use Rattle.deny_base.specs.declared.edge.DepKind.TheVariants.{Normal, Dev, Build}
 use Rattle.deny_krates.specs.Crates.{crate_view, dependency_view}
 use Rattle.deny_krates.specs.Dependents.{id_at}
-use Rattle.deny_krates.specs.Nodes.{Incoming, all_kinds, asks_for, asks_in_vain, declares, entries_of, feature_leads, from_crate, from_feature, from_own, has_edge, holds_plain, is_enabled, is_of_kind, leads_by_asking, leads_in_vain, leads_over, leads_undeclared, own_features, own_leading, sources_of_crate, sources_of_feature}
+use Rattle.deny_krates.specs.Nodes.{Incoming, all_kinds, asks_for, asks_in_vain, declares, entries_of, feature_leads}
+use Rattle.deny_krates.specs.Nodes.{from_crate, from_feature, from_own, has_edge, holds_plain, is_enabled, is_of_kind}
+use Rattle.deny_krates.specs.Nodes.{leads_by_asking, leads_in_vain, leads_over, leads_undeclared, own_features}
+use Rattle.deny_krates.specs.Nodes.{own_leading, sources_of_crate, sources_of_feature}
 use Rattle.deny_krates.specs.private.Resolved.{AreBetween}
 use Rattle.deny_krates.specs.private.Sources.{any_there, is_led_over, parent_in, parent_of, passes_there}
 use Rattle.deny_krates.specs.declared.incoming.Parent.{Parent}
@@ -25,7 +29,8 @@ pub edge_at : (g : Graph) (p c : Crate) (kind : DepKind) (parent child : ℕ) (a
     → c.place ≡ child → IsTrue answer ↔ Contains g.edges (record { parent = parent; child = child; kind = kind })
     → answer ≡ has_edge g p c kind
 edge_at g p c kind parent child answer p_is c_is asked = edge_asked g p c kind answer
-    (subst (λ (n : ℕ). IsTrue answer ↔ Contains g.edges (record { parent = n; child = c.place; kind = kind })) (sym p_is)
+    (subst (λ (n : ℕ). IsTrue answer ↔ Contains g.edges (record { parent = n; child = c.place; kind = kind }))
+    (sym p_is)
     (subst (λ (n : ℕ). IsTrue answer ↔ Contains g.edges (record { parent = parent; child = n; kind = kind })) (sym c_is)
     asked))
 
@@ -51,7 +56,13 @@ module _ (g : Graph) (p c : Crate) (kind : DepKind) (run : List ResolvedAt) (at 
       → (vain || undeclared) ≡ (leads_in_vain g c p kind || leads_undeclared g c p kind)
   unfolding leads_in_vain leads_undeclared
   leads_to_crate-is vain undeclared has is_vain is_undeclared =
-      rw (← has, is_vain, is_undeclared, declares_is (asks_in_vain c), any_declared g p c run (is_of_kind kind) at between)
+      rw (
+        ← has,
+        is_vain,
+        is_undeclared,
+        declares_is (asks_in_vain c),
+        any_declared g p c run (is_of_kind kind) at between,
+      )
       refl
 
   pub leads_by_asking-is : (feature : List ℕ) → true ≡ has_edge g p c kind
@@ -113,7 +124,8 @@ module _ (g : Graph) (p : Crate) (id : id_at g p.place ≡ p.id) where
 
   -- one parent and kind, at a crate
   pub to_crate_led : (c : Crate) (kind : DepKind) (old new : List Parent)
-      → true ≡ (leads_in_vain g c p kind || leads_undeclared g c p kind) → new ≡ old ++ parent_in p (Some kind) None ∷ []
+      → true ≡ (leads_in_vain g c p kind || leads_undeclared g c p kind)
+      → new ≡ old ++ parent_in p (Some kind) None ∷ []
       → new ≡ old ++ map (parent_of g) (sources_of_crate g c p kind)
   unfolding sources_of_crate
   to_crate_led c kind old new led pushed = pushed
@@ -145,7 +157,8 @@ module _ (g : Graph) (p : Crate) (id : id_at g p.place ≡ p.id) where
       ∙ ap (λ ps. cond (leads_by_asking g c feature p kind) (parent_in p (Some kind) None ∷ []) [] ++ ps)
       (parents_are kind (filter (feature_leads g c feature p kind) p.enabled))) in
       second
-      ∙ (ap (λ ps. ps ++ map (λ f. parent_in p (Some kind) (Some f)) (filter (feature_leads g c feature p kind) p.enabled))
+      ∙ (ap (λ ps. ps ++ map (λ f. parent_in p (Some kind) (Some f))
+      (filter (feature_leads g c feature p kind) p.enabled))
       first
       ∙ (append_assoc old (cond (leads_by_asking g c feature p kind) (parent_in p (Some kind) None ∷ []) [])
       (map (λ f. parent_in p (Some kind) (Some f)) (filter (feature_leads g c feature p kind) p.enabled))
@@ -210,7 +223,8 @@ module _ (g : Graph) (child parent : ℕ) (kc kp : Krate) (kind : DepKind) (run 
       ∙ leads_by_asking-is g (crate_view parent kp) (crate_view child kc) kind run at between feature has)
 
   pub led_answer : (feature from : List ℕ)
-      → is_led_over kp run kind feature from ≡ feature_leads g (crate_view child kc) feature (crate_view parent kp) kind from
+      → is_led_over kp run kind feature from
+      ≡ feature_leads g (crate_view child kc) feature (crate_view parent kp) kind from
   unfolding is_led_over
   led_answer feature from =
       ap (λ (entries : List ℕ → List (List ℕ)). any_there (map dependency_view kp.deps) kind
@@ -237,7 +251,8 @@ pub own_first : (g : Graph) (x : Crate) (place : ℕ) (k : Krate) → ArePlaced 
     → old ≡ [] → new ≡ old ++ map (λ f. parent_in (crate_view place k) None (Some f)) k.enabled
     → new ≡ map (parent_of g) (own_features x)
 unfolding own_features
-own_first g x place k are here x_at old new none added = own_first_of g x place k k.enabled x.enabled old new are here x_at
+own_first g x place k are here x_at old new none added =
+    own_first_of g x place k k.enabled x.enabled old new are here x_at
     (ap (λ (q : Crate). q.enabled) (same_Some (crate_view place k) x (sym here ∙ x_at))) none added
 
 pub leading_first : (g : Graph) (x : Crate) (place : ℕ) (k : Krate) (feature : List ℕ) → ArePlaced g

@@ -1,5 +1,6 @@
 -- How a declaration is resolved: the edges of a parent to crates of a name, and the first of them that suits it.
-use Rattle.std.proofs.Common.{◌≡◌, ◌<◌, ◌≤◌, ◌+◌, ◌∙◌, ℕ, zero, suc, inl, inr, List, [], ◌∷◌, Bool, true, false, Option, Some, None, map, refl, sym, ap, arith, add-zero}
+use Rattle.std.proofs.Common.{◌≡◌, ◌<◌, ◌≤◌, ◌+◌, ◌∙◌, ℕ, zero, suc, inl, inr, List, [], ◌∷◌, Bool, true, false, Option}
+use Rattle.std.proofs.Common.{Some, None, map, refl, sym, ap, arith, add-zero}
 use Rattle.std.specs.Prelude.{◌==◌, ◌&&◌, cond, filter, find, not, option_copied, option_map, slice_get}
 use Rattle.std.specs.Borrow.{Bor}
 use Rattle.std.specs.Option.{option_and_then, option_eq, option_or}
@@ -29,7 +30,8 @@ pub resolves : (crates : List Crate) (d : Dependency) (own : List TargetEdge)
 resolves crates d own =
     let child : TargetEdge → ℕ = λ e. e.child in
     let wanted = find-map (is_wanted crates d) child (filter (suits crates d) own)
-    ∙ ap (λ o. option_map child o) (find-filter (λ (e : TargetEdge). is_wanted crates d e.child) (suits crates d) own) in
+    ∙ ap (λ o. option_map child o)
+    (find-filter (λ (e : TargetEdge). is_wanted crates d e.child) (suits crates d) own) in
     let first = slice_get-map child (filter (suits crates d) own) 0
     ∙ ap (λ o. option_map child o) (first-filter (suits crates d) own) in
     ap (λ o. option_or o (slice_get (map child (filter (suits crates d) own)) 0)) wanted
@@ -57,7 +59,8 @@ suits_between crates d p q (e ∷ es) same = by_suit (suits crates d e) refl (su
         ])
     by_suit false is rest = skips (filter p es) (p e) ∙ (rest ∙ sym (skips (filter q es) (q e)))
       where
-        skips : (ys : List TargetEdge) (b : Bool) → filter (suits crates d) (cond b (e ∷ ys) ys) ≡ filter (suits crates d) ys
+        skips : (ys : List TargetEdge) (b : Bool)
+            → filter (suits crates d) (cond b (e ∷ ys) ys) ≡ filter (suits crates d) ys
         skips ys true = rw is refl
         skips ys false = refl
 
@@ -95,7 +98,8 @@ parent_between parent start end e inside = tests_agree (e.parent == parent)
     not-true-false true is other = absurd (cc)
     not-true-false false is other = absurd (cc)
 
-pub resolution_is : (g : Graph) (parent start end : ℕ) (d : Dependency) (crates : List Crate) (edges own : List TargetEdge)
+pub resolution_is : (g : Graph) (parent start end : ℕ) (d : Dependency) (crates : List Crate)
+    (edges own : List TargetEdge)
     → g.crates ≡ crates → g.target_edges ≡ edges
     → own ≡ filter (λ e. not (is_before e.parent e.child parent start) && is_before e.parent e.child parent end) edges
     → ((place : ℕ) → passes_at (has_name d.name) crates place ≡ true → (start ≤ place) × (place < end))
@@ -136,7 +140,8 @@ slice_get-declared : (ds : List Declared) (n : ℕ)
     → option_map dependency_view (slice_get ds n) ≡ slice_get (map dependency_view ds) n
 slice_get-declared ds n = sym (slice_get-map dependency_view ds n)
 
-pub declaration_got : (k : Krate) (place index : ℕ) (r : Option (Bor Declared)) → option_copied r ≡ slice_get k.deps index
+pub declaration_got : (k : Krate) (place index : ℕ) (r : Option (Bor Declared))
+    → option_copied r ≡ slice_get k.deps index
     → option_map (λ (d : Bor Declared). dependency_view d.now) r ≡ slice_get (crate_view place k).deps index
 declaration_got k place index None is = ap (option_map dependency_view) is ∙ slice_get-declared k.deps index
 declaration_got k place index (Some d) is = ap (option_map dependency_view) is ∙ slice_get-declared k.deps index

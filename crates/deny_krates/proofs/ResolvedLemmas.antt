@@ -1,5 +1,6 @@
 -- What resolved metadata says of ids: which nodes its numbers are, and what they lead to.
-use Rattle.std.proofs.Common.{◌≡◌, ◌⊎◌, ◌<◌, ◌+◌, ◌++◌, ◌||◌, ℕ, zero, suc, inl, inr, List, [], ◌∷◌, Bool, true, false, Option, Some, None, Result, Ok, Err, length, refl, sym, ap, ◌∙◌, subst, arith, add-zero}
+use Rattle.std.proofs.Common.{◌≡◌, ◌⊎◌, ◌<◌, ◌+◌, ◌++◌, ◌||◌, ℕ, zero, suc, inl, inr, List, [], ◌∷◌, Bool, true, false}
+use Rattle.std.proofs.Common.{Option, Some, None, Result, Ok, Err, length, refl, sym, ap, ◌∙◌, subst, arith, add-zero}
 use Rattle.std.specs.Prelude.{All, Contains, cond, slice_get, slice_index_or}
 use Rattle.std.specs.List.{AllZip, list_any, position_from}
 use Rattle.std.specs.Option.{option_map_or}
@@ -9,7 +10,9 @@ use Rattle.std.proofs.lemmas.List.Elements.{Contains-append_cases, Contains-appe
 use Rattle.std.proofs.lemmas.Slice.Eq.{bytes_eq-Decides}
 use Rattle.deny_base.specs.declared.edge.DepKind.{DepKind}
 use Rattle.deny_model.specs.Text.{same_text}
-use Rattle.deny_metadata.specs.Checked.{Numbering, Resolved, distinct, distinct_after, known, links_of, links_to, node_ids, node_numbers, number_in, number_or, package_ids, package_numbers, packages_read, resolved, resolved_by, resolved_node}
+use Rattle.deny_metadata.specs.Checked.{Numbering, Resolved, distinct, distinct_after, known, links_of, links_to}
+use Rattle.deny_metadata.specs.Checked.{node_ids, node_numbers, number_in, number_or, package_ids, package_numbers}
+use Rattle.deny_metadata.specs.Checked.{packages_read, resolved, resolved_by, resolved_node}
 use Rattle.deny_krates.specs.private.Numbered.{IsResolved}
 use Rattle.deny_krates.specs.private.Reach.{Reaches, from_start, by_link, links_at}
 use Rattle.deny_krates.specs.Read.{IsReached, is_member, by_need, Needs, NeedsFor}
@@ -24,7 +27,8 @@ use Rattle.deny_metadata.specs.declared.document.Package.{Package}
 use Rattle.deny_metadata.specs.declared.fault.MetadataFault.{MetadataFault}
 use Rattle.deny_metadata.specs.declared.fault.MetadataFault.TheVariants.{DuplicateId, DanglingId}
 use Rattle.deny_krates.proofs.GraphLemmas.{links_of_row}
-use Rattle.deny_lists.proofs.Members.{contains_map, from_contains_map, from_map_at, from_there, from_zip_at, map_at, one_there, there, zip_at}
+use Rattle.deny_lists.proofs.Members.{contains_map, from_contains_map, from_map_at, from_there, from_zip_at, map_at}
+use Rattle.deny_lists.proofs.Members.{one_there, there, zip_at}
 use Rattle.deny_krates.proofs.PassedLemmas.{versions_read}
 use Rattle.deny_metadata.proofs.ReadingLemmas.{bound, err-ok, ok_is}
 

@@ -1,5 +1,6 @@
 -- The parents of a node, as they are gathered by the rows of direct dependents.
-use Rattle.std.proofs.Common.{◌≡◌, ◌<◌, ◌≤◌, ◌+◌, ◌∙◌, ℕ, List, [], ◌∷◌, ◌++◌, Some, Option, drop, length, map, refl, slice_index_or, sym, ap, subst}
+use Rattle.std.proofs.Common.{◌≡◌, ◌<◌, ◌≤◌, ◌+◌, ◌∙◌, ℕ, List, [], ◌∷◌, ◌++◌, Some, Option, drop, length, map, refl}
+use Rattle.std.proofs.Common.{slice_index_or, sym, ap, subst}
 use Rattle.std.specs.Prelude.{◌↔◌, Contains, slice_get}
 use Rattle.std.specs.List.{flat_map}
 use Rattle.std.specs.Option.{option_map_or}
@@ -26,7 +27,8 @@ module _ (g : Graph) (placed : ArePlaced g) where
       → Contains ds d → (p : Crate) × (slice_get g.crates d.place ≡ Some p)
   row_inside place ds d rows is =
       let among = All-contains
-      (λ (e : DirectDependent). Contains (map (λ (p : Crate). p.place) (dependents g place)) e.place) ds d rows.sound is in
+      (λ (e : DirectDependent). Contains (map (λ (p : Crate). p.place) (dependents g place)) e.place) ds d rows.sound
+      is in
       let p = Contains-from_map (λ (p : Crate). p.place) (dependents g place) d.place among in (
         p.from,
         subst (λ (n : ℕ). slice_get g.crates n ≡ Some p.from) p.is (dependent_at g placed place p.from p.member),

@@ -1,6 +1,7 @@
 -- The run of a key in a list that is in order of it.
 use Rattle.deny_lists.proofs.Orders.{is_equal, not_both, not_equal_above, not_equal_below}
-use Rattle.std.proofs.Common.{inl, inr, add-zero, ◌+◌, zero, suc, take, drop, ◌≡◌, ◌≤◌, ◌<◌, ℕ, List, [], ◌∷◌, Option, Some, None, true, false, length, refl, sym, arith, ◌∙◌, ap}
+use Rattle.std.proofs.Common.{inl, inr, add-zero, ◌+◌, zero, suc, take, drop, ◌≡◌, ◌≤◌, ◌<◌, ℕ, List, [], ◌∷◌, Option}
+use Rattle.std.proofs.Common.{Some, None, true, false, length, refl, sym, arith, ◌∙◌, ap}
 use Rattle.std.specs.Prelude.{slice_index_or, filter, option_map, slice_get}
 use Rattle.std.specs.Option.{option_map_or}
 use Rattle.std.proofs.lemmas.Option.{same_Some, slice_get-get_or, slice_get_within}

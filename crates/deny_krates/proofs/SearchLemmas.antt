@@ -1,5 +1,6 @@
 -- What a binary search finds in a list that ascends.
-use Rattle.std.proofs.Common.{◌≡◌, ◌<◌, ◌≤◌, ◌+◌, ℕ, inl, inr, List, true, false, Result, Ok, Err, length, refl, sym, ap, ◌∙◌, arith, IsTrue}
+use Rattle.std.proofs.Common.{◌≡◌, ◌<◌, ◌≤◌, ◌+◌, ℕ, inl, inr, List, true, false, Result, Ok, Err, length, refl, sym}
+use Rattle.std.proofs.Common.{ap, ◌∙◌, arith, IsTrue}
 use Rattle.std.specs.Prelude.{Contains, is_ok, slice_index_or}
 use Rattle.std.specs.Cmp.{IsTotalOrder}
 use Rattle.std.specs.FinMap.{IsAntisymmetric}

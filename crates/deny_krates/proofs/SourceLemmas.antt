@@ -1,5 +1,6 @@
 -- Sources of edges: their order, and how those that are gathered are those of a node.
-use Rattle.std.proofs.Common.{◌≡◌, ◌∙◌, ℕ, inl, inr, List, [], ◌++◌, Bool, true, false, Option, Some, None, IsTrue, map, refl, sym, ap, subst}
+use Rattle.std.proofs.Common.{◌≡◌, ◌∙◌, ℕ, inl, inr, List, [], ◌++◌, Bool, true, false, Option, Some, None, IsTrue, map}
+use Rattle.std.proofs.Common.{refl, sym, ap, subst}
 use Rattle.std.specs.Prelude.{◌==◌, ◌&&◌, ◌↔◌, Contains, slice_get}
 use Rattle.std.specs.Cmp.{IsTotalOrder, nat_cmp_is, nat_cmp_total, on_total, then_total}
 use Rattle.std.specs.Cmp.Lexicographic.{nat_list_cmp_total, options_total, slice_cmp}
@@ -7,21 +8,23 @@ use Rattle.std.specs.FinMap.{IsAntisymmetric, nat_cmp-IsAntisymmetric}
 use Rattle.std.specs.List.{flat_map, list_any}
 use Rattle.std.specs.Option.{option_and_then, option_cmp, option_map_or}
 use Rattle.std.specs.Ordering.{nat_cmp, ordering_then}
-use Rattle.std.specs.declared.cmp.Ordering.{Ordering}
 use Rattle.std.specs.declared.cmp.Ordering.TheVariants.{Less, Equal}
 use Rattle.std.proofs.lemmas.Bool.{and_from, and_parts, eq-eqb, eqb-true}
-use Rattle.std.proofs.lemmas.List.Elements.{All-contains, Contains-append_cases, Contains-append_left, Contains-append_right}
+use Rattle.std.proofs.lemmas.List.Elements.{All-contains, Contains-append_cases, Contains-append_left}
+use Rattle.std.proofs.lemmas.List.Elements.{Contains-append_right}
 use Rattle.deny_lists.specs.Ascending.{Lists}
 use Rattle.deny_lists.proofs.Booleans.{tests_agree}
-use Rattle.deny_lists.proofs.Members.{Contains-filter, Contains-flat_map, Contains-from_filter, Contains-from_flat_map, Contains-from_map, any_from, any_passes, contains_map, from_there, there}
-use Rattle.deny_lists.proofs.Orders.{option_text_cmp-exact, text_cmp-exact, then_first, then_second}
+use Rattle.deny_lists.proofs.Members.{Contains-filter, Contains-flat_map, Contains-from_filter, Contains-from_flat_map}
+use Rattle.deny_lists.proofs.Members.{Contains-from_map, any_from, any_passes, contains_map, from_there, there}
+use Rattle.deny_lists.proofs.Orders.{option_text_cmp-exact, text_cmp-exact, then_first, then_second, option_cmp-exact}
 use Rattle.deny_lists.proofs.Sorted.{ascends_map}
-use Rattle.deny_base.proofs.EdgeEqual.{kind_cmp-exact}
+use Rattle.deny_base.proofs.EdgeEqual.{kind_cmp-exact, edge_from, edge_from-is}
 use Rattle.deny_base.specs.Edge.{kind_cmp, kind_number}
 use Rattle.deny_base.specs.declared.edge.DepKind.{DepKind}
 use Rattle.deny_base.specs.declared.edge.Edge.{Edge}
 use Rattle.deny_krates.specs.Dependents.{AreDirectDependents, id_at}
-use Rattle.deny_krates.specs.Nodes.{Incoming, Node, declared, has_edge, incoming_cmp, incoming_in, of_parents, resolves_to, sources_at, all_kinds}
+use Rattle.deny_krates.specs.Nodes.{Incoming, Node, declared, has_edge, incoming_cmp, incoming_in, of_parents}
+use Rattle.deny_krates.specs.Nodes.{resolves_to, sources_at, all_kinds}
 use Rattle.deny_krates.specs.private.Resolved.{AreBetween, IsResolvedAt, resolved_to}
 use Rattle.deny_krates.specs.private.Sources.{parent_cmp, parent_of, passes_there, source_of}
 use Rattle.deny_krates.specs.declared.incoming.Parent.{Parent}
@@ -33,12 +36,6 @@ use Rattle.deny_model.specs.Graph.{Crate, Dependency, Graph, dependents, leads}
 use Rattle.deny_model.specs.Resolution.{declaration_at, resolution}
 
 -- ---- orders
-
-option_exact : {K : Type 0} (cmp : K → K → Ordering) → IsAntisymmetric cmp → IsAntisymmetric (option_cmp cmp)
-option_exact cmp exact None None e = refl
-option_exact cmp exact None (Some b) e = cc
-option_exact cmp exact (Some a) None e = cc
-option_exact cmp exact (Some a) (Some b) e = ap (λ x. Some x) (exact a b e)
 
 kind_total : IsTotalOrder kind_cmp
 kind_total = on_total kind_number nat_cmp_total
@@ -56,7 +53,7 @@ parent_cmp-exact a b e =
     let rest = then_second (option_cmp (slice_cmp nat_cmp) a.feature b.feature) _ e in
     let id : a.id ≡ b.id = text_cmp-exact a.id b.id (then_first _ _ rest) in
     let last = then_second (slice_cmp nat_cmp a.id b.id) _ rest in
-    let kind : a.kind ≡ b.kind = option_exact kind_cmp kind_cmp-exact a.kind b.kind (then_first _ _ last) in
+    let kind : a.kind ≡ b.kind = option_cmp-exact kind_cmp kind_cmp-exact a.kind b.kind (then_first _ _ last) in
     let place : a.place ≡ b.place = nat_cmp-IsAntisymmetric a.place b.place
     (then_second (option_cmp kind_cmp a.kind b.kind) _ last) in
     cc (parent_from-is a, parent_from-is b)
@@ -67,10 +64,10 @@ parent_cmp-total = then_total (on_total (λ (p : Parent). p.feature) (options_to
     (then_total (on_total (λ (p : Parent). p.kind) (options_total kind_total))
     (on_total (λ (p : Parent). p.place) nat_cmp_total)))
 
-incoming_from : Option (List ℕ) → Option DepKind → ℕ → Incoming
+pub incoming_from : Option (List ℕ) → Option DepKind → ℕ → Incoming
 incoming_from feature kind place = record { node = record { place = place; feature = feature }; kind = kind }
 
-incoming_from-is : (i : Incoming) → incoming_from i.node.feature i.kind i.node.place ≡ i
+pub incoming_from-is : (i : Incoming) → incoming_from i.node.feature i.kind i.node.place ≡ i
 unfolding incoming_from
 incoming_from-is i = refl
 
@@ -82,7 +79,7 @@ module _ (g : Graph) where
       (then_first _ _ e) in
       let rest = then_second (option_cmp (slice_cmp nat_cmp) a.node.feature b.node.feature) _ e in
       let last = then_second (slice_cmp nat_cmp (id_at g a.node.place) (id_at g b.node.place)) _ rest in
-      let kind : a.kind ≡ b.kind = option_exact kind_cmp kind_cmp-exact a.kind b.kind (then_first _ _ last) in
+      let kind : a.kind ≡ b.kind = option_cmp-exact kind_cmp kind_cmp-exact a.kind b.kind (then_first _ _ last) in
       let place : a.node.place ≡ b.node.place = nat_cmp-IsAntisymmetric a.node.place b.node.place
       (then_second (option_cmp kind_cmp a.kind b.kind) _ last) in
       cc (incoming_from-is a, incoming_from-is b)
@@ -147,7 +144,8 @@ module _ (g : Graph) (placed : ArePlaced g) where
   pub dependent_at : (place : ℕ) (p : Crate) → Contains (dependents g place) p → slice_get g.crates p.place ≡ Some p
   unfolding dependents
   dependent_at place p is =
-      let at = there g.crates p (Contains-from_filter (λ (q : Crate). list_any (leads q.place place) g.edges) g.crates p is).0 in
+      let at = there g.crates p
+      (Contains-from_filter (λ (q : Crate). list_any (leads q.place place) g.edges) g.crates p is).0 in
       subst (λ (n : ℕ). slice_get g.crates n ≡ Some p) (sym (placed.each at.0 p at.1)) at.1
 
   -- the sources of rows are those of direct dependents
@@ -158,7 +156,8 @@ module _ (g : Graph) (placed : ArePlaced g) where
   rows_are c ds sources rows i = (
     (λ is.
         let of = Contains-from_flat_map (of_row g (by_kinds sources)) ds i is in
-        let among = All-contains (λ (d : DirectDependent). Contains (map (λ (p : Crate). p.place) (dependents g c.place)) d.place)
+        let among = All-contains
+        (λ (d : DirectDependent). Contains (map (λ (p : Crate). p.place) (dependents g c.place)) d.place)
         ds of.from rows.sound of.member in
         let p = Contains-from_map (λ (p : Crate). p.place) (dependents g c.place) of.from.place among in
         let at : slice_get g.crates of.from.place ≡ Some p.from =
@@ -218,7 +217,8 @@ any_declared g p c run test at between = tests_agree (list_any (passes_there p.d
     by_declaration r resolved child parent (Some d) is passes =
         let resolves : resolution g p.place d ≡ Some c.place =
         sym (ap (option_and_then (resolution g p.place)) (declares_here r.index ∙ is))
-        ∙ (subst (λ (n : ℕ). option_and_then (resolution g n) (declaration_at g n r.index) ≡ Some r.child) parent resolved
+        ∙ (subst (λ (n : ℕ). option_and_then (resolution g n) (declaration_at g n r.index) ≡ Some r.child) parent
+        resolved
         ∙ ap (λ n. Some n) child) in
         any_from test (declared g p c) d
         (Contains-filter (resolves_to g p c) p.deps d (from_there p.deps r.index d is)
@@ -244,13 +244,6 @@ any_declared g p c run test at between = tests_agree (list_any (passes_there p.d
         any_from (passes_there p.deps test) run (resolved_to p.place here.0 c.place)
         (between.whole here.0 (ap (option_and_then (resolution g p.place)) (declares_here here.0 ∙ here.1) ∙ resolves))
         (ap (λ o. option_map_or test o false) here.1 ∙ one.passes)
-
-edge_from : ℕ → ℕ → DepKind → Edge
-edge_from parent child kind = record { parent = parent; child = child; kind = kind }
-
-edge_from-is : (e : Edge) → edge_from e.parent e.child e.kind ≡ e
-unfolding edge_from
-edge_from-is e = refl
 
 -- an edge between two crates, as it is asked of the graph
 pub edge_asked : (g : Graph) (p c : Crate) (kind : DepKind) (answer : Bool)

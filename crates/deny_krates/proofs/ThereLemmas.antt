@@ -1,5 +1,6 @@
 -- The sources of edges are nodes of the graph.
-use Rattle.std.proofs.Common.{◌≡◌, ◌∙◌, ℕ, List, [], ◌∷◌, Bool, true, false, None, Some, Option, inl, inr, refl, ap, subst}
+use Rattle.std.proofs.Common.{◌≡◌, ◌∙◌, ℕ, List, [], ◌∷◌, Bool, true, false, None, Some, Option, inl, inr, refl, ap}
+use Rattle.std.proofs.Common.{subst}
 use Rattle.std.specs.Prelude.{◌||◌, ◌↔◌, All, Contains, cond, filter, map, slice_get, slice_index_or}
 use Rattle.std.specs.List.{flat_map}
 use Rattle.std.specs.Option.{option_and_then}
@@ -7,9 +8,12 @@ use Rattle.std.proofs.lemmas.List.Elements.{Contains-append_cases}
 use Rattle.std.proofs.lemmas.Option.{slice_get-get_or}
 use Rattle.std.proofs.lemmas.Slice.Eq.{bytes_eq-Decides}
 use Rattle.deny_lists.specs.Ascending.{Lists}
-use Rattle.deny_lists.proofs.Members.{Contains-by_cases, Contains-from_filter, Contains-from_flat_map, Contains-from_map, any_from, from_there, no_member}
+use Rattle.deny_lists.proofs.Members.{Contains-by_cases, Contains-from_filter, Contains-from_flat_map}
+use Rattle.deny_lists.proofs.Members.{Contains-from_map, any_from, from_there, no_member}
 use Rattle.deny_base.specs.declared.edge.DepKind.{DepKind}
-use Rattle.deny_krates.specs.Nodes.{Incoming, all_kinds, feature_leads, from_crate, from_feature, from_own, holds_plain, is_enabled, leads_by_asking, leads_in_vain, leads_undeclared, node_in, of_parents, own_features, own_leading, sources_at, sources_of_crate, sources_of_feature}
+use Rattle.deny_krates.specs.Nodes.{Incoming, all_kinds, feature_leads, from_crate, from_feature, from_own, holds_plain}
+use Rattle.deny_krates.specs.Nodes.{is_enabled, leads_by_asking, leads_in_vain, leads_undeclared, node_in, of_parents}
+use Rattle.deny_krates.specs.Nodes.{own_features, own_leading, sources_at, sources_of_crate, sources_of_feature}
 use Rattle.deny_krates.specs.private.Sources.{IsThere, node_here, parent_cmp, parent_of}
 use Rattle.deny_krates.specs.declared.incoming.Parent.{Parent}
 use Rattle.deny_krates.proofs.NumberLemmas.{ArePlaced}
@@ -58,13 +62,15 @@ module _ (g : Graph) (placed : ArePlaced g) where
       (map (from_feature p kind) (filter (feature_leads g c feature p kind) p.enabled)) i is) as (λ _. IsSource g i) [
         | inl asking ↦ one_crate (leads_by_asking g c feature p kind) p kind i at asking
         | inr led ↦
-            let of = Contains-from_map (from_feature p kind) (filter (feature_leads g c feature p kind) p.enabled) i led in
+            let of = Contains-from_map (from_feature p kind)
+            (filter (feature_leads g c feature p kind) p.enabled) i led in
             subst (λ (j : Incoming). IsSource g j) of.is (feature_there p kind of.from at
             (Contains-from_filter (feature_leads g c feature p kind) p.enabled of.from of.member).0)
       ]
 
   parents_there : (c : Crate) (sources : Crate → DepKind → List Incoming) (i : Incoming)
-      → ((p : Crate) (kind : DepKind) → slice_get g.crates p.place ≡ Some p → Contains (sources p kind) i → IsSource g i)
+      → ((p : Crate) (kind : DepKind) → slice_get g.crates p.place ≡ Some p → Contains (sources p kind) i
+      → IsSource g i)
       → Contains (of_parents g c sources) i → IsSource g i
   unfolding of_parents
   parents_there c sources i each is =
@@ -80,7 +86,8 @@ module _ (g : Graph) (placed : ArePlaced g) where
       (λ _. IsSource g i) [
         | inl own ↦ let of = Contains-from_map (from_own c) c.enabled i own in
             subst (λ (j : Incoming). IsSource g j) of.is (own_there c of.from at of.member)
-        | inr later ↦ parents_there c (sources_of_crate g c) i (λ p kind p_at here. to_crate_there c p kind i p_at here) later
+        | inr later ↦ parents_there c (sources_of_crate g c) i
+            (λ p kind p_at here. to_crate_there c p kind i p_at here) later
       ]
   sources_there c (Some f) i at is =
       elim (Contains-append_cases (map (from_own c) (filter (holds_plain c f) c.enabled))

@@ -16,5 +16,7 @@ pub mod Listed
 pub mod Nodes
 pub mod Orderly
 pub mod Packages
+pub mod Placed
 pub mod Read
+pub mod Steps
 pub mod private

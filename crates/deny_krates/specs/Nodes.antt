@@ -1,5 +1,6 @@
 -- The nodes of a graph, which are its crates and their enabled features, and the edges between them.
-use Rattle.std.specs.Prelude.{ℕ, ◌&&◌, ◌||◌, ◌==◌, ◌++◌, ◌∷◌, Bool, false, not, List, [], Option, Some, None, codes, filter, map, nat_eq, slice_get, unwrap_or, if◌then◌else◌}
+use Rattle.std.specs.Prelude.{ℕ, ◌&&◌, ◌||◌, ◌==◌, ◌++◌, ◌∷◌, Bool, false, not, List, [], Option, Some, None, codes}
+use Rattle.std.specs.Prelude.{filter, map, nat_eq, slice_get, unwrap_or, if◌then◌else◌}
 use Rattle.std.specs.Cmp.Lexicographic.{slice_cmp}
 use Rattle.std.specs.FinMap as finite
 use Rattle.std.specs.List.{after_first, before_first, flat_map, list_any, starts_with}

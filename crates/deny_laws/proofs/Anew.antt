@@ -1,13 +1,12 @@
 -- What is made of lists whose elements are made anew.
-use Rattle.std.proofs.Common.{◌≡◌, ◌∙◌, ◌++◌, ◌∷◌, ◌||◌, Bool, List, None, Option, Some, [], ap, inl, inr, map}
-use Rattle.std.proofs.Common.{false, refl, sym, true}
-use Rattle.std.specs.Prelude.{Contains, filter, filter_map, if◌then◌else◌, is_none, is_some, option_and_then}
-use Rattle.std.specs.Prelude.{option_map}
+use Rattle.std.proofs.Common.{◌≡◌, ◌∙◌, ◌++◌, ◌∷◌, ◌||◌, Bool, List, None, Option, Some, [], ap, inl, inr, map, false}
+use Rattle.std.proofs.Common.{refl, sym, true}
+use Rattle.std.specs.Prelude.{Contains, filter, filter_map, if◌then◌else◌, is_none, option_and_then, option_map}
 use Rattle.std.specs.List.{flat_map, list_any}
 use Rattle.std.proofs.lemmas.Bool.{cases_Bool}
 use Rattle.std.proofs.lemmas.List.{map-append}
 use Rattle.deny_lists.proofs.Agreement.{AgreeOn}
-use Rattle.deny_lists.proofs.Members.{Contains-first, Contains-from_map, Contains-rest, contains_map}
+use Rattle.deny_lists.proofs.Members.{Contains-first, Contains-from_map, Contains-rest, contains_map, Contains-same}
 use Rattle.deny_base.specs.declared.entry.EntryKind.{EntryKind}
 use Rattle.deny_base.specs.declared.entry.Witness.TheVariants.{Krate}
 use Rattle.deny_base.specs.declared.key.Key.{Key}
@@ -15,7 +14,6 @@ use Rattle.deny_base.specs.declared.span.Span.{Span}
 use Rattle.deny_model.specs.Graph.{Crate, kid_of}
 use Rattle.deny_model.specs.Hits.{hit_of}
 use Rattle.deny_laws.specs.Renaming.{Renaming, renamed_hit}
-use Rattle.deny_laws.proofs.KeyParts.{moved}
 
 -- a test on those that are made anew
 pub any_anew : {X : Type 0} (u t : X → Bool) (anew : X → X) (xs : List X)
@@ -100,10 +98,6 @@ pub none_anew : {X : Type 0} (f : X → X) (o : Option X) → is_none (option_ma
 none_anew f None = refl
 none_anew f (Some x) = refl
 
-pub some_anew : {X : Type 0} (f : X → X) (o : Option X) → is_some (option_map f o) ≡ is_some o
-some_anew f None = refl
-some_anew f (Some x) = refl
-
 -- ---- keys and hits of another range
 
 -- of an entry that a crate hits
@@ -118,12 +112,12 @@ ranged r key = record key { entry = r.range key.entry }
 
 pub made_there : (h : Key → Key) (xs ys : List Key) (key : Key) → ys ≡ map h xs → Contains xs key
     → Contains ys (h key)
-made_there h xs ys key same is = moved (map h xs) ys (h key) (sym same) (contains_map h xs key is)
+made_there h xs ys key same is = Contains-same (map h xs) ys (h key) (sym same) (contains_map h xs key is)
 
 pub made_back : (h : Key → Key) (xs ys : List Key) (key : Key) → ys ≡ map h xs → Contains ys key
     → (old : Key) × Contains xs old × (key ≡ h old)
 made_back h xs ys key same is =
-    let from = Contains-from_map h xs key (moved ys (map h xs) key same is) in
+    let from = Contains-from_map h xs key (Contains-same ys (map h xs) key same is) in
     (from.from, from.member, sym from.is)
 
 pub keys_there : (r : Renaming) (xs ys : List Key) (key : Key) → ys ≡ map (ranged r) xs → Contains xs key

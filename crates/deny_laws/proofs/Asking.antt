@@ -7,6 +7,7 @@ use Rattle.std.specs.List.{list_any}
 use Rattle.std.specs.Option.{option_map_or}
 use Rattle.std.proofs.lemmas.Bool.{and_from, and_parts}
 use Rattle.deny_lists.proofs.Members.{any_from, no_member}
+use Rattle.deny_lists.proofs.Finding.{found_member}
 use Rattle.deny_base.specs.declared.entry.EntryId.{EntryId}
 use Rattle.deny_base.specs.declared.span.Spanned.{Spanned}
 use Rattle.deny_build_model.specs.Building.{AllowedPath, Building, Bypass}
@@ -15,6 +16,7 @@ use Rattle.deny_build_model.specs.declared.package.PackageFile.{PackageFile}
 use Rattle.deny_model.specs.Graph.{Crate}
 use Rattle.deny_model.specs.Policy as policy
 use Rattle.deny_model.specs.Wrappers.{same_span}
+use Rattle.deny_model.proofs.SpanLemmas.{same_span-itself}
 use Rattle.deny_codes.specs.BuildScripts.{asks_script, bypass_range, bypasses, has_sum, is_checked, is_script_denied}
 use Rattle.deny_codes.specs.BuildScripts.{is_script_ok, is_script_right, is_walked, may_have_script, passes_by_script}
 use Rattle.deny_codes.specs.BuildScripts.{required_enabled, required_of, required_unknown, script_found, script_of}
@@ -25,11 +27,11 @@ use Rattle.deny_codes.specs.PackageFiles.{ByExtension, ByGlob, ByHeader, BySum, 
 use Rattle.deny_codes.specs.PackageFiles.{hits_glob, hits_path, is_decided_by, leaves_to_globs, path_of, path_of_used}
 use Rattle.deny_codes.specs.PackageFiles.{path_range, step_allowed, step_by, step_of}
 use Rattle.deny_codes.specs.Packages.{Looking, checks, is_used, meets_file, package_of, walks}
-use Rattle.deny_codes.proofs.Kept.{found_member, guarded, list_any_kept}
+use Rattle.deny_codes.proofs.Kept.{guarded, list_any_kept}
 use Rattle.deny_laws.specs.Asking.{AreAskedAlike}
 use Rattle.deny_laws.specs.BypassRemoval.{BypassesStay, is_met}
 use Rattle.deny_laws.specs.Removal.{cut_building, cut_bypass, stays_bypass, stays_glob, stays_path}
-use Rattle.deny_laws.proofs.FirstMatch.{first_anew, first_stays, is_first_stays, same_itself}
+use Rattle.deny_laws.proofs.FirstMatch.{first_anew, first_stays, is_first_stays}
 
 -- ---- what a path leaves to globs is as they say; else they say nothing
 
@@ -48,7 +50,7 @@ pub used_is_used : (b : Building) (c : Crate) (y : Bypass) → used b c ≡ Some
 unfolding used uses
 used_is_used b c y is =
     ap (λ (o : Option Bypass). option_map_or (λ first. same_span (bypass_range first) (bypass_range y)) o false) is
-    ∙ same_itself (bypass_range y)
+    ∙ same_span-itself (bypass_range y)
 
 pub used_member : (b : Building) (c : Crate) (y : Bypass) → used b c ≡ Some y → Contains b.bypass y
 unfolding used
@@ -213,7 +215,7 @@ module _ (l : Looking) (taken : List EntryId) (stay : BypassesStay l taken) wher
     path_stays file a is first = stay.paths y written a (found_member (λ x. allows x file.path) y.allow a first)
         (met y (hits_path y a) c file known walked speaks is
         (ap (λ (o : Option AllowedPath). option_map_or (λ x. same_span (path_range x) (path_range a)) o false) first
-        ∙ same_itself (path_range a)))
+        ∙ same_span-itself (path_range a)))
 
     path_same : (file : PackageFile) → Contains (package_of l c).files file
         → path_of (cut_bypass taken y) file.path ≡ path_of y file.path

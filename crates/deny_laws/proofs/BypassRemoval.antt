@@ -4,7 +4,7 @@ use Rattle.std.specs.Prelude.{Contains, option_map}
 use Rattle.std.specs.Option.{option_map_or}
 use Rattle.std.proofs.lemmas.Bool.{not-true}
 use Rattle.std.proofs.lemmas.List.Kept.{IsStrictlySortedBy-filter}
-use Rattle.deny_lists.proofs.Members.{Contains-filter, Contains-from_filter}
+use Rattle.deny_lists.proofs.Members.{Contains-filter, Contains-from_filter, Contains-same}
 use Rattle.deny_lists.specs.Ascending.{Lists}
 use Rattle.deny_base.specs.KeyOrder.{key_cmp}
 use Rattle.deny_base.specs.declared.code.Code.{Code}
@@ -26,7 +26,7 @@ use Rattle.deny_codes.specs.StdReplacements.{ignore_hits_in}
 use Rattle.deny_laws.specs.BypassRemoval.{AreUnhitBypasses, BypassesStay, without_bypasses_in}
 use Rattle.deny_laws.specs.Removal.{AreGone, cut_building, names, names_as, unnaming}
 use Rattle.deny_laws.proofs.BypassHits.{bypass_hits_same}
-use Rattle.deny_laws.proofs.KeyParts.{from_part, kept_part, moved, no_licence_named}
+use Rattle.deny_laws.proofs.KeyParts.{from_part, kept_part, no_licence_named}
 use Rattle.deny_laws.proofs.PackageRemoval.{build_part}
 
 -- ---- of a policy that may speak of builds
@@ -131,7 +131,8 @@ module _ (c : Circumstances) (facts : Facts) (taken : List EntryId) (unhit : Are
 
   there_by : (d : DiagnosticCode) → names taken key ≡ false → StandsBy d c facts key
       → StandsBy d (without_bypasses_in c taken) facts key
-  there_by Deprecated unnamed is = moved (deprecated_keys_in c) (deprecated_keys_in (without_bypasses_in c taken)) key
+  there_by Deprecated unnamed is =
+      Contains-same (deprecated_keys_in c) (deprecated_keys_in (without_bypasses_in c taken)) key
       (sym (deprecated_stay c taken)) is
   there_by (Bans d) unnamed is = there_as d unnamed is
   there_by (License d) unnamed is = is
@@ -139,7 +140,8 @@ module _ (c : Circumstances) (facts : Facts) (taken : List EntryId) (unhit : Are
   back_by : (d : DiagnosticCode) → key.code ≡ d → StandsBy d (without_bypasses_in c taken) facts key
       → StandsBy d c facts key × (names taken key ≡ false)
   back_by Deprecated of is = (
-    moved (deprecated_keys_in (without_bypasses_in c taken)) (deprecated_keys_in c) key (deprecated_stay c taken) is,
+    Contains-same (deprecated_keys_in (without_bypasses_in c taken)) (deprecated_keys_in c) key
+        (deprecated_stay c taken) is,
     by_code Deprecated of refl,
   )
   back_by (Bans d) of is = back_as d of is

@@ -9,6 +9,8 @@ use Rattle.std.specs.Option.{option_map_or}
 use Rattle.std.proofs.lemmas.List.{length-map, map-append}
 use Rattle.deny_lists.proofs.Agreement.{find_on, list_any_on}
 use Rattle.deny_lists.proofs.Filters.{filter-map}
+use Rattle.deny_lists.proofs.Finding.{found_member}
+use Rattle.deny_lists.proofs.Options.{is_some-option_map}
 use Rattle.deny_base.specs.declared.code.Code.TheVariants as code
 use Rattle.deny_base.specs.declared.entry.EntryKind.{EntryKind}
 use Rattle.deny_base.specs.declared.entry.EntryKind.TheVariants as kind
@@ -29,8 +31,8 @@ use Rattle.deny_model.specs.Keys.{crate_key, key_of, no_span, unused_key}
 use Rattle.deny_model.specs.Match.{matches}
 use Rattle.deny_model.specs.Policy as policy
 use Rattle.deny_model.specs.Policy.{Spec}
-use Rattle.deny_codes.specs.BuildScripts.{bypass_range, bypasses, has_sum, is_checked, is_script_denied}
-use Rattle.deny_codes.specs.BuildScripts.{is_script_ok, is_script_right, is_walked, may_have_script, passes_by_script}
+use Rattle.deny_codes.specs.BuildScripts.{bypass_range, bypasses, has_sum, is_checked, is_script_denied, is_script_ok}
+use Rattle.deny_codes.specs.BuildScripts.{is_script_right, is_walked, may_have_script, passes_by_script}
 use Rattle.deny_codes.specs.BuildScripts.{required_enabled, required_of, required_unknown, script_found, script_of}
 use Rattle.deny_codes.specs.BuildScripts.{used, uses, wanted_sum}
 use Rattle.deny_codes.specs.Circumstances.{Circumstances}
@@ -40,25 +42,21 @@ use Rattle.deny_codes.specs.PackageFiles.{ByExtension, ByGlob, ByHeader, ByPath,
 use Rattle.deny_codes.specs.PackageFiles.{Class, DeniedByExtension, DetectedExecutable, DetectedExecutableScript}
 use Rattle.deny_codes.specs.PackageFiles.{Harmless, PathBypassed, PathBypassedByGlob, Step, UnableToCheckPath, allows}
 use Rattle.deny_codes.specs.PackageFiles.{class_by, class_by_header, class_of, fits_own, fits_script, hits_glob}
-use Rattle.deny_codes.specs.PackageFiles.{hits_path}
-use Rattle.deny_codes.specs.PackageFiles.{is_decided_by, leaves_to_globs, path_of, path_of_used, path_range}
-use Rattle.deny_codes.specs.PackageFiles.{step_allowed}
-use Rattle.deny_codes.specs.PackageFiles.{step_by, step_of}
+use Rattle.deny_codes.specs.PackageFiles.{hits_path, is_decided_by, leaves_to_globs, path_of, path_of_used, path_range}
+use Rattle.deny_codes.specs.PackageFiles.{step_allowed, step_by, step_of}
 use Rattle.deny_codes.specs.Packages.{Looking, build_keys, build_keys_in, bypass_hit, bypass_hits, bypass_hits_in}
 use Rattle.deny_codes.specs.Packages.{bypass_hits_of, checks, class_keys, denied_script_keys, deprecated_key}
 use Rattle.deny_codes.specs.Packages.{deprecated_keys, deprecated_keys_in, features_enabled_keys, file_hit, file_hit_at}
 use Rattle.deny_codes.specs.Packages.{file_keys, folder_key, glob_hit, if_hit, is_used, looking, meets_file}
-use Rattle.deny_codes.specs.Packages.{package_keys}
-use Rattle.deny_codes.specs.Packages.{package_of, path_hit, path_key, right_script_keys, script_keys, script_shown}
-use Rattle.deny_codes.specs.Packages.{sum_keys, unmatched_bypass_keys, unmatched_glob_keys, unmatched_keys}
-use Rattle.deny_codes.specs.Packages.{unmatched_path_keys, walked_keys, walks}
+use Rattle.deny_codes.specs.Packages.{package_keys, package_of, path_hit, path_key, right_script_keys, script_keys}
+use Rattle.deny_codes.specs.Packages.{script_shown, sum_keys, unmatched_bypass_keys, unmatched_glob_keys}
+use Rattle.deny_codes.specs.Packages.{unmatched_keys, unmatched_path_keys, walked_keys, walks}
 use Rattle.deny_codes.proofs.BuildAlike.{hits_of_builds_alike, keys_of_builds_alike}
-use Rattle.deny_codes.proofs.Kept.{found_member}
 use Rattle.deny_laws.specs.Renaming.{KeepsBypassesApart, Renaming, renamed_building, renamed_bypass, renamed_hit}
 use Rattle.deny_laws.specs.Renaming.{renamed_in, renamed_key, renamed_path, renamed_script_glob, renamed_spec}
 use Rattle.deny_laws.specs.Renaming.{renamed_sum, renamed_words}
 use Rattle.deny_laws.proofs.Anew.{any_anew, crate_hit_anew, filter_map_anew, flat_map_alike, flat_map_anew, made_alike}
-use Rattle.deny_laws.proofs.Anew.{made_anew, ranged, some_anew, told_anew, when_anew}
+use Rattle.deny_laws.proofs.Anew.{made_anew, ranged, told_anew, when_anew}
 use Rattle.deny_laws.proofs.FirstMatch.{first_anew, is_first_renamed}
 
 -- ---- what decides of a file, with other ranges
@@ -137,7 +135,7 @@ module _ (r : Renaming) (y : Bypass) where
 
   leaves_same : (o : Option AllowedPath) → leaves_to_globs (option_map (renamed_path r) o) ≡ leaves_to_globs o
   leaves_same None = refl
-  leaves_same (Some a) = some_anew (renamed_sum r) a.checksum
+  leaves_same (Some a) = is_some-option_map (renamed_sum r) a.checksum
 
   hits_glob_same : (w : policy.Words) (file : PackageFile)
       → hits_glob (renamed_bypass r y) (renamed_words r w) file ≡ hits_glob y w file

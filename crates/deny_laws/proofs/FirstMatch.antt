@@ -1,37 +1,18 @@
 -- The first match of a list of which a part goes, or whose entries are made anew.
-use Rattle.std.proofs.Common.{◌≡◌, ◌∙◌, Bool, List, None, Option, Some, ap, false, map, refl, subst, true}
-use Rattle.std.specs.Prelude.{◌==◌, ◌&&◌, Contains, filter, option_map}
-use Rattle.std.specs.Cmp.{Equal-is, tied_then, unsigned_ties}
+use Rattle.std.proofs.Common.{◌≡◌, ◌∙◌, Bool, List, None, Option, Some, ap, false, map, refl, true}
+use Rattle.std.specs.Prelude.{Contains, filter, option_map}
 use Rattle.std.specs.Option.{option_map_or}
-use Rattle.std.specs.Ordering.{is_eq, nat_cmp}
-use Rattle.std.proofs.Common.{sym}
-use Rattle.std.proofs.lemmas.Bool.{and_from, eq-eqb}
 use Rattle.deny_lists.proofs.Agreement.{find_on}
 use Rattle.deny_lists.proofs.Booleans.{tests_agree}
 use Rattle.deny_lists.proofs.Filters.{find-map}
-use Rattle.deny_base.proofs.KeyEqual.{span_cmp-exact}
-use Rattle.deny_base.specs.KeyOrder.{span_cmp}
+use Rattle.deny_lists.proofs.Finding.{found_member}
 use Rattle.deny_base.specs.declared.span.Span.{Span}
 use Rattle.deny_model.specs.Wrappers.{same_span}
+use Rattle.deny_model.proofs.SpanLemmas.{same_span-true, same-span}
 use Rattle.deny_codes.specs.FirstMatch.{first_of, is_first}
-use Rattle.deny_codes.proofs.Kept.{find_first_kept, found_member}
+use Rattle.deny_codes.proofs.Kept.{find_first_kept}
 
 -- ---- ranges
-
-pub same_itself : (a : Span) → same_span a a ≡ true
-same_itself a = and_from _ _ (eq-eqb a.start a.start refl) (eq-eqb a.end a.end refl)
-
-from_same : (a b : Span) → a ≡ b → same_span a b ≡ true
-from_same a b same = subst (λ x. same_span a x ≡ true) same (same_itself a)
-
-ties : (a b : Span) → is_eq (span_cmp a b) ≡ same_span a b
-ties a b =
-    sym (tied_then (nat_cmp a.start b.start) (nat_cmp a.end b.end))
-    ∙ (ap (λ (start : Bool). start && is_eq (nat_cmp a.end b.end)) (sym (unsigned_ties a.start b.start))
-    ∙ ap (λ (end : Bool). (a.start == b.start) && end) (sym (unsigned_ties a.end b.end)))
-
-to_same : (a b : Span) → same_span a b ≡ true → a ≡ b
-to_same a b same = span_cmp-exact a b ((Equal-is (span_cmp a b)).0 (ties a b ∙ same))
 
 -- ---- where a part goes
 
@@ -65,8 +46,8 @@ same_first : {E : Type 0} (range : E → Span) (anew : E → E) (e : E) (o : Opt
 same_first range anew e None apart along = refl
 same_first range anew e (Some x) apart along = tests_agree
     (same_span (range (anew x)) (range (anew e))) (same_span (range x) (range e))
-    (λ same. from_same (range x) (range e) (apart x refl (to_same (range (anew x)) (range (anew e)) same)))
-    (λ same. from_same (range (anew x)) (range (anew e)) (along x (to_same (range x) (range e) same)))
+    (λ same. same_span-true (range x) (range e) (apart x refl (same-span (range (anew x)) (range (anew e)) same)))
+    (λ same. same_span-true (range (anew x)) (range (anew e)) (along x (same-span (range x) (range e) same)))
 
 -- and an entry is the first where it was, as long as ranges that were two stay two
 pub is_first_renamed : {E W : Type 0} (range : E → Span) (speaks : E → W → Bool) (anew : E → E) (entries : List E)

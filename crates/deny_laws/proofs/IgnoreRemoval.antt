@@ -5,8 +5,9 @@ use Rattle.std.specs.Option.{option_map_or}
 use Rattle.std.proofs.lemmas.Bool.{and_from, not-true}
 use Rattle.std.proofs.lemmas.List.Kept.{IsStrictlySortedBy-filter}
 use Rattle.deny_lists.proofs.Agreement.{filter_map_on, filter_on, find_on, list_any_on}
-use Rattle.deny_lists.proofs.Members.{Contains-filter, Contains-from_filter, any_from}
+use Rattle.deny_lists.proofs.Members.{Contains-filter, Contains-from_filter, any_from, Contains-same}
 use Rattle.deny_lists.specs.Ascending.{Lists}
+use Rattle.deny_lists.proofs.Finding.{found_member}
 use Rattle.deny_base.specs.KeyOrder.{key_cmp}
 use Rattle.deny_base.specs.declared.code.Code.{Code}
 use Rattle.deny_base.specs.declared.code.Code.TheVariants as code
@@ -29,6 +30,7 @@ use Rattle.deny_model.specs.Policy.{Entry, Policy, Replacing}
 use Rattle.deny_model.specs.Skips.{is_needless, is_skipped_by_root, skipped_by_root_keys_of, unmatched_skip_keys}
 use Rattle.deny_model.specs.Skips.{unmatched_skip_root_keys, unnecessary_skip_keys}
 use Rattle.deny_model.specs.Wrappers.{hits_wrapper, is_hit_wrapper, same_span, unused_wrapper_keys_of}
+use Rattle.deny_model.proofs.SpanLemmas.{same_span-itself}
 use Rattle.deny_codes.specs.Bans.{allowed_by_wrapper_keys, banned_keys, unmatched_wrapper_keys}
 use Rattle.deny_codes.specs.Circumstances.{Circumstances}
 use Rattle.deny_codes.specs.Facts.{Facts, AreFacts}
@@ -45,12 +47,12 @@ use Rattle.deny_codes.specs.StdReplacements.{replaced_key, replaced_keys, replac
 use Rattle.deny_codes.specs.StdReplacements.{unmatched_ignore_keys, unmatched_ignore_keys_in}
 use Rattle.deny_codes.specs.Wrappers.{unused_wrapper_keys}
 use Rattle.deny_codes.specs.Wildcards.{is_asked}
-use Rattle.deny_codes.proofs.Kept.{fails_if_gone, filter_map_kept, find_none_on, found_member, guarded, told_kept}
+use Rattle.deny_codes.proofs.Kept.{fails_if_gone, filter_map_kept, find_none_on, guarded, told_kept}
 use Rattle.deny_laws.specs.IgnoreRemoval.{AreUnhitIgnores, without_ignores, without_ignores_in}
 use Rattle.deny_laws.specs.Removal.{AreGone, cut_replacing, is_taken, names, names_as, stays_ignore}
-use Rattle.deny_laws.proofs.FirstMatch.{first_stays, is_first_stays, same_itself}
+use Rattle.deny_laws.proofs.FirstMatch.{first_stays, is_first_stays}
 use Rattle.deny_laws.proofs.FeatureRemoval.{features_back, features_there, is_of_features}
-use Rattle.deny_laws.proofs.KeyParts.{from_part, kept_part, moved, no_licence_named}
+use Rattle.deny_laws.proofs.KeyParts.{from_part, kept_part, no_licence_named}
 use Rattle.deny_laws.proofs.ManifestRemoval.{is_of_manifests, manifests_back, manifests_there}
 
 -- ---- bans, wrappers, skips, skipped trees, groups and the allow list read no ignore
@@ -127,7 +129,7 @@ module _ (s : Replacing) (g : Graph) (said : Saying) (taken : List EntryId)
   first_is_hit c e known replaced is = any_from (hits_ignore s g said e) g.crates c known
       (and_from (is_replaced s g said c) _ replaced
       (ap (λ (o : Option Entry). option_map_or (λ first. same_span (ignore_range first) (ignore_range e)) o false) is
-      ∙ same_itself (ignore_range e)))
+      ∙ same_span-itself (ignore_range e)))
 
   first_stays_there : (c : Crate) (e : Entry) → Contains g.crates c → is_replaced s g said c ≡ true
       → first_of ignores s.ignore c ≡ Some e → stays_ignore taken e ≡ true
@@ -285,34 +287,34 @@ module _ (c : Circumstances) (facts : Facts) (taken : List EntryId) (unhit : Are
 
   there_as : (d : Code) → names_as taken (Bans d) key ≡ false → StandsAs d c facts key
       → StandsAs d (without_ignores_in c taken) facts key
-  there_as code.Banned unnamed is = moved (banned_keys c.policy c.graph)
+  there_as code.Banned unnamed is = Contains-same (banned_keys c.policy c.graph)
       (banned_keys (without_ignores c.policy taken) c.graph) key
       (sym (bans_stay c.policy c.graph facts.chains taken)) is
-  there_as code.AllowedByWrapper unnamed is = moved (allowed_by_wrapper_keys c.policy c.graph)
+  there_as code.AllowedByWrapper unnamed is = Contains-same (allowed_by_wrapper_keys c.policy c.graph)
       (allowed_by_wrapper_keys (without_ignores c.policy taken) c.graph) key
       (sym (allowed_stay c.policy c.graph facts.chains taken)) is
-  there_as code.UnmatchedWrapper unnamed is = moved (unmatched_wrapper_keys c.policy c.graph)
+  there_as code.UnmatchedWrapper unnamed is = Contains-same (unmatched_wrapper_keys c.policy c.graph)
       (unmatched_wrapper_keys (without_ignores c.policy taken) c.graph) key
       (sym (unmatched_stay c.policy c.graph facts.chains taken)) is
-  there_as code.UnusedWrapper unnamed is = moved (unused_wrapper_keys c.policy c.graph)
+  there_as code.UnusedWrapper unnamed is = Contains-same (unused_wrapper_keys c.policy c.graph)
       (unused_wrapper_keys (without_ignores c.policy taken) c.graph) key
       (sym (unused_stay c.policy c.graph facts.chains taken)) is
-  there_as code.NotAllowed unnamed is = moved (not_allowed_keys c.policy c.graph)
+  there_as code.NotAllowed unnamed is = Contains-same (not_allowed_keys c.policy c.graph)
       (not_allowed_keys (without_ignores c.policy taken) c.graph) key
       (sym (not_allowed_stay c.policy c.graph facts.chains taken)) is
-  there_as code.SkippedByRoot unnamed is = moved (skipped_by_root_keys c.policy c.graph facts.chains)
+  there_as code.SkippedByRoot unnamed is = Contains-same (skipped_by_root_keys c.policy c.graph facts.chains)
       (skipped_by_root_keys (without_ignores c.policy taken) c.graph facts.chains) key
       (sym (by_root_stay c.policy c.graph facts.chains taken)) is
-  there_as code.UnnecessarySkip unnamed is = moved (unnecessary_skip_keys c.policy c.graph facts.chains)
+  there_as code.UnnecessarySkip unnamed is = Contains-same (unnecessary_skip_keys c.policy c.graph facts.chains)
       (unnecessary_skip_keys (without_ignores c.policy taken) c.graph facts.chains) key
       (sym (unnecessary_stay c.policy c.graph facts.chains taken)) is
-  there_as code.UnmatchedSkip unnamed is = moved (unmatched_skip_keys c.policy c.graph facts.chains)
+  there_as code.UnmatchedSkip unnamed is = Contains-same (unmatched_skip_keys c.policy c.graph facts.chains)
       (unmatched_skip_keys (without_ignores c.policy taken) c.graph facts.chains) key
       (sym (unmatched_skip_stay c.policy c.graph facts.chains taken)) is
-  there_as code.UnmatchedSkipRoot unnamed is = moved (unmatched_skip_root_keys c.policy c.graph)
+  there_as code.UnmatchedSkipRoot unnamed is = Contains-same (unmatched_skip_root_keys c.policy c.graph)
       (unmatched_skip_root_keys (without_ignores c.policy taken) c.graph) key
       (sym (unmatched_root_stay c.policy c.graph facts.chains taken)) is
-  there_as code.ReplacedInStd unnamed is = moved (replaced_keys_in c)
+  there_as code.ReplacedInStd unnamed is = Contains-same (replaced_keys_in c)
       (replaced_keys_in (without_ignores_in c taken)) key (sym (replaced_in c taken unhit)) is
   there_as code.UnmatchedReplacementIgnore unnamed is = kept_part (λ k. is_taken taken ReplacementIgnore k.entry)
       (unmatched_ignore_keys_in (without_ignores_in c taken)) (unmatched_ignore_keys_in c) key
@@ -334,54 +336,56 @@ module _ (c : Circumstances) (facts : Facts) (taken : List EntryId) (unhit : Are
   back_as : (d : Code) → StandsAs d (without_ignores_in c taken) facts key → StandsAs d c facts key
       × (names_as taken (Bans d) key ≡ false)
   back_as code.Banned is = (
-    moved (banned_keys (without_ignores c.policy taken) c.graph) (banned_keys c.policy c.graph) key
+    Contains-same (banned_keys (without_ignores c.policy taken) c.graph) (banned_keys c.policy c.graph) key
         (bans_stay c.policy c.graph facts.chains taken) is,
     refl,
   )
   back_as code.AllowedByWrapper is = (
-    moved (allowed_by_wrapper_keys (without_ignores c.policy taken) c.graph)
+    Contains-same (allowed_by_wrapper_keys (without_ignores c.policy taken) c.graph)
         (allowed_by_wrapper_keys c.policy c.graph) key (allowed_stay c.policy c.graph facts.chains taken) is,
     refl,
   )
   back_as code.UnmatchedWrapper is = (
-    moved (unmatched_wrapper_keys (without_ignores c.policy taken) c.graph)
+    Contains-same (unmatched_wrapper_keys (without_ignores c.policy taken) c.graph)
         (unmatched_wrapper_keys c.policy c.graph) key (unmatched_stay c.policy c.graph facts.chains taken) is,
     refl,
   )
   back_as code.UnusedWrapper is = (
-    moved (unused_wrapper_keys (without_ignores c.policy taken) c.graph) (unused_wrapper_keys c.policy c.graph) key
+    Contains-same (unused_wrapper_keys (without_ignores c.policy taken) c.graph)
+        (unused_wrapper_keys c.policy c.graph) key
         (unused_stay c.policy c.graph facts.chains taken) is,
     unhit.no_wrapper key.entry,
   )
   back_as code.NotAllowed is = (
-    moved (not_allowed_keys (without_ignores c.policy taken) c.graph)
+    Contains-same (not_allowed_keys (without_ignores c.policy taken) c.graph)
         (not_allowed_keys c.policy c.graph) key (not_allowed_stay c.policy c.graph facts.chains taken) is,
     refl,
   )
   back_as code.SkippedByRoot is = (
-    moved (skipped_by_root_keys (without_ignores c.policy taken) c.graph facts.chains)
+    Contains-same (skipped_by_root_keys (without_ignores c.policy taken) c.graph facts.chains)
         (skipped_by_root_keys c.policy c.graph facts.chains) key (by_root_stay c.policy c.graph facts.chains taken) is,
     refl,
   )
   back_as code.UnnecessarySkip is = (
-    moved (unnecessary_skip_keys (without_ignores c.policy taken) c.graph facts.chains)
+    Contains-same (unnecessary_skip_keys (without_ignores c.policy taken) c.graph facts.chains)
         (unnecessary_skip_keys c.policy c.graph facts.chains) key (unnecessary_stay c.policy c.graph facts.chains taken)
         is,
     refl,
   )
   back_as code.UnmatchedSkip is = (
-    moved (unmatched_skip_keys (without_ignores c.policy taken) c.graph facts.chains)
+    Contains-same (unmatched_skip_keys (without_ignores c.policy taken) c.graph facts.chains)
         (unmatched_skip_keys c.policy c.graph facts.chains) key
         (unmatched_skip_stay c.policy c.graph facts.chains taken) is,
     unhit.no_skip key.entry,
   )
   back_as code.UnmatchedSkipRoot is = (
-    moved (unmatched_skip_root_keys (without_ignores c.policy taken) c.graph)
+    Contains-same (unmatched_skip_root_keys (without_ignores c.policy taken) c.graph)
         (unmatched_skip_root_keys c.policy c.graph) key (unmatched_root_stay c.policy c.graph facts.chains taken) is,
     unhit.no_root key.entry,
   )
   back_as code.ReplacedInStd is = (
-    moved (replaced_keys_in (without_ignores_in c taken)) (replaced_keys_in c) key (replaced_in c taken unhit) is,
+    Contains-same (replaced_keys_in (without_ignores_in c taken)) (replaced_keys_in c) key
+        (replaced_in c taken unhit) is,
     refl,
   )
   back_as code.UnmatchedReplacementIgnore is = from_part (λ k. is_taken taken ReplacementIgnore k.entry)

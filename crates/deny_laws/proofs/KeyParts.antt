@@ -3,7 +3,7 @@ use Rattle.std.proofs.Common.{◌≡◌, ◌++◌, ◌∙◌, ◌∷◌, Bool, L
 use Rattle.std.specs.Prelude.{◌↔◌, Contains, IsTrue, filter, if◌then◌else◌}
 use Rattle.std.proofs.lemmas.Bool.{not-true}
 use Rattle.std.proofs.lemmas.List.Elements.{filter-append}
-use Rattle.deny_lists.proofs.Members.{Contains-filter, Contains-from_filter}
+use Rattle.deny_lists.proofs.Members.{Contains-filter, Contains-from_filter, Contains-same}
 use Rattle.deny_base.specs.declared.code.DiagnosticCode.TheVariants.{License}
 use Rattle.deny_base.specs.declared.entry.EntryId.{EntryId}
 use Rattle.deny_base.specs.declared.key.Key.{Key}
@@ -43,20 +43,17 @@ when_guarded false xs ys same = refl
 
 -- ---- keys of two lists
 
-pub moved : (xs ys : List Key) (key : Key) → xs ≡ ys → Contains xs key → Contains ys key
-moved xs ys key same is = subst (λ (keys : List Key). Contains keys key) same is
-
 pub kept_part : (named : Key → Bool) (xs ys : List Key) (key : Key) → xs ≡ filter (λ k. not (named k)) ys
     → Contains ys key → named key ≡ false → Contains xs key
 kept_part named xs ys key same is unnamed =
-    moved (filter (λ k. not (named k)) ys) xs key (sym same)
+    Contains-same (filter (λ k. not (named k)) ys) xs key (sym same)
     (Contains-filter (λ k. not (named k)) ys key is (ap (λ t. not t) unnamed))
 
 pub from_part : (named : Key → Bool) (xs ys : List Key) (key : Key) → xs ≡ filter (λ k. not (named k)) ys
     → Contains xs key → Contains ys key × (named key ≡ false)
 from_part named xs ys key same is =
     let kept = Contains-from_filter (λ k. not (named k)) ys key
-    (moved xs (filter (λ k. not (named k)) ys) key same is) in
+    (Contains-same xs (filter (λ k. not (named k)) ys) key same is) in
     (kept.0, not-true (named key) kept.1)
 
 -- what stands by a test that tells which crates count, stands by the same test where others tell the same

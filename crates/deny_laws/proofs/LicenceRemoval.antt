@@ -8,8 +8,9 @@ use Rattle.std.proofs.lemmas.Bool.{and_from, not-true}
 use Rattle.std.proofs.lemmas.List.Kept.{IsStrictlySortedBy-filter}
 use Rattle.deny_lists.proofs.Agreement.{filter_map_on, filter_on, find_on, list_any_on, map_on}
 use Rattle.deny_lists.proofs.Filters.{find-any}
-use Rattle.deny_lists.proofs.Members.{Contains-filter, Contains-from_filter, any_from, contains_map}
+use Rattle.deny_lists.proofs.Members.{Contains-filter, Contains-from_filter, any_from, contains_map, Contains-same}
 use Rattle.deny_lists.specs.Ascending.{Lists}
+use Rattle.deny_lists.proofs.Finding.{found_member}
 use Rattle.deny_base.specs.KeyOrder.{key_cmp}
 use Rattle.deny_base.specs.declared.code.Code.{Code}
 use Rattle.deny_base.specs.declared.code.Code.TheVariants as code
@@ -31,26 +32,26 @@ use Rattle.deny_model.specs.Graph.{Crate, Graph, kid_of}
 use Rattle.deny_model.specs.Hits.{hit_of}
 use Rattle.deny_model.specs.Licensing.{Exception, Licensing}
 use Rattle.deny_model.specs.Wrappers.{same_span}
+use Rattle.deny_model.proofs.SpanLemmas.{same_span-itself}
 use Rattle.deny_codes.specs.Circumstances.{Circumstances}
 use Rattle.deny_codes.specs.Facts.{Facts, AreFacts}
 use Rattle.deny_codes.specs.FirstMatch.{first_of, is_first}
 use Rattle.deny_codes.specs.Hits.{TellsLicensed}
-use Rattle.deny_codes.specs.Licences.{Asked, TellsCounting, accepted_keys, allowance_hit, allowance_range}
-use Rattle.deny_codes.specs.Licences.{allows, asked_in, asked_of, exception_hit, exception_not_encountered_keys}
-use Rattle.deny_codes.specs.Licences.{exception_of, exception_range, excepts, expression_of, first_hit}
-use Rattle.deny_codes.specs.Licences.{grants_by_allowance, grants_by_exception, hits_by, holds, is_accepted, is_granted}
-use Rattle.deny_codes.specs.Licences.{is_hit_by, is_looked_at, is_passed_over, is_rejected, is_skipped_private}
-use Rattle.deny_codes.specs.Licences.{is_unlicensed, is_unreadable, keys_where, licence_hits, license_key, licensed_key}
+use Rattle.deny_codes.specs.Licences.{Asked, TellsCounting, accepted_keys, allowance_hit, allowance_range, allows}
+use Rattle.deny_codes.specs.Licences.{asked_in, asked_of, exception_hit, exception_not_encountered_keys, exception_of}
+use Rattle.deny_codes.specs.Licences.{exception_range, excepts, expression_of, first_hit, grants_by_allowance}
+use Rattle.deny_codes.specs.Licences.{grants_by_exception, hits_by, holds, is_accepted, is_granted, is_hit_by}
+use Rattle.deny_codes.specs.Licences.{is_looked_at, is_passed_over, is_rejected, is_skipped_private, is_unlicensed}
+use Rattle.deny_codes.specs.Licences.{is_unreadable, keys_where, licence_hits, license_key, licensed_key}
 use Rattle.deny_codes.specs.Licences.{not_encountered_keys, parse_error_keys, rejected_keys, skipped_private_keys}
 use Rattle.deny_codes.specs.Licences.{unlicensed_keys}
 use Rattle.deny_codes.specs.Standing.{StandsAs, StandsBy, StandsLicensed, Stands}
-use Rattle.deny_codes.proofs.Kept.{fails_if_gone, filter_map_kept, find_none_on, found_member, guarded, told_kept}
+use Rattle.deny_codes.proofs.Kept.{fails_if_gone, filter_map_kept, find_none_on, guarded, told_kept}
 use Rattle.deny_codes.proofs.Licensed.{code_back, code_there}
 use Rattle.deny_laws.specs.LicenceRemoval.{AreUnhitLicences, LicencesStay, without_licences_in}
-use Rattle.deny_laws.specs.Removal.{AreGone, cut_licensing, is_taken, names, names_as}
-use Rattle.deny_laws.specs.Removal.{stays_allowance, stays_exception}
-use Rattle.deny_laws.proofs.FirstMatch.{first_stays, is_first_stays, same_itself}
-use Rattle.deny_laws.proofs.KeyParts.{by_counting, from_part, kept_part, moved}
+use Rattle.deny_laws.specs.Removal.{AreGone, cut_licensing, is_taken, names, names_as, stays_allowance, stays_exception}
+use Rattle.deny_laws.proofs.FirstMatch.{first_stays, is_first_stays}
+use Rattle.deny_laws.proofs.KeyParts.{by_counting, from_part, kept_part}
 
 -- a requirement of the expression of a crate's licence is asked for
 asked_by : (c : Crate) (e : Expression) (r : Requirement) → expression_of c ≡ Some e → Contains e.requirements r
@@ -84,7 +85,7 @@ module _ (counts : Crate → Bool) (l : Licensing) (g : Graph) (taken : List Ent
       (found_member (λ x. excepts x asked) l.exceptions e is)
       (hit_where (grants_by_exception l e) c asked known looked of
       (ap (λ (o : Option Exception). option_map_or (λ first. same_span (exception_range first) (exception_range e)) o
-      false) is ∙ same_itself (exception_range e)))
+      false) is ∙ same_span-itself (exception_range e)))
 
   exception_same : (c : Crate) (asked : Asked) → Contains g.crates c → is_looked_at counts l c ≡ true
       → Contains (asked_in c) asked → exception_of rest asked ≡ exception_of l asked
@@ -102,7 +103,8 @@ module _ (counts : Crate → Bool) (l : Licensing) (g : Graph) (taken : List Ent
       (hit_where (grants_by_allowance l a) c asked known looked of
       (and_from (is_none (exception_of l asked)) (is_first allowance_range allows l.allow a asked) none
       (ap (λ (o : Option (Spanned Requirement)). option_map_or
-      (λ first. same_span (allowance_range first) (allowance_range a)) o false) is ∙ same_itself (allowance_range a))))
+      (λ first. same_span (allowance_range first) (allowance_range a)) o false) is
+      ∙ same_span-itself (allowance_range a))))
 
   allowance_same : (c : Crate) (asked : Asked) → Contains g.crates c → is_looked_at counts l c ≡ true
       → Contains (asked_in c) asked → is_none (exception_of l asked) ≡ true
@@ -313,19 +315,19 @@ module _ (l : Licensing) (g : Graph) (taken : List EntryId)
   there : (d : LicenseCode) → names_as taken (License d) key ≡ false → StandsLicensed d (Some l) g key
       → StandsLicensed d (Some rest_of_it) g key
   there license.Accepted unnamed is = by_counting accepted_keys l rest_of_it g key key refl
-      (λ counts tells. moved (accepted_keys counts l g) (accepted_keys counts rest_of_it g) key
+      (λ counts tells. Contains-same (accepted_keys counts l g) (accepted_keys counts rest_of_it g) key
       (sym (accepted_stay counts l g taken (stay counts tells)))) is
   there license.Rejected unnamed is = by_counting rejected_keys l rest_of_it g key key refl
-      (λ counts tells. moved (rejected_keys counts l g) (rejected_keys counts rest_of_it g) key
+      (λ counts tells. Contains-same (rejected_keys counts l g) (rejected_keys counts rest_of_it g) key
       (sym (rejected_stay counts l g taken (stay counts tells)))) is
   there license.Unlicensed unnamed is = by_counting unlicensed_keys l rest_of_it g key key refl
-      (λ counts tells. moved (unlicensed_keys counts l g) (unlicensed_keys counts rest_of_it g) key
+      (λ counts tells. Contains-same (unlicensed_keys counts l g) (unlicensed_keys counts rest_of_it g) key
       (sym (unlicensed_stay counts l g taken (stay counts tells)))) is
   there license.ParseError unnamed is = by_counting parse_error_keys l rest_of_it g key key refl
-      (λ counts tells. moved (parse_error_keys counts l g) (parse_error_keys counts rest_of_it g) key
+      (λ counts tells. Contains-same (parse_error_keys counts l g) (parse_error_keys counts rest_of_it g) key
       (sym (parse_error_stay counts l g taken (stay counts tells)))) is
   there license.SkippedPrivateWorkspaceCrate unnamed is = by_counting skipped_private_keys l rest_of_it g key key refl
-      (λ counts tells. moved (skipped_private_keys counts l g) (skipped_private_keys counts rest_of_it g) key
+      (λ counts tells. Contains-same (skipped_private_keys counts l g) (skipped_private_keys counts rest_of_it g) key
       (sym (skipped_stay counts l g taken (stay counts tells)))) is
   there license.LicenseNotEncountered unnamed is = by_counting not_encountered_keys l rest_of_it g key key refl
       (λ counts tells listed. kept_part (λ k. is_taken taken LicenseAllow k.entry)
@@ -341,31 +343,31 @@ module _ (l : Licensing) (g : Graph) (taken : List EntryId)
       × (names_as taken (License d) key ≡ false)
   back license.Accepted is = (
     by_counting accepted_keys rest_of_it l g key key refl
-        (λ counts tells. moved (accepted_keys counts rest_of_it g) (accepted_keys counts l g) key
+        (λ counts tells. Contains-same (accepted_keys counts rest_of_it g) (accepted_keys counts l g) key
         (accepted_stay counts l g taken (stay counts tells))) is,
     refl,
   )
   back license.Rejected is = (
     by_counting rejected_keys rest_of_it l g key key refl
-        (λ counts tells. moved (rejected_keys counts rest_of_it g) (rejected_keys counts l g) key
+        (λ counts tells. Contains-same (rejected_keys counts rest_of_it g) (rejected_keys counts l g) key
         (rejected_stay counts l g taken (stay counts tells))) is,
     refl,
   )
   back license.Unlicensed is = (
     by_counting unlicensed_keys rest_of_it l g key key refl
-        (λ counts tells. moved (unlicensed_keys counts rest_of_it g) (unlicensed_keys counts l g) key
+        (λ counts tells. Contains-same (unlicensed_keys counts rest_of_it g) (unlicensed_keys counts l g) key
         (unlicensed_stay counts l g taken (stay counts tells))) is,
     refl,
   )
   back license.ParseError is = (
     by_counting parse_error_keys rest_of_it l g key key refl
-        (λ counts tells. moved (parse_error_keys counts rest_of_it g) (parse_error_keys counts l g) key
+        (λ counts tells. Contains-same (parse_error_keys counts rest_of_it g) (parse_error_keys counts l g) key
         (parse_error_stay counts l g taken (stay counts tells))) is,
     refl,
   )
   back license.SkippedPrivateWorkspaceCrate is = (
     by_counting skipped_private_keys rest_of_it l g key key refl
-        (λ counts tells. moved (skipped_private_keys counts rest_of_it g) (skipped_private_keys counts l g) key
+        (λ counts tells. Contains-same (skipped_private_keys counts rest_of_it g) (skipped_private_keys counts l g) key
         (skipped_stay counts l g taken (stay counts tells))) is,
     refl,
   )

@@ -6,6 +6,8 @@ use Rattle.std.specs.List.{list_any}
 use Rattle.std.specs.Option.{option_map_or}
 use Rattle.std.proofs.lemmas.List.{map-append}
 use Rattle.deny_lists.proofs.Agreement.{filter_on, find_on, list_any_on, map_on}
+use Rattle.deny_lists.proofs.Options.{is_some-option_map}
+use Rattle.deny_lists.proofs.Members.{Contains-same}
 use Rattle.deny_base.specs.declared.code.DiagnosticCode.TheVariants.{License}
 use Rattle.deny_base.specs.declared.entry.EntryKind.TheVariants.{LicenseAllow, LicenseException}
 use Rattle.deny_base.specs.declared.entry.Hit.{Hit}
@@ -36,7 +38,7 @@ use Rattle.deny_laws.specs.Renaming.{renamed_hit, renamed_licensing}
 use Rattle.deny_laws.proofs.Anew.{any_anew, crate_hit_anew, filter_map_anew, keys_back, keys_there, none_anew, ranged}
 use Rattle.deny_laws.proofs.Anew.{told_anew}
 use Rattle.deny_laws.proofs.FirstMatch.{first_anew, is_first_renamed}
-use Rattle.deny_laws.proofs.KeyParts.{by_counting, moved}
+use Rattle.deny_laws.proofs.KeyParts.{by_counting}
 
 -- ---- what grants a requirement
 
@@ -44,10 +46,6 @@ excepts_same : (r : Renaming) (e : Exception) (asked : Asked) → excepts (renam
 unfolding excepts allows matches
 excepts_same r e asked = ap (λ b. matches e.spec asked.krate && b)
     (any_anew (λ a. allows a asked) (λ a. allows a asked) (renamed_allowance r) e.allow (λ a is. refl))
-
-some_anew : {X : Type 0} (f : X → X) (o : Option X) → is_some (option_map f o) ≡ is_some o
-some_anew f None = refl
-some_anew f (Some x) = refl
 
 -- ---- of a policy that speaks of licences
 
@@ -67,7 +65,7 @@ module _ (r : Renaming) (l : Licensing) (g : Graph) (counts : Crate → Bool) wh
   granted_same asked =
       ap (λ b. b || list_any (λ a. allows a asked) (map (renamed_allowance r) l.allow))
       (ap (λ (o : Option Exception). is_some o) (exception_anew asked)
-      ∙ some_anew (renamed_exception r) (exception_of l asked))
+      ∙ is_some-option_map (renamed_exception r) (exception_of l asked))
       ∙ ap (λ b. is_some (exception_of l asked) || b)
       (any_anew (λ a. allows a asked) (λ a. allows a asked) (renamed_allowance r) l.allow (λ a is. refl))
 
@@ -235,19 +233,19 @@ module _ (r : Renaming) (l : Licensing) (g : Graph) (key : Key) (apart : KeepsLi
   there : (d : LicenseCode) → StandsLicensed d (Some l) g key
       → StandsLicensed d (Some anew) g (renamed_as r (License d) key)
   there license.Accepted is = by_counting accepted_keys l anew g key key refl
-      (λ counts tells. moved (accepted_keys counts l g) (accepted_keys counts anew g) key
+      (λ counts tells. Contains-same (accepted_keys counts l g) (accepted_keys counts anew g) key
       (sym (accepted_stay r l g counts))) is
   there license.Rejected is = by_counting rejected_keys l anew g key key refl
-      (λ counts tells. moved (rejected_keys counts l g) (rejected_keys counts anew g) key
+      (λ counts tells. Contains-same (rejected_keys counts l g) (rejected_keys counts anew g) key
       (sym (rejected_stay r l g counts))) is
   there license.Unlicensed is = by_counting unlicensed_keys l anew g key key refl
-      (λ counts tells. moved (unlicensed_keys counts l g) (unlicensed_keys counts anew g) key
+      (λ counts tells. Contains-same (unlicensed_keys counts l g) (unlicensed_keys counts anew g) key
       (sym (unlicensed_stay r l g counts))) is
   there license.ParseError is = by_counting parse_error_keys l anew g key key refl
-      (λ counts tells. moved (parse_error_keys counts l g) (parse_error_keys counts anew g) key
+      (λ counts tells. Contains-same (parse_error_keys counts l g) (parse_error_keys counts anew g) key
       (sym (parse_error_stay r l g counts))) is
   there license.SkippedPrivateWorkspaceCrate is = by_counting skipped_private_keys l anew g key key refl
-      (λ counts tells. moved (skipped_private_keys counts l g) (skipped_private_keys counts anew g) key
+      (λ counts tells. Contains-same (skipped_private_keys counts l g) (skipped_private_keys counts anew g) key
       (sym (skipped_stay r l g counts))) is
   there license.LicenseNotEncountered is = by_counting not_encountered_keys l anew g key (ranged r key) refl
       (λ counts tells. keys_there r (not_encountered_keys counts l g) (not_encountered_keys counts anew g) key
@@ -262,35 +260,35 @@ module _ (r : Renaming) (l : Licensing) (g : Graph) (key : Key) (apart : KeepsLi
   back license.Accepted is = (
     key,
     by_counting accepted_keys anew l g key key refl
-        (λ counts tells. moved (accepted_keys counts anew g) (accepted_keys counts l g) key
+        (λ counts tells. Contains-same (accepted_keys counts anew g) (accepted_keys counts l g) key
         (accepted_stay r l g counts)) is,
     refl,
   )
   back license.Rejected is = (
     key,
     by_counting rejected_keys anew l g key key refl
-        (λ counts tells. moved (rejected_keys counts anew g) (rejected_keys counts l g) key
+        (λ counts tells. Contains-same (rejected_keys counts anew g) (rejected_keys counts l g) key
         (rejected_stay r l g counts)) is,
     refl,
   )
   back license.Unlicensed is = (
     key,
     by_counting unlicensed_keys anew l g key key refl
-        (λ counts tells. moved (unlicensed_keys counts anew g) (unlicensed_keys counts l g) key
+        (λ counts tells. Contains-same (unlicensed_keys counts anew g) (unlicensed_keys counts l g) key
         (unlicensed_stay r l g counts)) is,
     refl,
   )
   back license.ParseError is = (
     key,
     by_counting parse_error_keys anew l g key key refl
-        (λ counts tells. moved (parse_error_keys counts anew g) (parse_error_keys counts l g) key
+        (λ counts tells. Contains-same (parse_error_keys counts anew g) (parse_error_keys counts l g) key
         (parse_error_stay r l g counts)) is,
     refl,
   )
   back license.SkippedPrivateWorkspaceCrate is = (
     key,
     by_counting skipped_private_keys anew l g key key refl
-        (λ counts tells. moved (skipped_private_keys counts anew g) (skipped_private_keys counts l g) key
+        (λ counts tells. Contains-same (skipped_private_keys counts anew g) (skipped_private_keys counts l g) key
         (skipped_stay r l g counts)) is,
     refl,
   )

@@ -2,6 +2,7 @@
 -- wildcards.
 use Rattle.std.proofs.Common.{◌≡◌, Bool, List, Option, false, refl, sym, true}
 use Rattle.std.specs.Prelude.{Contains}
+use Rattle.deny_lists.proofs.Members.{Contains-same}
 use Rattle.deny_base.specs.declared.code.Code.{Code}
 use Rattle.deny_base.specs.declared.code.Code.TheVariants as code
 use Rattle.deny_base.specs.declared.key.Key.{Key}
@@ -14,7 +15,6 @@ use Rattle.deny_codes.specs.Wildcards.{is_allowed_path, is_asked, is_minded_in, 
 use Rattle.deny_codes.specs.Wildcards.{wildcards_in}
 use Rattle.deny_codes.proofs.WildcardLemmas.{AskAlike, same_unresolved_keys, same_wildcard_keys}
 use Rattle.deny_laws.proofs.FeatureRemoval.{with_lists, with_lists_in}
-use Rattle.deny_laws.proofs.KeyParts.{moved}
 
 -- the codes of the rules on manifests
 abbrev pub is_of_manifests : Code → Bool
@@ -49,10 +49,10 @@ module _ (c : Circumstances) (facts : Facts) (deny : List Ban) (skip : List Entr
 
   pub manifests_there : AskTheSame → (key : Key) (d : Code) → is_of_manifests d ≡ true → StandsAs d c facts key
       → StandsAs d (with_lists_in c deny skip skip_tree replacing) facts key
-  manifests_there asked key code.Wildcard of is = moved (wildcard_keys c.policy c.graph facts.chains c.view)
+  manifests_there asked key code.Wildcard of is = Contains-same (wildcard_keys c.policy c.graph facts.chains c.view)
       (wildcard_keys other c.graph facts.chains c.view) key (sym (same_wildcards asked)) is
   manifests_there asked key code.UnresolvedWorkspaceDependency of is =
-      moved (unresolved_keys c.policy c.graph facts.chains c.view)
+      Contains-same (unresolved_keys c.policy c.graph facts.chains c.view)
       (unresolved_keys other c.graph facts.chains c.view) key (sym (same_unresolved asked)) is
   manifests_there asked key code.WorkspaceDuplicate of is = is
   manifests_there asked key code.UnusedWorkspaceDependency of is = is
@@ -60,10 +60,10 @@ module _ (c : Circumstances) (facts : Facts) (deny : List Ban) (skip : List Entr
 
   pub manifests_back : AskTheSame → (key : Key) (d : Code) → is_of_manifests d ≡ true
       → StandsAs d (with_lists_in c deny skip skip_tree replacing) facts key → StandsAs d c facts key
-  manifests_back asked key code.Wildcard of is = moved (wildcard_keys other c.graph facts.chains c.view)
+  manifests_back asked key code.Wildcard of is = Contains-same (wildcard_keys other c.graph facts.chains c.view)
       (wildcard_keys c.policy c.graph facts.chains c.view) key (same_wildcards asked) is
   manifests_back asked key code.UnresolvedWorkspaceDependency of is =
-      moved (unresolved_keys other c.graph facts.chains c.view)
+      Contains-same (unresolved_keys other c.graph facts.chains c.view)
       (unresolved_keys c.policy c.graph facts.chains c.view) key (same_unresolved asked) is
   manifests_back asked key code.WorkspaceDuplicate of is = is
   manifests_back asked key code.UnusedWorkspaceDependency of is = is

@@ -3,6 +3,7 @@ use Rattle.std.proofs.Common.{◌≡◌, ◌++◌, ◌∙◌, List, ap, inl, inr
 use Rattle.std.specs.Prelude.{Contains, filter_map}
 use Rattle.std.specs.List.{flat_map}
 use Rattle.std.proofs.lemmas.List.{map-append}
+use Rattle.deny_lists.proofs.Members.{Contains-same}
 use Rattle.deny_base.specs.declared.code.Code.{Code}
 use Rattle.deny_base.specs.declared.code.Code.TheVariants as code
 use Rattle.deny_base.specs.declared.code.DiagnosticCode.{DiagnosticCode}
@@ -16,8 +17,7 @@ use Rattle.deny_codes.specs.AllowList.{allowed_keys}
 use Rattle.deny_codes.specs.Bans.{allowed_by_wrapper_keys, banned_keys, unmatched_wrapper_keys}
 use Rattle.deny_codes.specs.Circumstances.{Circumstances}
 use Rattle.deny_codes.specs.Facts.{Facts, AreFacts}
-use Rattle.deny_codes.specs.Features.{default_enabled_keys, feature_banned_keys, mismatched_keys}
-use Rattle.deny_codes.specs.Features.{unknown_feature_keys}
+use Rattle.deny_codes.specs.Features.{default_enabled_keys, feature_banned_keys, mismatched_keys, unknown_feature_keys}
 use Rattle.deny_codes.specs.Hits.{hits_in}
 use Rattle.deny_codes.specs.Packages.{build_keys_in, bypass_hits_in, deprecated_keys_in}
 use Rattle.deny_codes.specs.SkippedTrees.{skipped_by_root_keys}
@@ -26,15 +26,13 @@ use Rattle.deny_codes.specs.Standing.{StandsAs, StandsBy, Stands}
 use Rattle.deny_codes.specs.StdReplacements.{ignore_hits_in, replaced_keys_in, unmatched_ignore_keys_in}
 use Rattle.deny_codes.specs.Wildcards.{unresolved_keys, wildcard_keys}
 use Rattle.deny_codes.specs.Wrappers.{unused_wrapper_keys, wrapper_hits_of}
-use Rattle.deny_laws.specs.Renaming.{AreRenamed, KeepsApart, KeepsBypassesApart, KeepsLicencesApart, Renaming}
-use Rattle.deny_laws.specs.Renaming.{renamed, renamed_as, renamed_ban, renamed_hit, renamed_in, renamed_key}
-use Rattle.deny_laws.specs.Renaming.{renamed_root}
+use Rattle.deny_laws.specs.Renaming.{AreRenamed, KeepsApart, KeepsBypassesApart, KeepsLicencesApart, Renaming, renamed}
+use Rattle.deny_laws.specs.Renaming.{renamed_as, renamed_ban, renamed_hit, renamed_in, renamed_key, renamed_root}
 use Rattle.deny_laws.proofs.Anew.{keys_back, keys_there, made_back, made_there}
 use Rattle.deny_laws.proofs.BanRenaming as bans
 use Rattle.deny_laws.proofs.BypassRenaming as bypasses
 use Rattle.deny_laws.proofs.FeatureRenaming as features
 use Rattle.deny_laws.proofs.IgnoreRenaming as ignores
-use Rattle.deny_laws.proofs.KeyParts.{moved}
 use Rattle.deny_laws.proofs.LicenceRenaming as licences
 use Rattle.deny_laws.proofs.SkipRenaming as skips
 
@@ -72,7 +70,7 @@ module _ (r : Renaming) (c : Circumstances) (these those : Facts) (are : AreFact
       (unused_wrapper_keys (renamed r c.policy) c.graph) key (bans.unused_anew r c.policy c.graph apart) is
   there_as code.Allowed of is = keys_there r (allowed_keys c.policy c.graph)
       (allowed_keys (renamed r c.policy) c.graph) key (bans.allowed_anew r c.policy c.graph) is
-  there_as code.NotAllowed of is = moved (not_allowed_keys c.policy c.graph)
+  there_as code.NotAllowed of is = Contains-same (not_allowed_keys c.policy c.graph)
       (not_allowed_keys (renamed r c.policy) c.graph) key (sym (bans.not_allowed_stay r c.policy c.graph)) is
   there_as code.Skipped of is = keys_there r (skipped_keys c.policy c.graph these.chains)
       (skipped_keys (renamed r c.policy) c.graph those.chains) key
@@ -91,7 +89,7 @@ module _ (r : Renaming) (c : Circumstances) (these those : Facts) (are : AreFact
       (skips.unmatched_root_anew r c.policy c.graph these.chains those.chains are.chains are_new.chains) is
   there_as code.Duplicate of is = skips.duplicates_there r c.policy c.graph these.chains those.chains are.chains
       are_new.chains key is
-  there_as code.ReplacedInStd of is = moved (replaced_keys_in c) (replaced_keys_in (renamed_in r c)) key
+  there_as code.ReplacedInStd of is = Contains-same (replaced_keys_in c) (replaced_keys_in (renamed_in r c)) key
       (sym (ignores.replaced_in_stay r c)) is
   there_as code.UnmatchedReplacementIgnore of is = keys_there r (unmatched_ignore_keys_in c)
       (unmatched_ignore_keys_in (renamed_in r c)) key (ignores.unmatched_in_anew r c apart) is
@@ -105,10 +103,11 @@ module _ (r : Renaming) (c : Circumstances) (these those : Facts) (are : AreFact
   there_as code.DefaultFeatureEnabled of is = keys_there r (default_enabled_keys c.policy c.graph)
       (default_enabled_keys (renamed r c.policy) c.graph) key (features.default_anew r c.policy c.graph) is
   there_as code.FeatureNotExplicitlyAllowed of is = features.not_allowed_there r c.policy c.graph key is
-  there_as code.Wildcard of is = moved (wildcard_keys c.policy c.graph these.chains c.view)
+  there_as code.Wildcard of is = Contains-same (wildcard_keys c.policy c.graph these.chains c.view)
       (wildcard_keys (renamed r c.policy) c.graph those.chains c.view) key
       (sym (skips.wildcards_stay r c.policy c.graph these.chains those.chains are.chains are_new.chains c.view)) is
-  there_as code.UnresolvedWorkspaceDependency of is = moved (unresolved_keys c.policy c.graph these.chains c.view)
+  there_as code.UnresolvedWorkspaceDependency of is =
+      Contains-same (unresolved_keys c.policy c.graph these.chains c.view)
       (unresolved_keys (renamed r c.policy) c.graph those.chains c.view) key
       (sym (skips.unresolved_stay r c.policy c.graph these.chains those.chains are.chains are_new.chains c.view)) is
   there_as code.WorkspaceDuplicate of is = is
@@ -141,7 +140,7 @@ module _ (r : Renaming) (c : Circumstances) (these those : Facts) (are : AreFact
       (allowed_keys (renamed r c.policy) c.graph) key (bans.allowed_anew r c.policy c.graph) is
   back_as code.NotAllowed of is = (
     key,
-    moved (not_allowed_keys (renamed r c.policy) c.graph) (not_allowed_keys c.policy c.graph) key
+    Contains-same (not_allowed_keys (renamed r c.policy) c.graph) (not_allowed_keys c.policy c.graph) key
         (bans.not_allowed_stay r c.policy c.graph) is,
     refl,
   )
@@ -167,7 +166,7 @@ module _ (r : Renaming) (c : Circumstances) (these those : Facts) (are : AreFact
   )
   back_as code.ReplacedInStd of is = (
     key,
-    moved (replaced_keys_in (renamed_in r c)) (replaced_keys_in c) key (ignores.replaced_in_stay r c) is,
+    Contains-same (replaced_keys_in (renamed_in r c)) (replaced_keys_in c) key (ignores.replaced_in_stay r c) is,
     refl,
   )
   back_as code.UnmatchedReplacementIgnore of is = keys_back r (unmatched_ignore_keys_in c)
@@ -187,14 +186,14 @@ module _ (r : Renaming) (c : Circumstances) (these those : Facts) (are : AreFact
   back_as code.FeatureNotExplicitlyAllowed of is = features.not_allowed_back r c.policy c.graph key is
   back_as code.Wildcard of is = (
     key,
-    moved (wildcard_keys (renamed r c.policy) c.graph those.chains c.view)
+    Contains-same (wildcard_keys (renamed r c.policy) c.graph those.chains c.view)
         (wildcard_keys c.policy c.graph these.chains c.view) key
         (skips.wildcards_stay r c.policy c.graph these.chains those.chains are.chains are_new.chains c.view) is,
     refl,
   )
   back_as code.UnresolvedWorkspaceDependency of is = (
     key,
-    moved (unresolved_keys (renamed r c.policy) c.graph those.chains c.view)
+    Contains-same (unresolved_keys (renamed r c.policy) c.graph those.chains c.view)
         (unresolved_keys c.policy c.graph these.chains c.view) key
         (skips.unresolved_stay r c.policy c.graph these.chains those.chains are.chains are_new.chains c.view) is,
     refl,

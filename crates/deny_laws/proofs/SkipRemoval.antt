@@ -6,7 +6,7 @@ use Rattle.std.specs.List.{flat_map}
 use Rattle.std.proofs.lemmas.Bool.{and_from, and_parts, and_right, not-true}
 use Rattle.std.proofs.lemmas.List.Kept.{IsStrictlySortedBy-filter}
 use Rattle.deny_lists.proofs.Agreement.{filter_on, flat_map_on}
-use Rattle.deny_lists.proofs.Members.{Contains-filter, Contains-from_filter, any_from, filtered}
+use Rattle.deny_lists.proofs.Members.{Contains-filter, Contains-from_filter, any_from, filtered, Contains-same}
 use Rattle.deny_lists.specs.Ascending.{Lists}
 use Rattle.deny_base.specs.KeyOrder.{key_cmp}
 use Rattle.deny_base.specs.declared.code.Code.{Code}
@@ -25,8 +25,8 @@ use Rattle.deny_model.specs.Crates.{is_git_source}
 use Rattle.deny_model.specs.Facts as chains
 use Rattle.deny_model.specs.Duplicates.{IsDuplicate, duplicate_level, is_denied_multiple}
 use Rattle.deny_model.specs.Graph.{Crate, Graph, kid_of}
-use Rattle.deny_model.specs.Groups.{group, has_name, is_in_group, is_internal, is_marked, is_rooted, may_stand}
-use Rattle.deny_model.specs.Groups.{reduced, unmarked}
+use Rattle.deny_model.specs.Groups.{group, has_name, is_in_group, is_internal, is_marked, is_rooted, may_stand, reduced}
+use Rattle.deny_model.specs.Groups.{unmarked}
 use Rattle.deny_model.specs.Keys.{crate_key, key_of, unused_key}
 use Rattle.deny_model.specs.Match.{matches}
 use Rattle.deny_model.specs.Policy.{Entry, Policy, Root}
@@ -50,7 +50,7 @@ use Rattle.deny_codes.proofs.Kept.{find_none_on, flat_map_kept, guarded, list_an
 use Rattle.deny_laws.specs.Removal.{AreGone, is_taken, names, names_as, stays_root, stays_skip, unnaming}
 use Rattle.deny_laws.specs.SkipRemoval.{AreUnhit, without_skips, without_skips_in}
 use Rattle.deny_laws.proofs.FeatureRemoval.{features_back, features_there, is_of_features}
-use Rattle.deny_laws.proofs.KeyParts.{from_part, kept_part, moved, no_licence_named}
+use Rattle.deny_laws.proofs.KeyParts.{from_part, kept_part, no_licence_named}
 use Rattle.deny_laws.proofs.ManifestRemoval.{is_of_manifests, manifests_back, manifests_there}
 
 -- ---- bans and the allow list read neither
@@ -338,26 +338,26 @@ module _ (c : Circumstances) (facts : Facts) (taken : List EntryId)
 
   there_as : (d : Code) → names_as taken (Bans d) key ≡ false → StandsAs d c facts key
       → StandsAs d (without_skips_in c taken) facts key
-  there_as code.Banned unnamed is = moved (banned_keys c.policy c.graph)
+  there_as code.Banned unnamed is = Contains-same (banned_keys c.policy c.graph)
       (banned_keys (without_skips c.policy taken) c.graph) key (sym (bans_stay c.policy c.graph taken)) is
-  there_as code.AllowedByWrapper unnamed is = moved (allowed_by_wrapper_keys c.policy c.graph)
+  there_as code.AllowedByWrapper unnamed is = Contains-same (allowed_by_wrapper_keys c.policy c.graph)
       (allowed_by_wrapper_keys (without_skips c.policy taken) c.graph) key
       (sym (allowed_stay c.policy c.graph taken)) is
-  there_as code.UnmatchedWrapper unnamed is = moved (unmatched_wrapper_keys c.policy c.graph)
+  there_as code.UnmatchedWrapper unnamed is = Contains-same (unmatched_wrapper_keys c.policy c.graph)
       (unmatched_wrapper_keys (without_skips c.policy taken) c.graph) key
       (sym (unmatched_stay c.policy c.graph taken)) is
-  there_as code.UnusedWrapper unnamed is = moved (unused_wrapper_keys c.policy c.graph)
+  there_as code.UnusedWrapper unnamed is = Contains-same (unused_wrapper_keys c.policy c.graph)
       (unused_wrapper_keys (without_skips c.policy taken) c.graph) key (sym (unused_stay c.policy c.graph taken)) is
-  there_as code.NotAllowed unnamed is = moved (not_allowed_keys c.policy c.graph)
+  there_as code.NotAllowed unnamed is = Contains-same (not_allowed_keys c.policy c.graph)
       (not_allowed_keys (without_skips c.policy taken) c.graph) key (sym (not_allowed_stay c.policy c.graph taken)) is
   there_as code.Allowed unnamed is = is
-  there_as code.Skipped unnamed is = moved (skipped_keys c.policy c.graph facts.chains)
+  there_as code.Skipped unnamed is = Contains-same (skipped_keys c.policy c.graph facts.chains)
       (skipped_keys (without_skips c.policy taken) c.graph facts.chains) key
       (sym (skipped_stay c.policy c.graph facts.chains taken are unhit)) is
-  there_as code.SkippedByRoot unnamed is = moved (skipped_by_root_keys c.policy c.graph facts.chains)
+  there_as code.SkippedByRoot unnamed is = Contains-same (skipped_by_root_keys c.policy c.graph facts.chains)
       (skipped_by_root_keys (without_skips c.policy taken) c.graph facts.chains) key
       (sym (by_root_stay c.policy c.graph facts.chains taken are unhit)) is
-  there_as code.UnnecessarySkip unnamed is = moved (unnecessary_skip_keys c.policy c.graph facts.chains)
+  there_as code.UnnecessarySkip unnamed is = Contains-same (unnecessary_skip_keys c.policy c.graph facts.chains)
       (unnecessary_skip_keys (without_skips c.policy taken) c.graph facts.chains) key
       (sym (unnecessary_stay c.policy c.graph facts.chains taken are unhit)) is
   there_as code.UnmatchedSkip unnamed is = kept_part (λ k. is_taken taken Skip k.entry)
@@ -384,45 +384,46 @@ module _ (c : Circumstances) (facts : Facts) (taken : List EntryId)
   back_as : (d : Code) → StandsAs d (without_skips_in c taken) facts key → StandsAs d c facts key
       × (names_as taken (Bans d) key ≡ false)
   back_as code.Banned is = (
-    moved (banned_keys (without_skips c.policy taken) c.graph) (banned_keys c.policy c.graph) key
+    Contains-same (banned_keys (without_skips c.policy taken) c.graph) (banned_keys c.policy c.graph) key
         (bans_stay c.policy c.graph taken) is,
     refl,
   )
   back_as code.AllowedByWrapper is = (
-    moved (allowed_by_wrapper_keys (without_skips c.policy taken) c.graph)
+    Contains-same (allowed_by_wrapper_keys (without_skips c.policy taken) c.graph)
         (allowed_by_wrapper_keys c.policy c.graph) key (allowed_stay c.policy c.graph taken) is,
     refl,
   )
   back_as code.UnmatchedWrapper is = (
-    moved (unmatched_wrapper_keys (without_skips c.policy taken) c.graph)
+    Contains-same (unmatched_wrapper_keys (without_skips c.policy taken) c.graph)
         (unmatched_wrapper_keys c.policy c.graph) key (unmatched_stay c.policy c.graph taken) is,
     refl,
   )
   back_as code.NotAllowed is = (
-    moved (not_allowed_keys (without_skips c.policy taken) c.graph)
+    Contains-same (not_allowed_keys (without_skips c.policy taken) c.graph)
         (not_allowed_keys c.policy c.graph) key (not_allowed_stay c.policy c.graph taken) is,
     refl,
   )
   back_as code.Skipped is = (
-    moved (skipped_keys (without_skips c.policy taken) c.graph facts.chains)
+    Contains-same (skipped_keys (without_skips c.policy taken) c.graph facts.chains)
         (skipped_keys c.policy c.graph facts.chains) key (skipped_stay c.policy c.graph facts.chains taken are unhit)
         is,
     refl,
   )
   back_as code.SkippedByRoot is = (
-    moved (skipped_by_root_keys (without_skips c.policy taken) c.graph facts.chains)
+    Contains-same (skipped_by_root_keys (without_skips c.policy taken) c.graph facts.chains)
         (skipped_by_root_keys c.policy c.graph facts.chains) key
         (by_root_stay c.policy c.graph facts.chains taken are unhit) is,
     refl,
   )
   back_as code.UnnecessarySkip is = (
-    moved (unnecessary_skip_keys (without_skips c.policy taken) c.graph facts.chains)
+    Contains-same (unnecessary_skip_keys (without_skips c.policy taken) c.graph facts.chains)
         (unnecessary_skip_keys c.policy c.graph facts.chains) key
         (unnecessary_stay c.policy c.graph facts.chains taken are unhit) is,
     refl,
   )
   back_as code.UnusedWrapper is = (
-    moved (unused_wrapper_keys (without_skips c.policy taken) c.graph) (unused_wrapper_keys c.policy c.graph) key
+    Contains-same (unused_wrapper_keys (without_skips c.policy taken) c.graph)
+        (unused_wrapper_keys c.policy c.graph) key
         (unused_stay c.policy c.graph taken) is,
     unhit.no_wrapper key.entry,
   )

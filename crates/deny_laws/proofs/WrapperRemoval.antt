@@ -7,8 +7,9 @@ use Rattle.std.proofs.lemmas.Bool.{and_from, and_parts, not-true}
 use Rattle.std.proofs.lemmas.List.Folds.{flat_map-map}
 use Rattle.std.proofs.lemmas.List.Kept.{IsStrictlySortedBy-filter}
 use Rattle.deny_lists.proofs.Agreement.{filter_map_on, filter_on, find_on, flat_map_on, found_on, list_any_on}
-use Rattle.deny_lists.proofs.Members.{Contains-filter, Contains-from_filter, any_from}
+use Rattle.deny_lists.proofs.Members.{Contains-filter, Contains-from_filter, any_from, Contains-same}
 use Rattle.deny_lists.specs.Ascending.{Lists}
+use Rattle.deny_lists.proofs.Finding.{found_member}
 use Rattle.deny_base.specs.KeyOrder.{key_cmp}
 use Rattle.deny_base.specs.declared.code.Code.{Code}
 use Rattle.deny_base.specs.declared.code.Code.TheVariants as code
@@ -34,6 +35,7 @@ use Rattle.deny_model.specs.Policy.{Ban, Policy}
 use Rattle.deny_model.specs.Wrappers.{same_span, hits_wrapper, is_hit_wrapper, unused_wrapper_keys_of, wraps}
 use Rattle.deny_model.specs.Skips.{is_skipped_by_root, skipped_by_root_keys_of, unmatched_skip_root_keys, is_needless}
 use Rattle.deny_model.specs.Skips.{unmatched_skip_keys, unnecessary_skip_keys}
+use Rattle.deny_model.proofs.SpanLemmas.{same_span-itself}
 use Rattle.deny_codes.specs.Bans.{allowed_by_wrapper_keys, banned_keys, bears_name, unmatched_wrapper_keys}
 use Rattle.deny_codes.specs.Circumstances.{Circumstances}
 use Rattle.deny_codes.specs.Facts.{Facts, AreFacts}
@@ -44,13 +46,13 @@ use Rattle.deny_codes.specs.Standing.{StandsAs, StandsBy, Stands}
 use Rattle.deny_codes.specs.StdReplacements.{ignore_hits_in}
 use Rattle.deny_codes.specs.Wrappers.{unused_wrapper_keys, wrapper_hits_of}
 use Rattle.deny_codes.specs.Wildcards.{is_asked}
-use Rattle.deny_codes.proofs.Kept.{filter-flat_map, found_member, list_all_on, fails_if_gone}
-use Rattle.deny_codes.proofs.Kept.{filter_map_kept, find_none_on, guarded, told_kept}
+use Rattle.deny_codes.proofs.Kept.{filter-flat_map, list_all_on, fails_if_gone, filter_map_kept, find_none_on, guarded}
+use Rattle.deny_codes.proofs.Kept.{told_kept}
 use Rattle.deny_laws.specs.Removal.{AreGone, cut, is_taken, names, names_as, stays_wrapper}
 use Rattle.deny_laws.specs.WrapperRemoval.{AreUnhitWrappers, without_wrappers, without_wrappers_in}
-use Rattle.deny_laws.proofs.FirstMatch.{first_stays, is_first_stays, same_itself}
+use Rattle.deny_laws.proofs.FirstMatch.{first_stays, is_first_stays}
 use Rattle.deny_laws.proofs.FeatureRemoval.{features_back, features_there, is_of_features}
-use Rattle.deny_laws.proofs.KeyParts.{from_part, kept_part, moved, no_licence_named}
+use Rattle.deny_laws.proofs.KeyParts.{from_part, kept_part, no_licence_named}
 use Rattle.deny_laws.proofs.ManifestRemoval.{is_of_manifests, manifests_back, manifests_there}
 
 module _ (p : Policy) (g : Graph) (taken : List EntryId) (unhit : AreUnhitWrappers p g taken) where
@@ -69,7 +71,7 @@ module _ (p : Policy) (g : Graph) (taken : List EntryId) (unhit : AreUnhitWrappe
       (and_from (concerns p g ban c) (list_any (wraps ban.wrappers w) (dependents g c.place)) speaks
       (any_from (wraps ban.wrappers w) (dependents g c.place) parent is_parent
       (ap (λ (o : Option policy.Words). option_map_or (λ first. same_span first.span w.span) o false) is
-      ∙ same_itself w.span)))
+      ∙ same_span-itself w.span)))
 
   first_stays_there : (ban : Ban) (c parent : Crate) (w : policy.Words) → Contains p.deny ban → Contains g.crates c
       → concerns p g ban c ≡ true → Contains (dependents g c.place) parent
@@ -361,27 +363,27 @@ module _ (c : Circumstances) (facts : Facts) (taken : List EntryId) (unhit : Are
 
   there_as : (d : Code) → names_as taken (Bans d) key ≡ false → StandsAs d c facts key
       → StandsAs d (without_wrappers_in c taken) facts key
-  there_as code.Banned unnamed is = moved (banned_keys c.policy c.graph)
+  there_as code.Banned unnamed is = Contains-same (banned_keys c.policy c.graph)
       (banned_keys (without_wrappers c.policy taken) c.graph) key (sym (bans_stay c.policy c.graph taken unhit)) is
-  there_as code.AllowedByWrapper unnamed is = moved (allowed_by_wrapper_keys c.policy c.graph)
+  there_as code.AllowedByWrapper unnamed is = Contains-same (allowed_by_wrapper_keys c.policy c.graph)
       (allowed_by_wrapper_keys (without_wrappers c.policy taken) c.graph) key
       (sym (allowed_stay c.policy c.graph taken unhit)) is
-  there_as code.UnmatchedWrapper unnamed is = moved (unmatched_wrapper_keys c.policy c.graph)
+  there_as code.UnmatchedWrapper unnamed is = Contains-same (unmatched_wrapper_keys c.policy c.graph)
       (unmatched_wrapper_keys (without_wrappers c.policy taken) c.graph) key
       (sym (unmatched_stay c.policy c.graph taken unhit)) is
-  there_as code.NotAllowed unnamed is = moved (not_allowed_keys c.policy c.graph)
+  there_as code.NotAllowed unnamed is = Contains-same (not_allowed_keys c.policy c.graph)
       (not_allowed_keys (without_wrappers c.policy taken) c.graph) key
       (sym (not_allowed_stay c.policy c.graph facts.chains taken)) is
-  there_as code.SkippedByRoot unnamed is = moved (skipped_by_root_keys c.policy c.graph facts.chains)
+  there_as code.SkippedByRoot unnamed is = Contains-same (skipped_by_root_keys c.policy c.graph facts.chains)
       (skipped_by_root_keys (without_wrappers c.policy taken) c.graph facts.chains) key
       (sym (by_root_stay c.policy c.graph facts.chains taken)) is
-  there_as code.UnnecessarySkip unnamed is = moved (unnecessary_skip_keys c.policy c.graph facts.chains)
+  there_as code.UnnecessarySkip unnamed is = Contains-same (unnecessary_skip_keys c.policy c.graph facts.chains)
       (unnecessary_skip_keys (without_wrappers c.policy taken) c.graph facts.chains) key
       (sym (unnecessary_stay c.policy c.graph facts.chains taken)) is
-  there_as code.UnmatchedSkip unnamed is = moved (unmatched_skip_keys c.policy c.graph facts.chains)
+  there_as code.UnmatchedSkip unnamed is = Contains-same (unmatched_skip_keys c.policy c.graph facts.chains)
       (unmatched_skip_keys (without_wrappers c.policy taken) c.graph facts.chains) key
       (sym (unmatched_skip_stay c.policy c.graph facts.chains taken)) is
-  there_as code.UnmatchedSkipRoot unnamed is = moved (unmatched_skip_root_keys c.policy c.graph)
+  there_as code.UnmatchedSkipRoot unnamed is = Contains-same (unmatched_skip_root_keys c.policy c.graph)
       (unmatched_skip_root_keys (without_wrappers c.policy taken) c.graph) key
       (sym (unmatched_root_stay c.policy c.graph facts.chains taken)) is
   there_as code.UnusedWrapper unnamed is = kept_part (λ k. is_taken taken Wrapper k.entry)
@@ -406,44 +408,44 @@ module _ (c : Circumstances) (facts : Facts) (taken : List EntryId) (unhit : Are
   back_as : (d : Code) → StandsAs d (without_wrappers_in c taken) facts key → StandsAs d c facts key
       × (names_as taken (Bans d) key ≡ false)
   back_as code.Banned is = (
-    moved (banned_keys (without_wrappers c.policy taken) c.graph) (banned_keys c.policy c.graph) key
+    Contains-same (banned_keys (without_wrappers c.policy taken) c.graph) (banned_keys c.policy c.graph) key
         (bans_stay c.policy c.graph taken unhit) is,
     refl,
   )
   back_as code.AllowedByWrapper is = (
-    moved (allowed_by_wrapper_keys (without_wrappers c.policy taken) c.graph)
+    Contains-same (allowed_by_wrapper_keys (without_wrappers c.policy taken) c.graph)
         (allowed_by_wrapper_keys c.policy c.graph) key (allowed_stay c.policy c.graph taken unhit) is,
     refl,
   )
   back_as code.UnmatchedWrapper is = (
-    moved (unmatched_wrapper_keys (without_wrappers c.policy taken) c.graph)
+    Contains-same (unmatched_wrapper_keys (without_wrappers c.policy taken) c.graph)
         (unmatched_wrapper_keys c.policy c.graph) key (unmatched_stay c.policy c.graph taken unhit) is,
     refl,
   )
   back_as code.NotAllowed is = (
-    moved (not_allowed_keys (without_wrappers c.policy taken) c.graph)
+    Contains-same (not_allowed_keys (without_wrappers c.policy taken) c.graph)
         (not_allowed_keys c.policy c.graph) key (not_allowed_stay c.policy c.graph facts.chains taken) is,
     refl,
   )
   back_as code.SkippedByRoot is = (
-    moved (skipped_by_root_keys (without_wrappers c.policy taken) c.graph facts.chains)
+    Contains-same (skipped_by_root_keys (without_wrappers c.policy taken) c.graph facts.chains)
         (skipped_by_root_keys c.policy c.graph facts.chains) key (by_root_stay c.policy c.graph facts.chains taken) is,
     refl,
   )
   back_as code.UnnecessarySkip is = (
-    moved (unnecessary_skip_keys (without_wrappers c.policy taken) c.graph facts.chains)
+    Contains-same (unnecessary_skip_keys (without_wrappers c.policy taken) c.graph facts.chains)
         (unnecessary_skip_keys c.policy c.graph facts.chains) key (unnecessary_stay c.policy c.graph facts.chains taken)
         is,
     refl,
   )
   back_as code.UnmatchedSkip is = (
-    moved (unmatched_skip_keys (without_wrappers c.policy taken) c.graph facts.chains)
+    Contains-same (unmatched_skip_keys (without_wrappers c.policy taken) c.graph facts.chains)
         (unmatched_skip_keys c.policy c.graph facts.chains) key
         (unmatched_skip_stay c.policy c.graph facts.chains taken) is,
     unhit.no_skip key.entry,
   )
   back_as code.UnmatchedSkipRoot is = (
-    moved (unmatched_skip_root_keys (without_wrappers c.policy taken) c.graph)
+    Contains-same (unmatched_skip_root_keys (without_wrappers c.policy taken) c.graph)
         (unmatched_skip_root_keys c.policy c.graph) key (unmatched_root_stay c.policy c.graph facts.chains taken) is,
     unhit.no_root key.entry,
   )

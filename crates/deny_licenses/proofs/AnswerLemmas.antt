@@ -47,7 +47,8 @@ module _ (granting : Granting) (excepted : Grants) (k : Krate)
             ∙ map_on (λ r. is_some (granter_from excepted granting r)) (λ r. is_granted l (asked_of c r)) rs
             (λ r _. ap is_some (granter-is r) ∙ sym (granted-by l (asked_of c r)));
         granters = granters
-            ∙ flat_map_on (λ r. granters_by (granter_from excepted granting r)) (λ r. granters_by (granter_for l c r)) rs
+            ∙ flat_map_on (λ r. granters_by (granter_from excepted granting r))
+            (λ r. granters_by (granter_for l c r)) rs
             (λ r _. ap granters_by (granter-is r));
         notes = notes
             ∙ flat_map_on (λ r. notes_by (granter_from excepted granting r) r) (λ r. notes_by (granter_for l c r) r) rs

@@ -1,5 +1,6 @@
 -- What is told of the crates that count, and the first crate to which each entry grants something.
-use Rattle.std.proofs.Common.{◌≡◌, ◌++◌, ◌-◌, ◌+◌, ◌<◌, ◌&&◌, ◌||◌, ℕ, suc, Bool, true, false, List, [], ◌∷◌, Contains, Option, Some, None, cond, filter, find, length, map, not, refl, sym, ap, ◌∙◌, arith, OnOk, Result, Ok, Err}
+use Rattle.std.proofs.Common.{◌≡◌, ◌++◌, ◌-◌, ◌+◌, ◌<◌, ◌&&◌, ◌||◌, ℕ, suc, Bool, true, false, List, [], ◌∷◌, Contains}
+use Rattle.std.proofs.Common.{Option, Some, None, cond, filter, find, length, map, not, refl, sym, ap, ◌∙◌, arith}
 use Rattle.std.specs.Prelude.{option_map}
 use Rattle.std.specs.List.{flat_map, list_any, range_with_len}
 use Rattle.std.specs.Map.{lookup}
@@ -8,6 +9,7 @@ use Rattle.std.proofs.lemmas.List.Folds.{list_any-append}
 use Rattle.deny_lists.proofs.Filters.{find-filter}
 use Rattle.deny_lists.proofs.Loops.{appended}
 use Rattle.deny_lists.proofs.Members.{Contains-first, Contains-from_filter, Contains-rest}
+use Rattle.deny_lists.proofs.Numbers.{range_with_len-same}
 use Rattle.deny_base.specs.declared.finding.Pack.{Pack}
 use Rattle.deny_spdx.specs.Reads.{BadAt, Read, Reading, reading_in}
 use Rattle.deny_spdx.specs.declared.expression.Expression.{Expression}
@@ -17,11 +19,11 @@ use Rattle.deny_krates.specs.declared.krate.Krate.{Krate}
 use Rattle.deny_model.specs.Graph.{Crate, Graph}
 use Rattle.deny_model.specs.Told.{crate_at}
 use Rattle.deny_model.specs.Licensing.{Licensing}
-use Rattle.deny_codes.specs.Licences.{Asked, asked_in, asked_of, expression_in, expression_of, hits_by, holds, is_licensed}
-use Rattle.deny_codes.specs.Licences.{is_looked_at, is_passed_over, licence_text}
+use Rattle.deny_codes.specs.Licences.{Asked, asked_in, asked_of, expression_in, expression_of, hits_by, holds}
+use Rattle.deny_codes.specs.Licences.{is_licensed, is_looked_at, is_passed_over, licence_text}
 use Rattle.deny_facts.specs.Marks.{mark_at, marked}
 use Rattle.deny_facts.specs.Placed.{ArePlaced}
-use Rattle.deny_facts.proofs.PlaceLemmas.{place_of}
+use Rattle.deny_krates.proofs.PlaceLemmas.{place_of}
 use Rattle.deny_licenses.specs.declared.granter.Granter.{Granter}
 use Rattle.deny_licenses.specs.declared.judgement.Judgement.{Judgement}
 use Rattle.deny_licenses.specs.declared.judgement.Judgement.TheVariants as judgement
@@ -37,9 +39,6 @@ use Rattle.deny_licenses.proofs.JudgementLemmas.{anywhere}
 
 -- ---- the places of the crates that count
 
-same_range : (a b m n : ℕ) → a ≡ b → m ≡ n → range_with_len a m ≡ range_with_len b n
-same_range a b m n e f = cc
-
 pub places-more : (marks : List Bool) (old new whole : List ℕ) (place end : ℕ) → place < end
     → new ≡ old ++ place_if marks place
     → old ++ flat_map (place_if marks) (range_with_len place (end - place)) ≡ whole
@@ -48,7 +47,7 @@ places-more marks old new whole place end below added =
     appended (flat_map (place_if marks)) (range_with_len place (end - place))
     (range_with_len (place + 1) (end - (place + 1))) (place_if marks place) old new whole
     (ap (flat_map (place_if marks))
-    (same_range place place (end - place) (suc (end - (place + 1))) refl (omega arith))) added
+    (range_with_len-same place place (end - place) (suc (end - (place + 1))) refl (omega arith))) added
 
 places-from : (marks : List Bool) (cs : List Crate)
     → flat_map (place_if marks) (map place_of cs) ≡ map place_of (filter (marked marks) cs)
@@ -146,7 +145,8 @@ and-swapped false false = refl
 
 module _ (l : Licensing) (c : Crate) (by : Granter) (grants : Asked → Bool)
     (is : (asked : Asked) → grants asked ≡ option_map_or (same_granter by) (granter_of l asked) false) where
-  one-granter : (o : Option Granter) → list_any (same_granter by) (granters_by o) ≡ option_map_or (same_granter by) o false
+  one-granter : (o : Option Granter)
+      → list_any (same_granter by) (granters_by o) ≡ option_map_or (same_granter by) o false
   one-granter None = refl
   one-granter (Some x) = or_none (same_granter by x)
     where
@@ -192,8 +192,3 @@ module _ (l : Licensing) (c : Crate) (by : Granter) (grants : Asked → Bool)
       → (list_any (same_granter by) (crate_granters l c) && counts c) ≡ hits_by counts l grants c
   unfolding hits_by is_looked_at asked_in expression_of judgement_of
   hits-is counts = hits-cases (is_passed_over l c) (is_licensed c) (reading_in (licence_text c)) (counts c)
-
--- what is so of an outcome is so in other words
-pub on_ok : {T E P Q : Type 0} (r : Result T E) → OnOk r P → (P → Q) → OnOk r Q
-on_ok (Ok x) is then = then is
-on_ok (Err e) is then = tt

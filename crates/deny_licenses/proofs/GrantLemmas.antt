@@ -1,5 +1,6 @@
 -- What is found of what grants licences is what the rule names: of licences that all may ask for, and of exceptions.
-use Rattle.std.proofs.Common.{◌≡◌, ◌++◌, ◌&&◌, ◌||◌, ℕ, Bool, true, false, List, [], ◌∷◌, Contains, Option, Some, None, append-nil, cond, find, map, refl, sym, ap, ◌∙◌, subst}
+use Rattle.std.proofs.Common.{◌≡◌, ◌++◌, ◌&&◌, ◌||◌, ℕ, Bool, true, false, List, [], ◌∷◌, Contains, Option, Some, None}
+use Rattle.std.proofs.Common.{append-nil, cond, find, map, refl, sym, ap, ◌∙◌, subst}
 use Rattle.std.specs.Prelude.{◌↔◌, option_and_then, option_map, slice_get}
 use Rattle.std.specs.List.{flat_map, list_any}
 use Rattle.std.specs.List.Sorted.{IsStrictlyIncreasing}
@@ -29,8 +30,9 @@ use Rattle.deny_licenses.specs.declared.grants.Grants.{Grants}
 use Rattle.deny_licenses.specs.declared.grants.Wanted.{Wanted}
 use Rattle.deny_licenses.specs.private.Granters.{allowance_granter, exception_granter}
 use Rattle.deny_licenses.specs.private.Granting.{exception_name, grants_at, grants_to, speaks}
-use Rattle.deny_licenses.specs.private.Grants.{allowance_grant, exception_grants, grant_by, granter_in, same_wanted, wanted_of}
-use Rattle.deny_licenses.proofs.NumberLemmas.{first-numbered}
+use Rattle.deny_licenses.specs.private.Grants.{allowance_grant, exception_grants, grant_by, granter_in, same_wanted}
+use Rattle.deny_licenses.specs.private.Grants.{wanted_of}
+use Rattle.deny_lists.proofs.Finding.{first-numbered}
 use Rattle.deny_licenses.proofs.OrderLemmas.{same-licence}
 
 first-entry : {X Y : Type 0} (f : X → Y) (b d : Bool) (x : X) (later : Option Y) (rest : Option X) → b ≡ d
@@ -105,7 +107,8 @@ module _ (c : Crate) (r : Requirement) where
         by_speaks : (e : Exception) (b : Bool) → slice_get es n ≡ Some e
             → lookup wants more ≡ option_map by_exception (option_and_then (slice_get es) rest)
             → lookup wants (cond b (exception_grants (exception_view e)) [] ++ more)
-            ≡ option_map by_exception (option_and_then (slice_get es) (cond (b && list_any lists e.allow) (Some n) rest))
+            ≡ option_map by_exception
+            (option_and_then (slice_get es) (cond (b && list_any lists e.allow) (Some n) rest))
         by_speaks e true at so = granted (by_exception e) e.allow more ∙ by_list e (list_any lists e.allow) at so
         by_speaks e false at so = so
 
@@ -148,7 +151,9 @@ excepted-is cfg k names numbers grants are up exact finds r =
     (sym (find-map (λ (e : model.Exception). excepts e (asked_of c r)) exception_view es)))))
 
 -- entries behind which nothing comes
-pub finds-same : (entries : List (Wanted × Granter)) (grants : Grants) → FindsFirst same_wanted entries (granter_in grants)
+pub finds-same : (entries : List (Wanted × Granter)) (grants : Grants)
+    → FindsFirst same_wanted entries (granter_in grants)
     → FindsFirst same_wanted (entries ++ []) (granter_in grants)
-finds-same entries grants finds = subst (λ (es : List (Wanted × Granter)). FindsFirst same_wanted es (granter_in grants))
+finds-same entries grants finds =
+    subst (λ (es : List (Wanted × Granter)). FindsFirst same_wanted es (granter_in grants))
     (sym (append-nil entries)) finds

@@ -1,23 +1,20 @@
 -- The entry that grants a requirement is the one that the rule names.
-use Rattle.std.proofs.Common.{◌≡◌, ◌&&◌, ◌||◌, Bool, false, Option, Some, None, is_some, refl, sym, ◌∙◌}
+use Rattle.std.proofs.Common.{◌≡◌, ◌&&◌, ◌||◌, false, Option, Some, None, is_some, refl, sym, ◌∙◌}
 use Rattle.std.specs.Prelude.{is_none, option_map}
 use Rattle.std.specs.List.{list_any}
 use Rattle.std.specs.Option.{option_map_or, option_or}
 use Rattle.deny_lists.proofs.Filters.{find-any}
+use Rattle.deny_lists.proofs.Options.{is_some-option_map}
 use Rattle.deny_base.specs.declared.span.Spanned.{Spanned}
 use Rattle.deny_spdx.specs.declared.requirement.Requirement.{Requirement}
 use Rattle.deny_model.specs.Licensing.{Exception, Licensing}
 use Rattle.deny_model.specs.Wrappers.{same_span}
+use Rattle.deny_model.proofs.SpanLemmas.{eq_by_cmp-span_cmp}
 use Rattle.deny_codes.specs.FirstMatch.{first_of}
-use Rattle.deny_codes.specs.Licences.{Asked, allowance_range, allows, exception_of, exception_range, grants_by_allowance}
-use Rattle.deny_codes.specs.Licences.{grants_by_exception, is_granted}
+use Rattle.deny_codes.specs.Licences.{Asked, allowance_range, allows, exception_of, exception_range}
+use Rattle.deny_codes.specs.Licences.{grants_by_allowance, grants_by_exception, is_granted}
 use Rattle.deny_licenses.specs.private.Granters.{allowance_granter, exception_granter, granter_of}
 use Rattle.deny_licenses.specs.private.Witnesses.{same_granter}
-use Rattle.deny_licenses.proofs.OrderLemmas.{tied}
-
-some-mapped : {X Y : Type 0} (f : X → Y) (o : Option X) → is_some o ≡ is_some (option_map f o)
-some-mapped f None = refl
-some-mapped f (Some x) = refl
 
 module _ (l : Licensing) (asked : Asked) where
   pub granted-by : is_granted l asked ≡ is_some (granter_of l asked)
@@ -28,7 +25,8 @@ module _ (l : Licensing) (asked : Asked) where
           ≡ is_some (option_or (option_map exception_granter o)
           (option_map allowance_granter (first_of allows l.allow asked)))
       by (Some e) = refl
-      by None = find-any (λ a. allows a asked) l.allow ∙ some-mapped allowance_granter (first_of allows l.allow asked)
+      by None = find-any (λ a. allows a asked) l.allow
+          ∙ sym (is_some-option_map allowance_granter (first_of allows l.allow asked))
 
   pub by-exception : (e : Exception)
       → grants_by_exception l e asked ≡ option_map_or (same_granter (exception_granter e)) (granter_of l asked) false
@@ -43,7 +41,7 @@ module _ (l : Licensing) (asked : Asked) where
       by : (o : Option Exception) → option_map_or (λ f. same_span (exception_range f) (exception_range e)) o false
           ≡ option_map_or (same_granter (exception_granter e)) (option_or (option_map exception_granter o)
           (option_map allowance_granter (first_of allows l.allow asked))) false
-      by (Some f) = sym (tied (exception_range e) (exception_range f))
+      by (Some f) = sym (eq_by_cmp-span_cmp (exception_range e) (exception_range f))
       by None = no_allowance (first_of allows l.allow asked)
 
   pub by-allowance : (a : Spanned Requirement)
@@ -55,7 +53,7 @@ module _ (l : Licensing) (asked : Asked) where
           → option_map_or (λ f. same_span (allowance_range f) (allowance_range a)) o false
           ≡ option_map_or (same_granter (allowance_granter a)) (option_map allowance_granter o) false
       first_allowance None = refl
-      first_allowance (Some f) = sym (tied (allowance_range a) (allowance_range f))
+      first_allowance (Some f) = sym (eq_by_cmp-span_cmp (allowance_range a) (allowance_range f))
 
       by : (o : Option Exception)
           → (is_none o && option_map_or (λ f. same_span (allowance_range f) (allowance_range a))

@@ -1,6 +1,7 @@
 -- The entries that are hit, and those that grant nothing.
-use Rattle.std.proofs.Common.{◌≡◌, ◌++◌, Bool, true, false, List, [], ◌∷◌, Contains, Option, Some, None, cond, filter, find, map, not, refl, sym, ap, ◌∙◌, ℕ, subst}
-use Rattle.std.specs.Prelude.{filter_map, is_none, is_some, option_and_then, option_map}
+use Rattle.std.proofs.Common.{◌≡◌, ◌++◌, Bool, true, false, List, [], ◌∷◌, Contains, Option, Some, None, cond, filter}
+use Rattle.std.proofs.Common.{find, map, not, refl, sym, ap, ◌∙◌, ℕ, subst}
+use Rattle.std.specs.Prelude.{filter_map, is_none, option_and_then, option_map}
 use Rattle.std.specs.List.{cons_option, flat_map}
 use Rattle.std.specs.Option.{option_map_or}
 use Rattle.std.proofs.lemmas.List.Elements.{filter_map-append}
@@ -8,6 +9,7 @@ use Rattle.deny_lists.specs.First.{FindsFirst}
 use Rattle.deny_lists.proofs.Agreement.{filter_map_on, find_on}
 use Rattle.deny_lists.proofs.Filters.{filter_map-map, find-any}
 use Rattle.deny_lists.proofs.Members.{Contains-first, Contains-rest}
+use Rattle.deny_lists.proofs.Options.{is_none-option_map}
 use Rattle.deny_base.specs.declared.entry.Hit.{Hit}
 use Rattle.deny_base.specs.declared.entry.Witness.TheVariants.{Krate}
 use Rattle.deny_base.specs.declared.span.Spanned.{Spanned}
@@ -16,10 +18,10 @@ use Rattle.deny_model.specs.Graph.{Crate, Graph, kid_of}
 use Rattle.deny_model.specs.Hits.{hit_of}
 use Rattle.deny_model.specs.Licensing.{Exception, Licensing}
 use Rattle.deny_model.specs.Told.{crate_at}
-use Rattle.deny_codes.specs.Licences.{Asked, allowance_hit, exception_hit, first_hit, grants_by_allowance, grants_by_exception}
-use Rattle.deny_codes.specs.Licences.{hits_by, is_hit_by, licence_hits}
+use Rattle.deny_codes.specs.Licences.{Asked, allowance_hit, exception_hit, first_hit, grants_by_allowance}
+use Rattle.deny_codes.specs.Licences.{grants_by_exception, hits_by, is_hit_by, licence_hits}
 use Rattle.deny_facts.specs.Placed.{ArePlaced}
-use Rattle.deny_facts.proofs.PlaceLemmas.{place_of}
+use Rattle.deny_krates.proofs.PlaceLemmas.{place_of}
 use Rattle.deny_licenses.specs.declared.granter.Granter.{Granter}
 use Rattle.deny_licenses.specs.declared.witnesses.Witnesses.{Witnesses}
 use Rattle.deny_licenses.specs.private.Found.{crate_granters, witnessed_at}
@@ -28,10 +30,6 @@ use Rattle.deny_licenses.specs.private.Granters.{granter_range, policy_granters}
 use Rattle.deny_licenses.specs.private.Witnesses.{hit_at, is_unused, place_in, same_granter}
 use Rattle.deny_licenses.proofs.FoundLemmas.{hits-is, witness-is}
 use Rattle.deny_licenses.proofs.GranterLemmas.{by-allowance, by-exception}
-
-none-mapped : {X Y : Type 0} (f : X → Y) (o : Option X) → is_none (option_map f o) ≡ not (is_some o)
-none-mapped f None = refl
-none-mapped f (Some x) = refl
 
 -- lists of one or none
 pub flat-given : {X Y : Type 0} (h : X → Option Y) (xs : List X)
@@ -77,7 +75,8 @@ module _ (l : Licensing) (g : Graph) (placed : ArePlaced g.crates) (counts : Cra
     place-is : place_in witnesses by ≡ option_map place_of (find (hits_by counts l grants) g.crates)
     place-is = finds.at by
         ∙ (witness-is l g placed by counts
-        ∙ ap (option_map place_of) (find_on _ (hits_by counts l grants) g.crates (λ c _. hits-is l c by grants is counts)))
+        ∙ ap (option_map place_of)
+        (find_on _ (hits_by counts l grants) g.crates (λ c _. hits-is l c by grants is counts)))
 
     hit-is : hit_at g witnesses by
         ≡ option_map (λ c. hit_of (granter_kind by) (granter_range by) (Krate (kid_of c))) (first_hit counts l g grants)
@@ -90,7 +89,7 @@ module _ (l : Licensing) (g : Graph) (placed : ArePlaced g.crates) (counts : Cra
     pub unused-is : is_unused witnesses by ≡ not (is_hit_by counts l g grants)
     unfolding is_hit_by
     unused-is = ap is_none place-is
-        ∙ (none-mapped place_of (find (hits_by counts l grants) g.crates)
+        ∙ (is_none-option_map place_of (find (hits_by counts l grants) g.crates)
         ∙ ap not (sym (find-any (hits_by counts l grants) g.crates)))
 
   pub unused-allowance : (a : Spanned Requirement)

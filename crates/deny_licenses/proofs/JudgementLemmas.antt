@@ -1,5 +1,6 @@
 -- What is found of a crate is what the rules say of it, code by code.
-use Rattle.std.proofs.Common.{◌≡◌, ◌&&◌, Bool, true, false, List, [], ◌∷◌, Option, Some, None, cond, not, refl, sym, ap, ◌∙◌, ℕ, subst, Err}
+use Rattle.std.proofs.Common.{◌≡◌, ◌&&◌, Bool, true, false, List, [], ◌∷◌, Option, Some, None, cond, not, refl, sym, ap}
+use Rattle.std.proofs.Common.{◌∙◌, ℕ, subst, Err}
 use Rattle.std.specs.Prelude.{is_none}
 use Rattle.std.specs.Option.{option_map_or}
 use Rattle.std.proofs.lemmas.Bool.{not-true}
@@ -17,9 +18,9 @@ use Rattle.deny_krates.specs.declared.krate.Krate.{Krate}
 use Rattle.deny_model.specs.Graph.{Crate}
 use Rattle.deny_model.specs.Licensing.{Licensing}
 use Rattle.deny_model.specs.Match.{matches}
-use Rattle.deny_codes.specs.Licences.{allows, exception_of, excepts, expression_in, expression_of, holds, is_accepted, is_granted}
-use Rattle.deny_codes.specs.Licences.{is_licensed, is_looked_at, is_passed_over, is_rejected, is_skipped_private}
-use Rattle.deny_codes.specs.Licences.{is_unlicensed, is_unreadable, licence_text}
+use Rattle.deny_codes.specs.Licences.{allows, exception_of, excepts, expression_in, expression_of, holds, is_accepted}
+use Rattle.deny_codes.specs.Licences.{is_granted, is_licensed, is_looked_at, is_passed_over, is_rejected}
+use Rattle.deny_codes.specs.Licences.{is_skipped_private, is_unlicensed, is_unreadable, licence_text}
 use Rattle.deny_licenses.specs.declared.judgement.Judgement.{Judgement}
 use Rattle.deny_licenses.specs.declared.judgement.Judgement.TheVariants as judgement
 use Rattle.deny_licenses.specs.declared.answers.Answers.{Answers}
@@ -29,7 +30,8 @@ use Rattle.deny_licenses.specs.private.Granters.{granter_of}
 use Rattle.deny_licenses.specs.private.Judgements.{code_of, judgement_of, of_expression, of_reading, unread_of}
 
 -- whatever place a crate has
-pub anywhere : (l : Licensing) (k : Krate) (place : ℕ) → judgement_of l (crate_view 0 k) ≡ judgement_of l (crate_view place k)
+pub anywhere : (l : Licensing) (k : Krate) (place : ℕ)
+    → judgement_of l (crate_view 0 k) ≡ judgement_of l (crate_view place k)
 unfolding judgement_of is_passed_over is_licensed holds is_granted exception_of excepts allows matches granter_of
 anywhere l k place = refl
 

@@ -1,7 +1,8 @@
 -- The keys of the crates that count, and then of the entries that grant nothing, are those of what stands.
-use Rattle.std.proofs.Common.{◌≡◌, ◌++◌, ◌⊎◌, ◌+◌, ◌<◌, ℕ, zero, suc, Bool, true, false, List, [], ◌∷◌, Contains, Option, Some, None, filter, inl, inr, length, map, not, refl, sym, ap, ◌∙◌, subst, arith, rules, tests}
+use Rattle.std.proofs.Common.{◌≡◌, ◌++◌, ◌⊎◌, ℕ, Bool, true, false, List, [], ◌∷◌, Contains, Option, Some, None, filter}
+use Rattle.std.proofs.Common.{inl, inr, length, map, not, refl, sym, ap, ◌∙◌, subst}
 use Rattle.std.specs.Prelude.{IsTrue}
-use Rattle.std.specs.List.{AllByRecursion, flat_map, list_any, range_with_len}
+use Rattle.std.specs.List.{AllByRecursion, flat_map, list_any}
 use Rattle.std.specs.List.Sorted.{IsStrictlySortedBy}
 use Rattle.std.specs.Ordering.{nat_cmp, on}
 use Rattle.std.specs.declared.cmp.Ordering.{Ordering}
@@ -13,14 +14,15 @@ use Rattle.deny_lists.specs.First.{FindsFirst}
 use Rattle.deny_lists.proofs.Agreement.{list_any_on, same_test}
 use Rattle.deny_lists.proofs.Filters.{filter-map}
 use Rattle.deny_lists.proofs.Members.{Contains-filter, Contains-from_filter, contains_map, from_contains_map}
+use Rattle.deny_lists.proofs.Members.{contains_map_within}
 use Rattle.deny_lists.proofs.Sorted.{ascends_map}
+use Rattle.deny_lists.proofs.Numbers.{range_with_len-ascends}
 use Rattle.deny_base.specs.Code.{code_number, diagnostic_code_number, section_number}
 use Rattle.deny_base.specs.KeyOrder.{key_cmp, span_cmp}
 use Rattle.deny_base.specs.LicenseCode.{license_code_number}
 use Rattle.deny_base.specs.declared.code.DiagnosticCode.{DiagnosticCode}
 use Rattle.deny_base.specs.declared.code.DiagnosticCode.TheVariants.{Deprecated, Bans, License}
 use Rattle.deny_base.specs.declared.key.Key.{Key}
-use Rattle.deny_base.specs.declared.key.Section.{Section}
 use Rattle.deny_base.specs.declared.key.Section.TheVariants as section
 use Rattle.deny_base.specs.declared.license_code.LicenseCode.{LicenseCode}
 use Rattle.deny_base.specs.declared.license_code.LicenseCode.TheVariants as license
@@ -29,16 +31,17 @@ use Rattle.deny_spdx.specs.declared.requirement.Requirement.{Requirement}
 use Rattle.deny_model.specs.Graph.{Crate, Graph}
 use Rattle.deny_model.specs.Licensing.{Exception, Licensing}
 use Rattle.deny_codes.specs.Circumstances.{Circumstances}
-use Rattle.deny_codes.specs.Codes.{is_of_bans, is_of_licenses}
+use Rattle.deny_codes.specs.Codes.{is_of_licenses}
 use Rattle.deny_codes.specs.Facts.{Facts}
-use Rattle.deny_codes.specs.Licences.{Asked, IsByCounting, TellsCounting, allowance_range, exception_not_encountered_keys}
-use Rattle.deny_codes.specs.Licences.{exception_range, grants_by_allowance, grants_by_exception, hits_by, is_hit_by}
-use Rattle.deny_codes.specs.Licences.{is_looked_at, keys_where, license_key, licensed_key, not_encountered_keys}
+use Rattle.deny_codes.specs.Licences.{Asked, IsByCounting, TellsCounting, allowance_range}
+use Rattle.deny_codes.specs.Licences.{exception_not_encountered_keys, exception_range, grants_by_allowance}
+use Rattle.deny_codes.specs.Licences.{grants_by_exception, hits_by, is_hit_by, is_looked_at, keys_where, license_key}
+use Rattle.deny_codes.specs.Licences.{licensed_key, not_encountered_keys}
 use Rattle.deny_codes.specs.Standing.{ListsOwn, StandsBy, StandsIn, StandsLicensed}
 use Rattle.deny_codes.proofs.Parts.{lists_append, lists_same}
-use Rattle.deny_codes.proofs.Sections.{as_code, as_deprecated}
+use Rattle.deny_codes.proofs.Sections.{as_code, as_deprecated, two_checks}
 use Rattle.deny_facts.specs.Placed.{ArePlaced}
-use Rattle.deny_facts.proofs.PlaceLemmas.{place_of}
+use Rattle.deny_krates.proofs.PlaceLemmas.{place_of}
 use Rattle.deny_licenses.specs.Check.{of_licences}
 use Rattle.deny_licenses.specs.declared.granter.Granter.{Granter}
 use Rattle.deny_licenses.specs.declared.granter.Granter.TheVariants as granter
@@ -56,15 +59,6 @@ crate_key l c = licensed_key (code_of (judgement_of l c)) c
 
 -- ---- their order
 
-above : (a n b : ℕ) → b < a → AllByRecursion (λ z. nat_cmp b z ≡ Less) (range_with_len a n)
-above a zero b below = tt
-above a (suc n) b below = (search (rules, tests), above (a + 1) n b (omega arith))
-
-ascends : (a n : ℕ) → IsStrictlySortedBy nat_cmp (range_with_len a n)
-unfolding IsStrictlySortedBy
-ascends a zero = tt
-ascends a (suc n) = (above (a + 1) n a (omega arith), ascends (a + 1) n)
-
 all-unmapped : {X Y : Type 0} (f : X → Y) (P : Y → Type 0) (xs : List X) → AllByRecursion P (map f xs)
     → AllByRecursion (λ x. P (f x)) xs
 all-unmapped f P [] all = tt
@@ -80,7 +74,7 @@ counted-ascend : (g : Graph) (counts : Crate → Bool) → ArePlaced g.crates
     → IsStrictlySortedBy (on place_of nat_cmp) (filter counts g.crates)
 counted-ascend g counts placed = IsStrictlySortedBy-filter (on place_of nat_cmp) counts g.crates
     (unmapped place_of nat_cmp g.crates
-    (subst (IsStrictlySortedBy nat_cmp) (sym placed.places) (ascends 0 (length g.crates))))
+    (subst (IsStrictlySortedBy nat_cmp) (sym placed.places) (range_with_len-ascends 0 (length g.crates))))
 
 crate-below : (l : Licensing) (c d : Crate) → nat_cmp c.place d.place ≡ Less
     → key_cmp (crate_key l c) (crate_key l d) ≡ Less
@@ -97,18 +91,6 @@ unused-below (granter.Exception r) (granter.Allowance s) less = absurd (cc less)
 far : (l : Licensing) (c : Crate) (x : Granter) → key_cmp (crate_key l c) (unused_key x) ≡ Less
 unfolding section_number
 far l c x = refl
-
--- what two lists share, mapped
-shared : {A B : Type 0} (f : A → B) (xs ys : List A) → ((x : A) → Contains xs x → Contains ys x) → (y : B)
-    → Contains (map f xs) y → Contains (map f ys) y
-shared f xs ys there y is =
-    let of = from_contains_map f xs y is in
-    subst (Contains (map f ys)) of.2 (contains_map f ys of.0 (there of.0 of.1))
-
-two_checks : (s : Section) → IsTrue (is_of_bans s) → IsTrue (is_of_licenses s) → ⊥
-two_checks section.Licenses one other = absurd (cc one)
-two_checks section.LicensesUnused one other = absurd (cc one)
-two_checks _ one other = absurd (cc other)
 
 -- ---- what stands
 
@@ -221,7 +203,8 @@ module _ (l : Licensing) (g : Graph) (file : ℕ) (placed : ArePlaced g.crates) 
 
     -- ---- and back
 
-    same-count : (other : Crate → Bool) → TellsCounting l g other → (d : Crate) → Contains g.crates d → other d ≡ counts d
+    same-count : (other : Crate → Bool) → TellsCounting l g other → (d : Crate) → Contains g.crates d
+        → other d ≡ counts d
     same-count other told d stands = same_test (other d) (counts d) (told d stands) (tells d stands)
 
     to-crate : (d : LicenseCode) (key : Key) → IsByCounting (λ counts l g. keys_where d (rule_of d counts l) g) l g key
@@ -256,7 +239,8 @@ module _ (l : Licensing) (g : Graph) (file : ℕ) (placed : ArePlaced g.crates) 
         license.LicenseNotEncountered 0 (allowance_range b)) _ key is.listed in
         let kept = Contains-from_filter _ l.allow of.0 of.1 in
         to-entry (allowance_granter of.0) key
-        (Contains-append_left (map allowance_granter l.allow) (map exception_granter l.exceptions) (allowance_granter of.0)
+        (Contains-append_left (map allowance_granter l.allow) (map exception_granter l.exceptions)
+        (allowance_granter of.0)
         (contains_map allowance_granter l.allow of.0 kept.0))
         (unused-allowance l g placed counts witnesses finds of.0
         ∙ (ap not (sym (same-hit is.counts is.tells (grants_by_allowance l of.0))) ∙ kept.1)) of.2
@@ -287,7 +271,8 @@ module _ (l : Licensing) (g : Graph) (file : ℕ) (placed : ArePlaced g.crates) 
         → StandsBy d (of_licences l g file c) facts key → OfCrate key ⊎ OfEntry key
     by-code Deprecated key mine is =
         absurd (two_checks key.section (as_deprecated (of_licences l g file c) key is) mine)
-    by-code (Bans d) key mine is = absurd (two_checks key.section (as_code d (of_licences l g file c) facts key is) mine)
+    by-code (Bans d) key mine is =
+        absurd (two_checks key.section (as_code d (of_licences l g file c) facts key is) mine)
     by-code (License d) key mine is = by-license d key is
 
     back : (key : Key) → StandsIn is_of_licenses (of_licences l g file c) facts key → OfCrate key ⊎ OfEntry key
@@ -308,8 +293,8 @@ module _ (l : Licensing) (g : Graph) (file : ℕ) (placed : ArePlaced g.crates) 
     entries-listed unused listed = record {
       ascending = ascends_map granter_cmp key_cmp unused_key (λ _. Unit {0}) unused
           (λ a b _ _ less. unused-below a b less) (λ _ _. tt) listed.ascending;
-      whole = λ key is. shared unused_key nothing_granted unused listed.whole key is;
-      sound = λ key is. shared unused_key unused nothing_granted listed.sound key is;
+      whole = λ key is. contains_map_within unused_key nothing_granted unused listed.whole key is;
+      sound = λ key is. contains_map_within unused_key unused nothing_granted listed.sound key is;
     }
 
     pub keys-listed : (unused : List Granter) → Lists granter_cmp (Contains nothing_granted) unused

@@ -1,7 +1,6 @@
 pub mod MapLemmas
 pub mod OrderLemmas
 pub mod GranterLemmas
-pub mod NumberLemmas
 pub mod GrantLemmas
 pub mod AnswerLemmas
 pub mod JudgementLemmas

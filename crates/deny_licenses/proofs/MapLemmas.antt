@@ -1,25 +1,18 @@
 -- A map that takes an entry only where its key is new leads each key to its first entry.
-use Rattle.std.proofs.Common.{◌≡◌, ◌++◌, ◌+◌, ◌<◌, ℕ, Bool, true, false, List, [], ◌∷◌, Option, Some, None, cond, get_or, is_some, length, map, take, refl, sym, ap, ◌∙◌, append-nil, append_assoc}
+use Rattle.std.proofs.Common.{◌≡◌, ◌++◌, ◌+◌, ◌<◌, ℕ, Bool, true, false, List, [], ◌∷◌, Option, Some, None, cond}
+use Rattle.std.proofs.Common.{get_or, is_some, length, map, take, refl, sym, ap, ◌∙◌, append-nil, append_assoc}
 use Rattle.std.proofs.lemmas.List.{map-append, take_more}
 use Rattle.std.proofs.lemmas.List.Concat.{flat_map-append}
 use Rattle.std.specs.List.{flat_map}
 use Rattle.std.specs.Cmp.{Equal-is, IsTotalOrder}
 use Rattle.std.specs.FinMap.{IsAntisymmetric}
 use Rattle.std.specs.Option.{option_or}
-use Rattle.std.specs.Ordering.{eq_by_cmp, is_eq, ordering_reverse}
+use Rattle.std.specs.Ordering.{eq_by_cmp, is_eq}
 use Rattle.std.specs.declared.cmp.Ordering.{Ordering}
-use Rattle.std.specs.declared.cmp.Ordering.TheVariants.{Less, Equal, Greater}
 use Rattle.deny_lists.specs.First.{FindsFirst, GainsEntry}
 use Rattle.deny_lists.proofs.FirstLemmas.{finds_more}
-
-is_eq-reverse : (r : Ordering) → is_eq (ordering_reverse r) ≡ is_eq r
-is_eq-reverse Less = refl
-is_eq-reverse Equal = refl
-is_eq-reverse Greater = refl
-
-none_there : {V : Type 0} (o : Option V) → is_some o ≡ false → o ≡ None
-none_there None absent = refl
-none_there (Some v) absent = absurd (cc absent)
+use Rattle.deny_lists.proofs.Options.{none_from_is_some}
+use Rattle.deny_lists.proofs.Orders.{is_eq-reverse}
 
 put_behind : {V : Type 0} (b : Bool) (o : Option V) (v : V) → (b ≡ true → o ≡ None)
     → cond b (Some v) o ≡ option_or o (cond b (Some v) None)
@@ -47,7 +40,7 @@ module _ {K : Type 0} {cmp : K → K → Ordering} (total : IsTotalOrder cmp) (e
     at = λ asked. put asked
         ∙ (ap (λ b. cond b (Some value) (old asked)) (turned asked key)
         ∙ put_behind (eq_by_cmp cmp asked key) (old asked) value
-        (λ is. ap old (one_key asked key is) ∙ none_there (old key) absent));
+        (λ is. ap old (one_key asked key is) ∙ none_from_is_some (old key) absent));
   }
 
   pub gains_kept : {V : Type 0} (old : K → Option V) (key : K) (value : V) → is_some (old key) ≡ true
@@ -105,7 +98,8 @@ finds_behind-at same entry xs i d inside entries old new finds gains =
       map-append entry (take i xs) (get_or xs i d ∷ []),
       ← append_assoc entries (map entry (take i xs)) (entry (get_or xs i d) ∷ []),
     )
-    (finds_more same (entries ++ map entry (take i xs)) (entry (get_or xs i d)).0 (entry (get_or xs i d)).1 old new finds
+    (finds_more same (entries ++ map entry (take i xs)) (entry (get_or xs i d)).0
+    (entry (get_or xs i d)).1 old new finds
     gains)
 
 pub flat-more-at : {X Y : Type 0} (f : X → List Y) (xs : List X) (i : ℕ) (d : X) (old new : List Y) → i < length xs

@@ -1,21 +1,14 @@
 -- When licences, and entries, are the same.
-use Rattle.std.proofs.Common.{◌≡◌, ◌&&◌, ℕ, Bool, true, false, List, Option, Some, None, refl, sym, ap, ◌∙◌, subst}
-use Rattle.std.specs.Cmp.{Equal-is, IsTotalOrder, nat_cmp_total, on_total, then_total}
+use Rattle.std.proofs.Common.{◌≡◌, ℕ, false, List, Option, Some, None, refl, sym, ap, ◌∙◌}
+use Rattle.std.specs.Cmp.{IsTotalOrder, nat_cmp_total, on_total, then_total}
 use Rattle.std.specs.Cmp.Lexicographic.{nat_list_cmp_total, options_total, slice_cmp, texts_ties}
 use Rattle.std.specs.FinMap.{IsAntisymmetric}
 use Rattle.std.specs.Option.{option_cmp}
-use Rattle.std.specs.Ordering.{eq_by_cmp, is_eq, nat_cmp, ordering_then}
-use Rattle.std.specs.declared.cmp.Ordering.{Ordering}
-use Rattle.std.specs.declared.cmp.Ordering.TheVariants.{Less, Equal, Greater}
-use Rattle.deny_lists.proofs.Booleans.{tests_agree}
-use Rattle.deny_lists.proofs.Orders.{option_text_cmp-exact, text_cmp-exact, then_first, then_second}
+use Rattle.std.specs.Ordering.{is_eq, nat_cmp}
+use Rattle.deny_lists.proofs.Orders.{option_text_cmp-exact, text_cmp-exact, then_first, then_second, is_eq-then}
 use Rattle.deny_base.proofs.KeyEqual.{span_cmp-exact, span_cmp-total}
-use Rattle.deny_base.specs.KeyOrder.{span_cmp}
-use Rattle.deny_base.specs.declared.span.Span.{Span}
 use Rattle.deny_spdx.specs.declared.requirement.Requirement.{Requirement}
-use Rattle.deny_model.specs.Wrappers.{same_span}
 use Rattle.deny_codes.specs.Licences.{same_exception, same_requirement}
-use Rattle.deny_facts.proofs.SpanLemmas.{same-span, ties}
 use Rattle.deny_licenses.specs.declared.granter.Granter.{Granter}
 use Rattle.deny_licenses.specs.declared.granter.Granter.TheVariants as granter
 use Rattle.deny_licenses.specs.declared.grants.Wanted.{Wanted}
@@ -50,16 +43,11 @@ exceptions-tie None (Some y) = refl
 exceptions-tie (Some x) None = refl
 exceptions-tie (Some x) (Some y) = texts_ties x y
 
-both_tie : (a b : Bool) (r s : Ordering) → a ≡ is_eq r → b ≡ is_eq s → a && b ≡ is_eq (ordering_then r s)
-both_tie a b Less s e f = rw e refl
-both_tie a b Equal s e f = rw e f
-both_tie a b Greater s e f = rw e refl
-
 pub same-licence : (r s : Requirement) → same_wanted (wanted_of r) (wanted_of s) ≡ same_requirement s r
 unfolding same_requirement
 same-licence r s =
     sym (turned wanted_cmp-total wanted_cmp-exact (wanted_of r) (wanted_of s))
-    ∙ sym (both_tie _ _ _ _ (texts_ties s.id r.id) (exceptions-tie s.exception r.exception))
+    ∙ sym (is_eq-then _ _ _ _ (texts_ties s.id r.id) (exceptions-tie s.exception r.exception))
 
 -- ---- entries
 
@@ -71,11 +59,3 @@ granter_cmp-exact (granter.Exception r) (granter.Allowance s) e = absurd (cc e)
 
 pub granter_cmp-total : IsTotalOrder granter_cmp
 granter_cmp-total = then_total (on_total granter_number nat_cmp_total) (on_total granter_range span_cmp-total)
-
-flipped : (a b : Span) → same_span a b ≡ true → same_span b a ≡ true
-flipped a b same = let one = same-span a b same in
-    subst (λ (s : Span). same_span s a ≡ true) one (subst (λ (s : Span). same_span a s ≡ true) (sym one) same)
-
--- ranges tie exactly where they are the same
-pub tied : (a b : Span) → eq_by_cmp span_cmp a b ≡ same_span b a
-tied a b = ties a b ∙ tests_agree (same_span a b) (same_span b a) (flipped a b) (flipped b a)

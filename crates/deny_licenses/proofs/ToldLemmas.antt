@@ -1,5 +1,6 @@
 -- What is told of crates and entries is what is told of the keys that stand.
-use Rattle.std.proofs.Common.{◌≡◌, ◌++◌, ℕ, Bool, true, false, List, [], ◌∷◌, Contains, Option, Some, None, cond, filter, is_some, map, not, refl, sym, ap, ◌∙◌, append_assoc}
+use Rattle.std.proofs.Common.{◌≡◌, ◌++◌, ℕ, Bool, true, false, List, [], ◌∷◌, Contains, Option, Some, None, cond}
+use Rattle.std.proofs.Common.{filter, is_some, map, not, refl, sym, ap, ◌∙◌, append_assoc}
 use Rattle.std.specs.Prelude.{codes, filter_map, option_map}
 use Rattle.std.specs.Fmt.{decimal}
 use Rattle.std.specs.List.{flat_map}
@@ -23,14 +24,14 @@ use Rattle.deny_model.specs.Told.{crate_at}
 use Rattle.deny_codes.specs.Circumstances.{Circumstances}
 use Rattle.deny_codes.specs.Licences.{Asked, TellsCounting, accepted_told, asked_in, asked_of, bad_place}
 use Rattle.deny_codes.specs.Licences.{exception_not_encountered_told, expression_in, expression_of, holds, is_granted}
-use Rattle.deny_codes.specs.Licences.{is_licensed, is_passed_over, licence_hits, licence_text, licensed_key, not_encountered_told}
-use Rattle.deny_codes.specs.Licences.{parse_error_told, rejected_notes, rejected_told, skipped_private_told, unlicensed_told}
-use Rattle.deny_codes.specs.Licences.{with_text}
+use Rattle.deny_codes.specs.Licences.{is_licensed, is_passed_over, licence_hits, licence_text, licensed_key}
+use Rattle.deny_codes.specs.Licences.{not_encountered_told, parse_error_told, rejected_notes, rejected_told}
+use Rattle.deny_codes.specs.Licences.{skipped_private_told, unlicensed_told, with_text}
 use Rattle.deny_codes.specs.Telling.{plainly}
 use Rattle.deny_codes.specs.Told.{pack_of, pack_told, words_licensed}
 use Rattle.deny_codes.specs.declared.words.Words.{Words}
 use Rattle.deny_facts.specs.Placed.{ArePlaced}
-use Rattle.deny_facts.proofs.PlaceLemmas.{place_of}
+use Rattle.deny_krates.proofs.PlaceLemmas.{place_of}
 use Rattle.deny_licenses.specs.Check.{IsLicensed, of_licences}
 use Rattle.deny_licenses.specs.declared.granter.Granter.{Granter}
 use Rattle.deny_licenses.specs.declared.granter.Granter.TheVariants as granter
@@ -133,7 +134,8 @@ module _ (l : Licensing) (c : Crate) where
           notes = with_text (option_map_or licence_text o []) ∷ [];
         }) here
     words-by (judgement.Rejected granters notes) fit =
-        ap (λ (o : Option Crate). told_with o (option_map_or (rejected_notes l) o [])) here ∙ ap (told_with (Some c)) fit
+        ap (λ (o : Option Crate). told_with o (option_map_or (rejected_notes l) o [])) here
+        ∙ ap (told_with (Some c)) fit
       where
         told_with : Option Crate → List (List ℕ) → Words
         told_with o others = record

@@ -1,7 +1,8 @@
 -- What is true of each element, through the words that make lists.
 use Rattle.std.proofs.Common.{Bool, List, None, Option, Some, [], false, map, suc, take, true, zero, ℕ, ◌++◌, ◌∷◌}
 use Rattle.std.specs.List.{AllByRecursion, cons_option, flat_map}
-use Rattle.std.specs.Prelude.{IfSome, cond, filter, filter_map, find}
+use Rattle.std.specs.Prelude.{IfSome, cond, filter, filter_map, find, Contains}
+use Rattle.deny_lists.proofs.Members.{Contains-first, Contains-rest}
 
 pub all_append : {X : Type 0} (P : X → Type 0) (xs ys : List X) → AllByRecursion P xs → AllByRecursion P ys
     → AllByRecursion P (xs ++ ys)
@@ -59,3 +60,9 @@ pub all_of_take : {X : Type 0} (P : X → Type 0) (n : ℕ) (xs : List X) → Al
 all_of_take P zero xs all = tt
 all_of_take P (suc n) [] all = tt
 all_of_take P (suc n) (x ∷ xs) all = (all.0, all_of_take P n xs all.1)
+
+pub all_from_members : {T : Type 0} (P : T → Type 0) (xs : List T) → ((x : T) → Contains xs x → P x)
+    → AllByRecursion P xs
+all_from_members P [] each = tt
+all_from_members P (x ∷ xs) each =
+    (each x (Contains-first x xs), all_from_members P xs (λ y is. each y (Contains-rest x xs y is)))

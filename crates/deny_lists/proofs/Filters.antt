@@ -1,8 +1,10 @@
 -- What is kept of a list, and what is found first in it, through the words that make lists.
-use Rattle.std.proofs.Common.{Bool, List, None, Option, Some, [], ap, arith, false, inl, inr, length, map, refl, suc, sym, true, ◌∙◌, ◌∷◌, ◌≡◌}
-use Rattle.std.specs.List.{cons_option, flat_map, list_any}
+use Rattle.std.proofs.Common.{Bool, List, None, Option, Some, [], ap, arith, false, inl, inr, length, map, refl, suc}
+use Rattle.std.proofs.Common.{sym, true, ◌∙◌, ◌∷◌, ◌≡◌}
+use Rattle.std.specs.List.{cons_option, flat_map, list_any, list_all}
 use Rattle.std.specs.Option.{option_map_or, option_or}
-use Rattle.std.specs.Prelude.{cond, filter, filter_map, find, is_some, nat_lt, option_and_then, option_map, slice_get, ◌&&◌, ◌||◌}
+use Rattle.std.specs.Prelude.{cond, filter, filter_map, find, is_some, nat_lt, option_and_then, option_map, slice_get}
+use Rattle.std.specs.Prelude.{◌&&◌, ◌||◌}
 use Rattle.std.proofs.Math.Bool.{and_comm}
 use Rattle.std.proofs.lemmas.Bool.{cases_Bool, cond-false, lt-ltb}
 use Rattle.std.proofs.lemmas.List.Folds.{find-append}
@@ -97,7 +99,8 @@ find-flat_map p f (x ∷ xs) = find-append p (f x) (flat_map f xs)
     as (λ _. option_or (find p (f x)) (find p (flat_map f xs)) ≡ option_and_then (λ x. find p (f x))
     (find (λ x. list_any p (f x)) (x ∷ xs))) [
       | inl e ↦ rw e (some_or (find p (f x)) (find p (flat_map f xs)) (sym (find-any p (f x)) ∙ e))
-      | inr e ↦ rw e (none_or (find p (f x)) (find p (flat_map f xs)) (sym (find-any p (f x)) ∙ e) ∙ find-flat_map p f xs)
+      | inr e ↦ rw e (none_or (find p (f x)) (find p (flat_map f xs)) (sym (find-any p (f x)) ∙ e)
+          ∙ find-flat_map p f xs)
     ]
 
 -- what is tested of what an element gives, where it gives something
@@ -137,3 +140,12 @@ pub and_then-and_then : {X Y Z : Type 0} (f : Y → Option Z) (h : X → Option 
     → option_and_then f (option_and_then h o) ≡ option_and_then (λ x. option_and_then f (h x)) o
 and_then-and_then f h None = refl
 and_then-and_then f h (Some x) = refl
+
+pub any-map : {X Y : Type 0} (p : Y → Bool) (v : X → Y) (xs : List X)
+    → list_any (λ x. p (v x)) xs ≡ list_any p (map v xs)
+any-map p v [] = refl
+any-map p v (x ∷ xs) = ap (λ b. p (v x) || b) (any-map p v xs)
+
+pub list_all-map : {A : Type 0} (p : A → Bool) (xs : List A) → list_all (λ t. t) (map p xs) ≡ list_all p xs
+list_all-map p [] = refl
+list_all-map p (x ∷ xs) = ap (λ b. p x && b) (list_all-map p xs)

@@ -1,9 +1,11 @@
 -- Steps of loops over lists: what was taken of the first ones, and what is left.
-use Rattle.std.proofs.Common.{Bool, List, [], ap, append-nil, append_assoc, drop, false, get_or, length, map, sym, true, ℕ, ◌++◌, ◌+◌, ◌<◌, ◌∙◌, ◌∷◌, ◌≡◌, ◌≤◌}
-use Rattle.std.specs.List.{flat_map, list_all}
+use Rattle.std.proofs.Common.{Bool, List, [], ap, append-nil, append_assoc, drop, false, get_or, length, map, sym, true}
+use Rattle.std.proofs.Common.{ℕ, ◌++◌, ◌+◌, ◌<◌, ◌∙◌, ◌∷◌, ◌≡◌, ◌≤◌, suc, ◌-◌, refl, arith}
+use Rattle.std.specs.List.{flat_map, list_all, range_with_len}
 use Rattle.std.specs.Prelude.{◌&&◌}
 use Rattle.std.proofs.lemmas.Bool.{and_left}
 use Rattle.std.proofs.lemmas.List.{at_drop_all, at_drop_more, drop_more}
+use Rattle.deny_lists.proofs.Numbers.{range_with_len-same}
 
 -- a loop that asks whether all pass: it stopped at one that does not, or at the end
 pub all_stopped : {X : Type 0} (p : X → Bool) (xs : List X) (x : X) (i : ℕ) → i < length xs → x ≡ get_or xs i x
@@ -37,3 +39,15 @@ pub pushed_all : {X Y : Type 0} (each : List X → List Y) (xs : List X) (i : �
     → length xs ≤ i → new ++ each (drop i xs) ≡ whole → new ≡ whole
 pushed_all each xs i new whole none past so =
     sym (append-nil new) ∙ (ap (λ ys. new ++ ys) (sym none ∙ sym (at_drop_all each xs i past)) ∙ so)
+
+-- a step of a loop over places
+pub flat-run : {X : Type 0} (f : ℕ → List X) (old new whole : List X) (place end : ℕ) → place < end → new ≡ old
+    ++ f place
+    → old ++ flat_map f (range_with_len place (end - place)) ≡ whole
+    → new ++ flat_map f (range_with_len (place + 1) (end - (place + 1))) ≡ whole
+flat-run f old new whole place end below added =
+    appended (flat_map f) (range_with_len place (end - place)) (range_with_len (place + 1) (end - (place + 1)))
+    (f place) old
+    new whole (ap (flat_map f)
+    (range_with_len-same place place (end - place) (suc (end - (place + 1))) refl (omega arith)))
+    added

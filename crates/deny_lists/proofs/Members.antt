@@ -1,11 +1,14 @@
 -- Members of lists: what stands at a place, what the words that make lists hold, and tests of some or all members.
-use Rattle.std.proofs.Common.{Bool, List, None, Option, Some, [], ap, arith, false, inl, inr, length, map, refl, subst, suc, sym, true, zero, ℕ, ◌<◌, ◌∙◌, ◌∷◌, ◌≡◌, ◌⊎◌}
+use Rattle.std.proofs.Common.{Bool, List, None, Option, Some, [], ap, arith, false, inl, inr, length, map, refl, subst}
+use Rattle.std.proofs.Common.{suc, sym, true, zero, ℕ, ◌<◌, ◌∙◌, ◌∷◌, ◌≡◌, ◌⊎◌, ◌++◌}
 use Rattle.std.specs.List.{AllByRecursion, AllZip, cons_option, flat_map, list_all, list_any}
 use Rattle.std.specs.Prelude.{Contains, cond, filter, filter_map, option_map, slice_get, slice_index_or}
 use Rattle.std.proofs.lemmas.Bool.{and_from, and_parts, or_cases}
-use Rattle.std.proofs.lemmas.List.Elements.{Contains-append_cases, Contains-append_left, Contains-append_right, filter_passes}
+use Rattle.std.proofs.lemmas.List.Elements.{Contains-append_cases, Contains-append_left, Contains-append_right}
+use Rattle.std.proofs.lemmas.List.Elements.{filter_passes}
 use Rattle.std.proofs.lemmas.List.Folds.{list_any_at}
-use Rattle.std.proofs.lemmas.Option.{get_or_from_slice_get, none-some, same_Some, slice_get-map, slice_get_read, slice_get_within}
+use Rattle.std.proofs.lemmas.Option.{get_or_from_slice_get, none-some, same_Some, slice_get-map, slice_get_read}
+use Rattle.std.proofs.lemmas.Option.{slice_get_within}
 
 -- an element of a list is the first or one of the rest
 pub Contains-cases_at : {T : Type 0} (x : T) (xs : List T) (z : T) (k : ℕ) → k < length (x ∷ xs)
@@ -245,3 +248,31 @@ from_zip_at {A} {B} R (a ∷ xs) (b ∷ ys) zero y zip is = (
   subst (λ (z : B). R a z) (one_there (b ∷ ys) 0 b y refl is) zip.0,
 )
 from_zip_at R (a ∷ xs) (b ∷ ys) (suc k) y zip is = from_zip_at R xs ys k y zip.1 is
+
+pub contains_none : {A P : Type 0} {x : A} → Contains [] x → P
+contains_none h = absurd (omega (arith, h.1))
+
+pub empty_from_no_member : {T : Type 0} (xs : List T) → ((x : T) → Contains xs x → ⊥) → xs ≡ []
+empty_from_no_member [] none = refl
+empty_from_no_member (x ∷ xs) none = absurd (none x (Contains-first x xs))
+
+pub Contains-same : {T : Type 0} (xs ys : List T) (z : T) → xs ≡ ys → Contains xs z → Contains ys z
+Contains-same {T} xs ys z same is = subst (λ (zs : List T). Contains zs z) same is
+
+-- what two lists share, mapped
+pub contains_map_within : {A B : Type 0} (f : A → B) (xs ys : List A) → ((x : A) → Contains xs x → Contains ys x)
+    → (y : B)
+    → Contains (map f xs) y → Contains (map f ys) y
+contains_map_within f xs ys there y is =
+    let of = from_contains_map f xs y is in
+    subst (Contains (map f ys)) of.2 (contains_map f ys of.0 (there of.0 of.1))
+
+pub zip_push : {A B : Type 0} (R : A → B → Type 0) (xs : List A) (ys : List B) (x : A) (y : B) → AllZip R xs ys → R x y
+    → AllZip R (xs ++ x ∷ []) (ys ++ y ∷ [])
+zip_push R [] [] x y zip is = (is, tt)
+zip_push R [] (v ∷ ys) x y zip is = absurd zip
+zip_push R (u ∷ xs) [] x y zip is = absurd zip
+zip_push R (u ∷ xs) (v ∷ ys) x y zip is = (zip.0, zip_push R xs ys x y zip.1 is)
+
+pub tail-same : {A : Type 0} {x y : A} {xs ys : List A} → x ∷ xs ≡ y ∷ ys → xs ≡ ys
+tail-same e = cc

@@ -1,6 +1,7 @@
 -- Orders: what a tie of two fields says, which orders tell all apart, and what lies below.
-use Rattle.std.proofs.Common.{List, None, Some, ap, arith, false, inl, inr, refl, subst, sym, true, ℕ, ◌∙◌, ◌≡◌, ◌≤◌, ◌⊎◌}
-use Rattle.std.specs.Cmp.{IsTotalOrder}
+use Rattle.std.proofs.Common.{List, None, Some, ap, arith, false, inl, inr, refl, subst, sym, true, ℕ, ◌∙◌, ◌≡◌, ◌≤◌}
+use Rattle.std.proofs.Common.{◌⊎◌, ◌&&◌, Bool, ◌==◌, [], ◌∷◌, ◌++◌}
+use Rattle.std.specs.Cmp.{IsTotalOrder, unsigned_ties, tied_itself, nat_cmp_total}
 use Rattle.std.specs.Cmp.Lexicographic.{nat_list_cmp_total, slice_cmp}
 use Rattle.std.specs.FinMap.{IsAntisymmetric, nat_cmp-IsAntisymmetric, slice_cmp-IsAntisymmetric}
 use Rattle.std.specs.List.Sorted.{IsNonDecreasingBy, IsPartitionedBy}
@@ -8,6 +9,7 @@ use Rattle.std.specs.Option.{option_cmp}
 use Rattle.std.specs.Ordering.{is_eq, is_le, is_lt, nat_cmp, ordering_index, ordering_reverse, ordering_then}
 use Rattle.std.specs.declared.cmp.Ordering.{Ordering}
 use Rattle.std.specs.declared.cmp.Ordering.TheVariants.{Equal, Greater, Less}
+use Rattle.std.proofs.lemmas.Bool.{false≢true}
 
 pub then_first : (r s : Ordering) → ordering_then r s ≡ Equal → r ≡ Equal
 then_first Less s e = cc e
@@ -104,3 +106,45 @@ pub not_equal_above : (o : Ordering) → is_le o ≡ false → is_eq o ≡ false
 not_equal_above Less a = cc
 not_equal_above Equal a = cc
 not_equal_above Greater a = refl
+
+pub is_eq-then : (a b : Bool) (r s : Ordering) → a ≡ is_eq r → b ≡ is_eq s → a && b ≡ is_eq (ordering_then r s)
+is_eq-then a b Less s e f = rw e refl
+is_eq-then a b Equal s e f = rw e f
+is_eq-then a b Greater s e f = rw e refl
+
+pub is_eq-reverse : (r : Ordering) → is_eq (ordering_reverse r) ≡ is_eq r
+is_eq-reverse Less = refl
+is_eq-reverse Equal = refl
+is_eq-reverse Greater = refl
+
+pub is_eq-nat_cmp : (a b : ℕ) → is_eq (nat_cmp a b) ≡ (a == b)
+is_eq-nat_cmp a b = sym (unsigned_ties a b)
+
+pub then-less : (o rest : Ordering) → o ≡ Less → ordering_then o rest ≡ Less
+then-less o rest is = ap (λ r. ordering_then r rest) is
+
+pub less_from_is_lt : (o : Ordering) → is_lt o ≡ true → o ≡ Less
+less_from_is_lt Less is = refl
+less_from_is_lt Equal is = cc
+less_from_is_lt Greater is = cc
+
+-- what is not above and does not tie is below
+pub less_from_reverse : (r s : Ordering) → r ≡ ordering_reverse s → is_lt s ≡ false → (r ≡ Equal → ⊥) → r ≡ Less
+less_from_reverse Less s e no_less no_tie = refl
+less_from_reverse Equal s e no_less no_tie = absurd (no_tie refl)
+less_from_reverse Greater Less e no_less no_tie = absurd (false≢true (sym no_less))
+less_from_reverse Greater Equal e no_less no_tie = cc
+less_from_reverse Greater Greater e no_less no_tie = cc
+
+pub option_cmp-exact : {A : Type 0} (cmp : A → A → Ordering) → IsAntisymmetric cmp → IsAntisymmetric (option_cmp cmp)
+option_cmp-exact cmp exact None None e = refl
+option_cmp-exact cmp exact None (Some b) e = cc e
+option_cmp-exact cmp exact (Some a) None e = cc e
+option_cmp-exact cmp exact (Some a) (Some b) e = ap (λ x. Some x) (exact a b e)
+
+-- texts with one beginning compare as what follows it
+pub slice_cmp-append : (front a b : List ℕ) → slice_cmp nat_cmp (front ++ a) (front ++ b) ≡ slice_cmp nat_cmp a b
+slice_cmp-append [] a b = refl
+slice_cmp-append (x ∷ xs) a b =
+    ap (λ o. ordering_then o (slice_cmp nat_cmp (xs ++ a) (xs ++ b))) (tied_itself nat_cmp_total x)
+    ∙ slice_cmp-append xs a b

@@ -1,5 +1,6 @@
 -- How a list comes to gain a prefix.
-use Rattle.std.proofs.Common.{◌∷◌, [], Bool, true, suc, inl, refl, ◌≡◌, ◌+◌, ◌++◌, ℕ, zero, List, arith, inr, length, map, sym, ap, take, ◌∙◌, append-nil, append_assoc}
+use Rattle.std.proofs.Common.{◌∷◌, [], Bool, true, suc, inl, refl, ◌≡◌, ◌+◌, ◌++◌, ℕ, zero, List, arith, inr, length}
+use Rattle.std.proofs.Common.{map, sym, ap, take, ◌∙◌, append-nil, append_assoc}
 use Rattle.std.specs.List.{list_all, prefix_len}
 use Rattle.std.proofs.lemmas.Bool.{cases_Bool}
 use Rattle.std.proofs.lemmas.List.{take-map, take_all}

@@ -1,11 +1,14 @@
 -- Distances that are set place by place: what one place more, and a row of places, keep and reach.
-use Rattle.std.proofs.Common.{◌≡◌, ◌≢◌, ◌<◌, ◌≤◌, ◌+◌, ◌++◌, ℕ, zero, suc, inl, inr, List, [], ◌∷◌, Option, None, Some, length, refl, sym, ap, ◌∙◌, subst, arith, length-append, append_assoc, rules}
+use Rattle.std.proofs.Common.{◌≡◌, ◌≢◌, ◌<◌, ◌≤◌, ◌+◌, ◌++◌, ℕ, zero, suc, inl, inr, List, [], ◌∷◌, Option, None, Some}
+use Rattle.std.proofs.Common.{length, refl, sym, ap, ◌∙◌, subst, arith, length-append, append_assoc, rules}
 use Rattle.std.specs.Prelude.{All, AllPairs, Contains, cond, fold, is_some, slice_set, slice_index_or}
 use Rattle.std.proofs.lemmas.Bool.{cases_eq, cases_lt}
 use Rattle.std.proofs.lemmas.List.{length-set, get_or-set_same, get_or-set_other, get_or_append_left, get_or_default}
-use Rattle.std.proofs.lemmas.List.Elements.{All-cons, All-head, All-tail, All-weaker, Contains-push, Contains-append_left}
+use Rattle.std.proofs.lemmas.List.Elements.{All-cons, All-head, All-tail, All-weaker, Contains-push}
+use Rattle.std.proofs.lemmas.List.Elements.{Contains-append_left}
 use Rattle.std.proofs.lemmas.List.Quantifiers.{all_pairs_push}
 use Rattle.std.proofs.Math.Seq.{get_or-append_seam}
+use Rattle.std.proofs.lemmas.Grind.{get_or_default_zero}
 use Rattle.deny_lists.specs.Walk.{IsLed, distance_at}
 use Rattle.deny_lists.specs.private.Reaching.{reached}
 
@@ -76,10 +79,6 @@ kept ds n m d e fresh is = elim (cases_eq m n) as (λ _. distance_at (slice_set 
   | inl same ↦ absurd (cc (fresh, is, ap (distance_at ds) same))
   | inr other ↦ set_other ds n m d other ∙ is
 ]
-
--- an element of a list, whatever stands in for none
-pub at_default : (xs : List ℕ) (k d : ℕ) → k < length xs → slice_index_or xs k d ≡ slice_index_or xs k 0
-at_default xs k d below = get_or_default xs k d 0 below
 
 -- setting keeps the distances that there are, and the order is a prefix of the new one
 pub record Grows (s t : State) : Type 0 where
@@ -157,7 +156,7 @@ module _ (leads : ℕ → ℕ → Type 0) (count : ℕ) (roots : List ℕ) where
         | inr other ↦ Contains-append_left order (n ∷ []) m (to.good.listed m d (sym (set_other ds n m far other) ∙ is))
       ];
       once = all_pairs_push ◌≢◌ order n to.good.once
-          (λ k d below same. absent k below (sym (at_default order k d below) ∙ same));
+          (λ k d below same. absent k below (sym (get_or_default_zero order k d below) ∙ same));
       held = λ k below. elim (cases_lt k (length order)) as (λ _. IsWithin k (level new k)) [
         | inl before ↦ old k before (λ d. IsWithin k d) (to.good.held k before)
         | inr after ↦ within_some k far (level new k) (last k below after) (omega (arith, to.room, after))

@@ -1,5 +1,6 @@
 -- Records put in order by a key of theirs, one for each key: the first that has it.
-use Rattle.std.proofs.Common.{◌≡◌, ◌&&◌, inl, inr, List, [], ◌∷◌, Bool, true, false, not, cond, Option, None, Some, map, refl, sym, ap, ◌∙◌, subst}
+use Rattle.std.proofs.Common.{◌≡◌, ◌&&◌, inl, inr, List, [], ◌∷◌, Bool, true, false, not, cond, Option, None, Some, map}
+use Rattle.std.proofs.Common.{refl, sym, ap, ◌∙◌, subst}
 use Rattle.std.specs.Prelude.{Contains, filter, find}
 use Rattle.std.specs.Cmp.{IsTotalOrder, IsEquivalence, Equal-is, eq_by_cmp_equiv}
 use Rattle.std.specs.FinMap.{IsAntisymmetric}
@@ -13,7 +14,8 @@ use Rattle.std.proofs.lemmas.List.Elements.{All-contains_itself, All-weaker, fil
 use Rattle.std.proofs.lemmas.List.Kept.{Any-dedup, Contains-from_dedup, IsStrictlySortedBy-dedup}
 use Rattle.std.proofs.lemmas.List.Sorted.{Contains-permutation, IsPermutation-sym}
 use Rattle.deny_lists.specs.Ascending.{AreFirst, Lists}
-use Rattle.deny_lists.proofs.Members.{Contains-cases, Contains-first, Contains-rest, at_member, contains_map, from_contains_map, no_member}
+use Rattle.deny_lists.proofs.Members.{Contains-cases, Contains-first, Contains-rest, at_member, contains_map}
+use Rattle.deny_lists.proofs.Members.{from_contains_map, no_member}
 
 -- ---- the first element that passes a test
 
@@ -63,7 +65,8 @@ all_map f P (x ∷ xs) all = (all.0, all_map f P xs all.1)
 
 -- ---- by a key
 
-module _ {T K : Type 0} {cmp : K → K → Ordering} (total : IsTotalOrder cmp) (exact : IsAntisymmetric cmp) (key : T → K) where
+module _ {T K : Type 0} {cmp : K → K → Ordering} (total : IsTotalOrder cmp) (exact : IsAntisymmetric cmp)
+    (key : T → K) where
   abbrev same_key : T → T → Bool
   same_key x y = eq_by_cmp cmp (key x) (key y)
 

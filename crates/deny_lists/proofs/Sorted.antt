@@ -1,5 +1,7 @@
--- How a list comes to be the one ascending list of what stands, that there is only one, and what mapping keeps of an order.
-use Rattle.std.proofs.Common.{Bool, List, Some, [], arith, inl, inr, length, map, refl, subst, suc, sym, true, zero, ℕ, ◌<◌, ◌∙◌, ◌∷◌, ◌≡◌, ◌≤◌}
+-- How a list comes to be the one ascending list of what stands, that there is only one, and what mapping keeps of an
+-- order.
+use Rattle.std.proofs.Common.{Bool, List, Some, [], arith, inl, inr, length, map, refl, subst, suc, sym, true, zero, ℕ}
+use Rattle.std.proofs.Common.{◌<◌, ◌∙◌, ◌∷◌, ◌≡◌, ◌≤◌}
 use Rattle.std.specs.Cmp.{Equal-is, IsEquivalence, IsTotalOrder}
 use Rattle.std.specs.FinMap.{IsAntisymmetric}
 use Rattle.std.specs.List.{AllByRecursion, dedup, remove}
@@ -12,7 +14,8 @@ use Rattle.std.proofs.lemmas.List.Edits.{length-remove}
 use Rattle.std.proofs.lemmas.List.Kept.{Contains-dedup, Contains-from_dedup, IsStrictlySortedBy-dedup}
 use Rattle.std.proofs.lemmas.List.Sorted.{Contains-permutation, IsPermutation-remove, IsPermutation-sym}
 use Rattle.std.proofs.lemmas.Option.{none-some}
-use Rattle.deny_lists.proofs.Members.{Contains-cases, Contains-first, Contains-rest, from_there, no_member, one_there, there, at_member}
+use Rattle.deny_lists.proofs.Members.{Contains-cases, Contains-first, Contains-rest, from_there, no_member, one_there}
+use Rattle.deny_lists.proofs.Members.{there, at_member}
 use Rattle.deny_lists.specs.Ascending.{Lists}
 
 -- sorting a list and dropping repeats lists its members

@@ -1,6 +1,7 @@
 -- A tree with texts as keys, looked up and changed by the bytes of a text, is the finite map of its
 -- entries.
-use Rattle.std.proofs.Common.{◌≡◌, ℕ, List, [], ◌∷◌, map, cond, false, is_some, Option, Some, None, sym, ap, ◌∙◌, refl, String, string_bytes}
+use Rattle.std.proofs.Common.{◌≡◌, ℕ, List, [], ◌∷◌, map, cond, false, is_some, Option, Some, None, sym, ap, ◌∙◌, refl}
+use Rattle.std.proofs.Common.{String, string_bytes}
 use Rattle.std.specs.FinMap as finite
 use Rattle.std.specs.BTreeMap as tree
 use Rattle.std.specs.BTreeMap.{BTreeMap, is_at}
@@ -14,6 +15,7 @@ use Rattle.std.specs.String.{string_cmp}
 use Rattle.std.proofs.lemmas.Cmp.{eq_by_cmp_equiv}
 use Rattle.std.proofs.lemmas.Map.Text.{is_eq-slice_cmp, btree_map_updates_text}
 use Rattle.deny_lists.specs.TextMap.{TextFinMap, with_bytes, map_of}
+use Rattle.deny_lists.proofs.Options.{none_from_is_some}
 
 -- only equal texts tie
 pub texts_tie : finite.IsAntisymmetric (slice_cmp nat_cmp)
@@ -22,10 +24,6 @@ texts_tie = finite.slice_cmp-IsAntisymmetric finite.nat_cmp-IsAntisymmetric
 -- the test by which the tree finds a text, turned round
 tested : (key other : List ℕ) → bytes_eq key other ≡ eq_by_cmp (slice_cmp nat_cmp) other key
 tested key other = sym (is_eq-slice_cmp key other) ∙ (eq_by_cmp_equiv nat_list_cmp_total).symm key other
-
-no_value : {V : Type 0} (o : Option V) → is_some o ≡ false → o ≡ None
-no_value None e = refl
-no_value (Some v) e = (cc)
 
 module _ {V A : Type 0} where
   find_lookup : (key : List ℕ) (entries : List (String A × V))
@@ -75,5 +73,11 @@ module _ {V : Type 0} where
       undone : (order : Ordering) (other : List ℕ) → slice_cmp nat_cmp other key ≡ order
           → cond (is_eq order) None (cond (is_eq order) (Some value) (finite.get m other)) ≡ finite.get m other
       undone Less other e = refl
-      undone Equal other e = sym (no_value (finite.get m key) free) ∙ finite.get_tied nat_list_cmp_total m other key e
+      undone Equal other e = sym (none_from_is_some (finite.get m key) free)
+          ∙ finite.get_tied nat_list_cmp_total m other key e
       undone Greater other e = refl
+
+-- what a table of texts says of one
+pub get-from_entries : {V : Type 0} (table : List (List ℕ × V)) (name : List ℕ)
+    → finite.get {R = slice_cmp nat_cmp} (finite.from_entries table) name ≡ finite.find (slice_cmp nat_cmp) name table
+get-from_entries table name = finite.get-from_entries nat_list_cmp_total table name

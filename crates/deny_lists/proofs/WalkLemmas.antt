@@ -1,13 +1,18 @@
 -- A breadth-first search: distances spread from the roots until no step leads further.
-use Rattle.std.proofs.Common.{◌≡◌, ◌<◌, ◌≤◌, ◌+◌, ◌↔◌, ℕ, zero, suc, inl, inr, List, [], ◌∷◌, Bool, true, Option, None, Some, length, map, take, get_or, refl, sym, ap, ◌∙◌, subst, arith}
+use Rattle.std.proofs.Common.{◌≡◌, ◌<◌, ◌≤◌, ◌+◌, ◌↔◌, ℕ, zero, suc, inl, inr, List, [], ◌∷◌, Bool, true, Option, None}
+use Rattle.std.proofs.Common.{Some, length, map, take, get_or, refl, sym, ap, ◌∙◌, subst, arith}
 use Rattle.std.specs.Prelude.{All, Contains, fold, is_some, slice_index_or, replicate}
 use Rattle.std.proofs.lemmas.Bool.{cases_lt, false≢true}
-use Rattle.std.proofs.lemmas.List.{length-map, length-replicate, length-take-le, get_or-take, get_or_default, take-append-le}
+use Rattle.std.proofs.lemmas.List.{length-map, length-replicate, length-take-le, get_or-take, get_or_default}
+use Rattle.std.proofs.lemmas.List.{take-append-le}
 use Rattle.std.proofs.lemmas.List.Elements.{All-contains, All-contains_itself, All-take, All-weaker}
 use Rattle.std.proofs.lemmas.List.Sums.{sum_by_more}
-use Rattle.deny_lists.specs.Walk.{AreDistances, AreMarks, AreThose, Chain, IsDistance, IsLed, IsReached, StaysBelow, TakesInStep, TakesInStepWithReached, distance_at, has_distance, is_marked}
+use Rattle.deny_lists.specs.Walk.{AreDistances, AreMarks, AreThose, Chain, IsDistance, IsLed, IsReached, StaysBelow}
+use Rattle.deny_lists.specs.Walk.{TakesInStep, TakesInStepWithReached, distance_at, has_distance, is_marked}
 use Rattle.deny_lists.specs.private.Reaching.{reached}
-use Rattle.deny_lists.proofs.ReachingLemmas.{State, IsWithin, within_more, within_is, within_some, within_stays, level, unset, IsGood, IsGoodTo, Grows, longer, same_prefix, grows_all, good_all, reaches_all}
+use Rattle.deny_lists.proofs.ReachingLemmas.{State, IsWithin, within_more, within_is, within_some, within_stays, level}
+use Rattle.deny_lists.proofs.ReachingLemmas.{unset, IsGood, IsGoodTo, Grows, longer, same_prefix, grows_all, good_all}
+use Rattle.deny_lists.proofs.ReachingLemmas.{reaches_all}
 
 -- a chain goes on over one more step
 pub chain_more : (leads : ℕ → ℕ → Type 0) (a b c : ℕ) (n : ℕ) → Chain leads a b n → leads b c → Chain leads a c (suc n)
@@ -242,13 +247,13 @@ distance_is_reach leads roots place None is = (
 )
 distance_is_reach leads roots place (Some d) is = (λ _. record { steps = d; led = is.0 }, λ _. refl)
 
-chain_below : (leads : ℕ → ℕ → Type 0) (count : ℕ) → StaysBelow leads count → (n a b : ℕ) → a < count
+pub chain_below : (leads : ℕ → ℕ → Type 0) (count : ℕ) → StaysBelow leads count → (n a b : ℕ) → a < count
     → Chain leads a b n → b < count
 chain_below leads count stays zero a b below chain = subst (λ (m : ℕ). m < count) chain below
 chain_below leads count stays (suc n) a b below chain = chain_below leads count stays n chain.0 b
     (stays a chain.0 below chain.1) chain.2
 
-reached_below : (leads : ℕ → ℕ → Type 0) (count : ℕ) (roots : List ℕ) → StaysBelow leads count
+pub reached_below : (leads : ℕ → ℕ → Type 0) (count : ℕ) (roots : List ℕ) → StaysBelow leads count
     → All (λ root. root < count) roots
     → (place : ℕ) → IsReached leads roots place → place < count
 reached_below leads count roots stays below place there =

@@ -1,4 +1,5 @@
 pub mod Ascending
+pub mod Blanks
 pub mod First
 pub mod Prefix
 pub mod Reader

@@ -1,4 +1,5 @@
--- How the answer of a reader stands to what is to be read: that, or a fault of it, or want of memory, which may come anywhere.
+-- How the answer of a reader stands to what is to be read: that, or a fault of it, or want of memory, which may come
+-- anywhere.
 use Rattle.std.specs.Prelude.{◌≡◌, ◌⊎◌, List, [], ◌∷◌, Result, Ok, Err, MatchResult}
 
 -- memory ran out, or what was to be read has this fault

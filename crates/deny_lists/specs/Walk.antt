@@ -1,5 +1,6 @@
 -- Chains of steps from place to place, how far places lie from roots, and which are reached.
-use Rattle.std.specs.Prelude.{◌≡◌, ◌≢◌, ◌<◌, ◌≤◌, ◌+◌, ◌↔◌, ℕ, zero, suc, Bool, false, List, Option, None, Some, All, AllPairs, Contains, IsTrue, is_some, length, replicate, slice_index_or, sum_by}
+use Rattle.std.specs.Prelude.{◌≡◌, ◌≢◌, ◌<◌, ◌≤◌, ◌+◌, ◌↔◌, ℕ, zero, suc, Bool, false, List, Option, None, Some, All}
+use Rattle.std.specs.Prelude.{AllPairs, Contains, IsTrue, is_some, length, replicate, slice_index_or, sum_by}
 
 -- so many steps lead from a place to another, each beginning where the one before it ends
 abbrev pub Chain : (ℕ → ℕ → Type 0) → ℕ → ℕ → ℕ → Type 0
@@ -33,7 +34,8 @@ abbrev pub has_distance : List (Option ℕ) → ℕ → Bool
 has_distance distances place = is_some (distance_at distances place)
 
 -- the distance of each place
-pub record AreDistances (leads : ℕ → ℕ → Type 0) (count : ℕ) (roots : List ℕ) (distances : List (Option ℕ)) : Type 0 where
+pub record AreDistances (leads : ℕ → ℕ → Type 0) (count : ℕ) (roots : List ℕ)
+    (distances : List (Option ℕ)) : Type 0 where
   pub long : length distances ≡ count
   pub each : (place : ℕ) → place < count → IsDistance leads roots place (distance_at distances place)
 
@@ -59,7 +61,8 @@ abbrev pub TakesInStep : (ℕ → ℕ) → List ℕ → ℕ → ℕ → Type 0
 TakesInStep degree places before after = after ≤ before + length places + sum_by degree places
 
 -- at most so many steps as belong to some of the places that are reached, each counted once
-pub record TakesInStepWithReached (leads : ℕ → ℕ → Type 0) (roots : List ℕ) (degree : ℕ → ℕ) (before after : ℕ) : Type 0 where
+pub record TakesInStepWithReached (leads : ℕ → ℕ → Type 0) (roots : List ℕ) (degree : ℕ → ℕ)
+    (before after : ℕ) : Type 0 where
   pub places : List ℕ
   pub once : AllPairs ◌≢◌ places
   pub reached : All (IsReached leads roots) places

@@ -5,27 +5,25 @@ use Rattle.std.specs.Cmp.{IsTotalOrder, nat_cmp_total, on_total, then_total}
 use Rattle.std.specs.Cmp.Lexicographic.{nat_list_cmp_total, slice_cmp}
 use Rattle.std.specs.List.{AllByRecursion, IsDistinct}
 use Rattle.std.specs.List.Sorted.{IsPermutation, IsSortedBy, IsStrictlySortedBy}
-use Rattle.std.specs.Ordering.{is_lt, nat_cmp, ordering_reverse}
-use Rattle.std.specs.Str.{bytes_eq}
-use Rattle.std.specs.declared.cmp.Ordering.{Ordering}
-use Rattle.std.specs.declared.cmp.Ordering.TheVariants.{Less, Equal, Greater}
-use Rattle.std.proofs.lemmas.Bool.{false_from_ne_true, false≢true}
-use Rattle.std.proofs.lemmas.Cmp.{nat_list_eq_equiv}
+use Rattle.std.specs.Ordering.{is_lt, nat_cmp}
+use Rattle.std.specs.declared.cmp.Ordering.TheVariants.{Less, Equal}
+use Rattle.std.proofs.lemmas.Bool.{false≢true}
 use Rattle.std.proofs.lemmas.List.{get_or-map, length-map}
 use Rattle.std.proofs.lemmas.List.Sorted.{Contains-permutation, IsPermutation-cons, IsPermutation-map}
-use Rattle.std.proofs.lemmas.List.Sorted.{IsPermutation-middle}
-use Rattle.std.proofs.lemmas.List.Sorted.{IsPermutation-refl, IsPermutation-sym, IsPermutation-trans}
-use Rattle.std.proofs.lemmas.Map.Keys.{IsDistinct-IsPermutation, IsDistinct-from_apart, apart_from_distinct}
-use Rattle.std.proofs.lemmas.Map.Keys.{sorted_from_all_adjacent}
+use Rattle.std.proofs.lemmas.List.Sorted.{IsPermutation-middle, IsPermutation-refl, IsPermutation-sym}
+use Rattle.std.proofs.lemmas.List.Sorted.{IsPermutation-trans}
+use Rattle.std.proofs.lemmas.Map.Keys.{IsDistinct-IsPermutation, apart_from_distinct, sorted_from_all_adjacent}
 use Rattle.std.proofs.lemmas.Slice.Eq.{bytes_eq-Decides}
 use Rattle.semver.specs.OrderLaws.{pre_total}
 use Rattle.semver.specs.Parse.{Parts}
-use Rattle.deny_lists.proofs.Orders.{text_cmp-exact, then_second}
+use Rattle.deny_lists.proofs.Orders.{text_cmp-exact, then_second, less_from_is_lt, less_from_reverse}
 use Rattle.deny_lists.proofs.Sorted.{one_list}
 use Rattle.deny_lists.specs.Ascending.{Lists}
 use Rattle.deny_lock.specs.Order.{in_lock_order, lock_cmp, with_crate}
 use Rattle.deny_model.specs.Graph.{Crate}
+use Rattle.deny_model.specs.Ids.{same_id}
 use Rattle.deny_model.specs.VersionOrder.{precedence, version_cmp}
+use Rattle.deny_model.proofs.IdLemmas.{same_id-flips, distinct-ids}
 
 -- ---- the order is total, and crates that tie have one id
 
@@ -37,12 +35,6 @@ lock_cmp-total =
     (then_total (on_total (λ (v : Parts). v.2) nat_cmp_total)
     (on_total (λ (v : Parts). v.3) pre_total)))))
     (on_total (λ (c : Crate). c.id) nat_list_cmp_total))
-
-abbrev same_id : Crate → Crate → Bool
-same_id a b = bytes_eq a.id b.id
-
-same_id-flips : (a b : Crate) → same_id a b ≡ same_id b a
-same_id-flips a b = nat_list_eq_equiv.symm a.id b.id
 
 tie : (a b : Crate) → lock_cmp a b ≡ Equal → a.id ≡ b.id
 tie a b e =
@@ -57,19 +49,7 @@ ties a b e = (bytes_eq-Decides a.id b.id).1 (tie a b e)
 no_tie : (a b : Crate) → same_id a b ≡ false → lock_cmp a b ≡ Equal → ⊥
 no_tie a b unlike e = false≢true (sym unlike ∙ ties a b e)
 
-pub distinct-ids : (crates : List Crate) → AllPairs (λ c d. c.id ≢ d.id) crates → IsDistinct same_id crates
-distinct-ids crates apart =
-    IsDistinct-from_apart same_id crates (λ i j d up within.
-    false_from_ne_true _ (λ e. apart i j d up within ((bytes_eq-Decides _ _).0 e)))
-
 -- ---- what a sort gives ascends
-
-below : (r s : Ordering) → r ≡ ordering_reverse s → is_lt s ≡ false → (r ≡ Equal → ⊥) → r ≡ Less
-below Less s e no_less no_tie = refl
-below Equal s e no_less no_tie = absurd (no_tie refl)
-below Greater Less e no_less no_tie = absurd (false≢true (sym no_less))
-below Greater Equal e no_less no_tie = cc
-below Greater Greater e no_less no_tie = cc
 
 module _ {X : Type 0} (view : X → Crate) where
   ascends : (xs : List X) → IsSortedBy (λ a b. is_lt (lock_cmp (view a) (view b))) xs
@@ -88,7 +68,8 @@ module _ {X : Type 0} (view : X → Crate) where
       ap (λ b. is_lt (lock_cmp b (get_or ys k d))) next
       ∙ (ap (λ a. is_lt (lock_cmp (view (get_or (x ∷ xs) (k + 1) x)) a)) at
       ∙ up k x (omega arith) (omega (arith, size))) in
-      below (lock_cmp (get_or ys k d) (get_or ys (k + 1) d)) (lock_cmp (get_or ys (k + 1) d) (get_or ys k d))
+      less_from_reverse (lock_cmp (get_or ys k d) (get_or ys (k + 1) d))
+      (lock_cmp (get_or ys (k + 1) d) (get_or ys k d))
       (lock_cmp-total.antisymm (get_or ys k d) (get_or ys (k + 1) d)) up_here
       (no_tie (get_or ys k d) (get_or ys (k + 1) d) unlike))
 
@@ -115,19 +96,14 @@ below_all : (c d : Crate) (ds : List Crate) → lock_cmp c d ≡ Less → AllByR
 below_all c d [] first all = tt
 below_all c d (e ∷ ds) first all = (lock_cmp-total.trans c d e first all.0, below_all c d ds first all.1)
 
-pub less-is : (o : Ordering) → is_lt o ≡ true → o ≡ Less
-less-is Less e = refl
-less-is Equal e = absurd (false≢true e)
-less-is Greater e = absurd (false≢true e)
-
 strict_by : (b : Bool) (c d : Crate) (ds : List Crate) → is_lt (lock_cmp c d) ≡ b → same_id c d ≡ false
     → IsStrictlySortedBy lock_cmp (d ∷ ds) → IsStrictlySortedBy lock_cmp (with_crate ds c)
     → IsStrictlySortedBy lock_cmp (cond b (c ∷ (d ∷ ds)) (d ∷ with_crate ds c))
 unfolding IsStrictlySortedBy
 strict_by true c d ds is unlike up rest =
-    let first : lock_cmp c d ≡ Less = less-is (lock_cmp c d) is in ((first, below_all c d ds first up.0), up)
+    let first : lock_cmp c d ≡ Less = less_from_is_lt (lock_cmp c d) is in ((first, below_all c d ds first up.0), up)
 strict_by false c d ds is unlike up rest =
-    let under : lock_cmp d c ≡ Less = below (lock_cmp d c) (lock_cmp c d) (lock_cmp-total.antisymm d c) is
+    let under : lock_cmp d c ≡ Less = less_from_reverse (lock_cmp d c) (lock_cmp c d) (lock_cmp-total.antisymm d c) is
     (no_tie d c (same_id-flips d c ∙ unlike)) in
     (all_with (λ e. lock_cmp d e ≡ Less) ds c up.0 under, rest)
 

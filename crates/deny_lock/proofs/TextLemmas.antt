@@ -11,10 +11,10 @@ use Rattle.std.proofs.lemmas.Grind.{flat_map-append}
 use Rattle.std.proofs.lemmas.List.Concat.{length-flat_map}
 use Rattle.std.proofs.lemmas.List.Sorted.{sum_by-IsPermutation}
 use Rattle.std.proofs.lemmas.List.Sums.{sum_by-cons}
-use Rattle.deny_lists.proofs.Orders.{not_above, not_below_itself}
+use Rattle.deny_lists.proofs.Orders.{not_above, not_below_itself, less_from_is_lt}
 use Rattle.deny_krates.specs.Bounds.{lock_length, lock_line_length}
 use Rattle.deny_lock.proofs.LineLemmas.{length-lock_line}
-use Rattle.deny_lock.proofs.OrderLemmas.{less-is, lock_cmp-total, moved-in_lock_order}
+use Rattle.deny_lock.proofs.OrderLemmas.{lock_cmp-total, moved-in_lock_order}
 use Rattle.deny_lock.specs.Line.{lock_line}
 use Rattle.deny_lock.specs.Order.{in_lock_order, lock_cmp}
 use Rattle.deny_lock.specs.Text.{ended_line, line_start, lock_lines, lock_text}
@@ -82,7 +82,7 @@ counts_nothing c d below =
 
 not_itself : (c : Crate) → in_front c c ≡ 0
 not_itself c = ap (λ b. cond b (lock_line_length c) 0) (false_from_ne_true (is_lt (lock_cmp c c))
-    (λ e. not_below_itself lock_cmp lock_cmp-total c c refl (less-is (lock_cmp c c) e)))
+    (λ e. not_below_itself lock_cmp lock_cmp-total c c refl (less_from_is_lt (lock_cmp c c) e)))
 
 none_behind : (c : Crate) (behind : List Crate) → AllByRecursion (λ d. lock_cmp c d ≡ Less) behind
     → sum_by (in_front c) behind ≡ 0

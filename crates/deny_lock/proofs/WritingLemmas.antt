@@ -1,15 +1,14 @@
 -- Lines are put one behind another, and each crate's ranges at its place.
 use Rattle.std.proofs.Common.{◌≡◌, ◌≢◌, ◌+◌, ◌∙◌, ◌<◌, ◌≤◌, ◌++◌, ℕ, suc, List, [], ◌∷◌, AllPairs, Contains, Option}
-use Rattle.std.proofs.Common.{None, Some, drop, get_or, length, map, take, refl, sym, ap, subst, arith, inl, inr}
-use Rattle.std.proofs.Common.{◌⊎◌}
+use Rattle.std.proofs.Common.{None, Some, drop, get_or, length, map, take, refl, sym, ap, subst, arith, inl, inr, ◌⊎◌}
 use Rattle.std.specs.Prelude.{option_map, slice_get, slice_set}
 use Rattle.std.specs.List.{AllZip}
 use Rattle.std.specs.List.Sorted.{IsStrictlySortedBy}
 use Rattle.std.specs.Str.{IsUtf8}
 use Rattle.std.proofs.Math.Seq.{split_at}
 use Rattle.std.proofs.lemmas.Bool.{cases_lt}
-use Rattle.std.proofs.lemmas.List.{append-nil, ext_get_or, get_or-set_other, get_or-set_same, length-map}
-use Rattle.std.proofs.lemmas.List.{length-set, take-append-drop, take_all, take_more}
+use Rattle.std.proofs.lemmas.List.{append-nil, ext_get_or, get_or-set_other, get_or-set_same, length-map, length-set}
+use Rattle.std.proofs.lemmas.List.{take-append-drop, take_all, take_more}
 use Rattle.std.proofs.lemmas.List.Elements.{Contains-append_cases, Contains-append_left}
 use Rattle.std.proofs.lemmas.List.Sorted.{Contains-permutation, IsPermutation-sym}
 use Rattle.std.proofs.lemmas.Option.{get_or_from_slice_get, none-some, same_Some, slice_get-get_or, slice_get-map}
@@ -19,7 +18,7 @@ use Rattle.deny_krates.specs.Crates.{crate_view, crates_from}
 use Rattle.deny_krates.specs.declared.krate.Krate.{Krate}
 use Rattle.deny_krates.proofs.ResolutionLemmas.{crates_from-at}
 use Rattle.deny_lists.proofs.Members.{at_member, from_there, no_member, some_at, there}
-use Rattle.deny_lock.proofs.OrderLemmas.{distinct-ids, moved-in_lock_order, strict-in_lock_order}
+use Rattle.deny_lock.proofs.OrderLemmas.{moved-in_lock_order, strict-in_lock_order}
 use Rattle.deny_lock.proofs.PartLemmas.{AllZip-made, line-stands_in}
 use Rattle.deny_lock.proofs.TextLemmas.{line_start-is, lock_lines-append, room_for}
 use Rattle.deny_lock.specs.Line.{line_span}
@@ -29,6 +28,7 @@ use Rattle.deny_lock.specs.declared.line.LockSpan.{LockSpan}
 use Rattle.deny_lock.specs.declared.order.Placed.{Placed}
 use Rattle.deny_lock.specs.private.Placed.{placed_view}
 use Rattle.deny_model.specs.Graph.{Crate}
+use Rattle.deny_model.proofs.IdLemmas.{distinct-ids}
 
 -- ---- crates at their places
 
@@ -119,7 +119,8 @@ module _ (crates : List Crate) (own : AreOwn crates) where
       (around i c is)))
 
   pub room_at : (i : ℕ) (c : Crate) (text : List ℕ) (spans : List LockSpan)
-      → slice_get (in_lock_order crates) i ≡ Some c → IsWriting crates i text spans → length text + lock_line_length c ≤ lock_length crates
+      → slice_get (in_lock_order crates) i ≡ Some c → IsWriting crates i text spans
+      → length text + lock_line_length c ≤ lock_length crates
   room_at i c text spans is writing =
       let order : List Crate = in_lock_order crates in
       let room = room_for crates (take i order) (drop (i + 1) order) c (around i c is) in

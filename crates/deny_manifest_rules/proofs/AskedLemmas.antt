@@ -12,7 +12,7 @@ use Rattle.deny_facts.specs.Placed.{ArePlaced}
 use Rattle.deny_facts.specs.declared.facts.Marks.{Marks}
 use Rattle.deny_facts.specs.declared.groups.Groups.{Groups}
 use Rattle.deny_facts.proofs.MarkLemmas.{marked-is}
-use Rattle.deny_facts.proofs.PlaceLemmas.{place_of}
+use Rattle.deny_krates.proofs.PlaceLemmas.{place_of}
 use Rattle.deny_model.specs.Crates.{is_git_source}
 use Rattle.deny_model.specs.Graph.{Crate, Graph}
 use Rattle.deny_model.specs.Groups.{is_marked, is_rooted}

@@ -20,7 +20,7 @@ use Rattle.deny_manifest_rules.specs.Uses.{AreUses, rows_in, use_view}
 use Rattle.deny_manifest_rules.specs.declared.uses.Use.{Use as Kept}
 use Rattle.deny_manifest_rules.specs.declared.uses.Uses.{Uses}
 use Rattle.deny_manifest_rules.specs.private.Sharing.{duplicated_keys_at, minds_duplicates}
-use Rattle.deny_manifest_rules.proofs.FlatLemmas.{flat_on_places}
+use Rattle.deny_krates.proofs.PlaceLemmas.{flat_map-place_of}
 
 -- ---- some declarations
 
@@ -48,7 +48,7 @@ module _ (p : Policy) (g : Graph) (view : View) where
   unfolding duplicated_keys_at workspace_duplicate_keys_by workspace_duplicate_keys_of
   duplicated_are s uses placed is on are =
       ap (flat_map (duplicated_keys_at (rows_in uses))) (sym placed.places)
-      ∙ (flat_on_places (duplicated_keys_at (rows_in uses)) (workspace_duplicate_keys_of s g view) g.crates
+      ∙ (flat_map-place_of (duplicated_keys_at (rows_in uses)) (workspace_duplicate_keys_of s g view) g.crates
       (λ c _. ap (λ (us : List Use). cond (is_duplicated us)
       (key_of section.Workspace code.WorkspaceDuplicate c.place no_span 0 ∷ []) []) (are.at s is c.place))
       ∙ (ap (λ b. cond b (flat_map (workspace_duplicate_keys_of s g view) g.crates) []) (sym on)

@@ -11,8 +11,7 @@ use Rattle.deny_lists.proofs.Members.{no_member}
 use Rattle.deny_base.specs.declared.code.Code.TheVariants as code
 use Rattle.deny_base.specs.declared.key.Key.{Key}
 use Rattle.deny_codes.specs.Wildcards.{is_asked, is_minded, is_unresolved, unresolved_key, unresolved_keys}
-use Rattle.deny_codes.specs.Wildcards.{unresolved_keys_of, wildcard_keys, wildcard_keys_of, wildcards_in}
-use Rattle.deny_codes.specs.Wildcards.{wildcards_of}
+use Rattle.deny_codes.specs.Wildcards.{unresolved_keys_of, wildcard_keys, wildcard_keys_of, wildcards_in, wildcards_of}
 use Rattle.deny_facts.specs.Marks.{mark_at}
 use Rattle.deny_facts.specs.Placed.{ArePlaced}
 use Rattle.deny_facts.proofs.MarkLemmas.{marked-is}
@@ -23,7 +22,8 @@ use Rattle.deny_model.specs.Policy.{Policy}
 use Rattle.deny_model.specs.Told.{crate_at}
 use Rattle.deny_model.specs.View.{Declared, Manifest, View, manifest_of}
 use Rattle.deny_manifest_rules.specs.private.Wildcards.{found_in, found_keys_at, found_keys_of, unresolved_key_at}
-use Rattle.deny_manifest_rules.proofs.FlatLemmas.{apart, flat_on_places, together}
+use Rattle.deny_manifest_rules.proofs.FlatLemmas.{apart, together}
+use Rattle.deny_krates.proofs.PlaceLemmas.{flat_map-place_of}
 
 -- ---- what a manifest writes
 
@@ -124,7 +124,7 @@ module _ (p : Policy) (g : Graph) (facts : Facts) (view : View) where
     pub found_are : flat_map (found_keys_at p g view asked) (range_with_len 0 (length g.crates))
         ≡ flat_map both g.crates
     found_are = ap (flat_map (found_keys_at p g view asked)) (sym placed.places)
-        ∙ flat_on_places (found_keys_at p g view asked) both g.crates found_is
+        ∙ flat_map-place_of (found_keys_at p g view asked) both g.crates found_is
 
   -- ---- added keys
 

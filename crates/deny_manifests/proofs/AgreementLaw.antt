@@ -1,17 +1,18 @@
 -- There is a test that tells whether keys of targets agree: both are read token by token.
-use Rattle.std.proofs.Common.{◌≡◌, ◌≢◌, ◌<◌, ◌≤◌, ◌+◌, ◌∷◌, ◌∙◌, [], ℕ, Bool, List, None, Option, Some, ap, arith, cond, drop, false, inl, length, length-drop, refl, subst, suc, sym, true, zero}
-use Rattle.std.specs.Prelude.{◌&&◌, ◌==◌, ◌||◌, IsTrue, MatchOption, nat_le, nat_lt, option_map}
+use Rattle.std.proofs.Common.{◌≡◌, ◌≢◌, ◌<◌, ◌≤◌, ◌+◌, ◌∷◌, ◌∙◌, [], ℕ, Bool, List, None, Option, Some, ap, arith, cond}
+use Rattle.std.proofs.Common.{drop, false, inl, length, length-drop, refl, subst, suc, sym, true, zero}
+use Rattle.std.specs.Prelude.{◌&&◌, ◌||◌, IsTrue, MatchOption, nat_le, nat_lt, option_map}
 use Rattle.std.specs.Cmp.Lexicographic.{bytes_decides, pointwise}
 use Rattle.std.specs.List.{after_first, position_or_len, prefix_len}
-use Rattle.std.proofs.lemmas.Bool.Decides.{nat_tests}
 use Rattle.deny_manifests.specs.Agreement.{TellsAgreement}
 use Rattle.deny_model.specs.Text.{same_text}
 use Rattle.deny_targets.proofs.AgreeLemmas.{both_read, first_none, is_cfg, is_none, second_none, tokens_equal}
 use Rattle.deny_targets.proofs.SpellingLemmas.{kept}
-use Rattle.deny_targets.proofs.TokenLemmas.{tokens_same}
+use Rattle.deny_targets.proofs.TokenLemmas.{tokens_same, blank_first}
 use Rattle.deny_targets.specs.Expression.{IsCfgOf, IsNone}
 use Rattle.deny_targets.specs.Grammar.{Agree}
-use Rattle.deny_targets.specs.Tokens.{HasTokens, blank, first_token, is_blank, is_name_byte, is_name_start, is_quote, mark_first, mark_token, more, none, quoted_first, word_first}
+use Rattle.deny_targets.specs.Tokens.{HasTokens, blank, first_token, is_blank, is_name_byte, is_name_start, is_quote}
+use Rattle.deny_targets.specs.Tokens.{mark_first, mark_token, more, none, quoted_first, word_first}
 use Rattle.deny_targets.specs.contracts.token.TokenPartialEq.TheImpl.{ghosts as token_eq}
 use Rattle.deny_targets.specs.declared.expression.CfgExpr.{CfgExpr}
 use Rattle.deny_targets.specs.declared.token.Token.{Token}
@@ -121,21 +122,9 @@ shorter b bytes token rest e = by_test (is_name_start b) (is_quote b) refl e
     by_test false true is e = quoted_short bytes token rest e
     by_test false false is e = mark_short b bytes token rest e
 
-no_token : (b : ℕ) (bytes : List ℕ) → is_blank b ≡ true → first_token (b ∷ bytes) ≡ None
-unfolding is_blank is_name_start mark_first mark_token first_token
-no_token b bytes e = at_blank (b == 32) refl
-  where
-    at_blank : (t : Bool) → (b == 32) ≡ t → first_token (b ∷ bytes) ≡ None
-    at_blank true f =
-        let same : 32 ≡ b = grind (arith, nat_tests, f) in
-        subst (λ (n : ℕ). first_token (n ∷ bytes) ≡ None) same refl
-    at_blank false f =
-        let same : 9 ≡ b = grind (arith, nat_tests, e, f) in
-        subst (λ (n : ℕ). first_token (n ∷ bytes) ≡ None) same refl
-
 not_blank : (b : ℕ) (bytes : List ℕ) (token : Token) (rest : List ℕ) (t : Bool) → is_blank b ≡ t
     → first_token (b ∷ bytes) ≡ Some (token, rest) → t ≡ false
-not_blank b bytes token rest true is e = absurd (cc (e, no_token b bytes is))
+not_blank b bytes token rest true is e = absurd (cc (e, blank_first b bytes is))
 not_blank b bytes token rest false is e = refl
 
 -- ---- all tokens of a short text are read

@@ -1,6 +1,8 @@
 -- The crates that declarations resolve to, and declarations that are gathered.
-use Rattle.std.proofs.Common.{◌≡◌, ◌<◌, ◌+◌, ◌++◌, ◌∷◌, ◌∙◌, [], ℕ, Bool, List, None, Option, Some, add-one, ap, append-nil, append_assoc, arith, drop, false, length, map, refl, subst, suc, sym, true, zero}
-use Rattle.std.specs.Prelude.{◌&&◌, All, Contains, IfSome, filter_map, find, is_some, option_map, slice_get, slice_index_or}
+use Rattle.std.proofs.Common.{◌≡◌, ◌<◌, ◌+◌, ◌++◌, ◌∷◌, ◌∙◌, [], ℕ, Bool, List, None, Option, Some, add-one, ap}
+use Rattle.std.proofs.Common.{append-nil, append_assoc, arith, drop, false, length, map, refl, subst, suc, sym, true}
+use Rattle.std.proofs.Common.{zero}
+use Rattle.std.specs.Prelude.{◌&&◌, All, IfSome, filter_map, find, is_some, option_map, slice_get, slice_index_or}
 use Rattle.std.specs.List.{AllByRecursion, cons_option, enumerate_from}
 use Rattle.std.specs.Borrow.{Bor}
 use Rattle.std.specs.Option.{option_and_then, option_copied, option_map_or, option_or}
@@ -12,12 +14,13 @@ use Rattle.deny_toml.specs.declared.value.Value.{Value}
 use Rattle.std.proofs.Math.Seq.{drop-cons}
 use Rattle.std.proofs.lemmas.List.{map-append}
 use Rattle.std.proofs.lemmas.List.Elements.{All-append, All-nil}
-use Rattle.std.proofs.lemmas.Option.{get_or_from_slice_get, slice_get-get_or, slice_get_within}
+use Rattle.std.proofs.lemmas.Option.{get_or_from_slice_get, slice_get_within}
 use Rattle.deny_krates.specs.Crates.{crate_view, dependency_view}
 use Rattle.deny_krates.specs.declared.krate.Dependency.{Dependency as Own}
 use Rattle.deny_krates.specs.declared.krate.Krate.{Krate}
-use Rattle.deny_lists.proofs.Each.{all_found, all_mapped}
-use Rattle.deny_lists.proofs.Members.{Contains-first, Contains-rest, map_at, passes_filter}
+use Rattle.deny_lists.proofs.Each.{all_found, all_mapped, all_from_members}
+use Rattle.deny_lists.proofs.Members.{map_at, passes_filter}
+use Rattle.deny_lists.proofs.Places.{slice_get-read}
 use Rattle.deny_manifests.specs.Declarations.{declared_at, declared_by}
 use Rattle.deny_model.specs.View.{Declared}
 use Rattle.deny_manifests.specs.Found.{rename_of, version_of, workspace_of}
@@ -46,16 +49,11 @@ unfolding suits
 suits_place crates d e is =
     passes_there (has_name d.name) (slice_get crates e.child) (second_holds _ _ _ is)
 
-each_member : {X : Type 0} (P : X → Type 0) (xs : List X) → ((x : X) → Contains xs x → P x) → AllByRecursion P xs
-each_member P [] each = tt
-each_member P (x ∷ xs) each =
-    (each x (Contains-first x xs), each_member P xs (λ y is. each y (Contains-rest x xs y is)))
-
 agreeing_places : (g : Graph) (parent : ℕ) (d : Dependency)
     → AllByRecursion (IsPlace g.crates) (agreeing g parent d)
 unfolding agreeing
 agreeing_places g parent d = all_mapped (IsPlace g.crates) (λ (e : TargetEdge). e.child) _
-    (each_member (λ (e : TargetEdge). IsPlace g.crates e.child) _
+    (all_from_members (λ (e : TargetEdge). IsPlace g.crates e.child) _
     (λ e is. suits_place g.crates d e (passes_filter (suits g.crates d) _ e is)))
 
 first_of : {X : Type 0} (P : X → Type 0) (xs : List X) → AllByRecursion P xs → IfSome (slice_get xs 0) P
@@ -82,14 +80,10 @@ resolved_place g parent d child is =
 
 -- ---- declarations that are gathered one by one
 
-item_at : {X : Type 0} (xs : List X) (i : ℕ) (x : X) → i < length xs → x ≡ slice_index_or xs i x
-    → slice_get xs i ≡ Some x
-item_at xs i x inside is = slice_get-get_or xs i x inside ∙ ap (λ y. Some y) (sym is)
-
 pub own_item : (k : Krate) (ds : List Own) (index : ℕ) (d : Own) → ds ≡ k.deps → index < length ds
     → d ≡ slice_index_or ds index d → slice_get (map dependency_view k.deps) index ≡ Some (dependency_view d)
 own_item k ds index d same inside is = map_at dependency_view k.deps index d
-    (ap (λ (es : List Own). slice_get es index) (sym same) ∙ item_at ds index d inside is)
+    (ap (λ (es : List Own). slice_get es index) (sym same) ∙ slice_get-read ds index d inside is)
 
 -- an item of a crate's declarations is the declaration of its number
 pub declaration_stands : (g : Graph) (place index : ℕ) (k : Krate) (ds : List Own) (d : Own)
@@ -167,7 +161,8 @@ module _ (agrees : List ℕ → List ℕ → Bool) (g : Graph) (place : ℕ) (tr
 
 -- what is read of the value
 pub declared_parts : (index : ℕ) (d : Dependency) (child : ℕ) (entry : Key × Value)
-    (version : Option (Spanned (List Held))) (workspace : Option (Spanned Bool)) (rename : Option (Spanned (List ℕ))) → version ≡ version_of entry.1
+    (version : Option (Spanned (List Held))) (workspace : Option (Spanned Bool)) (rename : Option (Spanned (List ℕ)))
+    → version ≡ version_of entry.1
     → workspace ≡ workspace_of entry.1 → rename ≡ rename_of entry.1
     → (let declared : Declared = record {
       index = index;

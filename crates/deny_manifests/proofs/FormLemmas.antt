@@ -1,5 +1,6 @@
 -- What keys say, in words, is equal exactly where they agree.
-use Rattle.std.proofs.Common.{◌≡◌, ◌∷◌, [], ℕ, Bool, List, ap, codes, drop, false, inl, inr, map, refl, subst, sym, true, ◌∙◌}
+use Rattle.std.proofs.Common.{◌≡◌, ◌∷◌, [], ℕ, Bool, List, ap, codes, drop, false, inl, inr, map, refl, subst, sym}
+use Rattle.std.proofs.Common.{true, ◌∙◌}
 use Rattle.std.specs.Prelude.{if◌then◌else◌, nat_eq}
 use Rattle.std.specs.List.{starts_with}
 use Rattle.deny_manifests.specs.private.Targets.{IsForm, key_word, word_of}

@@ -1,23 +1,11 @@
 -- Whether a search finds a member is whether it is there.
-use Rattle.std.proofs.Common.{◌≡◌, ◌∙◌, [], ℕ, Bool, List, Option, ap, cond, refl, subst}
-use Rattle.std.specs.Prelude.{◌==◌, Contains, IsTrue}
+use Rattle.std.proofs.Common.{◌≡◌, ◌∙◌, [], ℕ, Bool, List, Option, ap, cond}
+use Rattle.std.specs.Prelude.{◌==◌}
 use Rattle.std.specs.List.{list_any}
 use Rattle.std.specs.Option.{option_map_or}
-use Rattle.std.proofs.lemmas.Bool.Decides.{Decides-eqb}
-use Rattle.deny_lists.proofs.Agreement.{same_test}
-use Rattle.deny_lists.proofs.Members.{any_from, any_passes}
 use Rattle.deny_manifests.specs.Ignored.{duplicates_in, ignored_at, ignored_in, unnamed_in, words_in}
 use Rattle.deny_model.specs.Graph.{Graph}
 use Rattle.deny_toml.specs.declared.value.Value.{Value}
-
-pub place_found : (found : Bool) (xs : List ℕ) (x : ℕ)
-    → (IsTrue found → Contains xs x) × (Contains xs x → IsTrue found) → found ≡ list_any (λ y. y == x) xs
-place_found found xs x is = same_test found (list_any (λ y. y == x) xs) is (
-  (λ any.
-      let one = any_passes (λ y. y == x) xs any in
-      subst (Contains xs) ((Decides-eqb one.one x).0 one.passes) one.member),
-  (λ one. any_from (λ y. y == x) xs x one ((Decides-eqb x x).1 refl)),
-)
 
 -- what is ignored, by whether the crate is a member and by what is listed
 pub ignored_is : (g : Graph) (place : ℕ) (tree : Value) (b : Bool) (o : Option (List Value))

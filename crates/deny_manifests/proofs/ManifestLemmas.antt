@@ -1,6 +1,8 @@
 -- Where the crate of an id stands, and declarations that are left out.
-use Rattle.std.proofs.Common.{◌≡◌, ◌<◌, ◌+◌, ◌∷◌, ◌∙◌, ◌-◌, ◌≤◌, [], ℕ, Bool, List, None, Option, Some, add-one, ap, arith, cond, drop, false, length, refl, subst, suc, sym, take, true, zero}
-use Rattle.std.specs.Prelude.{IfNone, IfSome, filter, find, nat_lt, not, option_map, position, slice_get, slice_index_or}
+use Rattle.std.proofs.Common.{◌≡◌, ◌<◌, ◌+◌, ◌∷◌, ◌∙◌, ◌-◌, ◌≤◌, [], ℕ, Bool, List, None, Option, Some, add-one, ap}
+use Rattle.std.proofs.Common.{arith, cond, drop, false, length, refl, subst, suc, sym, take, true, zero}
+use Rattle.std.specs.Prelude.{IfNone, IfSome, filter, find, nat_lt, not, option_map, position, slice_get}
+use Rattle.std.specs.Prelude.{slice_index_or}
 use Rattle.std.specs.List.{position_or_len}
 use Rattle.std.proofs.lemmas.Bool.Decides.{nat_tests}
 use Rattle.std.proofs.lemmas.List.{take_rest}

@@ -1,5 +1,6 @@
 -- What a manifest writes, by where it stands, and how a declaration is found there.
-use Rattle.std.proofs.Common.{◌≡◌, ◌<◌, ◌+◌, ◌++◌, ◌∷◌, ◌∙◌, [], ℕ, Bool, List, None, Option, Some, ap, append_assoc, arith, append-nil, cond, false, length, map, refl, subst, sym, take, true}
+use Rattle.std.proofs.Common.{◌≡◌, ◌<◌, ◌+◌, ◌++◌, ◌∷◌, ◌∙◌, [], ℕ, Bool, List, None, Option, Some, ap, append_assoc}
+use Rattle.std.proofs.Common.{append-nil, cond, false, length, map, refl, subst, sym, take, true}
 use Rattle.std.specs.Prelude.{◌&&◌, ◌==◌, Contains, IfSome, find, nat_eq, option_map, slice_index_or}
 use Rattle.std.specs.Borrow.{Bor}
 use Rattle.std.specs.Cmp.Lexicographic.{slice_cmp, texts_ties}
@@ -9,7 +10,7 @@ use Rattle.std.specs.Option.{option_cmp, option_copied, option_eq, option_or}
 use Rattle.std.specs.Ordering.{eq_by_cmp, is_eq, nat_cmp, ordering_then}
 use Rattle.std.specs.declared.cmp.Ordering.{Ordering}
 use Rattle.std.specs.declared.cmp.Ordering.TheVariants.{Equal, Greater, Less}
-use Rattle.std.proofs.lemmas.Bool.Decides.{Decides-eqb, nat_tests}
+use Rattle.std.proofs.lemmas.Bool.Decides.{Decides-eqb}
 use Rattle.std.proofs.lemmas.Grind.{flat_map-append}
 use Rattle.std.proofs.lemmas.List.{map-append, take_more}
 use Rattle.deny_base.specs.Edge.{kind_number}
@@ -20,14 +21,19 @@ use Rattle.deny_lists.proofs.Each.{all_append, all_flat}
 use Rattle.deny_lists.proofs.FirstLemmas.{finds_more}
 use Rattle.deny_lists.proofs.Members.{Contains-first, Contains-rest}
 use Rattle.deny_lists.specs.First.{FindsFirst, GainsEntry}
-use Rattle.deny_manifests.proofs.TargetLemmas.{map_next, numbers_tell, same_numbers}
+use Rattle.deny_lists.proofs.Orders.{is_eq-nat_cmp}
+use Rattle.deny_lists.proofs.Places.{map-take_next}
+use Rattle.deny_manifests.proofs.TargetLemmas.{numbers_tell, same_numbers}
 use Rattle.deny_manifests.specs.Agreement.{TellsAgreement}
-use Rattle.deny_manifests.specs.Written.{Written, declares, entries_at, entry_in, found_in, key_name, kinds, of_target, section_in, section_name, sections_in, written_in, written_with}
+use Rattle.deny_manifests.specs.Written.{Written, declares, entries_at, entry_in, found_in, key_name, kinds, of_target}
+use Rattle.deny_manifests.specs.Written.{section_in, section_name, sections_in, written_in, written_with}
 use Rattle.deny_manifests.specs.declared.firsts.Firsts.{Firsts}
 use Rattle.deny_manifests.specs.declared.sections.Place.{Place}
 use Rattle.deny_manifests.specs.declared.sections.Sections.{Sections}
 use Rattle.deny_manifests.specs.private.Firsts.{first_at}
-use Rattle.deny_manifests.specs.private.Sections.{FindsPlaced, IsIndexOf, Placed, entry_found, kind_placed, place_cmp, placed_at, sections_placed, target_entries, target_keys, target_placed, targets_placed}
+use Rattle.deny_manifests.specs.private.Sections.{FindsPlaced, IsIndexOf, Placed, entry_found, kind_placed, place_cmp}
+use Rattle.deny_manifests.specs.private.Sections.{placed_at, sections_placed, target_entries, target_keys}
+use Rattle.deny_manifests.specs.private.Sections.{target_placed, targets_placed}
 use Rattle.deny_manifests.specs.private.Targets.{NumbersTargets, number_of}
 use Rattle.deny_model.specs.Graph.{Dependency}
 use Rattle.deny_model.specs.Text.{same_text}
@@ -65,7 +71,7 @@ section_next target kind entries i r name placed old new inside is named finds g
     let before = map (placed_at target kind) (take i entries) in
     let whole : placed ++ map (placed_at target kind) (take (i + 1) entries)
     ≡ (placed ++ before) ++ (place name, r.now) ∷ [] =
-    ap (λ es. placed ++ es) (map_next (placed_at target kind) entries i r.now inside is)
+    ap (λ es. placed ++ es) (map-take_next (placed_at target kind) entries i r.now inside is)
     ∙ (sym (append_assoc placed before (placed_at target kind r.now ∷ []))
     ∙ ap (λ (bytes : List ℕ). (placed ++ before) ++ (place bytes, r.now) ∷ []) (sym named)) in
     subst (λ (es : List Placed). FindsPlaced es new) (sym whole)
@@ -211,14 +217,11 @@ is_eq-then Less s = refl
 is_eq-then Equal s = refl
 is_eq-then Greater s = refl
 
-nat_ties : (x y : ℕ) → is_eq (nat_cmp x y) ≡ (x == y)
-nat_ties x y = grind (arith, nat_tests)
-
 option_ties : (x y : Option ℕ) → is_eq (option_cmp nat_cmp x y) ≡ option_eq nat_eq x y
 option_ties None None = refl
 option_ties None (Some y) = refl
 option_ties (Some x) None = refl
-option_ties (Some x) (Some y) = nat_ties x y
+option_ties (Some x) (Some y) = is_eq-nat_cmp x y
 
 place_ties : (a b : Place) → eq_by_cmp place_cmp a b
     ≡ option_eq nat_eq a.target b.target && (kind_number a.kind == kind_number b.kind && same_text a.name b.name)
@@ -228,7 +231,7 @@ place_ties a b =
     is_eq-then (option_cmp nat_cmp a.target b.target) (ordering_then by_kind by_name)
     ∙ (ap (λ t. t && is_eq (ordering_then by_kind by_name)) (option_ties a.target b.target)
     ∙ ap (λ t. option_eq nat_eq a.target b.target && t) (is_eq-then by_kind by_name
-    ∙ (ap (λ t. t && is_eq by_name) (nat_ties (kind_number a.kind) (kind_number b.kind))
+    ∙ (ap (λ t. t && is_eq by_name) (is_eq-nat_cmp (kind_number a.kind) (kind_number b.kind))
     ∙ ap (λ t. (kind_number a.kind == kind_number b.kind) && t) (sym (texts_ties a.name b.name)))))
 
 -- a target that is written is a key of the tree

@@ -1,5 +1,6 @@
 -- The numbers of keys of targets are equal exactly where the keys agree.
-use Rattle.std.proofs.Common.{◌≡◌, ◌<◌, ◌≤◌, ◌+◌, ◌++◌, ◌∷◌, ◌∙◌, [], ℕ, Bool, List, None, Option, Some, ap, arith, cond, false, inl, inr, length, map, refl, sym, take, true}
+use Rattle.std.proofs.Common.{◌≡◌, ◌<◌, ◌≤◌, ◌+◌, ◌++◌, ◌∷◌, ◌∙◌, [], ℕ, Bool, List, None, Option, Some, ap, arith}
+use Rattle.std.proofs.Common.{cond, false, inl, inr, length, map, refl, sym, take, true}
 use Rattle.std.specs.Prelude.{Contains, slice_index_or, unwrap_or}
 use Rattle.std.specs.Cmp.{Equal-is}
 use Rattle.std.specs.Cmp.Lexicographic.{lists_total, nat_list_cmp_total}
@@ -10,11 +11,12 @@ use Rattle.std.specs.Ordering.{eq_by_cmp, is_eq, ordering_reverse}
 use Rattle.std.specs.declared.cmp.Ordering.{Ordering}
 use Rattle.std.specs.declared.cmp.Ordering.TheVariants.{Equal, Greater, Less}
 use Rattle.std.proofs.lemmas.Bool.{cases_Bool}
-use Rattle.std.proofs.lemmas.List.{length-map, length-take-le, map-append, take_more}
+use Rattle.std.proofs.lemmas.List.{length-map, length-take-le}
 use Rattle.deny_lists.proofs.Booleans.{tests_agree}
 use Rattle.deny_lists.proofs.Members.{Contains-by_cases, no_member}
 use Rattle.deny_lists.proofs.Orders.{text_cmp-exact}
 use Rattle.deny_lists.specs.First.{GainsEntry}
+use Rattle.deny_lists.proofs.Places.{map-take_next}
 use Rattle.deny_manifests.proofs.FormLemmas.{agree-sym, agree-trans, agree_from, same_forms}
 use Rattle.deny_manifests.specs.Agreement.{TellsAgreement}
 use Rattle.deny_manifests.specs.private.Firsts.{first_at}
@@ -90,12 +92,6 @@ module _ {X : Type 0} where
       (λ same. absurd (let both : false ≡ true = sym fails ∙ (ap p same ∙ passes) in cc both))
       (λ later. some_position p (n + 1) ys x later passes))
 
--- one element more of the first
-pub map_next : {X Y : Type 0} (f : X → Y) (xs : List X) (i : ℕ) (x : X) → i < length xs → x ≡ slice_index_or xs i x
-    → map f (take (i + 1) xs) ≡ map f (take i xs) ++ f x ∷ []
-map_next f xs i x inside is = ap (map f) (take_more xs i x inside)
-    ∙ (map-append f (take i xs) (slice_index_or xs i x ∷ []) ∙ ap (λ y. map f (take i xs) ++ f y ∷ []) (sym is))
-
 position_next : {X Y : Type 0} (p : Y → Bool) (f : X → Y) (xs : List X) (i : ℕ) (x : X) → i < length xs
     → x ≡ slice_index_or xs i x
     → position_from p 0 (map f (take (i + 1) xs))
@@ -103,7 +99,7 @@ position_next : {X Y : Type 0} (p : Y → Bool) (f : X → Y) (xs : List X) (i :
 position_next p f xs i x inside is =
     let long : length (map f (take i xs)) ≡ i = length-map (take i xs) f ∙ length-take-le i xs (omega arith) in
     let count : 0 + length (map f (take i xs)) ≡ i = omega arith in
-    ap (position_from p 0) (map_next f xs i x inside is)
+    ap (position_from p 0) (map-take_next f xs i x inside is)
     ∙ (position_from-push p 0 (map f (take i xs)) (f x)
     ∙ ap (λ n. option_or (position_from p 0 (map f (take i xs))) (cond (p (f x)) (Some n) None)) count)
 

@@ -1,5 +1,6 @@
 -- The kinds of declarations that a member's manifest asks to leave out where duplicates are looked for.
-use Rattle.std.specs.Prelude.{ℕ, ◌==◌, [], Bool, List, Option, codes, filter, filter_map, not, option_and_then, if◌then◌else◌}
+use Rattle.std.specs.Prelude.{ℕ, ◌==◌, [], Bool, List, Option, codes, filter, filter_map, not, option_and_then}
+use Rattle.std.specs.Prelude.{if◌then◌else◌}
 use Rattle.std.specs.List.{list_any}
 use Rattle.std.specs.Option.{option_map_or}
 use Rattle.deny_base.specs.Edge.{kind_number}

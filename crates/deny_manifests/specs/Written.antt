@@ -1,5 +1,6 @@
 -- What a manifest writes of dependencies, and where a declaration of the metadata is found in it.
-use Rattle.std.specs.Prelude.{ℕ, ◌==◌, ◌&&◌, ◌++◌, ◌∷◌, [], Bool, List, None, Option, Some, codes, find, map, option_map, unwrap_or}
+use Rattle.std.specs.Prelude.{ℕ, ◌==◌, ◌&&◌, ◌++◌, ◌∷◌, [], Bool, List, None, Option, Some, codes, find, map}
+use Rattle.std.specs.Prelude.{option_map, unwrap_or}
 use Rattle.std.specs.List.{flat_map}
 use Rattle.std.specs.Option.{option_eq, option_map_or}
 use Rattle.deny_base.specs.Edge.{kind_number}

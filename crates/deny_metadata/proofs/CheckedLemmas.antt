@@ -1,11 +1,13 @@
 -- The links of dependencies, from a place on.
-use Rattle.std.proofs.Common.{◌≡◌, ◌<◌, ◌≤◌, ◌+◌, ◌++◌, ℕ, List, [], Result, Ok, Err, length, drop, refl, sym, ap, ◌∙◌, add-one}
+use Rattle.std.proofs.Common.{◌≡◌, ◌<◌, ◌≤◌, ◌+◌, ◌++◌, ℕ, List, [], Result, Ok, Err, length, drop, refl, sym, ap, ◌∙◌}
+use Rattle.std.proofs.Common.{add-one}
 use Rattle.std.specs.Prelude.{slice_index_or, MatchResult}
 use Rattle.std.specs.BTreeMap.{BTreeMap}
 use mathlib.Core.Path.{fun_ext}
 use Rattle.std.proofs.Math.ListN.{drop_of_length-le}
 use Rattle.std.proofs.Math.Seq.{drop-cons}
-use Rattle.deny_metadata.specs.Checked.{Numbering, Resolved, distinct, known, links_of, links_to, node_ids, package_ids, resolved, resolved_by}
+use Rattle.deny_metadata.specs.Checked.{Numbering, Resolved, distinct, known, links_of, links_to, node_ids, package_ids}
+use Rattle.deny_metadata.specs.Checked.{resolved, resolved_by}
 use Rattle.deny_metadata.specs.private.Index.{IsIndex, number_by}
 use Rattle.deny_metadata.specs.Reading.{◌>>=◌, Fails}
 use Rattle.deny_metadata.specs.declared.checked.Resolution.{Resolution}

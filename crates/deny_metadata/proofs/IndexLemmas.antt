@@ -1,5 +1,7 @@
 -- An index that grows by one id at a time.
-use Rattle.std.proofs.Common.{◌≡◌, ◌<◌, ◌≤◌, ◌+◌, ◌++◌, ◌||◌, ℕ, suc, List, [], ◌∷◌, Bool, true, false, Option, Some, None, Ok, Err, length, take, drop, map, refl, sym, ap, ◌∙◌, subst, arith, add-one, add-zero}
+use Rattle.std.proofs.Common.{◌≡◌, ◌<◌, ◌≤◌, ◌+◌, ◌++◌, ◌||◌, ℕ, suc, List, [], ◌∷◌, Bool, true, false, Option, Some}
+use Rattle.std.proofs.Common.{None, Ok, Err, length, take, drop, map, refl, sym, ap, ◌∙◌, subst, arith, add-one}
+use Rattle.std.proofs.Common.{add-zero}
 use Rattle.std.specs.Prelude.{slice_index_or, is_some, cond}
 use Rattle.std.specs.BTreeMap.{BTreeMap}
 use Rattle.std.specs.BTreeMap as tree
@@ -137,7 +139,8 @@ updated_at : (id : List ℕ) (index new : BTreeMap HashedId ℕ) (w : Option ℕ
 updated_at id index new w updates q = elim (same_text id q) as (λ b. same_text id q ≡ b → number_by new q
     ≡ cond b w (number_by index q)) [
       | true ↦ λ e. subst (λ (t : List ℕ). number_by new t ≡ w) (same_is id q e) updates.1
-      | false ↦ λ e. others_stay (eq_by_cmp key_cmp) (λ k. is_eq (hashed_cmp (hash_of id) id k)) index.entries new.entries
+      | false ↦ λ e. others_stay (eq_by_cmp key_cmp)
+          (λ k. is_eq (hashed_cmp (hash_of id) id k)) index.entries new.entries
           updates.3 (λ k. is_eq (hashed_cmp (hash_of q) q k)) (key_test (hash_of q) q)
           (λ k. one_id (hash_of id) (hash_of q) id q k e)
     ] refl

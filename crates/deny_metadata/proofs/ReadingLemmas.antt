@@ -1,12 +1,15 @@
 -- Loops that read each in turn: what was read stands before what the rest reads to.
-use Rattle.std.proofs.Common.{◌≡◌, ◌<◌, ◌≤◌, ◌+◌, ℕ, length, drop, add-one, List, [], ◌∷◌, ◌++◌, Result, Ok, Err, refl, sym, ap, ◌∙◌, append_assoc, append-nil, subst}
+use Rattle.std.proofs.Common.{◌≡◌, ◌<◌, ◌≤◌, ◌+◌, ℕ, length, drop, add-one, List, [], ◌∷◌, ◌++◌, Result, Ok, Err, refl}
+use Rattle.std.proofs.Common.{sym, ap, ◌∙◌, append_assoc, append-nil, subst}
 use Rattle.std.specs.Prelude.{slice_index_or, IfErr, IfOk, MatchResult}
 use Rattle.std.specs.Result.{IsErrAnd}
 use Rattle.std.proofs.Math.ListN.{drop_of_length-le}
 use Rattle.std.proofs.Math.Seq.{drop-cons}
 use Rattle.deny_metadata.specs.Reading.{◌>>=◌, Fails, Gives, each, each_passes}
 use Rattle.deny_metadata.specs.declared.fault.MetadataFault.{MetadataFault}
-use Rattle.deny_metadata.specs.declared.fault.MetadataFault.TheVariants.{Json, Float, NoResolve, Shape, DuplicateId, DanglingId, Version, Requirement, Source, ManifestPath, Memory}
+use Rattle.deny_metadata.specs.declared.fault.MetadataFault.TheVariants.{Json, Float, NoResolve, Shape, DuplicateId}
+use Rattle.deny_metadata.specs.declared.fault.MetadataFault.TheVariants.{DanglingId, Version, Requirement, Source}
+use Rattle.deny_metadata.specs.declared.fault.MetadataFault.TheVariants.{ManifestPath, Memory}
 
 abbrev pub with_prefix : {A : Type 0} → List A → Result (List A) MetadataFault → Result (List A) MetadataFault
 with_prefix xs (Ok ys) = Ok (xs ++ ys)

@@ -19,7 +19,8 @@ use Rattle.deny_metadata.specs.declared.document.NodeDependency.{NodeDependency}
 use Rattle.deny_metadata.specs.declared.document.Node.{Node}
 use Rattle.deny_metadata.specs.declared.document.Package.{Package}
 use Rattle.deny_metadata.specs.declared.fault.MetadataFault.{MetadataFault}
-use Rattle.deny_metadata.specs.declared.fault.MetadataFault.TheVariants.{DuplicateId, DanglingId, Version, Requirement, Source, ManifestPath}
+use Rattle.deny_metadata.specs.declared.fault.MetadataFault.TheVariants.{DuplicateId, DanglingId, Version, Requirement}
+use Rattle.deny_metadata.specs.declared.fault.MetadataFault.TheVariants.{Source, ManifestPath}
 
 abbrev pub package_ids : Document → List (List ℕ)
 package_ids doc = map (λ p. p.id) doc.packages

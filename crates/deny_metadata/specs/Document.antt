@@ -1,6 +1,7 @@
 -- Metadata as it stands in the text: the members that are read, in the order in which they are
 -- read. Other members pass unread.
-use Rattle.std.specs.Prelude.{ℕ, List, [], ◌∷◌, true, Option, Some, None, Result, Ok, Err, codes, if◌then◌else◌, is_none, option_and_then}
+use Rattle.std.specs.Prelude.{ℕ, List, [], ◌∷◌, true, Option, Some, None, Result, Ok, Err, codes, if◌then◌else◌}
+use Rattle.std.specs.Prelude.{is_none, option_and_then}
 use Rattle.std.specs.Str.{is_utf8}
 use Rattle.serde_json.specs.Data.{Data, Members, no_members, member}
 use Rattle.serde_json.specs.Find.{get, as_str, as_object}
@@ -9,7 +10,9 @@ use Rattle.serde_json.specs.Written.{has_float}
 use Rattle.deny_base.specs.declared.edge.DepKind.{DepKind}
 use Rattle.deny_base.specs.declared.edge.DepKind.TheVariants.{Normal, Dev, Build}
 use Rattle.deny_model.specs.Text.{same_text}
-use Rattle.deny_metadata.specs.Elements.{part_of, path_to, required, given, object_at, text_at, texts_at, text_member, optional_text, optional_texts, flag_member, array_member, object_member, elements_from, each_member, each_optional}
+use Rattle.deny_metadata.specs.Elements.{part_of, path_to, required, given, object_at, text_at, texts_at, text_member}
+use Rattle.deny_metadata.specs.Elements.{optional_text, optional_texts, flag_member, array_member, object_member}
+use Rattle.deny_metadata.specs.Elements.{elements_from, each_member, each_optional}
 use Rattle.deny_metadata.specs.Member.{name_of}
 use Rattle.deny_metadata.specs.Reading.{◌>>=◌}
 use Rattle.deny_metadata.specs.declared.document.Declaration.{Declaration}
@@ -22,7 +25,12 @@ use Rattle.deny_metadata.specs.declared.document.Package.{Package}
 use Rattle.deny_metadata.specs.declared.document.Target.{Target}
 use Rattle.deny_metadata.specs.declared.fault.MetadataFault.{MetadataFault}
 use Rattle.deny_metadata.specs.declared.fault.MetadataFault.TheVariants.{Json, Float, NoResolve}
-use Rattle.deny_metadata.specs.declared.member.Member.TheVariants.{Packages, WorkspaceMembers, WorkspaceRoot, Resolve, Nodes, Name, Version, Id, ManifestPath, Source, License, RustVersion, Publish, Features, Targets, Dependencies, Req, Kind, Rename, Target as ForTarget, Path, UsesDefaultFeatures, SrcPath, Deps, Pkg, DepKinds}
+use Rattle.deny_metadata.specs.declared.member.Member.TheVariants.{Packages, WorkspaceMembers, WorkspaceRoot, Resolve}
+use Rattle.deny_metadata.specs.declared.member.Member.TheVariants.{Nodes, Name, Version, Id, ManifestPath, Source}
+use Rattle.deny_metadata.specs.declared.member.Member.TheVariants.{License, RustVersion, Publish, Features, Targets}
+use Rattle.deny_metadata.specs.declared.member.Member.TheVariants.{Dependencies, Req, Kind, Rename, Target as ForTarget}
+use Rattle.deny_metadata.specs.declared.member.Member.TheVariants.{Path, UsesDefaultFeatures, SrcPath, Deps, Pkg}
+use Rattle.deny_metadata.specs.declared.member.Member.TheVariants.{DepKinds}
 
 -- the value of a text in UTF-8
 unfoldable pub json_of : Option Data → Result Data MetadataFault

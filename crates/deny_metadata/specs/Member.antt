@@ -1,7 +1,11 @@
 -- The names of the members that are read.
 use Rattle.std.specs.Prelude.{ℕ, List, codes}
 use Rattle.deny_metadata.specs.declared.member.Member.{Member}
-use Rattle.deny_metadata.specs.declared.member.Member.TheVariants.{Packages, WorkspaceMembers, WorkspaceRoot, Resolve, Nodes, Name, Version, Id, ManifestPath, Source, License, RustVersion, Publish, Features, Targets, Dependencies, Req, Kind, Rename, Target, Path, UsesDefaultFeatures, SrcPath, Deps, Pkg, DepKinds}
+use Rattle.deny_metadata.specs.declared.member.Member.TheVariants.{Packages, WorkspaceMembers, WorkspaceRoot, Resolve}
+use Rattle.deny_metadata.specs.declared.member.Member.TheVariants.{Nodes, Name, Version, Id, ManifestPath, Source}
+use Rattle.deny_metadata.specs.declared.member.Member.TheVariants.{License, RustVersion, Publish, Features, Targets}
+use Rattle.deny_metadata.specs.declared.member.Member.TheVariants.{Dependencies, Req, Kind, Rename, Target, Path}
+use Rattle.deny_metadata.specs.declared.member.Member.TheVariants.{UsesDefaultFeatures, SrcPath, Deps, Pkg, DepKinds}
 
 unfoldable pub name_of : Member → List ℕ
 name_of Packages = codes "packages"

@@ -1,7 +1,9 @@
 -- Readers: a value, or the first fault.
 use Rattle.std.specs.Prelude.{◌≡◌, List, [], ◌∷◌, Result, Ok, Err}
 use Rattle.deny_metadata.specs.declared.fault.MetadataFault.{MetadataFault}
-use Rattle.deny_metadata.specs.declared.fault.MetadataFault.TheVariants.{Json, Float, NoResolve, Shape, DuplicateId, DanglingId, Version, Requirement, Source, ManifestPath, Memory}
+use Rattle.deny_metadata.specs.declared.fault.MetadataFault.TheVariants.{Json, Float, NoResolve, Shape, DuplicateId}
+use Rattle.deny_metadata.specs.declared.fault.MetadataFault.TheVariants.{DanglingId, Version, Requirement, Source}
+use Rattle.deny_metadata.specs.declared.fault.MetadataFault.TheVariants.{ManifestPath, Memory}
 
 -- the second step, if the first gave a value
 infixl 10 ◌>>=◌

@@ -10,7 +10,8 @@ use Rattle.deny_model.specs.Graph.{Crate, Graph}
 use Rattle.deny_model.specs.Groups.{group, has_name, is_in_group, is_internal, is_marked, is_rooted, may_stand, reduced}
 use Rattle.deny_model.specs.Match.{matches}
 use Rattle.deny_model.specs.Policy.{Entry, Policy, Root}
-use Rattle.deny_model.specs.Skips.{is_skipped, is_skipped_by_root, is_hit_skip, is_needless, skipped_keys_of, skipped_by_root_keys_of, unmatched_skip_keys, unnecessary_skip_keys}
+use Rattle.deny_model.specs.Skips.{is_skipped, is_skipped_by_root, is_hit_skip, is_needless, skipped_keys_of}
+use Rattle.deny_model.specs.Skips.{skipped_by_root_keys_of, unmatched_skip_keys, unnecessary_skip_keys}
 use Rattle.deny_lists.proofs.Agreement.{AgreeOn, filter_on, list_any_on, same_test}
 
 -- two facts of one policy and graph

@@ -1,7 +1,8 @@
 -- Bans, their wrappers, and the allow list.
 use Rattle.std.specs.Prelude.{◌&&◌, ◌==◌, Bool, not, List, Option, filter, map, find, length, is_none}
 use Rattle.std.specs.List.{flat_map, list_all, list_any}
-use Rattle.deny_base.specs.declared.code.Code.TheVariants.{Banned, Allowed, NotAllowed, AllowedByWrapper, UnmatchedWrapper}
+use Rattle.deny_base.specs.declared.code.Code.TheVariants.{Banned, Allowed, NotAllowed, AllowedByWrapper}
+use Rattle.deny_base.specs.declared.code.Code.TheVariants.{UnmatchedWrapper}
 use Rattle.deny_base.specs.declared.key.Key.{Key}
 use Rattle.deny_model.specs.Graph.{Crate, Graph, dependents}
 use Rattle.deny_model.specs.Keys.{crate_key, dependent_key, no_span}

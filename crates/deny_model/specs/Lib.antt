@@ -6,6 +6,7 @@ pub mod Facts
 pub mod Graph
 pub mod Groups
 pub mod Hits
+pub mod Ids
 pub mod Keys
 pub mod Licensing
 pub mod Match
@@ -15,6 +16,7 @@ pub mod Roots
 pub mod Skips
 pub mod TargetEdge
 pub mod Text
+pub mod TextSets
 pub mod Told
 pub mod VersionOrder
 pub mod View

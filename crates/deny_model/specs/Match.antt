@@ -11,7 +11,8 @@ abbrev pub meets : Option (List Held) → Parts → Bool
 meets None version = true
 meets (Some requirement) version = matches_views requirement version
 
--- whether an entry speaks of crates of this name and version: the names are equal, and the version meets the requirement
+-- whether an entry speaks of crates of this name and version: the names are equal, and the version meets the
+-- requirement
 abbrev pub speaks_of : Spec → List ℕ → Parts → Bool
 speaks_of spec name version = same_text spec.name name && meets spec.requirement version
 

@@ -1,7 +1,8 @@
 -- What is told of skips and skipped trees.
 use Rattle.std.specs.Prelude.{◌&&◌, Bool, not, List, filter, map, length, nat_le}
 use Rattle.std.specs.List.{list_any}
-use Rattle.deny_base.specs.declared.code.Code.TheVariants.{Skipped, SkippedByRoot, UnmatchedSkip, UnnecessarySkip, UnmatchedSkipRoot}
+use Rattle.deny_base.specs.declared.code.Code.TheVariants.{Skipped, SkippedByRoot, UnmatchedSkip, UnnecessarySkip}
+use Rattle.deny_base.specs.declared.code.Code.TheVariants.{UnmatchedSkipRoot}
 use Rattle.deny_base.specs.declared.key.Key.{Key}
 use Rattle.deny_model.specs.Facts.{Facts}
 use Rattle.deny_model.specs.Graph.{Crate, Graph}

@@ -1,16 +1,16 @@
 -- What listing a folder gives: entries behind its front, with names that ascend.
-use Rattle.std.proofs.Common.{◌≡◌, ℕ, ◌&&◌, Bool, true, false, List, [], ◌∷◌, ◌++◌, map, cond, drop, length, Option, None, Some, Result, Ok, Err, T, refl, sym, ap, ◌∙◌, subst, String}
+use Rattle.std.proofs.Common.{◌≡◌, ℕ, ◌&&◌, Bool, true, false, List, [], ◌∷◌, ◌++◌, map, cond, drop, length, Option}
+use Rattle.std.proofs.Common.{None, Some, Result, Ok, Err, T, refl, sym, ap, ◌∙◌, subst, String}
 use Rattle.std.specs.Prelude.{IfOk, IsTrue, MatchOption, option_map, option_copied, nat_eq, unwrap_or}
 use Rattle.std.specs.Borrow.{Bor}
 use Rattle.std.specs.BTreeMap.{BTreeMap, IsOrdered}
-use Rattle.std.specs.Cmp.{tied_itself, nat_cmp_total}
 use Rattle.std.specs.Cmp.Lexicographic.{nat_list_cmp_total, slice_cmp}
 use Rattle.std.specs.FinMap as finite
 use Rattle.std.specs.FinMap.Entries.{below_all, is_sorted}
 use Rattle.std.specs.List.{AllByRecursion, cons_option, filter_map, starts_with}
 use Rattle.std.specs.List.Sorted.{IsStrictlySortedBy}
 use Rattle.std.specs.Option.{option_and_then}
-use Rattle.std.specs.Ordering.{is_lt, nat_cmp, ordering_then}
+use Rattle.std.specs.Ordering.{is_lt, nat_cmp}
 use Rattle.std.specs.Str.Pattern.{FindsTextPrefix, StripsPrefix}
 use Rattle.std.specs.String.{string_cmp}
 use Rattle.std.specs.declared.cmp.Ordering.{Ordering}
@@ -23,7 +23,9 @@ use Rattle.std.proofs.lemmas.Str.Pattern.{starts_text}
 use Rattle.deny_lists.proofs.TextMapLemmas.{texts_tie}
 use Rattle.deny_lists.specs.TextMap.{map_of, with_bytes}
 use Rattle.deny_lists.specs.declared.memory.NoMemory.{NoMemory}
-use Rattle.deny_outside.specs.Children.{AreListed, children, entry_behind, front_of, if_child_name, is_child_name, text_behind}
+use Rattle.deny_lists.proofs.Orders.{slice_cmp-append}
+use Rattle.deny_outside.specs.Children.{AreListed, children, entry_behind, front_of, if_child_name, is_child_name}
+use Rattle.deny_outside.specs.Children.{text_behind}
 use Rattle.deny_outside.specs.Disk.{Files, is_folder}
 use Rattle.deny_outside.specs.declared.disk.Entry.{Entry}
 use Rattle.deny_outside.specs.declared.disk.Place.{Place}
@@ -94,12 +96,6 @@ both : (a b : Bool) → T a → T b → T (a && b)
 both true b p q = q
 both false b p q = p
 
-same_front : (front a b : List ℕ) → slice_cmp nat_cmp (front ++ a) (front ++ b) ≡ slice_cmp nat_cmp a b
-same_front [] a b = refl
-same_front (x ∷ xs) a b =
-    ap (λ o. ordering_then o (slice_cmp nat_cmp (xs ++ a) (xs ++ b))) (tied_itself nat_cmp_total x)
-    ∙ same_front xs a b
-
 names_good : (front : List ℕ) (es : List (List ℕ × Place))
     → AllByRecursion (λ entry. IsTrue (is_child_name entry.name)) (filter_map (entry_behind front) es)
 names_good front [] = tt
@@ -126,7 +122,7 @@ names_above front at first_entry (e ∷ es) here below =
     (map (λ entry. entry.name) (cons_option o others))) [
       | None ↦ λ _. further
       | Some entry ↦ λ is. (
-        sym (same_front front first_entry.name entry.name)
+        sym (slice_cmp-append front first_entry.name entry.name)
             ∙ (λ i. slice_cmp nat_cmp (sym here i) (sym ((behind_of front e entry is).path) i))
             ∙ less _ (first _ _ below),
         further,
@@ -180,7 +176,8 @@ entries_of : {V : Type 0} (es : List (List ℕ × V)) → T (is_sorted (slice_cm
     → finite.entries (finite.from_entries {R = slice_cmp nat_cmp} es) ≡ es
 entries_of es sorted =
     ap finite.entries (finite.same_map nat_list_cmp_total texts_tie (finite.from_entries es) (finite.from_sorted es)
-    (λ q. finite.get-from_entries nat_list_cmp_total es q ∙ sym (finite.get-from_sorted (slice_cmp nat_cmp) es q sorted)))
+    (λ q. finite.get-from_entries nat_list_cmp_total es q
+    ∙ sym (finite.get-from_sorted (slice_cmp nat_cmp) es q sorted)))
     ∙ finite.entries-from_sorted (slice_cmp nat_cmp) es sorted
 
 -- walking the tree of a map gives what its folder holds

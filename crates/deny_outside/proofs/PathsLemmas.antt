@@ -1,5 +1,6 @@
 -- What stands on a disk in memory stands at paths of the form of a file's, or at the root.
-use Rattle.std.proofs.Common.{◌≡◌, ◌+◌, ◌++◌, ◌==◌, ◌||◌, ℕ, suc, true, false, not, List, [], ◌∷◌, None, Some, cond, is_some, length, take, refl, sym, ap, ◌∙◌, subst, arith, append_assoc, length-append}
+use Rattle.std.proofs.Common.{◌≡◌, ◌+◌, ◌++◌, ◌==◌, ◌||◌, ℕ, suc, true, false, not, List, [], ◌∷◌, None, Some, cond}
+use Rattle.std.proofs.Common.{is_some, length, take, refl, sym, ap, ◌∙◌, subst, arith, append_assoc, length-append}
 use Rattle.std.specs.Prelude.{codes, OnErr, OnOk, Result, Ok, Err}
 use Rattle.deny_lists.specs.declared.memory.NoMemory.{NoMemory}
 use Rattle.std.specs.FinMap as finite
@@ -11,7 +12,8 @@ use Rattle.std.specs.Cmp.{Equal-is}
 use Rattle.std.proofs.Math.Seq.{take-append_seam}
 use Rattle.std.proofs.lemmas.Bool.{and_from, and_parts, false≢true, eqb-true, ne_eqb}
 use Rattle.deny_outside.specs.Disk.{Files}
-use Rattle.deny_outside.specs.MemoryDisk.{HoldsPaths, folder_at, folder_before, folders_of, is_held, with_folder, with_folders}
+use Rattle.deny_outside.specs.MemoryDisk.{HoldsPaths, folder_at, folder_before, folders_of, is_held, with_folder}
+use Rattle.deny_outside.specs.MemoryDisk.{with_folders}
 use Rattle.deny_outside.specs.Paths.{is_name, is_path, is_slash, names_behind}
 use Rattle.deny_outside.specs.declared.disk.Place.{Place}
 use Rattle.deny_outside.specs.declared.disk.Place.TheVariants.{Folder}

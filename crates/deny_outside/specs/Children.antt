@@ -1,5 +1,6 @@
 -- What a folder holds, and the paths of its children.
-use Rattle.std.specs.Prelude.{ℕ, ◌&&◌, ◌++◌, not, nat_eq, if◌then◌else◌, Bool, IsTrue, All, List, [], codes, drop, length, map, Option, Some, None, option_map}
+use Rattle.std.specs.Prelude.{ℕ, ◌&&◌, ◌++◌, not, nat_eq, if◌then◌else◌, Bool, IsTrue, All, List, [], codes, drop}
+use Rattle.std.specs.Prelude.{length, map, Option, Some, None, option_map}
 use Rattle.std.specs.Option.{option_and_then}
 use Rattle.std.specs.List.{ends_with, filter_map, list_any, starts_with}
 use Rattle.std.specs.List.Sorted.{IsStrictlySortedBy}

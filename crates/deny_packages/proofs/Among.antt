@@ -16,8 +16,9 @@ use Rattle.deny_outside.specs.Children.{children}
 use Rattle.deny_outside.specs.Disk.{Files}
 use Rattle.deny_outside.specs.declared.disk.Entry.{Entry}
 use Rattle.deny_packages.proofs.Zips.{zip_each, zip_weaker}
-use Rattle.deny_packages.specs.Seen.{AreBoth, ArePackagesSeenBy, Gaps, IsFileSeen, IsFolderUnseen, IsFoundBy, IsKindSeen}
-use Rattle.deny_packages.specs.Seen.{IsPackageSeenBy, IsScriptSeen, IsSumSeen, IsWalkSeen, of_crate, script_asked}
+use Rattle.deny_packages.specs.Seen.{AreBoth, ArePackagesSeenBy, Gaps, IsFileSeen, IsFolderUnseen, IsFoundBy}
+use Rattle.deny_packages.specs.Seen.{IsKindSeen, IsPackageSeenBy, IsScriptSeen, IsSumSeen, IsWalkSeen, of_crate}
+use Rattle.deny_packages.specs.Seen.{script_asked}
 use Rattle.deny_packages.specs.Seen.IsKindSeen.{known, unknown}
 use Rattle.deny_packages.specs.Seen.IsSumSeen.{failed, taken}
 use Rattle.deny_packages.specs.Wanted.{AreWantedPackages, IsFileOf, IsWantedOf}

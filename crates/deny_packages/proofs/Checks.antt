@@ -4,7 +4,8 @@ use Rattle.std.specs.Prelude.{◌&&◌, ◌||◌, None, is_some}
 use Rattle.deny_build_model.specs.Building.{Building}
 use Rattle.deny_build_model.specs.declared.package.Package.{Package}
 use Rattle.deny_build_model.specs.declared.package.Seen.{Seen}
-use Rattle.deny_codes.specs.BuildScripts.{asks_script, is_checked, is_minded, is_script_ok, is_script_right, is_walked, passes_by_script, script_of, wanted_sum}
+use Rattle.deny_codes.specs.BuildScripts.{asks_script, is_checked, is_minded, is_script_ok, is_script_right, is_walked}
+use Rattle.deny_codes.specs.BuildScripts.{passes_by_script, script_of, wanted_sum}
 use Rattle.deny_codes.specs.Members.{is_member}
 use Rattle.deny_model.specs.Graph.{Crate, Graph}
 use Rattle.deny_packages.specs.Seen.{script_asked}

@@ -1,5 +1,6 @@
 -- Which rule decides, by the globs that fit.
-use Rattle.std.proofs.Common.{◌≡◌, ◌∙◌, ◌<◌, ◌≤◌, [], ◌∷◌, ℕ, Bool, List, Option, None, Some, true, false, ap, arith, length, map, option_map, refl, subst, sym}
+use Rattle.std.proofs.Common.{◌≡◌, ◌∙◌, ◌<◌, ◌≤◌, [], ◌∷◌, ℕ, Bool, List, Option, None, Some, true, false, ap, arith}
+use Rattle.std.proofs.Common.{length, map, option_map, refl, subst, sym}
 use Rattle.std.specs.Prelude.{Contains, is_some}
 use Rattle.std.specs.Cmp.Lexicographic.{bytes_decides}
 use Rattle.std.specs.List.{list_any}
@@ -11,8 +12,10 @@ use Rattle.deny_build_cfg.specs.declared.glob_set.ValidGlobSet.{ValidGlobSet}
 use Rattle.deny_build_cfg.specs.declared.pattern.GlobPattern.{GlobPattern}
 use Rattle.deny_build_cfg.specs.declared.valid.ValidBypass.{ValidBypass}
 use Rattle.deny_build_model.specs.Building.{AllowedPath, Building, Bypass, ScriptGlob}
-use Rattle.deny_codes.specs.PackageFiles.{fits_own, fits_script, globs_of, leaves_to_globs, path_of_used, step_allowed, step_by, step_of}
-use Rattle.deny_lists.proofs.Members.{Contains-by_cases, Contains-first, Contains-from_map, Contains-rest, any_from, any_passes, contains_map, no_member}
+use Rattle.deny_codes.specs.PackageFiles.{fits_own, fits_script, globs_of, leaves_to_globs, path_of_used, step_allowed}
+use Rattle.deny_codes.specs.PackageFiles.{step_by, step_of}
+use Rattle.deny_lists.proofs.Members.{Contains-by_cases, Contains-first, Contains-from_map, Contains-rest, any_from}
+use Rattle.deny_lists.proofs.Members.{any_passes, contains_map, no_member}
 use Rattle.deny_model.specs.Policy.{Words}
 use Rattle.deny_model.specs.Text.{same_text}
 use Rattle.deny_tables.specs.declared.bans.cfg.bypass.BypassPath.{BypassPath}

@@ -1,5 +1,6 @@
 -- What is seen of files, one after another, and which entries they have.
-use Rattle.std.proofs.Common.{◌≡◌, ◌∙◌, ◌++◌, ◌∷◌, [], ℕ, Bool, List, Option, Some, true, ap, append-nil, append_assoc, inl, inr, refl, subst, sym}
+use Rattle.std.proofs.Common.{◌≡◌, ◌∙◌, ◌++◌, ◌∷◌, [], ℕ, Bool, List, Option, Some, true, ap, append-nil, append_assoc}
+use Rattle.std.proofs.Common.{inl, inr, refl, subst, sym}
 use Rattle.std.specs.Prelude.{◌↔◌, Contains, not}
 use Rattle.std.specs.List.{AllByRecursion, AllZip}
 use Rattle.std.specs.List.Sorted.{IsStrictlySortedBy}
@@ -29,7 +30,8 @@ use Rattle.deny_packages.specs.Why.{HasCause, IsBecause, Why}
 use Rattle.deny_packages.specs.declared.decide.Asks.{Asks}
 use Rattle.deny_packages.specs.declared.decide.Asks.TheVariants as asks
 use Rattle.deny_packages.specs.private.Deciding.{asks_by}
-use Rattle.deny_packages.specs.private.Entries.{IsFoundFor, asks_of, entries_for, entries_of, entries_of_all, gaps_of, is_failed, noted}
+use Rattle.deny_packages.specs.private.Entries.{IsFoundFor, asks_of, entries_for, entries_of, entries_of_all, gaps_of}
+use Rattle.deny_packages.specs.private.Entries.{is_failed, noted}
 use Rattle.deny_unread.proofs.BoundLemmas.{bound_wider}
 use Rattle.deny_unread.proofs.Later.{failed_wider}
 use Rattle.deny_unread.proofs.ViewLemmas.{is_left_out, stands_there}

@@ -1,5 +1,6 @@
 -- The patterns of the numbers that fit are those that fit.
-use Rattle.std.proofs.Common.{◌≡◌, ◌∙◌, ◌+◌, ◌-◌, ◌<◌, ◌≤◌, [], ◌∷◌, suc, ℕ, List, Option, None, Some, ap, arith, inl, inr, map, refl, subst, sym, Bor}
+use Rattle.std.proofs.Common.{◌≡◌, ◌∙◌, ◌+◌, ◌-◌, ◌<◌, ◌≤◌, [], ◌∷◌, suc, ℕ, List, Option, None, Some, ap, arith, inl}
+use Rattle.std.proofs.Common.{inr, map, refl, subst, sym, Bor}
 use Rattle.std.specs.Prelude.{◌↔◌, Contains, filter_map, slice_get, slice_index}
 use Rattle.std.specs.List.{AllZip, cons_option}
 use Rattle.std.specs.List.Sorted.{IsStrictlyIncreasing}

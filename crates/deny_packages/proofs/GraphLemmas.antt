@@ -1,8 +1,9 @@
 -- The crates of a graph, one after another.
-use Rattle.std.proofs.Common.{◌≡◌, ◌∙◌, ◌+◌, ◌<◌, ◌++◌, ◌∷◌, [], zero, suc, ℕ, List, Option, None, Some, ap, arith, length, sym, take}
+use Rattle.std.proofs.Common.{◌≡◌, ◌∙◌, ◌<◌, ◌∷◌, [], zero, suc, ℕ, List, Option, None, Some, ap, arith, length, sym}
+use Rattle.std.proofs.Common.{take}
 use Rattle.std.specs.Prelude.{◌≢◌, AllPairs, Contains, option_map, slice_get}
 use Rattle.std.proofs.Math.Seq.{take-nil}
-use Rattle.std.proofs.lemmas.List.{length-take, take_more}
+use Rattle.std.proofs.lemmas.List.{length-take}
 use Rattle.std.proofs.lemmas.Option.{get_or_from_slice_get, none-some, same_Some, slice_get_within}
 use Rattle.deny_krates.proofs.ResolutionLemmas.{crates-at}
 use Rattle.deny_krates.proofs.Runs.{length-crates_from}
@@ -10,12 +11,6 @@ use Rattle.deny_krates.specs.Crates.{crate_view, crates_from}
 use Rattle.deny_krates.specs.declared.krate.Krate.{Krate}
 use Rattle.deny_lists.proofs.Members.{there}
 use Rattle.deny_model.specs.Graph.{Crate, Graph}
-
-pub take_next : {X : Type 0} (xs : List X) (n : ℕ) (x : X) → slice_get xs n ≡ Some x
-    → take (n + 1) xs ≡ take n xs ++ x ∷ []
-take_next xs n x at =
-    take_more xs n x (slice_get_within xs n x at)
-    ∙ ap (λ y. take n xs ++ y ∷ []) (get_or_from_slice_get xs n x x at)
 
 record IsInFront {X : Type 0} (xs : List X) (n k : ℕ) (x : X) : Type 0 where
   below : k < n

@@ -1,5 +1,6 @@
 -- What is seen of packages is one, by how what was not read failed.
-use Rattle.std.proofs.Common.{◌≡◌, ◌∙◌, ◌++◌, ◌∷◌, [], ℕ, Bool, List, Option, None, Some, true, false, ap, append_assoc, refl, subst, sym}
+use Rattle.std.proofs.Common.{◌≡◌, ◌∙◌, ◌++◌, ◌∷◌, [], ℕ, Bool, List, Option, None, Some, true, false, ap, append_assoc}
+use Rattle.std.proofs.Common.{refl, subst, sym}
 use Rattle.std.specs.Prelude.{not}
 use Rattle.std.specs.Cmp.Lexicographic.{nat_list_cmp_total}
 use Rattle.std.specs.List.{AllZip, flat_map}
@@ -14,7 +15,8 @@ use Rattle.deny_build_model.specs.declared.package.Seen.{Seen}
 use Rattle.deny_codes.proofs.BuildAlike.{reached_alike}
 use Rattle.deny_codes.specs.BuildScripts.{is_walked, used}
 use Rattle.deny_codes.specs.Facts.{TellsReached}
-use Rattle.deny_codes.specs.PackageFiles.{ByExtension, ByGlob, ByHeader, ByPath, BySum, Step, is_decided_by, leaves_to_globs, path_of_used, step_of}
+use Rattle.deny_codes.specs.PackageFiles.{ByExtension, ByGlob, ByHeader, ByPath, BySum, Step, is_decided_by}
+use Rattle.deny_codes.specs.PackageFiles.{leaves_to_globs, path_of_used, step_of}
 use Rattle.deny_lists.proofs.Sorted.{one_list}
 use Rattle.deny_model.specs.Graph.{Crate, Graph, Target, kid_of}
 use Rattle.deny_outside.specs.Disk.{Files}
@@ -27,7 +29,8 @@ use Rattle.deny_packages.specs.Failures.{failures_in, failures_of, package_failu
 use Rattle.deny_packages.specs.Globs.{AreFitting}
 use Rattle.deny_packages.specs.Globs.AreFitting.{fitting, none, other}
 use Rattle.deny_packages.specs.Seen.{AreBoth, ArePackagesSeen, Gaps, IsFileSeen, IsFolderUnseen, IsFoundBy, IsKindSeen}
-use Rattle.deny_packages.specs.Seen.{IsNotWalked, IsPackageSeenBy, IsScriptSeen, IsSumSeen, IsWalkSeen, of_crate, script_asked}
+use Rattle.deny_packages.specs.Seen.{IsNotWalked, IsPackageSeenBy, IsScriptSeen, IsSumSeen, IsWalkSeen, of_crate}
+use Rattle.deny_packages.specs.Seen.{script_asked}
 use Rattle.deny_packages.specs.Seen.IsKindSeen.{known, unknown}
 use Rattle.deny_packages.specs.Seen.IsSumSeen.{failed, taken}
 use Rattle.deny_packages.specs.Why.{IsOfPurpose, Why}
@@ -326,7 +329,8 @@ module _ (why why_too : Why) (files : Files) (b : Building) (home : Option (List
 -- ---- all packages
 
 pub same_sight : (files : Files) (b : Building) (g : Graph) (reached reached_too : Crate → Bool)
-    (home : Option (List ℕ)) (unread : List Unread) (packages others : List Package) → TellsReached g reached → TellsReached g reached_too
+    (home : Option (List ℕ)) (unread : List Unread) (packages others : List Package) → TellsReached g reached
+    → TellsReached g reached_too
     → ArePackagesSeen (Some files) b reached home g unread packages
     → ArePackagesSeen (Some files) b reached_too home g unread others
     → failures_in packages ≡ failures_in others → packages ≡ others

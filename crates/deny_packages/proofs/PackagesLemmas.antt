@@ -1,20 +1,19 @@
 -- What is seen of packages, crate by crate.
-use Rattle.std.proofs.Common.{◌≡◌, ◌∙◌, ◌++◌, ◌∷◌, ◌+◌, ◌<◌, [], zero, suc, ℕ, Bool, List, Option, Some, ap, arith, get_or, inl, inr, length, refl, subst, sym}
-use Rattle.std.specs.Prelude.{Contains, option_map, slice_get}
+use Rattle.std.proofs.Common.{◌≡◌, ◌∙◌, ◌++◌, ◌∷◌, ◌<◌, [], zero, suc, ℕ, Bool, List, Option, Some, ap, arith, inl, inr}
+use Rattle.std.proofs.Common.{length, refl, subst, sym}
+use Rattle.std.specs.Prelude.{Contains, slice_get}
 use Rattle.std.specs.List.{AllZip}
 use Rattle.std.specs.Option.{option_map_or}
 use Rattle.std.proofs.lemmas.Slice.Zip.{AllZip-long, all_zipped_more}
 use Rattle.std.proofs.lemmas.List.Elements.{Contains-append_cases, Contains-append_left, Contains-append_right}
-use Rattle.std.proofs.lemmas.Option.{same_Some, slice_get-get_or}
+use Rattle.std.proofs.lemmas.Option.{same_Some}
 use Rattle.deny_base.specs.declared.span.Kid.{Kid}
 use Rattle.deny_build_model.specs.Building.{Building}
 use Rattle.deny_build_model.specs.Unseen.{package_at, unseen_package}
 use Rattle.deny_build_model.specs.declared.package.Package.{Package}
-use Rattle.deny_krates.proofs.ResolutionLemmas.{crates_from-at}
-use Rattle.deny_krates.specs.Crates.{crate_view, crates_from}
-use Rattle.deny_krates.specs.declared.krate.Krate.{Krate}
 use Rattle.deny_lists.proofs.Booleans.{tests_agree}
 use Rattle.deny_lists.proofs.Members.{Contains-first, no_member}
+use Rattle.deny_lists.proofs.Places.{slice_get-push}
 use Rattle.deny_model.specs.Crates as crates
 use Rattle.deny_model.specs.Graph.{Crate, Graph, kid_of}
 use Rattle.deny_outside.specs.Disk.{Disk, Files, IsLater}
@@ -53,10 +52,6 @@ get_before : {X : Type 0} (xs : List X) (x : X) (k : ℕ) → k < length xs → 
 get_before [] x k inside = absurd (omega (arith, inside))
 get_before (y ∷ ys) x zero inside = refl
 get_before (y ∷ ys) x (suc k) inside = get_before ys x k (omega (arith, inside))
-
-get_last : {X : Type 0} (xs : List X) (x : X) → slice_get (xs ++ x ∷ []) (length xs) ≡ Some x
-get_last [] x = refl
-get_last (y ∷ ys) x = get_last ys x
 
 -- ---- crates so far
 
@@ -165,7 +160,7 @@ module _ (told : Option Files) (b : Building) (reached : Crate → Bool) (home :
     package_here : p ≡ package_at (packages ++ p ∷ []) c.place
     package_here =
         let at : slice_get (packages ++ p ∷ []) c.place ≡ Some p =
-        ap (slice_get (packages ++ p ∷ [])) (place ∙ sym long) ∙ get_last packages p in
+        ap (slice_get (packages ++ p ∷ [])) (place ∙ sym long) ∙ slice_get-push packages p in
         ap (λ (o : Option Package). option_map_or (λ q. q) o unseen_package) (sym at)
 
     pub so_far_more : AreSoFar end both (cs ++ c ∷ []) (packages ++ p ∷ [])
@@ -223,12 +218,3 @@ module _ (told : Option Files) (b : Building) (reached : Crate → Bool) (home :
         record { crate = one.crate; member = one.member; wanted = one.wanted }
 
 -- ---- the crates of a graph, by their places
-
-pub crate_here : (g : Graph) (ks : List Krate) (place : ℕ) (k : Krate) → crates_from 0 ks ≡ g.crates
-    → place < length ks → k ≡ get_or ks place k → slice_get g.crates place ≡ Some (crate_view place k)
-crate_here g ks place k same inside is =
-    let zero_on : 0 + place ≡ place = omega arith in
-    ap (λ cs. slice_get cs place) (sym same)
-    ∙ crates_from-at 0 ks place
-    ∙ ap (λ n. option_map (crate_view n) (slice_get ks place)) zero_on
-    ∙ ap (option_map (crate_view place)) (slice_get-get_or ks place k inside ∙ ap (λ j. Some j) (sym is))

@@ -1,5 +1,6 @@
 -- What is seen of a file, by what decides of it, and of one file more.
-use Rattle.std.proofs.Common.{◌≡◌, ◌∙◌, ◌+◌, ◌<◌, ◌++◌, ◌∷◌, [], ℕ, List, Option, None, Some, ap, append_assoc, get_or, length, map, not, option_map, refl, subst, sym, take, Bor}
+use Rattle.std.proofs.Common.{◌≡◌, ◌∙◌, ◌+◌, ◌<◌, ◌++◌, ◌∷◌, [], ℕ, List, Option, None, Some, ap, append_assoc, get_or}
+use Rattle.std.proofs.Common.{length, map, not, option_map, refl, subst, sym, take, Bor}
 use Rattle.std.specs.Prelude.{Contains, IfSome}
 use Rattle.std.specs.List.{AllZip}
 use Rattle.std.specs.Option.{option_copied}

@@ -1,5 +1,6 @@
 -- What is seen of a package that is walked.
-use Rattle.std.proofs.Common.{◌≡◌, ◌∙◌, ◌++◌, ◌∷◌, [], ℕ, List, Option, None, Some, true, ap, inl, inr, map, nat_cmp, refl, subst, sym}
+use Rattle.std.proofs.Common.{◌≡◌, ◌∙◌, ◌++◌, ◌∷◌, [], ℕ, List, Option, None, Some, true, ap, inl, inr, map, nat_cmp}
+use Rattle.std.proofs.Common.{refl, subst, sym}
 use Rattle.std.specs.Prelude.{◌↔◌, Contains, IfSome}
 use Rattle.std.specs.Cmp.Lexicographic.{slice_cmp}
 use Rattle.std.specs.List.{AllZip}

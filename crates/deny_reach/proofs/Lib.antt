@@ -1,5 +1,3 @@
-pub mod NeighbourLemmas
-pub mod PlaceLemmas
 pub mod ReachedLemmas
 mod ReachedRows
 pub mod StartLemmas

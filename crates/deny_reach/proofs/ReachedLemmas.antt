@@ -1,21 +1,25 @@
 -- Chains of steps from crates that execute at build time are lists of dependents, from the other end.
-use Rattle.std.proofs.Common.{◌≡◌, ◌<◌, ◌≤◌, ◌+◌, ◌∙◌, ◌++◌, ℕ, zero, suc, List, [], ◌∷◌, Bool, true, Option, Contains, length, map, refl, sym, ap, subst, arith}
+use Rattle.std.proofs.Common.{◌≡◌, ◌<◌, ◌≤◌, ◌+◌, ◌∙◌, ◌++◌, ℕ, zero, suc, List, [], ◌∷◌, Bool, true, Option, Contains}
+use Rattle.std.proofs.Common.{length, map, refl, sym, ap, subst, arith}
 use Rattle.std.specs.Prelude.{All, filter, is_some, sum_by}
 use Rattle.std.specs.List.{list_any}
 use Rattle.std.proofs.lemmas.List.{length-map}
 use Rattle.std.proofs.lemmas.List.Sums.{sum_by-cons}
 use Rattle.std.proofs.lemmas.List.Elements.{All-weaker, All-contains_itself}
 use Rattle.deny_lists.specs.Walk as walk
-use Rattle.deny_lists.proofs.Members.{Contains-filter, Contains-from_filter, Contains-from_map, contains_map, from_there}
-use Rattle.deny_lists.proofs.WalkLemmas.{chain_more, marks_of_distances}
+use Rattle.deny_lists.proofs.Members.{Contains-filter, Contains-from_filter, Contains-from_map, contains_map}
+use Rattle.deny_lists.proofs.Members.{from_there}
+use Rattle.deny_lists.proofs.WalkLemmas.{chain_more, marks_of_distances, reached_below}
 use Rattle.deny_krates.specs.Orderly.{IsOrderly}
 use Rattle.deny_model.specs.Graph.{Crate, Graph, dependencies, dependents, leads}
-use Rattle.deny_reach.specs.Reached.{AreDependentsInTurn, AreReached, IsReached, executes_at_build_time, last_from, pair_count}
+use Rattle.deny_reach.specs.Reached.{AreDependentsInTurn, AreReached, IsReached, executes_at_build_time, last_from}
+use Rattle.deny_reach.specs.Reached.{pair_count}
 use Rattle.deny_reach.specs.private.Executing.{places_executing}
 use Rattle.deny_reach.specs.private.Steps.{HasEdge}
-use Rattle.deny_reach.proofs.NeighbourLemmas.{edge_found, edges_stay, found_edge}
-use Rattle.deny_reach.proofs.PlaceLemmas.{ArePlaced, one_place, place_of, place_within, stands_at}
-use Rattle.deny_reach.proofs.StepLemmas.{reached_below, steps_within}
+use Rattle.deny_krates.proofs.NeighbourLemmas.{edge_found, edges_stay, found_edge}
+use Rattle.deny_krates.specs.Placed.{ArePlaced}
+use Rattle.deny_krates.proofs.PlaceLemmas.{one_place, place_of, place_within, stands_at}
+use Rattle.deny_reach.proofs.StepLemmas.{steps_within}
 
 -- one dependent more at the end
 in_turn_more : (g : Graph) (c : Crate) (ds : List Crate) (r : Crate) → AreDependentsInTurn g c ds

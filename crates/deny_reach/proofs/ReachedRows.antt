@@ -7,7 +7,8 @@ use Rattle.deny_base.specs.declared.edge.DepKind.TheVariants.{Normal, Build}
 use Rattle.deny_base.specs.declared.edge.Edge.{Edge}
 use Rattle.deny_lists.proofs.Members.{Contains-first, no_member}
 use Rattle.deny_model.specs.Graph.{Crate, Graph, dependencies, dependents, leads}
-use Rattle.deny_reach.specs.Reached.{AreDependentsInTurn, IsReached, executes_at_build_time, is_executed_kind, last_from, pair_count}
+use Rattle.deny_reach.specs.Reached.{AreDependentsInTurn, IsReached, executes_at_build_time, is_executed_kind}
+use Rattle.deny_reach.specs.Reached.{last_from, pair_count}
 
 -- a crate with a target of each of these kinds
 crate : ℕ → List ℕ → List (List ℕ) → Crate

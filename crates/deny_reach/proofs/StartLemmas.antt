@@ -1,15 +1,12 @@
 -- The crates that execute at build time, by the targets that the metadata gives.
-use Rattle.std.proofs.Common.{◌≡◌, ◌∙◌, ℕ, List, [], ◌∷◌, Bool, map, refl, ap}
+use Rattle.std.proofs.Common.{◌≡◌, ◌∙◌, ℕ, List, ap}
 use Rattle.std.specs.List.{list_any}
+use Rattle.deny_lists.proofs.Filters.{any-map}
 use Rattle.deny_model.specs.Graph.{Crate}
 use Rattle.deny_krates.specs.Crates.{crate_view, crates_from, target_view}
 use Rattle.deny_krates.specs.declared.krate.Krate.{Krate}
 use Rattle.deny_reach.specs.Reached.{executes_at_build_time}
 use Rattle.deny_reach.specs.private.Executing.{has_executed_kind, places_executing}
-
-any-map : {X Y : Type 0} (p : Y → Bool) (f : X → Y) (xs : List X) → list_any (λ x. p (f x)) xs ≡ list_any p (map f xs)
-any-map p f [] = refl
-any-map p f (x ∷ xs) = rw (any-map p f xs) refl
 
 pub executes_by_view : (place : ℕ) (k : Krate) → list_any (λ t. has_executed_kind (target_view t)) k.targets
     ≡ executes_at_build_time (crate_view place k)

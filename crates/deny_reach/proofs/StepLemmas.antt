@@ -1,10 +1,11 @@
 -- Sums over places that are distinct.
-use Rattle.std.proofs.Common.{◌≡◌, ◌<◌, ◌≤◌, ◌+◌, ◌∙◌, inl, inr, ℕ, zero, suc, List, [], ◌∷◌, Contains, length, refl, sym, ap, subst, arith}
-use Rattle.std.specs.Prelude.{◌≢◌, All, AllPairs, sum_by}
+use Rattle.std.proofs.Common.{◌≡◌, ◌≤◌, ◌+◌, ◌∙◌, inl, inr, ℕ, suc, List, [], ◌∷◌, Contains, length, refl, sym, ap}
+use Rattle.std.proofs.Common.{subst, arith}
+use Rattle.std.specs.Prelude.{◌≢◌, AllPairs, sum_by}
 use Rattle.std.proofs.lemmas.Bool.{cases_eq}
 use Rattle.std.proofs.lemmas.List.Elements.{All-contains}
 use Rattle.std.proofs.lemmas.List.Sums.{sum_by-cons}
-use Rattle.deny_lists.specs.Walk.{Chain, IsReached, StaysBelow, TakesInStepWithReached}
+use Rattle.deny_lists.specs.Walk.{IsReached, TakesInStepWithReached}
 use Rattle.deny_lists.proofs.Members.{Contains-by_cases, Contains-first, Contains-rest, no_member}
 
 -- a sum over numbers of a list, each of them once, is at most the sum over the list: what is left of the list
@@ -51,19 +52,6 @@ sum_within f (p ∷ ps) qs once within =
 sum_of_ones : (ps : List ℕ) → sum_by (λ _. 1) ps ≡ length ps
 sum_of_ones [] = refl
 sum_of_ones (p ∷ ps) = omega (arith, sum_of_ones ps, sum_by-cons (λ (_ : ℕ). 1) p ps)
-
--- chains of steps from places below the count end below it
-chain_below : (leads : ℕ → ℕ → Type 0) (count : ℕ) → StaysBelow leads count → (n a b : ℕ) → a < count
-    → Chain leads a b n → b < count
-chain_below leads count stays zero a b below chain = subst (λ (m : ℕ). m < count) chain below
-chain_below leads count stays (suc n) a b below chain = chain_below leads count stays n chain.0 b
-    (stays a chain.0 below chain.1) chain.2
-
-pub reached_below : (leads : ℕ → ℕ → Type 0) (count : ℕ) (roots : List ℕ) → StaysBelow leads count
-    → All (λ root. root < count) roots → (place : ℕ) → IsReached leads roots place → place < count
-reached_below leads count roots stays below place there =
-    let root = All-contains (λ root. root < count) roots there.led.root below there.led.is_root in
-    chain_below leads count stays there.steps there.led.root place root there.led.chain
 
 -- the steps of a walk are no more than all places and their degrees
 pub steps_within : (leads : ℕ → ℕ → Type 0) (roots : List ℕ) (degree : ℕ → ℕ) (all : List ℕ) (before after : ℕ)

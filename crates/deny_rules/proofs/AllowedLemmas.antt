@@ -1,5 +1,6 @@
 -- What stands of the allow list is what the code adds.
-use Rattle.std.proofs.Common.{◌≡◌, ◌+◌, ◌++◌, ◌<◌, ℕ, Bool, true, false, not, List, [], ◌∷◌, filter, get_or, length, map, take, refl, sym, ap, ◌∙◌, arith}
+use Rattle.std.proofs.Common.{◌≡◌, ◌+◌, ◌++◌, ◌<◌, ℕ, Bool, true, false, not, List, [], ◌∷◌, filter, get_or, length}
+use Rattle.std.proofs.Common.{map, take, refl, sym, ap, ◌∙◌, arith}
 use Rattle.std.specs.Prelude.{◌&&◌, ◌||◌, ◌==◌}
 use Rattle.std.specs.List.{flat_map, list_any, range_with_len}
 use Rattle.std.proofs.lemmas.Bool.{ne_eqb}
@@ -16,7 +17,7 @@ use Rattle.deny_facts.specs.Marks.{mark_at, marked}
 use Rattle.deny_facts.specs.Placed.{ArePlaced}
 use Rattle.deny_lists.proofs.Filters.{filter-filter, filter-map, filter-none}
 use Rattle.deny_facts.proofs.MarkLemmas.{any_next_view, marked-is}
-use Rattle.deny_facts.proofs.PlaceLemmas.{place_of}
+use Rattle.deny_krates.proofs.PlaceLemmas.{place_of}
 
 pub allowed_are : (g : Graph) (e : Entry) (places : List ℕ) → places ≡ map place_of (filter (matches e.spec) g.crates)
     → map (λ place. crate_key Allowed place e.spec.range) places ≡ allowed_keys_of g e

@@ -4,7 +4,8 @@ use Rattle.std.specs.List.{flat_map}
 use Rattle.std.proofs.lemmas.List.Elements.{Contains-append_cases, Contains-append_left, Contains-append_right}
 use Rattle.deny_lists.specs.Ascending.{Adds}
 use Rattle.deny_base.specs.declared.key.Key.{Key}
-use Rattle.deny_model.specs.Bans.{allowed_by_wrapper_keys_of, allowed_keys_of, banned_keys_of, not_allowed_keys, unmatched_wrapper_keys_of}
+use Rattle.deny_model.specs.Bans.{allowed_by_wrapper_keys_of, allowed_keys_of, banned_keys_of, not_allowed_keys}
+use Rattle.deny_model.specs.Bans.{unmatched_wrapper_keys_of}
 use Rattle.deny_model.specs.Graph.{Graph}
 use Rattle.deny_model.specs.Policy.{Ban, Policy}
 use Rattle.deny_model.specs.Wrappers.{unused_wrapper_keys_of}

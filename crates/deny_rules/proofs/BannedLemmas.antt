@@ -1,12 +1,15 @@
 -- What stands of an entry that bans crates is what the code adds.
-use Rattle.std.proofs.Common.{◌≡◌, ◌++◌, ℕ, Bool, true, false, not, List, [], ◌∷◌, Contains, Option, Some, None, filter, length, map, refl, sym, ap, ◌∙◌, subst, inl, inr, append_assoc, arith}
+use Rattle.std.proofs.Common.{◌≡◌, ◌++◌, ℕ, Bool, true, false, not, List, [], ◌∷◌, Contains, Option, Some, None, filter}
+use Rattle.std.proofs.Common.{length, map, refl, sym, ap, ◌∙◌, subst, inl, inr, append_assoc, arith}
 use Rattle.std.specs.Prelude.{◌&&◌, ◌==◌, option_map}
 use Rattle.std.specs.List.{flat_map, list_all, list_any}
 use Rattle.std.specs.Option.{option_map_or}
 use Rattle.std.proofs.Math.Path.{fun_ext}
-use Rattle.std.proofs.lemmas.Bool.{and_from, and_parts, cases_Bool, eqb-true, false≢true, ne_eqb, not-false, not_from_false, not-true}
+use Rattle.std.proofs.lemmas.Bool.{and_from, and_parts, cases_Bool, eqb-true, false≢true, ne_eqb, not-false}
+use Rattle.std.proofs.lemmas.Bool.{not_from_false, not-true}
 use Rattle.std.proofs.lemmas.List.{append-nil}
-use Rattle.std.proofs.lemmas.List.Elements.{Contains-append_cases, Contains-append_left, Contains-append_right, filter_agree}
+use Rattle.std.proofs.lemmas.List.Elements.{Contains-append_cases, Contains-append_left, Contains-append_right}
+use Rattle.std.proofs.lemmas.List.Elements.{filter_agree}
 use Rattle.std.proofs.lemmas.Simd.{map-map}
 use Rattle.deny_lists.specs.Ascending.{Adds, Lists}
 use Rattle.deny_base.specs.KeyOrder.{span_cmp}
@@ -14,7 +17,9 @@ use Rattle.deny_lists.specs.TextMap.{TextFinMap}
 use Rattle.deny_base.specs.declared.code.Code.TheVariants.{AllowedByWrapper, Banned, UnmatchedWrapper, UnusedWrapper}
 use Rattle.deny_base.specs.declared.key.Key.{Key}
 use Rattle.deny_base.specs.declared.span.Span.{Span}
-use Rattle.deny_model.specs.Bans.{allowed_by_wrapper_keys_at, allowed_by_wrapper_keys_of, banned_keys_of, concerns, has_wrappers, is_banned, is_exempt, is_lifted, is_wrapped, is_wrapper, unmatched_wrapper_keys_at, unmatched_wrapper_keys_of, wrapper_of}
+use Rattle.deny_model.specs.Bans.{allowed_by_wrapper_keys_at, allowed_by_wrapper_keys_of, banned_keys_of, concerns}
+use Rattle.deny_model.specs.Bans.{has_wrappers, is_banned, is_exempt, is_lifted, is_wrapped, is_wrapper}
+use Rattle.deny_model.specs.Bans.{unmatched_wrapper_keys_at, unmatched_wrapper_keys_of, wrapper_of}
 use Rattle.deny_model.specs.Graph.{Crate, Graph, dependents}
 use Rattle.deny_model.specs.Keys.{crate_key, dependent_key, unused_key}
 use Rattle.deny_model.specs.Match.{matches}
@@ -22,14 +27,17 @@ use Rattle.deny_model.specs.Policy.{Ban, Policy, Words}
 use Rattle.deny_model.specs.Wrappers.{hits_wrapper, is_hit_wrapper, same_span, unused_wrapper_keys_of, wraps}
 use Rattle.deny_lists.proofs.Agreement.{filter_on}
 use Rattle.deny_facts.specs.Wrappers.{AreFirst, range_of}
-use Rattle.deny_rules.specs.private.Banned.{hits_at, is_hit, is_lifted_at, keys_of_ban, places_concerned, told_code, told_key, told_keys_at}
+use Rattle.deny_rules.specs.private.Banned.{hits_at, is_hit, is_lifted_at, keys_of_ban, places_concerned, told_code}
+use Rattle.deny_rules.specs.private.Banned.{told_key, told_keys_at}
 use Rattle.deny_facts.specs.Marks.{marked}
 use Rattle.deny_facts.specs.Placed.{ArePlaced}
 use Rattle.deny_lists.proofs.Adding.{adds_both, adds_list, adds_same}
 use Rattle.deny_lists.proofs.Filters.{filter-all, filter-filter, filter-map, filter-none}
 use Rattle.deny_facts.proofs.WrapperLemmas.{has-wrapper, range-wrapper}
 use Rattle.deny_facts.proofs.MarkLemmas.{marked-is}
-use Rattle.deny_lists.proofs.Members.{Contains-filter, Contains-filter_map, Contains-flat_map, Contains-from_filter, Contains-from_flat_map, Contains-from_map, any_from, any_passes, contains_map, from_filter_map}
+use Rattle.deny_lists.proofs.Members.{Contains-filter, Contains-filter_map, Contains-flat_map, Contains-from_filter}
+use Rattle.deny_lists.proofs.Members.{Contains-from_flat_map, Contains-from_map, any_from, any_passes, contains_map}
+use Rattle.deny_lists.proofs.Members.{from_filter_map}
 use Rattle.deny_lists.proofs.Booleans.{tests_agree}
 
 -- the places that are found are those of the crates that an entry concerns

@@ -13,9 +13,8 @@ use Rattle.deny_build_model.specs.Building.{AllowedPath, Bypass}
 use Rattle.deny_build_model.specs.declared.package.Package.{Package}
 use Rattle.deny_build_model.specs.declared.package.PackageFile.{PackageFile}
 use Rattle.deny_build_model.specs.declared.package.Seen.{Seen}
-use Rattle.deny_lists.proofs.Each.{all_append, all_flat, all_mapped}
+use Rattle.deny_lists.proofs.Each.{all_append, all_flat, all_mapped, all_from_members}
 use Rattle.deny_lists.proofs.Members.{at_member}
-use Rattle.deny_codes.proofs.Parts.{each_from}
 use Rattle.deny_model.specs.Graph.{Crate}
 use Rattle.deny_model.specs.Keys.{crate_key, key_of, no_span}
 use Rattle.deny_model.specs.Policy as policy
@@ -24,10 +23,10 @@ use Rattle.deny_codes.specs.BuildScripts.{required_unknown, used, wanted_sum}
 use Rattle.deny_codes.specs.PackageFiles.{ChecksumMatch, ChecksumMismatch, Class, DeniedByExtension, DetectedExecutable}
 use Rattle.deny_codes.specs.PackageFiles.{DetectedExecutableScript, Harmless, PathBypassed, PathBypassedByGlob}
 use Rattle.deny_codes.specs.PackageFiles.{UnableToCheckPath, class_of, path_range}
-use Rattle.deny_codes.specs.Packages.{Looking, checks, class_keys, denied_script_keys, features_enabled_keys}
-use Rattle.deny_codes.specs.Packages.{file_keys, folder_key, package_keys, package_of, path_key, right_script_keys}
-use Rattle.deny_codes.specs.Packages.{script_keys, script_shown, sum_keys, unmatched_glob_keys, unmatched_keys}
-use Rattle.deny_codes.specs.Packages.{unmatched_path_keys, walked_keys, walks}
+use Rattle.deny_codes.specs.Packages.{Looking, checks, class_keys, denied_script_keys, features_enabled_keys, file_keys}
+use Rattle.deny_codes.specs.Packages.{folder_key, package_keys, package_of, path_key, right_script_keys, script_keys}
+use Rattle.deny_codes.specs.Packages.{script_shown, sum_keys, unmatched_glob_keys, unmatched_keys, unmatched_path_keys}
+use Rattle.deny_codes.specs.Packages.{walked_keys, walks}
 
 abbrev IsOfCrates : Key → Type 0
 IsOfCrates key = key.section ≡ section.Crates
@@ -46,11 +45,11 @@ path_is d place entry shown = refl
 -- ---- lists of them
 
 of_map : {X : Type 0} (f : X → Key) (xs : List X) → ((x : X) → IsOfCrates (f x)) → Are (map f xs)
-of_map f xs each = all_mapped IsOfCrates f xs (each_from (λ x. IsOfCrates (f x)) xs (λ x is. each x))
+of_map f xs each = all_mapped IsOfCrates f xs (all_from_members (λ x. IsOfCrates (f x)) xs (λ x is. each x))
 
 of_flat : {X : Type 0} (f : X → List Key) (xs : List X) → ((x : X) → Are (f x)) → Are (flat_map f xs)
 of_flat f xs each = all_flat (λ x. Are (f x)) IsOfCrates f (λ x all. all) xs
-    (each_from (λ x. Are (f x)) xs (λ x is. each x))
+    (all_from_members (λ x. Are (f x)) xs (λ x is. each x))
 
 of_if : (b : Bool) (these those : List Key) → Are these → Are those → Are (if b then these else those)
 of_if true these those one other = one

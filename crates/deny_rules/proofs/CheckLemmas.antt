@@ -1,11 +1,12 @@
 -- What the bans check hands out: first what the other rules give, and then what stands of replaced crates.
-use Rattle.std.proofs.Common.{List, [], None, Option, Some, ap, append-nil, false, inl, inr, length, map, refl, suc, sym, take, zero, ℕ, ◌++◌, ◌+◌, ◌∙◌, ◌∷◌, ◌≡◌}
+use Rattle.std.proofs.Common.{List, [], None, Option, Some, ap, append-nil, false, inl, inr, length, map, refl, suc}
+use Rattle.std.proofs.Common.{sym, take, zero, ℕ, ◌++◌, ◌+◌, ◌∙◌, ◌∷◌, ◌≡◌}
 use Rattle.std.proofs.Math.Seq.{take-append-add}
 use Rattle.std.proofs.lemmas.List.{append_assoc, map-append}
 use Rattle.std.proofs.lemmas.List.Elements.{All-contains_itself, All-take, filter-append}
 use Rattle.std.specs.Option.{option_map_or}
 use Rattle.std.specs.List.Sorted.{IsStrictlySortedBy}
-use Rattle.std.specs.Prelude.{Err, IsTrue, Ok, OnErr, Result, filter}
+use Rattle.std.specs.Prelude.{IsTrue, filter}
 use Rattle.deny_lists.specs.Ascending.{Lists}
 use Rattle.deny_base.specs.KeyOrder.{key_cmp}
 use Rattle.deny_base.specs.declared.code.Code.{Code}
@@ -99,10 +100,6 @@ hits_then c facts one two all first second third =
     ∙ (ap (λ (hits : List Hit). hits ++ bypass_hits_in c facts)
     (second ∙ ap (λ (hits : List Hit). hits ++ ignore_hits_in c) first)
     ∙ append_assoc (all_hits c.policy c.graph facts.chains) (ignore_hits_in c) (bypass_hits_in c facts))
-
-pub on_error : {T E P : Type 0} (r : Result T E) → P → OnErr r P
-on_error (Ok x) is = tt
-on_error (Err e) is = is
 
 -- ---- what was found
 

@@ -1,5 +1,6 @@
 -- What a ban tells of the direct dependents of a crate.
-use Rattle.std.proofs.Common.{◌≡◌, ◌++◌, ℕ, Bool, true, List, Contains, Some, is_some, map, slice_get, refl, sym, ap, ◌∙◌, subst}
+use Rattle.std.proofs.Common.{◌≡◌, ◌++◌, ℕ, Bool, true, List, Contains, Some, is_some, map, slice_get, refl, sym, ap}
+use Rattle.std.proofs.Common.{◌∙◌, subst}
 use Rattle.std.specs.Prelude.{◌==◌, filter_map}
 use Rattle.std.specs.List.{list_all}
 use Rattle.std.proofs.lemmas.Bool.{and_from, eq-eqb}
@@ -12,14 +13,15 @@ use Rattle.deny_krates.specs.declared.krate.DirectDependent.{DirectDependent}
 use Rattle.deny_model.specs.Graph.{Crate, Graph, dependents}
 use Rattle.deny_model.specs.Keys.{dependent_key}
 use Rattle.deny_model.specs.Wrappers.{same_span}
+use Rattle.deny_model.proofs.SpanLemmas.{same-span}
 use Rattle.deny_facts.specs.Wrappers.{has_range, range_at, range_of}
 use Rattle.deny_rules.specs.private.Banned.{hits_at, is_hit, is_lifted_at, told_code, told_key, told_keys_at}
 use Rattle.deny_facts.specs.Placed.{ArePlaced}
 use Rattle.deny_lists.proofs.Adding.{adds_list, adds_same}
-use Rattle.deny_lists.proofs.Members.{Contains-filter_map, Contains-from_map, any_from, any_passes, contains_map, from_filter_map}
+use Rattle.deny_lists.proofs.Members.{Contains-filter_map, Contains-from_map, any_from, any_passes, contains_map}
+use Rattle.deny_lists.proofs.Members.{from_filter_map}
 use Rattle.deny_lists.proofs.Booleans.{tests_agree}
 use Rattle.deny_facts.proofs.DependentLemmas.{all-tested, kept_of, parent_of, range-there, test-there}
-use Rattle.deny_facts.proofs.SpanLemmas.{same-span}
 
 -- the key of the direct dependent at a place
 abbrev pub key_at : Graph → TextFinMap Span → Span → ℕ → ℕ → Key

@@ -1,5 +1,6 @@
 -- Crates of one name that stand side by side, name by name.
-use Rattle.std.proofs.Common.{◌≡◌, ◌≢◌, ◌⊎◌, ℕ, ◌-◌, ◌≤◌, not, List, [], ◌++◌, Contains, length, take, drop, map, filter, Option, Some, None, refl, sym, ap, ◌∙◌, subst, inl, inr, arith, ltb, cond}
+use Rattle.std.proofs.Common.{◌≡◌, ◌≢◌, ◌⊎◌, ℕ, ◌-◌, ◌≤◌, not, List, [], ◌++◌, Contains, length, take, drop, map}
+use Rattle.std.proofs.Common.{filter, Option, Some, None, refl, sym, ap, ◌∙◌, subst, inl, inr, arith, ltb, cond}
 use Rattle.std.specs.List.{list_any}
 use Rattle.std.specs.Option.{option_to_list}
 use Rattle.std.proofs.lemmas.Bool.{cases_Bool, cond-true, cond-false, le-ltb, ltb-false}
@@ -19,7 +20,8 @@ use Rattle.deny_model.specs.Keys.{duplicate_key}
 use Rattle.deny_model.specs.Policy.{Policy}
 use Rattle.deny_model.specs.VersionOrder.{version_cmp}
 use Rattle.deny_lists.proofs.Agreement.{filter_on, list_any_on}
-use Rattle.deny_rules.specs.private.Duplicates.{AddsDuplicates, AddsKey, IsKeyOfCrates, IsKeyOfName, IsDuplicatePolicy, is_unmarked, is_unmarked_at, key_at, key_of_group, level_at}
+use Rattle.deny_rules.specs.private.Duplicates.{AddsDuplicates, AddsKey, IsKeyOfCrates, IsKeyOfName, IsDuplicatePolicy}
+use Rattle.deny_rules.specs.private.Duplicates.{is_unmarked, is_unmarked_at, key_at, key_of_group, level_at}
 use Rattle.deny_facts.specs.Marks.{marked}
 use Rattle.deny_facts.specs.Placed.{ArePlaced}
 use Rattle.deny_rules.specs.declared.duplicates.DuplicatePolicy.{DuplicatePolicy}

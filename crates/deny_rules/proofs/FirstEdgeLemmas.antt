@@ -1,5 +1,6 @@
 -- The first wrapped edge of each range, kept as wrapped edges come.
-use Rattle.std.proofs.Common.{◌≡◌, ◌++◌, ◌+◌, ◌<◌, ℕ, List, [], ◌∷◌, Bool, true, false, Option, None, Some, cond, find, get_or, is_some, length, take, refl, sym, ap, ◌∙◌, subst}
+use Rattle.std.proofs.Common.{◌≡◌, ◌++◌, ◌+◌, ◌<◌, ℕ, List, [], ◌∷◌, Bool, true, false, Option, None, Some, cond, find}
+use Rattle.std.proofs.Common.{get_or, is_some, length, take, refl, sym, ap, ◌∙◌, subst}
 use Rattle.std.specs.BTreeMap.{BTreeMap}
 use Rattle.std.specs.BTreeMap as tree
 use Rattle.std.specs.Option.{option_or}
@@ -9,7 +10,7 @@ use Rattle.std.proofs.lemmas.List.Folds.{find-append}
 use Rattle.deny_base.specs.KeyOrder.{span_cmp}
 use Rattle.deny_base.specs.declared.span.Span.{Span}
 use Rattle.deny_model.specs.Wrappers.{same_span}
-use Rattle.deny_facts.proofs.SpanLemmas.{same-span, ties}
+use Rattle.deny_model.proofs.SpanLemmas.{same-span, is_eq-span_cmp}
 use Rattle.deny_rules.specs.private.WrappedEdges.{LeadToFirsts, first_wrapped_edge}
 use Rattle.deny_rules.specs.declared.hits.WrappedEdge.{WrappedEdge}
 
@@ -58,7 +59,7 @@ module _ (edges : List WrappedEdge) (i : ℕ) (m other : WrappedEdge) (old : BTr
       → LeadToFirsts (take (i + 1) edges) new
   firsts_more new free updates = record {
     at = λ range.
-        (updates range ∙ ap (λ b. cond b (Some m) (tree.get span_cmp old range)) (ties m.range range))
+        (updates range ∙ ap (λ b. cond b (Some m) (tree.get span_cmp old range)) (is_eq-span_cmp m.range range))
         ∙ (new_at (tree.get span_cmp old range) (first_wrapped_edge (take i edges) range) (same_span m.range range) m
         (leads.at range)
         (λ same. subst (λ (r : Span). is_some (tree.get span_cmp old r) ≡ false) (same-span m.range range same) free)

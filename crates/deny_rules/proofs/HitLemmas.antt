@@ -1,13 +1,13 @@
 -- The first witnesses of entries, and the wrapped edges of wrappers that give theirs.
-use Rattle.std.proofs.Common.{◌≡◌, ◌+◌, ◌<◌, ℕ, zero, suc, List, [], ◌∷◌, Bool, true, false, not, Option, None, Some, Contains, length, filter, find, map, refl, sym, ap, ◌∙◌, subst, inl, inr, arith, rules, tests}
+use Rattle.std.proofs.Common.{◌≡◌, ℕ, List, [], ◌∷◌, Bool, true, false, not, Option, None, Some, Contains, length}
+use Rattle.std.proofs.Common.{filter, find, map, refl, sym, ap, ◌∙◌, subst, inl, inr}
 use Rattle.std.specs.Prelude.{◌&&◌, filter_map, option_and_then, option_map, slice_get}
 use Rattle.std.specs.BTreeMap.{BTreeMap}
 use Rattle.std.specs.Cmp.{nat_cmp_total}
-use Rattle.std.specs.List.{AllByRecursion, list_any, range_with_len}
+use Rattle.std.specs.List.{list_any, range_with_len}
 use Rattle.std.specs.List.Sorted.{IsStrictlySortedBy}
 use Rattle.std.specs.Option.{option_map_or}
 use Rattle.std.specs.Ordering.{nat_cmp}
-use Rattle.std.specs.declared.cmp.Ordering.TheVariants.{Less}
 use Rattle.std.proofs.Math.Bool.{and_comm}
 use Rattle.std.proofs.lemmas.Bool.{cases_Bool}
 use Rattle.std.proofs.lemmas.List.Elements.{All-contains}
@@ -29,18 +29,21 @@ use Rattle.deny_model.specs.Match.{matches}
 use Rattle.deny_model.specs.Policy.{Ban, Policy, Words}
 use Rattle.deny_model.specs.Told.{crate_at}
 use Rattle.deny_model.specs.Wrappers.{hits_wrapper, same_span, wraps}
+use Rattle.deny_model.proofs.SpanLemmas.{same-span}
 use Rattle.deny_lists.proofs.Agreement.{filter_map_on, find_on, found_on, list_any_on}
 use Rattle.deny_facts.specs.Wrappers.{AreFirst, range_at, range_of}
 use Rattle.deny_facts.specs.Marks.{mark_at, marked}
-use Rattle.deny_rules.specs.private.WrappedEdges.{LeadToFirsts, first_wrapped_edge, hit_at, hit_by, wrapped_edge_at, wrapped_edges_at, wrapped_edges_of, wrapper_hits}
+use Rattle.deny_rules.specs.private.WrappedEdges.{LeadToFirsts, first_wrapped_edge, hit_at, hit_by, wrapped_edge_at}
+use Rattle.deny_rules.specs.private.WrappedEdges.{wrapped_edges_at, wrapped_edges_of, wrapper_hits}
 use Rattle.deny_rules.specs.declared.hits.WrappedEdge.{WrappedEdge}
-use Rattle.deny_facts.proofs.DependentLemmas.{dependent_stands}
-use Rattle.deny_lists.proofs.Filters.{and_then-and_then, any-filter_map, filter-map, filter_map-map, find-filter, find-filter_map, find-flat_map, find-map, first-filter, map-and_then, passes}
+use Rattle.deny_lists.proofs.Filters.{and_then-and_then, any-filter_map, filter-map, filter_map-map, find-filter}
+use Rattle.deny_lists.proofs.Filters.{find-filter_map, find-flat_map, find-map, first-filter, map-and_then, passes}
+use Rattle.deny_lists.proofs.Numbers.{range_with_len-ascends}
 use Rattle.deny_facts.proofs.WrapperLemmas.{range-wrapper}
 use Rattle.deny_facts.specs.Placed.{ArePlaced}
 use Rattle.deny_facts.proofs.MarkLemmas.{marked-is}
-use Rattle.deny_facts.proofs.PlaceLemmas.{place_of}
-use Rattle.deny_facts.proofs.SpanLemmas.{same-span}
+use Rattle.deny_krates.proofs.PlaceLemmas.{place_of}
+use Rattle.deny_krates.proofs.NeighbourLemmas.{dependent_stands}
 
 -- the crate that is found first, looked up at its place
 looked-up-in : (crates xs : List Crate) (p : Crate → Bool) → ((c : Crate) → Contains xs c
@@ -74,16 +77,6 @@ first-of g p placed =
     ∙ ap (option_map place_of) (first-filter p g.crates))
     ∙ looked-up g p placed
 
--- numbers in their order ascend
-above : (a n b : ℕ) → b < a → AllByRecursion (λ z. nat_cmp b z ≡ Less) (range_with_len a n)
-above a zero b below = tt
-above a (suc n) b below = (search (rules, tests), above (a + 1) n b (omega arith))
-
-ascends : (a n : ℕ) → IsStrictlySortedBy nat_cmp (range_with_len a n)
-unfolding IsStrictlySortedBy
-ascends a zero = tt
-ascends a (suc n) = (above (a + 1) n a (omega arith), ascends (a + 1) n)
-
 -- the places of a crate's dependents in order, whatever the order in which they are kept
 pub by_place : (g : Graph) (place : ℕ) (ds : List DirectDependent) → ArePlaced g.crates → AreDirectDependents g place ds
     → (places : List ℕ) → Lists nat_cmp (Contains (map (λ d. d.place) ds)) places
@@ -94,7 +87,7 @@ by_place g place ds placed direct places listed = one_list nat_cmp_total places 
       ascending = subst (IsStrictlySortedBy nat_cmp)
           (ap (filter leads_here) (sym placed.places) ∙ filter-map leads_here place_of g.crates)
           (IsStrictlySortedBy-filter nat_cmp leads_here (range_with_len 0 (length g.crates))
-          (ascends 0 (length g.crates)));
+          (range_with_len-ascends 0 (length g.crates)));
       whole = λ n is. let of = from_contains_map (λ (d : DirectDependent). d.place) ds n is in
           subst (λ (m : ℕ). Contains (map place_of (dependents g place)) m) of.2
           (All-contains (λ (d : DirectDependent). Contains

@@ -7,8 +7,8 @@ use Rattle.std.specs.Ordering.{ordering_reverse}
 use Rattle.std.specs.Prelude.{Contains}
 use Rattle.std.specs.declared.cmp.Ordering.{Ordering}
 use Rattle.std.specs.declared.cmp.Ordering.TheVariants.{Equal, Greater, Less}
-use Rattle.deny_codes.proofs.Parts.{each_from, lists_same}
-use Rattle.deny_lists.proofs.Each.{all_weaker}
+use Rattle.deny_codes.proofs.Parts.{lists_same}
+use Rattle.deny_lists.proofs.Each.{all_weaker, all_from_members}
 use Rattle.deny_lists.proofs.Members.{Contains-cases, Contains-first, Contains-rest, at_member, no_member}
 use Rattle.deny_lists.specs.Ascending.{Lists}
 
@@ -60,7 +60,7 @@ module _ {T : Type 0} {cmp : T → T → Ordering} (total : IsTotalOrder cmp) (e
     list = y ∷ rest.list;
     listed = record {
       ascending = (
-        each_from (λ z. cmp y z ≡ Less) rest.list
+        all_from_members (λ z. cmp y z ≡ Less) rest.list
             (λ z is. elim (rest.listed.sound z is) as (λ _. cmp y z ≡ Less) [
               | inl same ↦ subst (λ w. cmp y w ≡ Less) same below
               | inr there ↦ at_member (λ w. cmp y w ≡ Less) ys z up.0 there

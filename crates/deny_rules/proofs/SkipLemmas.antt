@@ -1,5 +1,6 @@
 -- Crates and their marks, as skips and skipped trees look at them.
-use Rattle.std.proofs.Common.{◌≡◌, ◌++◌, ◌∷◌, ℕ, List, [], Bool, true, false, not, filter, length, map, refl, sym, ap, ◌∙◌, append-nil, append_assoc}
+use Rattle.std.proofs.Common.{◌≡◌, ◌++◌, ◌∷◌, ℕ, List, [], Bool, true, false, not, filter, length, map, refl, sym, ap}
+use Rattle.std.proofs.Common.{◌∙◌, append-nil, append_assoc}
 use Rattle.std.specs.Prelude.{◌&&◌, nat_lt, slice_index_or}
 use Rattle.std.specs.List.{flat_map, list_any, range_with_len}
 use Rattle.std.proofs.Math.Bool.{and_comm}
@@ -16,7 +17,7 @@ use Rattle.deny_rules.specs.private.Skipping.{is_left_out}
 use Rattle.deny_facts.specs.declared.facts.Marks.{Marks}
 use Rattle.deny_lists.proofs.Filters.{filter-filter, filter-map, filter-none, some-filter}
 use Rattle.deny_facts.proofs.MarkLemmas.{marked-is}
-use Rattle.deny_facts.proofs.PlaceLemmas.{place_of}
+use Rattle.deny_krates.proofs.PlaceLemmas.{place_of}
 
 -- the marked ones of some crates, by their places
 pub marked-places : (marks : List Bool) (p : Crate → Bool) (crates : List Crate)

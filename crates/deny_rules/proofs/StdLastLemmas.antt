@@ -4,9 +4,7 @@ use Rattle.std.proofs.lemmas.Bool.{false≢true}
 use Rattle.std.proofs.lemmas.List.Elements.{Contains-append_cases}
 use Rattle.std.specs.List.{AllByRecursion, flat_map}
 use Rattle.std.specs.Option.{option_map_or}
-use Rattle.std.specs.Ordering.{ordering_then}
 use Rattle.std.specs.Prelude.{Contains, IsTrue, None, Option, Some, filter, not}
-use Rattle.std.specs.declared.cmp.Ordering.{Ordering}
 use Rattle.std.specs.declared.cmp.Ordering.TheVariants.{Less}
 use Rattle.deny_base.specs.Code.{code_number, diagnostic_code_cmp, diagnostic_code_number, section_cmp, section_number}
 use Rattle.deny_base.specs.KeyOrder.{key_cmp}
@@ -27,8 +25,8 @@ use Rattle.deny_model.specs.Keys.{key_of, unused_key}
 use Rattle.deny_model.specs.Policy as policy
 use Rattle.deny_model.specs.Policy.{Ban, Entry, Policy, Replacing, Root}
 use Rattle.deny_model.specs.View.{View}
-use Rattle.deny_model.specs.Skips.{has_root, is_hit_skip, is_needless, unmatched_skip_keys}
-use Rattle.deny_model.specs.Skips.{unmatched_skip_root_keys, unnecessary_skip_keys}
+use Rattle.deny_model.specs.Skips.{has_root, is_hit_skip, is_needless, unmatched_skip_keys, unmatched_skip_root_keys}
+use Rattle.deny_model.specs.Skips.{unnecessary_skip_keys}
 use Rattle.deny_model.specs.Wrappers.{is_hit_wrapper, unused_wrapper_keys_of}
 use Rattle.deny_codes.specs.Circumstances.{Circumstances}
 use Rattle.deny_codes.specs.Facts.{Facts}
@@ -38,12 +36,13 @@ use Rattle.deny_codes.specs.StdReplacements.{ignore_range, is_unmatched_ignore, 
 use Rattle.deny_codes.specs.StdReplacements.{unmatched_ignore_keys_in}
 use Rattle.deny_codes.specs.Wrappers.{unused_wrapper_keys}
 use Rattle.deny_lists.proofs.Members.{Contains-from_flat_map, at_member, from_contains_map, no_member}
+use Rattle.deny_lists.proofs.Orders.{then-less}
 use Rattle.deny_codes.proofs.BuildMade.{MadeDeprecated, MadeOfBuilds, build_made, deprecated_made, is_of_builds}
 use Rattle.deny_codes.proofs.Made.{Made, allowed_by_wrapper_made, allowed_made, banned_made, default_enabled_made}
 use Rattle.deny_codes.proofs.Made.{duplicate_made, feature_banned_made, feature_not_allowed_made, mismatched_made}
 use Rattle.deny_codes.proofs.Made.{not_allowed_made, replaced_made, skipped_by_root_made, skipped_made}
-use Rattle.deny_codes.proofs.Made.{unknown_feature_made, unmatched_ignore_made, unmatched_wrapper_made}
-use Rattle.deny_codes.proofs.Made.{unresolved_made, unused_entry_made, wildcard_made, workspace_duplicate_made}
+use Rattle.deny_codes.proofs.Made.{unknown_feature_made, unmatched_ignore_made, unmatched_wrapper_made, unresolved_made}
+use Rattle.deny_codes.proofs.Made.{unused_entry_made, wildcard_made, workspace_duplicate_made}
 use Rattle.deny_features.specs.FeatureKeys.{IsOfFeatures}
 use Rattle.deny_manifest_rules.specs.ManifestKeys.{IsOfManifests}
 use Rattle.deny_std.specs.Found.{IsOfStd}
@@ -116,11 +115,8 @@ record IsFirst (key : Key) : Type 0 where
   here : IsTrue (is_told_here key.code)
   first : (c : Circumstances) (other : Key) → IsOfStd c other → key_cmp key other ≡ Less
 
-below_then : (o rest : Ordering) → o ≡ Less → ordering_then o rest ≡ Less
-below_then o rest is = ap (λ r. ordering_then r rest) is
-
 by_section : (x y : Key) → section_cmp x.section y.section ≡ Less → key_cmp x y ≡ Less
-by_section x y below = below_then _ _ below
+by_section x y below = then-less _ _ below
 
 in_sections : (x y : Key) (s t : Section) → x.section ≡ s → y.section ≡ t → section_cmp s t ≡ Less → key_cmp x y ≡ Less
 in_sections x y s t one other below = by_section x y
@@ -130,7 +126,7 @@ in_sections x y s t one other below = by_section x y
 by_code : (d : Code) (e f : Span) → diagnostic_code_cmp (Bans d) (Bans code.UnmatchedReplacementIgnore) ≡ Less
     → key_cmp (unused_key d e) (unused_key code.UnmatchedReplacementIgnore f) ≡ Less
 unfolding key_of section_number
-by_code d e f below = below_then _ _ below
+by_code d e f below = then-less _ _ below
 
 told_here : (d : Code) (key : Key) → key.code ≡ Bans d → IsTrue (is_told_here (Bans d)) → IsTrue (is_told_here key.code)
 told_here d key is here = subst (λ (e : DiagnosticCode). IsTrue (is_told_here e)) (sym is) here
@@ -245,7 +241,8 @@ module _ (p : Policy) (g : Graph) (facts : chains.Facts) where
       (feature_banned_made p g key is)
   features_first key (inr (inr (inr (inl is)))) = of_section section.Crates code.UnknownFeature key refl refl refl
       (unknown_feature_made p g key is)
-  features_first key (inr (inr (inr (inr is)))) = of_section section.Crates code.DefaultFeatureEnabled key refl refl refl
+  features_first key (inr (inr (inr (inr is)))) =
+      of_section section.Crates code.DefaultFeatureEnabled key refl refl refl
       (default_enabled_made p g key is)
 
   module _ (view : View) where

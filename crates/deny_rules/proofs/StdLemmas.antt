@@ -1,9 +1,11 @@
 -- What stands of replaced crates: nothing where no table is asked for, and always some ascending list.
-use Rattle.std.proofs.Common.{List, [], ◌++◌, ◌⊎◌, Bool, None, Option, Some, false, inl, inr, not, refl, subst, true, ◌∷◌, ◌≡◌}
+use Rattle.std.proofs.Common.{List, [], ◌++◌, ◌⊎◌, Bool, None, Option, Some, false, inl, inr, not, refl, subst, true}
+use Rattle.std.proofs.Common.{◌∷◌, ◌≡◌}
 use Rattle.std.specs.List.{list_any}
 use Rattle.std.specs.Option.{option_map_or}
-use Rattle.std.specs.Prelude.{Contains, filter_map, find, ◌&&◌}
+use Rattle.std.specs.Prelude.{Contains, filter_map, find}
 use Rattle.std.proofs.lemmas.List.Elements.{Contains-append_cases, Contains-append_left, Contains-append_right}
+use Rattle.std.proofs.lemmas.Bool.{not-false}
 use Rattle.deny_base.proofs.KeyEqual.{key_cmp-exact, key_cmp-total}
 use Rattle.deny_base.specs.KeyOrder.{key_cmp}
 use Rattle.deny_base.specs.declared.key.Key.{Key}
@@ -18,6 +20,7 @@ use Rattle.deny_codes.specs.StdReplacements.{unmatched_ignore_keys, unmatched_ig
 use Rattle.deny_codes.proofs.Parts.{lists_same}
 use Rattle.deny_lists.proofs.Filters.{filter-none}
 use Rattle.deny_lists.proofs.Members.{no_member}
+use Rattle.deny_lists.proofs.Booleans.{and-false}
 use Rattle.deny_std.specs.Found.{IsOfStd}
 use Rattle.deny_rules.proofs.OrderedLemmas.{Ordered, ordered}
 
@@ -52,10 +55,6 @@ gives_none : {X Y : Type 0} (f : X → Option Y) (xs : List X) → ((x : X) → 
 gives_none f [] none = refl
 gives_none f (x ∷ xs) none = rw (none x) (gives_none f xs none)
 
-and_false : (b : Bool) → (b && false) ≡ false
-and_false true = refl
-and_false false = refl
-
 module _ (r : Replacing) (g : Graph) (said : Saying) (none : looks_at_none r.scope ≡ true) where
   out_of_scope : (s : Scope) → looks_at_none s ≡ true → (c : Crate) → is_in_scope s g c ≡ false
   unfolding is_in_scope
@@ -70,7 +69,7 @@ module _ (r : Replacing) (g : Graph) (said : Saying) (none : looks_at_none r.sco
 
   not_replaced : (c : Crate) → is_replaced r g said c ≡ false
   unfolding is_replaced
-  not_replaced c = rw (by (said c.name)) (and_false _)
+  not_replaced c = rw (by (said c.name)) (and-false _)
     where
       by : (o : Option Items)
           → option_map_or (λ items. list_any (may_replace r g items) (dependents g c.place)) o false ≡ false
@@ -105,10 +104,6 @@ module _ (r : Replacing) (g : Graph) (said : Saying) (none : looks_at_none r.sco
   unfolding ignore_hits
   no_hits = gives_none (ignore_hit r g said) r.ignore no_hit_of
 
-not_false : (b : Bool) → not b ≡ false → b ≡ true
-not_false true is = refl
-not_false false is = cc
-
 -- of a policy that asks for no table
 pub nothing_of_std : (c : Circumstances) → asks_for_table c.policy ≡ false → (key : Key) → IsOfStd c key → ⊥
 nothing_of_std c none key is = by c.policy.replacing none is
@@ -119,9 +114,9 @@ nothing_of_std c none key is = by c.policy.replacing none is
     by None none (inl is) = no_member key is
     by None none (inr is) = no_member key is
     by (Some r) none (inl is) = no_member key (subst (λ (keys : List Key). Contains keys key)
-        (none_unmatched_keys r c.graph (said_by c.table) (not_false (looks_at_none r.scope) none)) is)
+        (none_unmatched_keys r c.graph (said_by c.table) (not-false (looks_at_none r.scope) none)) is)
     by (Some r) none (inr is) = no_member key (subst (λ (keys : List Key). Contains keys key)
-        (none_replaced_keys r c.graph (said_by c.table) (not_false (looks_at_none r.scope) none)) is)
+        (none_replaced_keys r c.graph (said_by c.table) (not-false (looks_at_none r.scope) none)) is)
 
 pub no_hits_of_std : (c : Circumstances) → asks_for_table c.policy ≡ false → ignore_hits_in c ≡ []
 no_hits_of_std c none = by c.policy.replacing none
@@ -129,4 +124,4 @@ no_hits_of_std c none = by c.policy.replacing none
     by : (o : Option Replacing) → option_map_or (λ r. not (looks_at_none r.scope)) o false ≡ false
         → option_map_or (λ r. ignore_hits r c.graph (said_by c.table)) o [] ≡ []
     by None none = refl
-    by (Some r) none = no_hits r c.graph (said_by c.table) (not_false (looks_at_none r.scope) none)
+    by (Some r) none = no_hits r c.graph (said_by c.table) (not-false (looks_at_none r.scope) none)

@@ -1,27 +1,28 @@
 -- Crates in the order of their versions: which order that is, and that it lists crates with ids of
 -- their own.
 use Rattle.deny_lists.proofs.Each.{all_filter, all_of_take}
-use Rattle.std.proofs.Common.{◌≡◌, ◌+◌, ◌≢◌, ℕ, zero, suc, Bool, true, false, List, [], ◌∷◌, Contains, AllPairs, map, filter, length, take, drop, get_or, refl, sym, ap, ◌∙◌, arith}
+use Rattle.std.proofs.Common.{◌≡◌, ◌+◌, ◌≢◌, ℕ, zero, suc, Bool, true, false, List, [], ◌∷◌, Contains, AllPairs, map}
+use Rattle.std.proofs.Common.{filter, length, take, drop, get_or, sym, ap, ◌∙◌, arith}
 use Rattle.std.specs.Cmp.{IsTotalOrder, nat_cmp_total, on_total, then_total}
 use Rattle.std.specs.Cmp.Lexicographic.{slice_cmp, nat_list_cmp_total}
 use Rattle.std.specs.FinMap.{nat_cmp-IsAntisymmetric, slice_cmp-IsAntisymmetric}
 use Rattle.std.specs.List.{IsDistinct}
 use Rattle.std.specs.List.Sorted.{IsStrictlySortedBy, IsSortedBy, IsPermutation}
-use Rattle.std.specs.Ordering.{nat_cmp, is_lt, ordering_reverse}
-use Rattle.std.specs.declared.cmp.Ordering.{Ordering}
-use Rattle.std.specs.declared.cmp.Ordering.TheVariants.{Less, Equal, Greater}
-use Rattle.std.proofs.lemmas.Bool.{cond_both, false≢true, false_from_ne_true}
-use Rattle.std.proofs.lemmas.Cmp.{nat_list_eq_equiv}
+use Rattle.std.specs.Ordering.{nat_cmp, is_lt}
+use Rattle.std.specs.declared.cmp.Ordering.TheVariants.{Equal}
+use Rattle.std.proofs.lemmas.Bool.{cond_both, false≢true}
 use Rattle.std.proofs.lemmas.List.{get_or-map, length-map}
 use Rattle.std.proofs.lemmas.List.Sorted.{IsPermutation-map, IsPermutation-sym, Contains-permutation}
-use Rattle.std.proofs.lemmas.Map.Keys.{IsDistinct-IsPermutation, IsDistinct-from_apart, IsDistinct-cons, apart_from_distinct, sorted_from_all_adjacent}
+use Rattle.std.proofs.lemmas.Map.Keys.{IsDistinct-IsPermutation, IsDistinct-cons, apart_from_distinct}
+use Rattle.std.proofs.lemmas.Map.Keys.{sorted_from_all_adjacent}
 use Rattle.std.proofs.lemmas.Slice.Eq.{bytes_eq-Decides}
 use Rattle.semver.specs.OrderLaws.{pre_total}
 use Rattle.semver.specs.Parse.{Parts}
-use Rattle.deny_lists.proofs.Orders.{then_second}
+use Rattle.deny_lists.proofs.Orders.{then_second, less_from_reverse}
 use Rattle.deny_lists.specs.Ascending.{Lists}
 use Rattle.deny_model.specs.Graph.{Crate}
 use Rattle.deny_model.specs.VersionOrder.{precedence, version_cmp}
+use Rattle.deny_model.proofs.IdLemmas.{same_id-flips, distinct-ids}
 use Rattle.deny_rules.specs.private.Duplicates.{same_id}
 
 precedence-total : IsTotalOrder precedence
@@ -42,16 +43,6 @@ ties a b e =
     (slice_cmp-IsAntisymmetric nat_cmp-IsAntisymmetric a.id b.id
     (then_second (precedence a.version b.version) (slice_cmp nat_cmp a.id b.id) e))
 
-same_id-flips : (a b : Crate) → same_id a b ≡ same_id b a
-same_id-flips a b = nat_list_eq_equiv.symm a.id b.id
-
-below : (r s : Ordering) → r ≡ ordering_reverse s → is_lt s ≡ false → (r ≡ Equal → ⊥) → r ≡ Less
-below Less s e no_less no_tie = refl
-below Equal s e no_less no_tie = absurd (no_tie refl)
-below Greater Less e no_less no_tie = absurd (false≢true (sym no_less))
-below Greater Equal e no_less no_tie = cc
-below Greater Greater e no_less no_tie = cc
-
 module _ {X : Type 0} (view : X → Crate) where
   ascends : (xs : List X) → IsSortedBy (λ a b. is_lt (version_cmp (view a) (view b))) xs
       → IsDistinct same_id (map view xs) → IsStrictlySortedBy version_cmp (map view xs)
@@ -69,7 +60,8 @@ module _ {X : Type 0} (view : X → Crate) where
       ap (λ b. is_lt (version_cmp b (get_or ys k d))) next
       ∙ (ap (λ a. is_lt (version_cmp (view (get_or (x ∷ xs) (k + 1) x)) a)) at
       ∙ up k x (omega arith) (omega (arith, size))) in
-      below (version_cmp (get_or ys k d) (get_or ys (k + 1) d)) (version_cmp (get_or ys (k + 1) d) (get_or ys k d))
+      less_from_reverse (version_cmp (get_or ys k d) (get_or ys (k + 1) d))
+      (version_cmp (get_or ys (k + 1) d) (get_or ys k d))
       (version_cmp-total.antisymm (get_or ys k d) (get_or ys (k + 1) d)) up_here
       (λ e. false≢true (sym unlike ∙ ties (get_or ys k d) (get_or ys (k + 1) d) e)))
 
@@ -86,12 +78,6 @@ module _ {X : Type 0} (view : X → Crate) where
         sound = λ c is. Contains-permutation (map view new) (map view old) c
             (IsPermutation-sym (map view old) (map view new) moved_views) is;
       }
-
--- crates with ids of their own stay so under a filter
-distinct-ids : (crates : List Crate) → AllPairs (λ c d. c.id ≢ d.id) crates → IsDistinct same_id crates
-distinct-ids crates apart =
-    IsDistinct-from_apart same_id crates (λ i j d up within.
-    false_from_ne_true _ (λ e. apart i j d up within ((bytes_eq-Decides _ _).0 e)))
 
 distinct-filter : {X : Type 0} (same : X → X → Bool) (p : X → Bool) (xs : List X) → IsDistinct same xs
     → IsDistinct same (filter p xs)

@@ -1,5 +1,6 @@
 -- What was found: the manifests of crates, and that of the workspace.
-use Rattle.std.proofs.Common.{◌≡◌, ◌∙◌, ◌+◌, ◌<◌, ◌^◌, ◌++◌, [], ℕ, false, List, Option, None, Some, ap, append-nil, append_assoc, length, length-append, refl, subst, sym}
+use Rattle.std.proofs.Common.{◌≡◌, ◌∙◌, ◌+◌, ◌<◌, ◌^◌, ◌++◌, [], ℕ, false, List, Option, None, Some, ap, append-nil}
+use Rattle.std.proofs.Common.{append_assoc, length, length-append, refl, subst, sym}
 use Rattle.std.specs.Prelude.{◌||◌, Contains, IfSome, MatchOption, is_some}
 use Rattle.std.specs.List.{flat_map}
 use Rattle.std.specs.Option.{option_map_or}
@@ -8,7 +9,8 @@ use Rattle.deny_base.specs.declared.files.File.{File}
 use Rattle.deny_model.specs.Graph.{Graph}
 use Rattle.deny_outside.specs.Disk.{Files}
 use Rattle.deny_spans.proofs.HomeLemmas.{HomeIs, home_is, nowhere, shared_by, text_is, text_short, there, utf8_text}
-use Rattle.deny_spans.specs.Look.{IsReadAt, Look, ReadsAs, Reading, kept_as, kept_of, number_of, tree_of, workspace_look, workspace_reading}
+use Rattle.deny_spans.specs.Look.{IsReadAt, Look, ReadsAs, Reading, kept_as, kept_of, number_of, tree_of}
+use Rattle.deny_spans.specs.Look.{workspace_look, workspace_reading}
 use Rattle.deny_spans.specs.Paths.{workspace_path}
 use Rattle.deny_spans.specs.declared.gathered.Gathered.{Gathered}
 use Rattle.deny_spans.specs.declared.krate_spans.Found.{Found}
@@ -16,7 +18,8 @@ use Rattle.deny_spans.specs.declared.missed.Missed.{Missed}
 use Rattle.deny_spans.specs.declared.workspace.Workspace.{Workspace}
 use Rattle.deny_spans.specs.private.Found.{IsFound, broken_alone}
 use Rattle.deny_spans.specs.private.Gathered.{IsGathered, broken_of, missing_of}
-use Rattle.deny_spans.specs.private.Workspace.{AreSharedIf, AreSharedOf, IsNotRead, IsReadAlone, IsShortAt, IsWorkspaceBy, IsWorkspaceIn, home_file, home_in, text_at}
+use Rattle.deny_spans.specs.private.Workspace.{AreSharedIf, AreSharedOf, IsNotRead, IsReadAlone, IsShortAt}
+use Rattle.deny_spans.specs.private.Workspace.{IsWorkspaceBy, IsWorkspaceIn, home_file, home_in, text_at}
 use Rattle.deny_unread.specs.Unread.{asked, if_unread}
 use Rattle.deny_unread.specs.declared.purpose.Purpose.TheVariants as purpose
 use Rattle.deny_unread.specs.declared.unread.Unread.{Unread}

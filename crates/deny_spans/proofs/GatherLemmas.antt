@@ -1,5 +1,7 @@
 -- What is gathered of manifests, crate by crate.
-use Rattle.std.proofs.Common.{◌≡◌, ◌∙◌, ◌+◌, ◌<◌, ◌≤◌, ◌^◌, ◌++◌, ◌∷◌, [], ℕ, Bool, true, false, List, Option, None, Some, ap, append-nil, append_assoc, arith, cond, inl, inr, length, length-append, map, refl, subst, sym, take, zero, suc}
+use Rattle.std.proofs.Common.{◌≡◌, ◌∙◌, ◌+◌, ◌<◌, ◌≤◌, ◌^◌, ◌++◌, ◌∷◌, [], ℕ, Bool, true, false, List, Option, None}
+use Rattle.std.proofs.Common.{Some, ap, append-nil, append_assoc, arith, cond, inl, inr, length, length-append, map}
+use Rattle.std.proofs.Common.{refl, subst, sym, take, zero, suc}
 use Rattle.std.specs.Prelude.{Contains, IfSome, ◌&&◌, is_none, is_some, option_map, slice_get}
 use Rattle.std.specs.List.{flat_map}
 use Rattle.std.specs.Option.{option_flatten}
@@ -13,6 +15,7 @@ use Rattle.deny_krates.proofs.Runs.{length-crates_from}
 use Rattle.deny_krates.specs.Crates.{crates_from}
 use Rattle.deny_krates.specs.declared.krate.Krate.{Krate}
 use Rattle.deny_lists.proofs.Members.{Contains-by_cases, no_member}
+use Rattle.deny_lists.proofs.Options.{is_some-option_map}
 use Rattle.deny_manifests.proofs.AgreementLaw.{agree_so, tells_agreement}
 use Rattle.deny_manifests.specs.Agreement.{TellsAgreement}
 use Rattle.deny_manifests.specs.declared.manifest.Manifest.{Manifest}
@@ -24,7 +27,8 @@ use Rattle.deny_spans.specs.Seen.{manifest_by, manifest_in}
 use Rattle.deny_spans.specs.SpansView.{IsManifestAt, manifest_view}
 use Rattle.deny_spans.specs.declared.gathered.Gathered.{Gathered}
 use Rattle.deny_spans.specs.declared.gathered.Kept.{Kept}
-use Rattle.deny_spans.specs.private.Gathered.{IsGathered, IsKept, IsLookedAt, IsReadLocally, SaysRead, broken_if, broken_of, is_broken, look_of, missing_if, missing_of}
+use Rattle.deny_spans.specs.private.Gathered.{IsGathered, IsKept, IsLookedAt, IsReadLocally, SaysRead, broken_if}
+use Rattle.deny_spans.specs.private.Gathered.{broken_of, is_broken, look_of, missing_if, missing_of}
 use Rattle.deny_unread.specs.declared.unread.Unread.{Unread}
 
 -- ---- lists that gain one
@@ -188,10 +192,6 @@ broken_so g c (Some r) text manifest texts says =
 
 -- ---- one crate, as it was looked at
 
-some_of_map : {X Y : Type 0} (f : X → Y) (o : Option X) → is_some (option_map f o) ≡ is_some o
-some_of_map f None = refl
-some_of_map f (Some x) = refl
-
 pub looked_is : {V : Type 0} (told : Option Files) (g : Graph) (c : Crate) (old_files new_files : List File)
     (old new : Gathered) (mid : List Unread) (items : V → List ℕ) (read : Option V) (kept : Kept) (was : Bool)
     → IsReadLocally told c old.missed.unread mid (option_map items read)
@@ -204,7 +204,7 @@ looked_is told g c old_files new_files old new mid items read kept was local kep
     malformed =
     let text : Option (List ℕ) = option_map items read in
     let broken : (was && is_none kept.manifest) ≡ is_broken kept_is.read =
-    ap (λ (b : Bool). b && is_none kept.manifest) (so ∙ sym (some_of_map items read))
+    ap (λ (b : Bool). b && is_none kept.manifest) (so ∙ sym (is_some-option_map items read))
     ∙ broken_so g c kept_is.read (option_map items read) kept.manifest kept_is.texts kept_is.says in
     record {
       read = kept_is.read;

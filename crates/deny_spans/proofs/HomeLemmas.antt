@@ -1,5 +1,6 @@
 -- The workspace's manifest where it is a crate's.
-use Rattle.std.proofs.Common.{◌≡◌, ◌∙◌, ◌+◌, ◌<◌, ◌≤◌, ◌^◌, ◌++◌, ◌∷◌, [], ℕ, Bool, true, false, List, Option, None, Some, ap, append-nil, arith, cond, inl, inr, length, map, refl, subst, sym}
+use Rattle.std.proofs.Common.{◌≡◌, ◌∙◌, ◌+◌, ◌<◌, ◌≤◌, ◌^◌, ◌++◌, ◌∷◌, [], ℕ, Bool, true, false, List, Option, None}
+use Rattle.std.proofs.Common.{Some, ap, append-nil, arith, cond, inl, inr, length, map, refl, subst, sym}
 use Rattle.std.specs.Prelude.{◌&&◌, Contains, IfSome, is_none, nat_lt, option_map, position, slice_get}
 use Rattle.std.specs.List.{flat_map, position_or_len}
 use Rattle.std.specs.Option.{option_and_then, option_flatten}
@@ -19,9 +20,11 @@ use Rattle.deny_model.specs.Graph.{Crate, Graph}
 use Rattle.deny_model.specs.Text.{same_text}
 use Rattle.deny_outside.specs.Disk.{Files}
 use Rattle.deny_spans.proofs.LookLemmas.{kept_at, reads_once}
-use Rattle.deny_spans.specs.Look.{AreNumbered, IsReadAt, Look, ReadsAs, Reading, is_workspaces, kept_of, number_of, tree_of, workspace_look}
+use Rattle.deny_spans.specs.Look.{AreNumbered, IsReadAt, Look, ReadsAs, Reading, is_workspaces, kept_of, number_of}
+use Rattle.deny_spans.specs.Look.{tree_of, workspace_look}
 use Rattle.deny_spans.specs.Paths.{workspace_path}
-use Rattle.deny_spans.specs.private.Workspace.{AreSharedIf, AreSharedIn, AreSharedOf, home_file, home_in, is_home, text_at}
+use Rattle.deny_spans.specs.private.Workspace.{AreSharedIf, AreSharedIn, AreSharedOf, home_file, home_in, is_home}
+use Rattle.deny_spans.specs.private.Workspace.{text_at}
 use Rattle.deny_toml.specs.declared.value.Value.{Value}
 use Rattle.deny_workspace.specs.declared.registries.Registry.{Registry}
 use Rattle.deny_workspace.specs.declared.workspace.WorkspaceDeps.{WorkspaceDeps}

@@ -1,7 +1,7 @@
 -- Crates by their ids and by their places.
-use Rattle.std.proofs.Common.{◌≡◌, ◌∙◌, ◌<◌, [], ◌∷◌, ℕ, Bool, true, false, List, Option, None, Some, ap, arith, get_or, length, refl, subst, sym}
-use Rattle.std.specs.Prelude.{◌≢◌, AllPairs, Contains, IfSome, MatchOption, find, option_map, slice_get}
-use Rattle.std.specs.List.{AllByRecursion}
+use Rattle.std.proofs.Common.{◌≡◌, ◌∙◌, ◌<◌, ℕ, Bool, true, false, List, Option, None, Some, ap, arith, get_or, length}
+use Rattle.std.proofs.Common.{refl, subst, sym}
+use Rattle.std.specs.Prelude.{◌≢◌, AllPairs, IfSome, MatchOption, option_map, slice_get}
 use Rattle.std.proofs.lemmas.List.Folds.{find_at}
 use Rattle.std.proofs.lemmas.List.Sums.{position_or_len_is}
 use Rattle.std.proofs.lemmas.Option.{get_or_from_slice_get, same_Some, slice_get_within}
@@ -10,8 +10,8 @@ use Rattle.deny_krates.proofs.ResolutionLemmas.{crates-at}
 use Rattle.deny_krates.specs.Crates.{crate_view, crates_from}
 use Rattle.deny_krates.specs.Ids.{crate_of}
 use Rattle.deny_krates.specs.declared.krate.Krate.{Krate}
-use Rattle.deny_lists.proofs.Each.{all_found}
-use Rattle.deny_lists.proofs.Members.{Contains-first, Contains-rest, there}
+use Rattle.deny_lists.proofs.Members.{there}
+use Rattle.deny_lists.proofs.Finding.{found_member}
 use Rattle.deny_manifests.specs.Manifest.{IsOwn}
 use Rattle.deny_model.specs.Graph.{Crate, Graph}
 use Rattle.deny_model.specs.Text.{same_text}
@@ -42,15 +42,6 @@ pub own_is : (g : Graph) (place : ℕ) (k : Krate) → AllPairs (λ c d. c.id �
 own_is g place k ids at = subst (λ (o : Option Crate). IfSome o (λ c. c ≡ crate_view c.place k))
     (sym (crate_found g place (crate_view place k) ids at)) refl
 
--- the first of several that passes is one of them
-pub found_one : {X : Type 0} (test : X → Bool) (xs : List X) (x : X) → find test xs ≡ Some x → Contains xs x
-found_one {X} test xs x is = subst (λ (o : Option X). IfSome o (Contains xs)) is
-    (all_found (Contains xs) test xs (each xs (λ y stands. stands)))
-  where
-    each : (ys : List X) → ((y : X) → Contains ys y → Contains xs y) → AllByRecursion (Contains xs) ys
-    each [] into = tt
-    each (y ∷ ys) into = (into y (Contains-first y ys), each ys (λ z stands. into z (Contains-rest y ys z stands)))
-
 -- each crate has its place
 pub placed : (ks : List Krate) (crates : List Crate) (k : ℕ) (c : Crate) → crates_from 0 ks ≡ crates
     → slice_get crates k ≡ Some c → c.place ≡ k
@@ -75,7 +66,7 @@ place_is own g ks id r same crates is =
         → MatchOption (option_map (λ (c : Crate). c.place) o) (crate_of own id ≡ None) (StandsAt own id)
     by_crate None e = e
     by_crate (Some c) e =
-        let at = there own.crates c (found_one (λ (d : Crate). same_text d.id id) own.crates c e) in
+        let at = there own.crates c (found_member (λ (d : Crate). same_text d.id id) own.crates c e) in
         let place : c.place ≡ at.0 = placed ks own.crates at.0 c crates at.1 in
         record {
           crate = c;

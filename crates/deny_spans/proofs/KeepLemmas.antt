@@ -1,14 +1,16 @@
 -- What a text is kept as.
-use Rattle.std.proofs.Common.{◌≡◌, ◌∙◌, ◌++◌, ◌∷◌, [], ℕ, Bool, true, false, List, Option, None, Some, IsUtf8, ap, append-nil, cond, length, map, refl, subst, sym}
+use Rattle.std.proofs.Common.{◌≡◌, ◌∙◌, ◌++◌, ◌∷◌, [], ℕ, Bool, List, Option, None, Some, IsUtf8, ap, append-nil, cond}
+use Rattle.std.proofs.Common.{length, map, refl, subst, sym}
 use Rattle.std.specs.Prelude.{◌≢◌, All, AllPairs, slice_get}
-use Rattle.std.specs.Str.{is_utf8}
-use Rattle.std.proofs.lemmas.Str.{IsUtf8-from_is_utf8, is_utf8-from_IsUtf8}
+use Rattle.std.proofs.lemmas.Str.{is_utf8-from_IsUtf8}
+use Rattle.deny_lists.proofs.Texts.{is_utf8-false}
 use Rattle.deny_base.specs.declared.files.File.{File}
 use Rattle.deny_krates.specs.Crates.{crate_view}
 use Rattle.deny_krates.specs.Ids.{crate_of}
 use Rattle.deny_krates.specs.declared.krate.Krate.{Krate}
 use Rattle.deny_manifests.specs.Fault.{HasNoTree}
-use Rattle.deny_manifests.specs.Manifest.{HasNoNode, IsManifestBy, IsManifestOf, IsOfGraph, dep_view, deps_in, ignored_by}
+use Rattle.deny_manifests.specs.Manifest.{HasNoNode, IsManifestBy, IsManifestOf, IsOfGraph, dep_view, deps_in}
+use Rattle.deny_manifests.specs.Manifest.{ignored_by}
 use Rattle.deny_manifests.specs.declared.declarations.ManifestDep.{ManifestDep}
 use Rattle.deny_manifests.specs.declared.manifest.Manifest.{Manifest}
 use Rattle.deny_model.specs.Graph.{Crate, Graph}
@@ -69,13 +71,6 @@ module _ (g : Graph) (place : ℕ) (k : Krate) (ids : AllPairs (λ c d. c.id ≢
 
 -- ---- texts as files
 
-not_utf8 : (text : List ℕ) → (IsUtf8 text → ⊥) → is_utf8 text ≡ false
-not_utf8 text other = by_test (is_utf8 text) refl
-  where
-    by_test : (b : Bool) → is_utf8 text ≡ b → is_utf8 text ≡ false
-    by_test true is = absurd (other (IsUtf8-from_is_utf8 text is))
-    by_test false is = is
-
 -- a text that is UTF-8 is one file more
 pub file_more : (path text : List ℕ) (tree : Option Value) (number : ℕ) (old new : List File) → IsUtf8 text
     → new ≡ old ++ file_of path text ∷ [] → new ≡ old ++ kept_as path (Some (reading text tree number))
@@ -90,11 +85,11 @@ number_is text tree number utf8 = ap (λ (b : Bool). cond b (Some number) None) 
 pub no_file : (path text : List ℕ) (tree : Option Value) (number : ℕ) (old : List File) → (IsUtf8 text → ⊥)
     → old ≡ old ++ kept_as path (Some (reading text tree number))
 no_file path text tree number old other = sym (append-nil old)
-    ∙ ap (λ (b : Bool). old ++ cond b (file_of path text ∷ []) []) (sym (not_utf8 text other))
+    ∙ ap (λ (b : Bool). old ++ cond b (file_of path text ∷ []) []) (sym (is_utf8-false text other))
 
 pub no_number : (text : List ℕ) (tree : Option Value) (number : ℕ) → (IsUtf8 text → ⊥)
     → None ≡ number_of (Some (reading text tree number))
-no_number text tree number other = ap (λ (b : Bool). cond b (Some number) None) (sym (not_utf8 text other))
+no_number text tree number other = ap (λ (b : Bool). cond b (Some number) None) (sym (is_utf8-false text other))
 
 module _ (g : Graph) (c : Crate) (bytes : List ℕ) (old : List File) where
   pub kept_is : (text : List ℕ) (new : List File) (number : ℕ) (manifest : Option Manifest) → IsUtf8 bytes

@@ -1,5 +1,6 @@
 -- What texts read as, and where the files stand that manifests are kept as.
-use Rattle.std.proofs.Common.{◌≡◌, ◌∙◌, ◌+◌, ◌++◌, ◌∷◌, [], ℕ, Bool, true, List, Option, None, Some, ap, append_assoc, arith, cond, length, length-append, refl, subst, sym}
+use Rattle.std.proofs.Common.{◌≡◌, ◌∙◌, ◌+◌, ◌++◌, ◌∷◌, [], ℕ, Bool, true, List, Option, None, Some, ap, append_assoc}
+use Rattle.std.proofs.Common.{arith, cond, length, length-append, refl, subst, sym}
 use Rattle.std.specs.Prelude.{Contains, IfSome, slice_get}
 use Rattle.std.specs.List.{flat_map}
 use Rattle.std.specs.Str.{is_utf8}
@@ -7,16 +8,10 @@ use Rattle.deny_base.specs.declared.files.File.{File}
 use Rattle.deny_krates.proofs.NumberLemmas.{slice_get-right}
 use Rattle.deny_lists.proofs.Members.{Contains-by_cases, no_member}
 use Rattle.deny_spans.specs.Look.{AreNumbered, Look, ReadsAs, Reading, kept_as, kept_of}
-use Rattle.deny_toml.specs.Parser.{IsTreeOf, whole}
-use Rattle.deny_toml.specs.Tree.{tree}
 use Rattle.deny_toml.specs.declared.value.Value.{Value}
+use Rattle.deny_toml.proofs.ParserLaws.{one_tree}
 
 -- ---- trees
-
--- a text has one tree at most
-pub one_tree : (text : List ℕ) (v w : Value) → IsTreeOf text v → IsTreeOf text w → v ≡ w
-one_tree text v w one other =
-    one.3 ∙ ap (tree (whole text)) (sym (one.1.only other.0 other.1.written)) ∙ sym other.3
 
 -- and reads in one way
 pub reads_once : (text : List ℕ) (one other : Option Value) → ReadsAs text one → ReadsAs text other → one ≡ other

@@ -1,5 +1,6 @@
 -- What is seen of a disk that tells its files is one.
-use Rattle.std.proofs.Common.{◌≡◌, ◌∙◌, ◌+◌, ◌<◌, ◌++◌, ◌∷◌, [], ℕ, List, Option, None, Some, ap, arith, get_or, inl, inr, length, map, refl, subst, sym}
+use Rattle.std.proofs.Common.{◌≡◌, ◌∙◌, ◌+◌, ◌<◌, ◌++◌, ◌∷◌, [], ℕ, List, Option, None, Some, ap, arith, get_or, inl}
+use Rattle.std.proofs.Common.{inr, length, map, refl, subst, sym}
 use Rattle.std.specs.Prelude.{◌≢◌, AllPairs, Contains, IfSome, slice_get}
 use Rattle.std.specs.Cmp.Lexicographic.{nat_list_cmp_total}
 use Rattle.std.specs.List.{flat_map}
@@ -15,7 +16,8 @@ use Rattle.deny_model.specs.Graph.{Crate, Graph, Source, kid_of}
 use Rattle.deny_model.specs.View.{View, WorkspaceEntry}
 use Rattle.deny_outside.specs.Disk.{Files}
 use Rattle.deny_spans.proofs.LookLemmas.{reads_once}
-use Rattle.deny_spans.specs.Look.{AreNumbered, IsLook, IsReadAt, Look, ReadsAs, Reading, kept_as, kept_of, number_of, tree_of, workspace_look, workspace_reading}
+use Rattle.deny_spans.specs.Look.{AreNumbered, IsLook, IsReadAt, Look, ReadsAs, Reading, kept_as, kept_of, number_of}
+use Rattle.deny_spans.specs.Look.{tree_of, workspace_look, workspace_reading}
 use Rattle.deny_spans.specs.OneView.{AreSame}
 use Rattle.deny_spans.specs.Paths.{workspace_path}
 use Rattle.deny_spans.specs.Seen.{IsMalformed, IsMissing, IsSeen, entries_by, manifest_in, of_crate, of_workspace}

@@ -1,5 +1,6 @@
 -- The ranges of what was seen lie in the files that they point into.
-use Rattle.std.proofs.Common.{◌≡◌, ◌∙◌, ◌+◌, ◌-◌, ◌<◌, ◌++◌, ℕ, Bool, List, Option, None, Some, IsUtf8, ap, append_assoc, arith, cond, length, length-append, refl, reverse, subst, sym}
+use Rattle.std.proofs.Common.{◌≡◌, ◌∙◌, ◌+◌, ◌-◌, ◌<◌, ◌++◌, ℕ, Bool, List, Option, None, Some, IsUtf8, ap}
+use Rattle.std.proofs.Common.{append_assoc, arith, cond, length, length-append, refl, reverse, subst, sym}
 use Rattle.std.specs.Prelude.{Contains, IfSome, is_none, option_map, slice_get}
 use Rattle.std.specs.List.{flat_map}
 use Rattle.std.specs.Option.{option_map_or}
@@ -9,15 +10,16 @@ use Rattle.std.proofs.lemmas.Str.{is_utf8-from_IsUtf8}
 use Rattle.deny_base.specs.declared.files.File.{File}
 use Rattle.deny_krates.proofs.NumberLemmas.{slice_get-right}
 use Rattle.deny_lists.proofs.Members.{Contains-from_filter, at_member, from_contains_map, no_member}
+use Rattle.deny_lists.proofs.Finding.{found_member}
 use Rattle.deny_manifests.proofs.AgreementLaw.{agree_so, tells_agreement}
 use Rattle.deny_manifests.specs.Declarations.{declared_in}
 use Rattle.deny_model.specs.Graph.{Crate, Graph}
 use Rattle.deny_model.specs.View.{Manifest, View, WorkspaceEntry}
 use Rattle.deny_outside.specs.Disk.{Files}
-use Rattle.deny_spans.proofs.IdLemmas.{found_one}
 use Rattle.deny_spans.proofs.LookLemmas.{file_of, kept_at, kept_text}
 use Rattle.deny_spans.proofs.TreeLies.{declarations_lie, shared_lie}
-use Rattle.deny_spans.specs.Look.{IsReadAt, Look, ReadsAs, Reading, is_workspaces, kept_as, kept_of, number_of, tree_of, workspace_look, workspace_reading}
+use Rattle.deny_spans.specs.Look.{IsReadAt, Look, ReadsAs, Reading, is_workspaces, kept_as, kept_of, number_of, tree_of}
+use Rattle.deny_spans.specs.Look.{workspace_look, workspace_reading}
 use Rattle.deny_spans.specs.Paths.{workspace_path}
 use Rattle.deny_spans.specs.Ranges.{DeclaredLies, EntryLies, ManifestLies, SharedLies, ViewLies}
 use Rattle.deny_spans.specs.Seen.{IsSeen, entries_by, manifest_by, manifest_in, manifest_read}
@@ -144,7 +146,7 @@ module _ (told : Option Files) (g : Graph) (registries : List Registry) (old new
             source = refl;
           }
       by_look (Some l) looked e =
-          let member = found_one (λ (k : Look). is_workspaces g k.crate) seen.looks l looked in
+          let member = found_member (λ (k : Look). is_workspaces g k.crate) seen.looks l looked in
           let at = read_at l.crate.manifest_path l.read r (seen.are.each l member).read e in
           let standing = stands_read l.crate.manifest_path r tree at has in
           record {
@@ -185,7 +187,7 @@ module _ (told : Option Files) (g : Graph) (registries : List Registry) (old new
   span_lies e is =
       let of = from_contains_map (λ (c : Crate). span_of entries c.place) g.crates (Some e)
       (subst (λ (es : List (Option WorkspaceEntry)). Contains es (Some e)) seen.seen.shared is) in
-      one_lies e (of_reverse entries e (found_one (resolves_to of.0.place) (reverse entries) e of.2))
+      one_lies e (of_reverse entries e (found_member (resolves_to of.0.place) (reverse entries) e of.2))
 
   unused_lies : (e : WorkspaceEntry) → Contains view.unused e → SharedLies new view.workspace e
   unfolding entries

@@ -1,5 +1,6 @@
 -- What was found, put in order, is what was seen.
-use Rattle.std.proofs.Common.{◌≡◌, ◌∙◌, ◌+◌, ◌<◌, ◌++◌, ◌∷◌, [], ℕ, List, Option, None, Some, ap, append_assoc, arith, cond, inl, inr, length, map, refl, subst, sym, suc}
+use Rattle.std.proofs.Common.{◌≡◌, ◌∙◌, ◌+◌, ◌<◌, ◌++◌, ◌∷◌, [], ℕ, List, Option, None, Some, ap, append_assoc, arith}
+use Rattle.std.proofs.Common.{cond, inl, inr, length, map, refl, subst, sym, suc}
 use Rattle.std.specs.Prelude.{◌||◌, Contains, IfSome, is_none, is_some, option_map, slice_get}
 use Rattle.std.specs.Cmp.Lexicographic.{slice_cmp}
 use Rattle.std.specs.List.{AllZip, flat_map}
@@ -10,7 +11,8 @@ use Rattle.std.proofs.lemmas.List.{length-map}
 use Rattle.std.proofs.lemmas.List.Elements.{Contains-append_cases, Contains-append_left, Contains-append_right}
 use Rattle.std.proofs.lemmas.Option.{same_Some}
 use Rattle.deny_base.specs.declared.files.File.{File}
-use Rattle.deny_lists.proofs.Members.{Contains-by_cases, Contains-first, Contains-flat_map, Contains-from_flat_map, contains_map, map_at, no_member, some_at}
+use Rattle.deny_lists.proofs.Members.{Contains-by_cases, Contains-first, Contains-flat_map, Contains-from_flat_map}
+use Rattle.deny_lists.proofs.Members.{contains_map, map_at, no_member, some_at}
 use Rattle.deny_lists.specs.Ascending.{Lists}
 use Rattle.deny_krates.proofs.NumberLemmas.{slice_get-right}
 use Rattle.deny_krates.specs.Crates.{crates_from}
@@ -26,7 +28,8 @@ use Rattle.deny_spans.proofs.IdLemmas.{placed}
 use Rattle.deny_spans.proofs.SharedLemmas.{length-shared, shared_from-at}
 use Rattle.deny_spans.specs.Look.{IsBroken, Look, Reading, tree_of, workspace_look, workspace_reading}
 use Rattle.deny_spans.specs.Paths.{workspace_path}
-use Rattle.deny_spans.specs.Seen.{IsMalformed, IsMissing, IsSeen, at_crate, at_workspace, entries_by, manifest_in, of_crate, of_workspace}
+use Rattle.deny_spans.specs.Seen.{IsMalformed, IsMissing, IsSeen, at_crate, at_workspace, entries_by, manifest_in}
+use Rattle.deny_spans.specs.Seen.{of_crate, of_workspace}
 use Rattle.deny_spans.specs.SpansView.{AreSpansOf, IsManifestAt, IsSharedAt, manifest_view, shared_from, spans_view}
 use Rattle.deny_spans.specs.declared.krate_spans.Found.{Found}
 use Rattle.deny_spans.specs.declared.krate_spans.KrateSpans.{KrateSpans}

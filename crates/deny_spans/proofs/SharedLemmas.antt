@@ -1,5 +1,6 @@
 -- What is at a place of a list, and the shared entries there.
-use Rattle.std.proofs.Common.{◌≡◌, ◌∙◌, ◌+◌, [], ◌∷◌, ℕ, List, Option, None, Some, ap, arith, get_or, length, refl, suc, sym, zero}
+use Rattle.std.proofs.Common.{◌≡◌, ◌∙◌, ◌+◌, [], ◌∷◌, ℕ, List, Option, None, Some, ap, arith, get_or, length, refl, suc}
+use Rattle.std.proofs.Common.{sym, zero}
 use Rattle.std.specs.Borrow.{Bor}
 use Rattle.std.specs.Prelude.{IfSome, is_some, nat_lt, option_copied, option_map, slice_get}
 use Rattle.std.specs.Option.{option_flatten}

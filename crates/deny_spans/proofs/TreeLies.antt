@@ -7,7 +7,9 @@ use Rattle.deny_base.specs.declared.span.Span.{Span}
 use Rattle.deny_lists.proofs.Each.{all_append, all_flat, all_found, all_given, all_mapped, all_weaker}
 use Rattle.deny_manifests.specs.Declarations.{declared_at, declared_by, declared_in}
 use Rattle.deny_manifests.specs.Found.{rename_of, requirement_in, spanned_in, version_of, versioned, workspace_of}
-use Rattle.deny_manifests.specs.Written.{Written, declares, entries_at, entries_of as entries_below, entry_in, found_in, kinds, of_target, section_in, section_name, sections_in, written_in, written_with}
+use Rattle.deny_manifests.specs.Written.{Written, declares, entries_at, entries_of as entries_below, entry_in, found_in}
+use Rattle.deny_manifests.specs.Written.{kinds, of_target, section_in, section_name, sections_in, written_in}
+use Rattle.deny_manifests.specs.Written.{written_with}
 use Rattle.deny_model.specs.Graph.{Crate, Dependency, Graph}
 use Rattle.deny_model.specs.Resolution.{resolution}
 use Rattle.deny_spans.specs.Ranges.{DeclaredLies, EntryLies, IsPlaced}
@@ -17,7 +19,8 @@ use Rattle.deny_toml.specs.Ranges.{AllOfContent, AllOfEntries, AllOfValue, IsRan
 use Rattle.deny_toml.specs.Value.{entries_in, span_in}
 use Rattle.deny_toml.specs.declared.value.Table.{Table}
 use Rattle.deny_toml.specs.declared.value.Value.{Value}
-use Rattle.deny_workspace.specs.Entries.{Entry, dependencies_in, entries_of, entry_of, keys_in, may_be_patched, patch_from, patch_of, patched_entry, patches_in, replaced_by, table_below}
+use Rattle.deny_workspace.specs.Entries.{Entry, dependencies_in, entries_of, entry_of, keys_in, may_be_patched}
+use Rattle.deny_workspace.specs.Entries.{patch_from, patch_of, patched_entry, patches_in, replaced_by, table_below}
 use Rattle.deny_workspace.specs.EntryKey.{name_of}
 use Rattle.deny_workspace.specs.Origin.{origin_in, value_at_key}
 use Rattle.deny_workspace.specs.Wanted.{Wanted, is_readable, wanted_from, wanted_in}

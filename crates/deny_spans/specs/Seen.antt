@@ -1,5 +1,6 @@
 -- What was seen of the manifests of a graph's crates and of its workspace.
-use Rattle.std.specs.Prelude.{◌≡◌, ℕ, ◌+◌, ◌++◌, Bool, Contains, IfSome, List, [], None, Option, Some, length, map, option_map}
+use Rattle.std.specs.Prelude.{◌≡◌, ℕ, ◌+◌, ◌++◌, Bool, Contains, IfSome, List, [], None, Option, Some, length, map}
+use Rattle.std.specs.Prelude.{option_map}
 use Rattle.std.specs.Cmp.Lexicographic.{slice_cmp}
 use Rattle.std.specs.List.{flat_map}
 use Rattle.std.specs.Option.{option_map_or}
@@ -13,8 +14,8 @@ use Rattle.deny_manifests.specs.Declarations.{declared_in}
 use Rattle.deny_manifests.specs.Ignored.{ignored_at}
 use Rattle.deny_model.specs.Graph.{Crate, Graph, kid_of}
 use Rattle.deny_model.specs.View.{Manifest, View, WorkspaceEntry}
-use Rattle.deny_spans.specs.Look.{AreNumbered, IsBroken, IsLook, IsReadAt, Look, Reading, kept_as, kept_of, number_of, tree_of}
-use Rattle.deny_spans.specs.Look.{workspace_look, workspace_reading}
+use Rattle.deny_spans.specs.Look.{AreNumbered, IsBroken, IsLook, IsReadAt, Look, Reading, kept_as, kept_of, number_of}
+use Rattle.deny_spans.specs.Look.{tree_of, workspace_look, workspace_reading}
 use Rattle.deny_spans.specs.Paths.{lock_path, workspace_path}
 use Rattle.deny_toml.specs.declared.value.Value.{Value}
 use Rattle.deny_unread.specs.Unread.{asked, unread_cmp}

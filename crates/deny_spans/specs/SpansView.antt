@@ -1,5 +1,6 @@
 -- What spans are to contracts.
-use Rattle.std.specs.Prelude.{◌≡◌, ℕ, ◌+◌, All, IfSome, List, [], ◌∷◌, None, Option, Some, length, map, option_map, slice_get}
+use Rattle.std.specs.Prelude.{◌≡◌, ℕ, ◌+◌, All, IfSome, List, [], ◌∷◌, None, Option, Some, length, map, option_map}
+use Rattle.std.specs.Prelude.{slice_get}
 use Rattle.std.specs.List.{AllZip}
 use Rattle.std.specs.Option.{option_flatten}
 use Rattle.deny_krates.specs.Crates.{crate_view}

@@ -1,5 +1,7 @@
 -- What is read is spelled: the tokens behind which a reader stands, and how they can go on.
-use Rattle.std.proofs.Common.{◌≡◌, ℕ, suc, ◌+◌, ◌-◌, ◌<◌, Bool, true, false, cond, List, [], ◌∷◌, ◌++◌, length, Option, Some, None, refl, sym, ◌∙◌, ap, subst, append_assoc, append-nil, length-append, arith, nat_lt, option_and_then}
+use Rattle.std.proofs.Common.{◌≡◌, ℕ, suc, ◌+◌, ◌-◌, ◌<◌, Bool, true, false, cond, List, [], ◌∷◌, ◌++◌, length, Option}
+use Rattle.std.proofs.Common.{Some, None, refl, sym, ◌∙◌, ap, subst, append_assoc, append-nil, length-append, arith}
+use Rattle.std.proofs.Common.{nat_lt, option_and_then}
 use Rattle.std.proofs.lemmas.Bool.{ltb-true}
 use Rattle.deny_spdx.specs.declared.token.Token.{Token}
 use Rattle.deny_spdx.specs.declared.token.Token.TheVariants.{Word, And, Or, With, Open, Close}
@@ -11,8 +13,13 @@ use Rattle.deny_spdx.specs.declared.level.Level.{Level}
 use Rattle.deny_spdx.specs.declared.reader.Phase.{Phase}
 use Rattle.deny_spdx.specs.declared.reader.Phase.TheVariants.{Operand, Named, Excepted, Operator}
 use Rattle.deny_spdx.specs.declared.reader.Reader.{Reader}
-use Rattle.deny_spdx.specs.Grammar.{any_of, IsRequirement, plain, excepted, IsUnit, requirement, group, IsAnd, unit, and, IsOr, alternative, or, IsExpression}
-use Rattle.deny_spdx.specs.Reader.{empty_level, start, with_part, all_alternatives, with_requirement, settled, settled_at, with_phase, word_step, word_step_at, with_step, with_step_at, open_step, open_step_at, opened, and_step, or_step, next_alternative, close_step, closed, closed_to, split_last, step, run, whole, whole_at, expression_of, if_operator, if_closed}
+use Rattle.deny_spdx.specs.Grammar.{any_of, IsRequirement, plain, excepted, IsUnit, requirement, group, IsAnd, unit}
+use Rattle.deny_spdx.specs.Grammar.{and, IsOr, alternative, or, IsExpression}
+use Rattle.deny_spdx.specs.Reader.{empty_level, start, with_part, all_alternatives, with_requirement, settled}
+use Rattle.deny_spdx.specs.Reader.{settled_at, with_phase, word_step, word_step_at, with_step, with_step_at, open_step}
+use Rattle.deny_spdx.specs.Reader.{open_step_at, opened, and_step, or_step, next_alternative, close_step, closed}
+use Rattle.deny_spdx.specs.Reader.{closed_to, split_last, step, run, whole, whole_at, expression_of, if_operator}
+use Rattle.deny_spdx.specs.Reader.{if_closed}
 use Rattle.deny_spdx.specs.Bad.{AreWhole, Begin}
 use Rattle.deny_spdx.proofs.RunLemmas.{reader, level, split_last-snoc}
 

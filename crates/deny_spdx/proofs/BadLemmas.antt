@@ -1,12 +1,14 @@
 -- A text spells one thing at most, or goes wrong at one place, and never both.
-use Rattle.std.proofs.Common.{◌≡◌, ℕ, inl, inr, true, false, List, [], ◌∷◌, ◌++◌, length, Result, Ok, Err, refl, sym, ◌∙◌, ap, subst, arith, append_assoc, append-nil}
+use Rattle.std.proofs.Common.{◌≡◌, ℕ, inl, inr, true, false, List, [], ◌∷◌, ◌++◌, length, Result, Ok, Err, refl, sym}
+use Rattle.std.proofs.Common.{◌∙◌, ap, subst, arith, append_assoc, append-nil}
 use Rattle.deny_lists.specs.Reader.{Answers}
 use Rattle.deny_spdx.specs.declared.token.Token.{Token}
 use Rattle.deny_spdx.specs.declared.error.SpdxError.{SpdxError}
 use Rattle.deny_spdx.specs.declared.error.SpdxError.TheVariants.{Bad, Memory}
 use Rattle.deny_spdx.specs.Tokens.{is_blank, begins_token, HasTokens, none, blank, more}
 use Rattle.deny_spdx.specs.Bad.{Spells, AreWhole, Begin, GoesWrong, ends, no_token, token, IsBadAt, IsAnswer}
-use Rattle.deny_spdx.proofs.TokenLemmas.{begins_same, begins_first, begins_some, begins_from, not_blank, GoesOn, tokens_meet}
+use Rattle.deny_spdx.proofs.TokenLemmas.{begins_same, begins_first, begins_some, begins_from, not_blank, GoesOn}
+use Rattle.deny_spdx.proofs.TokenLemmas.{tokens_meet}
 
 -- S spells one thing at most with the same tokens
 abbrev pub IsClear : {A : Type 0} → (List Token → A → Type 0) → Type 0

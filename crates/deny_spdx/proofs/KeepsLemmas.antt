@@ -1,5 +1,6 @@
 -- The reader of an expression keeps to the grammar, and so does the reader of one requirement.
-use Rattle.std.proofs.Common.{◌≡◌, ℕ, List, [], ◌∷◌, ◌++◌, length, Option, Some, None, Err, refl, sym, ap, subst, append_assoc, append-nil, option_and_then}
+use Rattle.std.proofs.Common.{◌≡◌, ℕ, List, [], ◌∷◌, ◌++◌, length, Option, Some, None, Err, refl, sym, ap, subst}
+use Rattle.std.proofs.Common.{append_assoc, append-nil, option_and_then}
 use Rattle.deny_spdx.specs.declared.token.Token.{Token}
 use Rattle.deny_spdx.specs.declared.token.Token.TheVariants.{Word, And, Or, With, Open, Close}
 use Rattle.deny_spdx.specs.declared.requirement.Requirement.{Requirement}

@@ -1,19 +1,24 @@
 -- What a text means as one requirement is what it spells.
-use Rattle.std.proofs.Common.{◌≡◌, ◌≢◌, ℕ, ◌<◌, ◌==◌, ◌&&◌, if◌then◌else◌, Bool, true, false, cond, not, List, [], ◌∷◌, ◌++◌, length, map, filter, Option, Some, None, Result, Ok, Err, refl, sym, ◌∙◌, ap, subst, append_assoc, append-nil, ◌⊎◌, inl, inr, nat_lt, arith}
+use Rattle.std.proofs.Common.{◌≡◌, ◌≢◌, ℕ, ◌<◌, ◌==◌, ◌&&◌, if◌then◌else◌, Bool, true, false, cond, not, List, [], ◌∷◌}
+use Rattle.std.proofs.Common.{◌++◌, length, map, filter, Option, Some, None, Result, Ok, Err, refl, sym, ◌∙◌, ap, subst}
+use Rattle.std.proofs.Common.{append_assoc, append-nil, ◌⊎◌, inl, inr, nat_lt, arith}
 use Rattle.std.specs.List.{list_all, slice_split, onto_first}
 use Rattle.std.proofs.lemmas.List.Splits.{slice_split-cons_yes, slice_split-cons_no}
 use Rattle.std.proofs.lemmas.List.Folds.{list_all-append}
 use Rattle.std.proofs.lemmas.Bool.{and_parts, ltb-true}
 use Rattle.std.proofs.lemmas.Bool.Decides.{nat_tests}
+use Rattle.deny_lists.proofs.Booleans.{and-false}
 use Rattle.deny_spdx.specs.declared.token.Token.{Token}
 use Rattle.deny_spdx.specs.declared.token.Token.TheVariants.{Word, With, And, Or, Open, Close}
 use Rattle.deny_spdx.specs.declared.requirement.Requirement.{Requirement}
 use Rattle.deny_spdx.specs.declared.error.SpdxError.{SpdxError}
 use Rattle.deny_spdx.specs.declared.error.SpdxError.TheVariants.{Bad, Memory}
-use Rattle.deny_spdx.specs.Tokens.{is_blank, is_word_byte, IsWord, EndsWord, BeginsWith, word, plus, slash, opening, closing, token_of, HasTokens, none, blank, more}
+use Rattle.deny_spdx.specs.Tokens.{is_blank, is_word_byte, IsWord, EndsWord, BeginsWith, word, plus, slash, opening}
+use Rattle.deny_spdx.specs.Tokens.{closing, token_of, HasTokens, none, blank, more}
 use Rattle.deny_spdx.specs.Grammar.{IsRequirement, plain, excepted}
 use Rattle.deny_spdx.specs.Bad.{Spells, IsAnswer}
-use Rattle.deny_spdx.specs.Meaning.{spaced, parts_of, is_word, without_plus, part_token, requirement_of, requirement_in, IsMeaning}
+use Rattle.deny_spdx.specs.Meaning.{spaced, parts_of, is_word, without_plus, part_token, requirement_of, requirement_in}
+use Rattle.deny_spdx.specs.Meaning.{IsMeaning}
 use Rattle.deny_spdx.proofs.BadLemmas.{bad_spells}
 
 -- ---- the parts of a text that begins with a word
@@ -116,10 +121,6 @@ parts_end w d =
 
 -- ---- the token of a part
 
-and_false : (c : Bool) → (c && false) ≡ false
-and_false true = refl
-and_false false = refl
-
 word_test : (w : List ℕ) → IsWord w → is_word w ≡ true
 word_test w d = let some : 0 < length w = d.some in rw d.each (grind (arith, nat_tests))
 
@@ -134,7 +135,7 @@ without_last (x ∷ y ∷ ys) = ap (λ bytes. x ∷ bytes) (without_last (y ∷ 
 
 no_word_byte : (w after : List ℕ) (b : ℕ) → is_word_byte b ≡ false → list_all is_word_byte (w ++ b ∷ after) ≡ false
 no_word_byte [] after b e = ap (λ c. c && list_all is_word_byte after) e
-no_word_byte (x ∷ xs) after b e = ap (λ c. is_word_byte x && c) (no_word_byte xs after b e) ∙ and_false (is_word_byte x)
+no_word_byte (x ∷ xs) after b e = ap (λ c. is_word_byte x && c) (no_word_byte xs after b e) ∙ and-false (is_word_byte x)
 
 no_word : (w after : List ℕ) (b : ℕ) → is_word_byte b ≡ false → is_word (w ++ b ∷ after) ≡ false
 no_word w after b e = rw (no_word_byte w after b e) (grind (arith, nat_tests))
@@ -331,16 +332,17 @@ without_bad : (w after : List ℕ) (b : ℕ) → is_word_byte b ≡ false → (b
     → list_all is_word_byte (without_plus (w ++ b ∷ after)) ≡ false
 without_bad [] [] b e f = ap (λ c. list_all is_word_byte (if c then [] else b ∷ [])) f ∙ ap (λ c. c && true) e
 without_bad [] (c ∷ cs) b e f = ap (λ x. x && list_all is_word_byte (without_plus (c ∷ cs))) e
-without_bad (x ∷ []) after b e f = ap (λ c. is_word_byte x && c) (without_bad [] after b e f) ∙ and_false (is_word_byte x)
+without_bad (x ∷ []) after b e f =
+    ap (λ c. is_word_byte x && c) (without_bad [] after b e f) ∙ and-false (is_word_byte x)
 without_bad (x ∷ y ∷ ys) after b e f =
-    ap (λ c. is_word_byte x && c) (without_bad (y ∷ ys) after b e f) ∙ and_false (is_word_byte x)
+    ap (λ c. is_word_byte x && c) (without_bad (y ∷ ys) after b e f) ∙ and-false (is_word_byte x)
 
 bad_token : (w after : List ℕ) (b : ℕ) → is_word_byte b ≡ false → (b == 43) ≡ false
     → part_token (w ++ b ∷ after) ≡ None
 bad_token w after b e f =
     let part = w ++ b ∷ after in
     let not_bare : is_word (without_plus part) ≡ false =
-    rw (without_bad w after b e f) (and_false (nat_lt 0 (length (without_plus part)))) in
+    rw (without_bad w after b e f) (and-false (nat_lt 0 (length (without_plus part)))) in
     ap (λ c. if c then Some (token_of part)
     else (if is_word (without_plus part) then Some (Word (without_plus part)) else None)) (no_word w after b e)
     ∙ ap (λ c. if c then Some (Word (without_plus part)) else None) not_bare
@@ -397,7 +399,8 @@ abbrev IsShaped : List (Option Token) → Requirement → Type 0
 IsShaped found r = (tokens : List Token) × (found ≡ map Some tokens) × IsRequirement tokens r
 
 shaped_as : (found : List (Option Token)) (q r : Requirement) → Some q ≡ Some r → IsShaped found q → IsShaped found r
-shaped_as found q r e d = let same : q ≡ r = cc in let P : Requirement → Type 0 = λ x. IsShaped found x in subst P same d
+shaped_as found q r e d = let same : q ≡ r = cc in let P : Requirement → Type 0 =
+    λ x. IsShaped found x in subst P same d
 
 shaped : (found : List (Option Token)) (r : Requirement) → requirement_of found ≡ Some r → IsShaped found r
 shaped (Some (Word id) ∷ []) r e = shaped_as _ _ r e (Word id ∷ [], refl, plain id)

@@ -8,7 +8,7 @@ use Rattle.deny_spdx.specs.Meaning.{requirement_in}
 abbrev licence : List ℕ → Requirement
 licence id = record { id = id; exception = None }
 
-abbrev excepted : List ℕ → List ℕ → Requirement
+abbrev pub excepted : List ℕ → List ℕ → Requirement
 excepted id exception = record { id = id; exception = Some exception }
 
 word : requirement_in (codes "MIT") ≡ Some (licence (codes "MIT"))

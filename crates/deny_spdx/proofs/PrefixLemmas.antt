@@ -1,62 +1,29 @@
 -- What stands at the begin of a text.
-use Rattle.std.proofs.Common.{◌≡◌, ◌≢◌, ℕ, zero, suc, ◌+◌, ◌<◌, ◌≤◌, ◌||◌, Bool, true, false, cond, List, [], ◌∷◌, ◌++◌, length, take, drop, get_or, Option, Some, None, refl, sym, ◌∙◌, ap, subst, arith, slice_get, nat_le, ◌==◌, if◌then◌else◌, length-take, drop-cons, add-one}
+use Rattle.std.proofs.Common.{◌≡◌, ◌≢◌, ℕ, zero, suc, ◌+◌, ◌<◌, ◌≤◌, ◌||◌, Bool, true, false, cond, List, [], ◌∷◌, ◌++◌}
+use Rattle.std.proofs.Common.{length, take, drop, get_or, Option, Some, None, refl, sym, ◌∙◌, ap, subst, arith}
+use Rattle.std.proofs.Common.{slice_get, nat_le, ◌==◌, if◌then◌else◌, length-take, drop-cons, add-one}
 use Rattle.std.specs.Prelude.{slice_index}
 use Rattle.std.specs.List.{prefix_len}
-use Rattle.std.specs.Str.{IsCharBoundary, IsUtf8}
-use Rattle.std.proofs.lemmas.Str.{IsCharBoundary-after_ascii, IsCharBoundary-start}
 use Rattle.std.proofs.lemmas.Bool.Decides.{nat_tests}
 use Rattle.std.proofs.lemmas.List.{take-append-drop}
-use Rattle.std.proofs.lemmas.List.Sums.{prefix_len_passes, prefix_len_stops, prefix_len-le-length}
+use Rattle.std.proofs.lemmas.List.Sums.{prefix_len_stops, prefix_len-le-length}
 use Rattle.deny_lists.proofs.PrefixLemmas.{list_all-take}
 use Rattle.deny_spdx.specs.declared.token.Token.{Token}
 use Rattle.deny_spdx.specs.declared.token.Token.TheVariants as token
 use Rattle.deny_spdx.specs.declared.token.Prefix.{Prefix}
 use Rattle.deny_spdx.specs.declared.token.Prefix.TheVariants as prefix
-use Rattle.deny_spdx.specs.Tokens.{is_blank, is_word_byte, begins_token, IsWord, EndsWord, BeginsWith, word, plus, slash, opening, closing, token_of}
+use Rattle.deny_lists.proofs.Texts.{prefix_within, prefix_passes, first_byte}
+use Rattle.deny_spdx.specs.Tokens.{is_word_byte, begins_token, IsWord, EndsWord, BeginsWith, word, plus, slash, opening}
+use Rattle.deny_spdx.specs.Tokens.{closing, token_of}
 use Rattle.deny_spdx.specs.Prefix.{HasTokenPrefix, HasPrefix, mark_of, is_plus}
-
--- a text may be cut behind ASCII bytes
-pub boundary : (text : List ℕ) (n : ℕ) → IsUtf8 text → n ≤ length text → ((k : ℕ) → k < n → slice_index text k < 128)
-    → IsCharBoundary text n
-boundary text zero utf8 within ascii = IsCharBoundary-start text utf8
-boundary text (suc n) utf8 within ascii = let P : ℕ → Type 0 = λ k. IsCharBoundary text k in
-    subst P (add-one n) (IsCharBoundary-after_ascii text n utf8 (omega arith) (ascii n (omega arith)))
 
 word_ascii : (b : ℕ) → is_word_byte b ≡ true → b < 128
 unfolding is_word_byte
 word_ascii b e = grind (arith, nat_tests, e)
 
-blank_ascii : (b : ℕ) → is_blank b ≡ true → b < 128
-unfolding is_blank
-blank_ascii b e = grind (arith, nat_tests, e)
-
--- so many bytes at the begin of the text, which pass the test
-pub within_prefix : (p : ℕ → Bool) (text bytes : List ℕ) (n : ℕ) → bytes ≡ text → n ≡ prefix_len p bytes
-    → n ≤ length text
-within_prefix p text bytes n e f = let P : List ℕ → Type 0 = λ x. n ≤ length x in
-    subst P e (let most : prefix_len p bytes ≤ length bytes = prefix_len-le-length p bytes in omega arith)
-
-passes : (p : ℕ → Bool) (text bytes : List ℕ) (n : ℕ) → bytes ≡ text → n ≡ prefix_len p bytes → (k : ℕ) → k < n
-    → p (slice_index text k) ≡ true
-passes p text bytes n e f k h = let P : List ℕ → Type 0 = λ x. p (slice_index x k) ≡ true in
-    subst P e (prefix_len_passes p bytes k 0 (let Q : ℕ → Type 0 = λ m. k < m in subst Q f h))
-
-pub blanks_ascii : (text bytes : List ℕ) (n : ℕ) → bytes ≡ text → n ≡ prefix_len is_blank bytes → (k : ℕ) → k < n
-    → slice_index text k < 128
-blanks_ascii text bytes n e f k h = blank_ascii _ (passes is_blank text bytes n e f k h)
-
 pub words_ascii : (text bytes : List ℕ) (n : ℕ) → bytes ≡ text → n ≡ prefix_len is_word_byte bytes → (k : ℕ) → k < n
     → slice_index text k < 128
-words_ascii text bytes n e f k h = word_ascii _ (passes is_word_byte text bytes n e f k h)
-
--- the first byte of a list
-pub first_of : (bytes : List ℕ) (b : ℕ) → slice_get bytes 0 ≡ Some b → (rest : List ℕ) × (bytes ≡ b ∷ rest)
-first_of [] b e = cc
-first_of (x ∷ xs) b e = (xs, cc)
-
-pub none_first : (bytes : List ℕ) → slice_get bytes 0 ≡ None → bytes ≡ []
-none_first [] e = refl
-none_first (x ∷ xs) e = cc
+words_ascii text bytes n e f k h = word_ascii _ (prefix_passes is_word_byte text bytes n e f k h)
 
 pub some_word : (text : List ℕ) (b : ℕ) → slice_get text 0 ≡ Some b → is_word_byte b ≡ true
     → 0 < prefix_len is_word_byte text
@@ -140,7 +107,7 @@ word_prefix text bytes w after n t some e f first rest no_plus is = record {
       subst Q (ap token_of (sym first) ∙ sym is)
       (subst P (sym same) (word_begins text some (ap (λ m. is_plus (slice_get (drop m text) 0)) (sym same)
       ∙ (ap (λ x. is_plus (slice_get x 0)) (sym rest) ∙ no_plus)))));
-  within = within_prefix is_word_byte text bytes n e f;
+  within = prefix_within is_word_byte text bytes n e f;
   ascii = words_ascii text bytes n e f;
 }
 
@@ -213,7 +180,7 @@ pub mark_prefix : (text : List ℕ) (b : ℕ) (found : Prefix) → slice_get tex
     → found ≡ mark_of b → HasPrefix text found
 unfolding mark_of
 mark_prefix text b found e f g =
-    let first = first_of text b e in
+    let first = first_byte text b e in
     let P : List ℕ → Type 0 = λ x. HasPrefix x found in
     let Q : Prefix → Type 0 = λ x. HasPrefix (b ∷ first.0) x in
     subst P (sym first.1) (subst Q (sym g) (mark_at b first.0 (b == 40) (b == 41) (b == 47) refl refl refl f))

@@ -1,5 +1,6 @@
 -- Reading a text token by token.
-use Rattle.std.proofs.Common.{◌≡◌, ℕ, suc, ◌+◌, ◌-◌, ◌<◌, ◌≤◌, Bool, true, false, cond, List, [], ◌∷◌, ◌++◌, length, drop, Option, Some, None, refl, sym, ◌∙◌, ap, subst, arith, length-drop, option_and_then}
+use Rattle.std.proofs.Common.{◌≡◌, ℕ, suc, ◌+◌, ◌-◌, ◌<◌, ◌≤◌, Bool, true, false, cond, List, [], ◌∷◌, ◌++◌, length}
+use Rattle.std.proofs.Common.{drop, Option, Some, None, refl, sym, ◌∙◌, ap, subst, arith, length-drop, option_and_then}
 use Rattle.std.specs.List.{prefix_len}
 use Rattle.deny_spdx.specs.declared.token.Token.{Token}
 use Rattle.deny_spdx.specs.declared.token.Prefix.{Prefix}

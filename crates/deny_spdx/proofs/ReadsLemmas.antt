@@ -1,5 +1,7 @@
 -- What a text is read as is what it spells, or the place where it goes wrong.
-use Rattle.std.proofs.Common.{◌≡◌, ◌≤◌, ℕ, ◌+◌, ◌-◌, ◌==◌, if◌then◌else◌, Bool, true, false, List, [], ◌∷◌, ◌++◌, length, Option, Some, None, Result, Ok, Err, refl, sym, ◌∙◌, ap, subst, append_assoc, append-nil, length-append, option_and_then, arith}
+use Rattle.std.proofs.Common.{◌≡◌, ◌≤◌, ℕ, ◌+◌, ◌-◌, ◌==◌, if◌then◌else◌, Bool, true, false, List, [], ◌∷◌, ◌++◌}
+use Rattle.std.proofs.Common.{length, Option, Some, None, Result, Ok, Err, refl, sym, ◌∙◌, ap, subst, append_assoc}
+use Rattle.std.proofs.Common.{append-nil, length-append, option_and_then, arith}
 use Rattle.std.specs.List.{list_all}
 use Rattle.std.proofs.lemmas.List.Folds.{list_all-append}
 use Rattle.std.proofs.lemmas.Bool.Decides.{nat_tests}
@@ -9,13 +11,15 @@ use Rattle.deny_spdx.specs.declared.error.SpdxError.{SpdxError}
 use Rattle.deny_spdx.specs.declared.error.SpdxError.TheVariants as error
 use Rattle.deny_spdx.specs.declared.expression.Expression.{Expression}
 use Rattle.deny_spdx.specs.declared.reader.Reader.{Reader}
-use Rattle.deny_spdx.specs.Tokens.{is_blank, is_word_byte, begins_token, IsWord, EndsWord, BeginsWith, word, plus, slash, opening, closing, token_of, HasTokens, none, blank, more}
+use Rattle.deny_spdx.specs.Tokens.{is_blank, is_word_byte, begins_token, IsWord, EndsWord, BeginsWith, word, plus}
+use Rattle.deny_spdx.specs.Tokens.{slash, opening, closing, token_of, HasTokens, none, blank, more}
 use Rattle.deny_spdx.specs.Grammar.{IsExpression}
 use Rattle.deny_spdx.specs.Bad.{Spells, IsBadAt, IsAnswer}
 use Rattle.deny_spdx.specs.Reader.{start, settled, step, whole, run_by}
 use Rattle.deny_spdx.specs.Reading as reading
 use Rattle.deny_spdx.specs.Reading.{IsStuck, NoBlankFirst}
-use Rattle.deny_spdx.specs.Reads.{Reading, Read, BadAt, Progress, On, Bad, taken, and_on, word_ended, plus_ended, mark_taken, byte_taken, read_as, at_end, then_read, read_from, reading_in, IsReading}
+use Rattle.deny_spdx.specs.Reads.{Reading, Read, BadAt, Progress, On, Bad, taken, and_on, word_ended, plus_ended}
+use Rattle.deny_spdx.specs.Reads.{mark_taken, byte_taken, read_as, at_end, then_read, read_from, reading_in, IsReading}
 use Rattle.deny_spdx.proofs.TokenLemmas.{not_blank, tokens_then, rest_shorter}
 use Rattle.deny_spdx.proofs.PrefixLemmas.{no_plus_byte, plus_byte, no_token_byte}
 use Rattle.deny_spdx.proofs.StepsLemmas.{run_by-append}

@@ -1,5 +1,5 @@
 -- What texts are read as, by computing.
-use Rattle.std.proofs.Common.{◌≡◌, ℕ, zero, suc, List, [], ◌∷◌, ◌++◌, map, Some, None, refl}
+use Rattle.std.proofs.Common.{◌≡◌, ℕ, zero, suc, List, [], ◌∷◌, ◌++◌, map, None, refl}
 use Rattle.std.specs.Prelude.{codes}
 use Rattle.deny_spdx.specs.declared.requirement.Requirement.{Requirement}
 use Rattle.deny_spdx.specs.declared.expression.Tree.{Tree}
@@ -7,12 +7,10 @@ use Rattle.deny_spdx.specs.declared.expression.Tree.TheVariants as tree
 use Rattle.deny_spdx.specs.Tokens.{is_blank, is_word_byte, token_of}
 use Rattle.deny_spdx.specs.Reader.{settled, word_step, with_step, open_step, and_step, or_step, close_step, step, whole}
 use Rattle.deny_spdx.specs.Reads.{Reading, Read, BadAt, word_ended, plus_ended, mark_taken, byte_taken, reading_in}
+use Rattle.deny_spdx.proofs.MeaningRows.{excepted}
 
 abbrev licence : List ℕ → Requirement
 licence id = record { id = id; exception = None }
-
-abbrev excepted : List ℕ → List ℕ → Requirement
-excepted id exception = record { id = id; exception = Some exception }
 
 abbrev read : List Requirement → Tree → Reading
 read requirements whole = Read (record { requirements = requirements; tree = whole })

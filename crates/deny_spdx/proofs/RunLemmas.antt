@@ -1,5 +1,6 @@
 -- What is spelled is read: the reader behind the tokens of a unit, of units with AND, and of an expression.
-use Rattle.std.proofs.Common.{◌≡◌, ℕ, suc, ◌+◌, ◌<◌, ◌≤◌, cond, List, [], ◌∷◌, ◌++◌, length, Some, None, refl, sym, ◌∙◌, ap, subst, append_assoc, length-append, arith, option_and_then}
+use Rattle.std.proofs.Common.{◌≡◌, ℕ, suc, ◌+◌, ◌<◌, ◌≤◌, cond, List, [], ◌∷◌, ◌++◌, length, Some, None, refl, sym, ◌∙◌}
+use Rattle.std.proofs.Common.{ap, subst, append_assoc, length-append, arith, option_and_then}
 use Rattle.std.proofs.lemmas.Bool.{lt-ltb}
 use Rattle.deny_spdx.specs.declared.token.Token.{Token}
 use Rattle.deny_spdx.specs.declared.token.Token.TheVariants.{And, Or, Open, Close}
@@ -11,8 +12,11 @@ use Rattle.deny_spdx.specs.declared.level.Level.{Level}
 use Rattle.deny_spdx.specs.declared.reader.Phase.{Phase}
 use Rattle.deny_spdx.specs.declared.reader.Phase.TheVariants.{Operand, Named, Operator}
 use Rattle.deny_spdx.specs.declared.reader.Reader.{Reader}
-use Rattle.deny_spdx.specs.Grammar.{all_of, any_of, IsRequirement, plain, excepted, IsUnit, requirement, group, IsAnd, unit, and, IsOr, alternative, or, IsExpression}
-use Rattle.deny_spdx.specs.Reader.{empty_level, start, with_part, all_alternatives, settled, word_step, with_step, open_step, opened, and_step, or_step, close_step, closed, split_last, with_first, step, run, whole, if_operator}
+use Rattle.deny_spdx.specs.Grammar.{all_of, any_of, IsRequirement, plain, excepted, IsUnit, requirement, group, IsAnd}
+use Rattle.deny_spdx.specs.Grammar.{unit, and, IsOr, alternative, or, IsExpression}
+use Rattle.deny_spdx.specs.Reader.{empty_level, start, with_part, all_alternatives, settled, word_step, with_step}
+use Rattle.deny_spdx.specs.Reader.{open_step, opened, and_step, or_step, close_step, closed, split_last, with_first}
+use Rattle.deny_spdx.specs.Reader.{step, run, whole, if_operator}
 use Rattle.deny_spdx.proofs.StepsLemmas.{LeadsTo, run_by-append}
 
 abbrev pub reader : List Requirement → List Level → Level → Phase → Reader

@@ -1,14 +1,12 @@
 -- The truth of a tree, by its cases.
-use Rattle.std.proofs.Common.{◌≡◌, ℕ, Bool, false, List, [], ◌∷◌, refl, ap, ◌∙◌, sym, map, unwrap_or, slice_get, ◌&&◌, ◌||◌}
+use Rattle.std.proofs.Common.{◌≡◌, ℕ, Bool, false, List, [], ◌∷◌, refl, ap, ◌∙◌, sym, map, unwrap_or, slice_get, ◌||◌}
 use Rattle.std.specs.List.{list_any, list_all}
+use Rattle.deny_lists.proofs.Filters.{list_all-map}
 use Rattle.deny_spdx.specs.declared.expression.Tree.{Tree, fold-roll-Tree}
-use Rattle.deny_spdx.specs.declared.expression.Tree.TheVariants.{Requirement, All, Any, rolls-Requirement, rolls-All, rolls-Any}
+use Rattle.deny_spdx.specs.declared.expression.Tree.TheVariants.{Requirement, All, Any, rolls-Requirement, rolls-All}
+use Rattle.deny_spdx.specs.declared.expression.Tree.TheVariants.{rolls-Any}
 use Rattle.deny_spdx.specs.declared.expression.Tree.TheOpen as open_tree
 use Rattle.deny_spdx.specs.Truth.{truth, truth_step}
-
-list_all-map : {A : Type 0} (p : A → Bool) (xs : List A) → list_all (λ t. t) (map p xs) ≡ list_all p xs
-list_all-map p [] = refl
-list_all-map p (x ∷ xs) = ap (λ b. p x && b) (list_all-map p xs)
 
 list_any-map : {A : Type 0} (p : A → Bool) (xs : List A) → list_any (λ t. t) (map p xs) ≡ list_any p xs
 list_any-map p [] = refl

@@ -1,5 +1,6 @@
 -- What the text of one requirement means, as a function of the text.
-use Rattle.std.specs.Prelude.{◌==◌, ◌&&◌, ℕ, Bool, not, if◌then◌else◌, List, [], ◌∷◌, length, map, filter, nat_lt, Option, Some, None, ◌≡◌, Result, Ok, Err}
+use Rattle.std.specs.Prelude.{◌==◌, ◌&&◌, ℕ, Bool, not, if◌then◌else◌, List, [], ◌∷◌, length, map, filter, nat_lt}
+use Rattle.std.specs.Prelude.{Option, Some, None, ◌≡◌, Result, Ok, Err}
 use Rattle.std.specs.List.{list_all, slice_split}
 use Rattle.deny_spdx.specs.declared.token.Token.{Token}
 use Rattle.deny_spdx.specs.declared.token.Token.TheVariants.{Word, With}

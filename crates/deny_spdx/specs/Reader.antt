@@ -1,5 +1,6 @@
 -- What each token makes of a reader.
-use Rattle.std.specs.Prelude.{ℕ, nat_lt, if◌then◌else◌, List, [], ◌∷◌, ◌++◌, length, Option, Some, None, option_and_then}
+use Rattle.std.specs.Prelude.{ℕ, nat_lt, if◌then◌else◌, List, [], ◌∷◌, ◌++◌, length, Option, Some, None}
+use Rattle.std.specs.Prelude.{option_and_then}
 use Rattle.deny_spdx.specs.declared.token.Token.{Token}
 use Rattle.deny_spdx.specs.declared.token.Token.TheVariants.{Word, And, Or, With, Open, Close}
 use Rattle.deny_spdx.specs.declared.requirement.Requirement.{Requirement}

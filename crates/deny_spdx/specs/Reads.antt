@@ -1,5 +1,6 @@
 -- What a text is read as, as a function of the text: the tokens as they come, each taken by a reader.
-use Rattle.std.specs.Prelude.{◌≡◌, ◌==◌, ◌+◌, ◌-◌, ℕ, if◌then◌else◌, List, [], ◌∷◌, ◌++◌, length, Option, Some, None, Result, Ok, Err}
+use Rattle.std.specs.Prelude.{◌≡◌, ◌==◌, ◌+◌, ◌-◌, ℕ, if◌then◌else◌, List, [], ◌∷◌, ◌++◌, length, Option, Some, None}
+use Rattle.std.specs.Prelude.{Result, Ok, Err}
 use Rattle.deny_spdx.specs.declared.token.Token.TheVariants.{Word, Or, Open, Close}
 use Rattle.deny_spdx.specs.declared.error.SpdxError.{SpdxError}
 use Rattle.deny_spdx.specs.declared.error.SpdxError.TheVariants as error

@@ -1,13 +1,11 @@
 -- The tokens of a text.
-use Rattle.std.specs.Prelude.{◌≡◌, ◌==◌, ◌||◌, ◌&&◌, ◌<◌, ◌≢◌, ℕ, nat_le, Bool, true, false, if◌then◌else◌, List, [], ◌∷◌, ◌++◌, length, codes, nat_eq}
+use Rattle.std.specs.Prelude.{◌≡◌, ◌==◌, ◌||◌, ◌&&◌, ◌<◌, ◌≢◌, ℕ, nat_le, Bool, true, false, if◌then◌else◌, List, []}
+use Rattle.std.specs.Prelude.{◌∷◌, ◌++◌, length, codes, nat_eq}
 use Rattle.std.specs.List.{list_all}
 use Rattle.std.specs.Cmp.Lexicographic.{pointwise}
+unfoldable pub use Rattle.deny_lists.specs.Blanks.{is_blank}
 use Rattle.deny_spdx.specs.declared.token.Token.{Token}
 use Rattle.deny_spdx.specs.declared.token.Token.TheVariants.{Word, And, Or, With, Open, Close}
-
--- space and tab
-unfoldable pub is_blank : ℕ → Bool
-is_blank b = b == 32 || b == 9
 
 -- an ASCII letter or digit, '-' or '.'
 unfoldable pub is_word_byte : ℕ → Bool

@@ -1,5 +1,6 @@
 -- The names of a hash, as one more name is added.
-use Rattle.std.proofs.Common.{◌≡◌, ◌≢◌, ℕ, zero, suc, ◌<◌, ◌≤◌, List, [], ◌∷◌, ◌++◌, length, map, refl, sym, ap, subst, inl, inr, ◌∙◌, arith}
+use Rattle.std.proofs.Common.{◌≡◌, ◌≢◌, ℕ, zero, suc, ◌<◌, ◌≤◌, List, [], ◌∷◌, ◌++◌, length, map, refl, sym, ap, subst}
+use Rattle.std.proofs.Common.{inl, inr, ◌∙◌, arith}
 use Rattle.std.specs.Prelude.{◌⊎◌, Some, Contains, slice_get, slice_set, insert}
 use Rattle.std.specs.List.{AllByRecursion}
 use Rattle.std.specs.Ordering.{nat_cmp}
@@ -10,13 +11,17 @@ use Rattle.std.proofs.lemmas.Bool.{cases_eq, cases_lt}
 use Rattle.std.proofs.lemmas.Option.{slice_get_within}
 use Rattle.std.proofs.lemmas.List.Elements.{Contains-push, Contains-push_cases, Contains-append_left}
 use Rattle.deny_lists.proofs.Orders.{not_below_itself}
+use Rattle.deny_lists.proofs.Options.{some_inj}
+use Rattle.deny_lists.proofs.Members.{contains_none}
+use Rattle.deny_lists.proofs.Places.{slice_get-push_cases, slice_get-push_left, slice_get-push_last, slice_get-set_same}
+use Rattle.deny_lists.proofs.Places.{slice_get-set_cases, slice_get-set_other}
 use Rattle.deny_spec_index.specs.declared.bucket.Named.{Named}
 use Rattle.deny_spec_index.specs.Bucket.{name_of, Ascend, IsNamedAt, IsGap, IsNumbered, IsExtended, numbered, inserted}
 use Rattle.deny_spec_index.specs.Hash.{hash_of}
 use Rattle.deny_spec_index.specs.Index.{IsEntry, IsBucket}
 use Rattle.deny_spec_index.specs.Names.{HasNumber, AreNumbers}
 use Rattle.deny_spec_index.proofs.FindLemmas.{ascends}
-use Rattle.deny_spec_index.proofs.Lists.{some_inj, contains_none, get_more, get_left, get_last, get_set, set_here, set_other, get_inserted, inserted_here, inserted_other, ascending_more, ascending_none}
+use Rattle.deny_spec_index.proofs.Lists.{get_inserted, inserted_here, inserted_other, ascending_more, ascending_none}
 
 -- the order, as a name is put at a place
 
@@ -86,8 +91,8 @@ numbers_kept : (names : List (List ℕ)) (added name numbers : List ℕ) → (ad
 numbers_kept names added name numbers other are = record {
   ascending = are.ascending;
   exact = λ i. (
-    λ c. get_left names added i ((are.exact i).0 c),
-    λ h. from i (get_more names added i h),
+    λ c. slice_get-push_left names added i ((are.exact i).0 c),
+    λ h. from i (slice_get-push_cases names added i h),
   );
 } where
   from : (i : ℕ) → HasNumber names name i ⊎ ((i ≡ length names) × (name ≡ added)) → Contains numbers i
@@ -101,17 +106,18 @@ numbers_more names name numbers are = record {
       (λ i c. slice_get_within names i name ((are.exact i).0 c));
   exact = λ i. (
     λ c. to i (Contains-push_cases numbers (length names) i c),
-    λ h. from i (get_more names name i h),
+    λ h. from i (slice_get-push_cases names name i h),
   );
 } where
   to : (i : ℕ) → Contains numbers i ⊎ (length names ≡ i) → HasNumber (names ++ name ∷ []) name i
-  to i (inl c) = get_left names name i ((are.exact i).0 c)
-  to i (inr e) = get_last names name i (sym e)
+  to i (inl c) = slice_get-push_left names name i ((are.exact i).0 c)
+  to i (inr e) = slice_get-push_last names name i (sym e)
 
   from : (i : ℕ) → HasNumber names name i ⊎ ((i ≡ length names) × (name ≡ name))
       → Contains (numbers ++ length names ∷ []) i
   from i (inl h) = Contains-append_left numbers (length names ∷ []) i ((are.exact i).1 h)
-  from i (inr h) = subst (λ k. Contains (numbers ++ length names ∷ []) k) (sym h.0) (Contains-push numbers (length names))
+  from i (inr h) = subst (λ k. Contains (numbers ++ length names ∷ []) k) (sym h.0)
+      (Contains-push numbers (length names))
 
 entry_kept : (names : List (List ℕ)) (added : List ℕ) (hash : ℕ) (e : Named) → (added ≡ e.name → ⊥)
     → IsEntry names hash e → IsEntry (names ++ added ∷ []) hash e
@@ -137,7 +143,7 @@ bucket_kept names added hash bucket other x = record {
   ascend = x.ascend;
   each = λ p e at. entry_kept names added hash e
       (λ same. other (sym (x.each p e at).hashed ∙ ap hash_of (sym same))) (x.each p e at);
-  all = λ i name h hashed. from i name hashed (get_more names added i h);
+  all = λ i name h hashed. from i name hashed (slice_get-push_cases names added i h);
 } where
   from : (i : ℕ) (name : List ℕ) → hash_of name ≡ hash
       → HasNumber names name i ⊎ ((i ≡ length names) × (name ≡ added)) → (p : ℕ) × IsNamedAt bucket name p
@@ -148,95 +154,104 @@ bucket_kept names added hash bucket other x = record {
 bucket_numbered : (names : List (List ℕ)) (name : List ℕ) (old new : List Named) (place : ℕ)
     → IsBucket names (hash_of name) old → IsNamedAt old name place → IsNumbered old place (length names) new
     → IsBucket (names ++ name ∷ []) (hash_of name) new
-bucket_numbered names name old new place x at n = subst (IsBucket (names ++ name ∷ []) (hash_of name)) (sym n.whole) (record { ascend = up; each = each; all = all }) where
-  own : Named
-  own = record { name = n.named.name; numbers = n.named.numbers ++ length names ∷ [] }
+bucket_numbered names name old new place x at n = subst (IsBucket (names ++ name ∷ []) (hash_of name)) (sym n.whole)
+    (record { ascend = up; each = each; all = all }) where
+      own : Named
+      own = record { name = n.named.name; numbers = n.named.numbers ++ length names ∷ [] }
 
-  own_name : n.named.name ≡ name
-  own_name = ap name_of (some_inj (sym n.at ∙ at.at)) ∙ at.is_name
+      own_name : n.named.name ≡ name
+      own_name = ap name_of (some_inj (sym n.at ∙ at.at)) ∙ at.is_name
 
-  up : Ascend (slice_set old place own)
-  up = subst (IsStrictlySortedBy (slice_cmp nat_cmp)) (sym (names_set old place n.named own n.at refl)) x.ascend
+      up : Ascend (slice_set old place own)
+      up = subst (IsStrictlySortedBy (slice_cmp nat_cmp)) (sym (names_set old place n.named own n.at refl)) x.ascend
 
-  entry : IsEntry (names ++ name ∷ []) (hash_of name) own
-  entry = subst (λ ns. IsEntry (names ++ ns ∷ []) (hash_of name) own) own_name
-      (entry_more names n.named.name n.named.numbers (hash_of name) (ap hash_of own_name) (x.each place n.named n.at).are)
+      entry : IsEntry (names ++ name ∷ []) (hash_of name) own
+      entry = subst (λ ns. IsEntry (names ++ ns ∷ []) (hash_of name) own) own_name
+          (entry_more names n.named.name n.named.numbers (hash_of name) (ap hash_of own_name)
+          (x.each place n.named n.at).are)
 
-  each : (p : ℕ) (e : Named) → slice_get (slice_set old place own) p ≡ Some e
-      → IsEntry (names ++ name ∷ []) (hash_of name) e
-  each p e there = elim (get_set old place own p e there) [
-    | inl same ↦ subst (IsEntry (names ++ name ∷ []) (hash_of name)) (sym same.1) entry
-    | inr other ↦ entry_kept names name (hash_of name) e
-        (λ h. one_name old place p x.ascend n.at other.1 other.0 (sym h ∙ sym own_name)) (x.each p e other.1)
-  ]
+      each : (p : ℕ) (e : Named) → slice_get (slice_set old place own) p ≡ Some e
+          → IsEntry (names ++ name ∷ []) (hash_of name) e
+      each p e there = elim (slice_get-set_cases old place own p e there) [
+        | inl same ↦ subst (IsEntry (names ++ name ∷ []) (hash_of name)) (sym same.1) entry
+        | inr other ↦ entry_kept names name (hash_of name) e
+            (λ h. one_name old place p x.ascend n.at other.1 other.0 (sym h ∙ sym own_name)) (x.each p e other.1)
+      ]
 
-  place_of : (i : ℕ) (wanted : List ℕ) → hash_of wanted ≡ hash_of name
-      → HasNumber names wanted i ⊎ ((i ≡ length names) × (wanted ≡ name))
-      → (p : ℕ) × IsNamedAt (slice_set old place own) wanted p
-  place_of i wanted hashed (inr h) = (
-    place,
-    record { named = own; at = set_here old place own n.named n.at; is_name = own_name ∙ sym h.1 },
-  )
-  place_of i wanted hashed (inl h) = let f = x.all i wanted h hashed in elim (cases_eq f.0 place) [
-    | inl same ↦
-        let e : n.named ≡ f.1.named = some_inj (sym n.at
-        ∙ subst (λ k. slice_get old k ≡ Some f.1.named) same f.1.at) in (
-          place,
-          record { named = own; at = set_here old place own n.named n.at; is_name = ap name_of e ∙ f.1.is_name },
+      place_of : (i : ℕ) (wanted : List ℕ) → hash_of wanted ≡ hash_of name
+          → HasNumber names wanted i ⊎ ((i ≡ length names) × (wanted ≡ name))
+          → (p : ℕ) × IsNamedAt (slice_set old place own) wanted p
+      place_of i wanted hashed (inr h) = (
+        place,
+        record { named = own; at = slice_get-set_same old place own n.named n.at; is_name = own_name ∙ sym h.1 },
+      )
+      place_of i wanted hashed (inl h) = let f = x.all i wanted h hashed in elim (cases_eq f.0 place) [
+        | inl same ↦
+            let e : n.named ≡ f.1.named = some_inj (sym n.at
+            ∙ subst (λ k. slice_get old k ≡ Some f.1.named) same f.1.at) in (
+              place,
+              record {
+                named = own;
+                at = slice_get-set_same old place own n.named n.at;
+                is_name = ap name_of e
+                    ∙ f.1.is_name;
+              },
+            )
+        | inr other ↦ (
+          f.0,
+          record { named = f.1.named; at = slice_get-set_other old place own f.0 other ∙ f.1.at; is_name = f.1.is_name },
         )
-    | inr other ↦ (
-      f.0,
-      record { named = f.1.named; at = set_other old place own f.0 other ∙ f.1.at; is_name = f.1.is_name },
-    )
-  ]
+      ]
 
-  all : (i : ℕ) (wanted : List ℕ) → HasNumber (names ++ name ∷ []) wanted i → hash_of wanted ≡ hash_of name
-      → (p : ℕ) × IsNamedAt (slice_set old place own) wanted p
-  all i wanted h hashed = place_of i wanted hashed (get_more names name i h)
+      all : (i : ℕ) (wanted : List ℕ) → HasNumber (names ++ name ∷ []) wanted i → hash_of wanted ≡ hash_of name
+          → (p : ℕ) × IsNamedAt (slice_set old place own) wanted p
+      all i wanted h hashed = place_of i wanted hashed (slice_get-push_cases names name i h)
 
 -- a name that stands nowhere has no numbers
 pub gap_numbers : (names : List (List ℕ)) (name : List ℕ) (bucket : List Named) (place : ℕ)
     → IsBucket names (hash_of name) bucket → IsGap bucket name place → AreNumbers names name []
-gap_numbers names name bucket place x gap = record { ascending = ascending_none; exact = λ i. (contains_none, none i) } where
-  none : (i : ℕ) → HasNumber names name i → Contains [] i
-  none i h = let f = x.all i name h refl in
-      absurd (gap_apart bucket name place gap f.0 f.1.named f.1.at f.1.is_name)
+gap_numbers names name bucket place x gap =
+    record { ascending = ascending_none; exact = λ i. (contains_none, none i) } where
+      none : (i : ℕ) → HasNumber names name i → Contains [] i
+      none i h = let f = x.all i name h refl in
+          absurd (gap_apart bucket name place gap f.0 f.1.named f.1.at f.1.is_name)
 
 -- the number comes with a new name
 bucket_inserted : (names : List (List ℕ)) (name : List ℕ) (old new : List Named) (place : ℕ)
     → IsBucket names (hash_of name) old → IsGap old name place
     → new ≡ insert old place (record { name = name; numbers = length names ∷ [] })
     → IsBucket (names ++ name ∷ []) (hash_of name) new
-bucket_inserted names name old new place x gap e = subst (IsBucket (names ++ name ∷ []) (hash_of name)) (sym e) (record { ascend = ascend_inserted old place own x.ascend gap.below gap.above; each = each; all = all }) where
-  own : Named
-  own = record { name = name; numbers = length names ∷ [] }
+bucket_inserted names name old new place x gap e = subst (IsBucket (names ++ name ∷ []) (hash_of name)) (sym e)
+    (record { ascend = ascend_inserted old place own x.ascend gap.below gap.above; each = each; all = all }) where
+      own : Named
+      own = record { name = name; numbers = length names ∷ [] }
 
-  entry : IsEntry (names ++ name ∷ []) (hash_of name) own
-  entry = entry_more names name [] (hash_of name) refl (gap_numbers names name old place x gap)
+      entry : IsEntry (names ++ name ∷ []) (hash_of name) own
+      entry = entry_more names name [] (hash_of name) refl (gap_numbers names name old place x gap)
 
-  each : (p : ℕ) (y : Named) → slice_get (insert old place own) p ≡ Some y
-      → IsEntry (names ++ name ∷ []) (hash_of name) y
-  each p y there = elim (get_inserted old place own p y there) [
-    | inl same ↦ subst (IsEntry (names ++ name ∷ []) (hash_of name)) (sym same) entry
-    | inr old_one ↦ entry_kept names name (hash_of name) y
-        (λ h. gap_apart old name place gap old_one.0 y old_one.1 (sym h)) (x.each old_one.0 y old_one.1)
-  ]
+      each : (p : ℕ) (y : Named) → slice_get (insert old place own) p ≡ Some y
+          → IsEntry (names ++ name ∷ []) (hash_of name) y
+      each p y there = elim (get_inserted old place own p y there) [
+        | inl same ↦ subst (IsEntry (names ++ name ∷ []) (hash_of name)) (sym same) entry
+        | inr old_one ↦ entry_kept names name (hash_of name) y
+            (λ h. gap_apart old name place gap old_one.0 y old_one.1 (sym h)) (x.each old_one.0 y old_one.1)
+      ]
 
-  place_of : (i : ℕ) (wanted : List ℕ) → hash_of wanted ≡ hash_of name
-      → HasNumber names wanted i ⊎ ((i ≡ length names) × (wanted ≡ name))
-      → (p : ℕ) × IsNamedAt (insert old place own) wanted p
-  place_of i wanted hashed (inr h) = (
-    place,
-    record { named = own; at = inserted_here old place own gap.inside; is_name = sym h.1 },
-  )
-  place_of i wanted hashed (inl h) =
-      let f = x.all i wanted h hashed in
-      let o = inserted_other old place own f.0 f.1.named f.1.at in
-      (o.0, record { named = f.1.named; at = o.1; is_name = f.1.is_name })
+      place_of : (i : ℕ) (wanted : List ℕ) → hash_of wanted ≡ hash_of name
+          → HasNumber names wanted i ⊎ ((i ≡ length names) × (wanted ≡ name))
+          → (p : ℕ) × IsNamedAt (insert old place own) wanted p
+      place_of i wanted hashed (inr h) = (
+        place,
+        record { named = own; at = inserted_here old place own gap.inside; is_name = sym h.1 },
+      )
+      place_of i wanted hashed (inl h) =
+          let f = x.all i wanted h hashed in
+          let o = inserted_other old place own f.0 f.1.named f.1.at in
+          (o.0, record { named = f.1.named; at = o.1; is_name = f.1.is_name })
 
-  all : (i : ℕ) (wanted : List ℕ) → HasNumber (names ++ name ∷ []) wanted i → hash_of wanted ≡ hash_of name
-      → (p : ℕ) × IsNamedAt (insert old place own) wanted p
-  all i wanted h hashed = place_of i wanted hashed (get_more names name i h)
+      all : (i : ℕ) (wanted : List ℕ) → HasNumber (names ++ name ∷ []) wanted i → hash_of wanted ≡ hash_of name
+          → (p : ℕ) × IsNamedAt (insert old place own) wanted p
+      all i wanted h hashed = place_of i wanted hashed (slice_get-push_cases names name i h)
 
 pub bucket_extended : (names : List (List ℕ)) (name : List ℕ) (old new : List Named)
     → IsBucket names (hash_of name) old → IsExtended old name (length names) new

@@ -1,5 +1,6 @@
 -- The search among the names of a hash, which halves them.
-use Rattle.std.proofs.Common.{◌≡◌, ℕ, zero, suc, ◌+◌, ◌*◌, ◌^◌, ◌<◌, ◌≤◌, List, length, map, refl, sym, ap, subst, inl, inr, ◌∙◌, arith, get_or}
+use Rattle.std.proofs.Common.{◌≡◌, ℕ, ◌+◌, ◌<◌, ◌≤◌, List, length, map, refl, sym, ap, subst, inl, inr, ◌∙◌, arith}
+use Rattle.std.proofs.Common.{get_or}
 use Rattle.std.specs.Prelude.{Some, slice_get}
 use Rattle.std.specs.Option.{option_map}
 use Rattle.std.specs.Ordering.{nat_cmp, ordering_reverse}
@@ -9,9 +10,9 @@ use Rattle.std.proofs.lemmas.Bool.{cases_lt}
 use Rattle.std.proofs.lemmas.Option.{slice_get-map, slice_get_read, slice_get_within}
 use Rattle.deny_lists.proofs.Orders.{text_cmp-exact}
 use Rattle.deny_lists.proofs.Sorted.{ascends_at}
+use Rattle.deny_lists.proofs.Options.{some_inj}
 use Rattle.deny_spec_index.specs.declared.bucket.Named.{Named}
 use Rattle.deny_spec_index.specs.Bucket.{name_of, Ascend, IsNamedAt, IsBetween, IsGap}
-use Rattle.deny_spec_index.proofs.Lists.{some_inj}
 
 pub between_all : (bucket : List Named) (name : List ℕ) → IsBetween bucket name 0 (length bucket)
 between_all bucket name = record {
@@ -31,9 +32,10 @@ gap_between p b = record {
 
 pub ascends : (bucket : List Named) → Ascend bucket → (i j : ℕ) (a b : Named) → i < j
     → slice_get bucket i ≡ Some a → slice_get bucket j ≡ Some b → slice_cmp nat_cmp a.name b.name ≡ Less
-ascends bucket up i j a b p e f = ascends_at (slice_cmp nat_cmp) (map name_of bucket) i j a.name b.name up p (named i e) (named j f) where
-  named : (k : ℕ) {z : Named} → slice_get bucket k ≡ Some z → slice_get (map name_of bucket) k ≡ Some z.name
-  named k {z} at = slice_get-map name_of bucket k ∙ ap (option_map name_of) at
+ascends bucket up i j a b p e f =
+    ascends_at (slice_cmp nat_cmp) (map name_of bucket) i j a.name b.name up p (named i e) (named j f) where
+      named : (k : ℕ) {z : Named} → slice_get bucket k ≡ Some z → slice_get (map name_of bucket) k ≡ Some z.name
+      named k {z} at = slice_get-map name_of bucket k ∙ ap (option_map name_of) at
 
 pub at_place : (bucket : List Named) {place : ℕ} {named : Named} → place < length bucket
     → named ≡ get_or bucket place named → slice_get bucket place ≡ Some named
@@ -89,25 +91,3 @@ pub named_equal : {bucket : List Named} {name : List ℕ} {place : ℕ} {named :
     → IsNamedAt bucket name place
 named_equal {name = name} {named = named} at is = record
     { named = named; at = at; is_name = text_cmp-exact named.name name is }
-
-double : (d : ℕ) → 2 ^ suc d ≡ 2 * 2 ^ d
-double d = omega arith
-
-one_is : 2 ^ zero ≡ 1
-one_is = refl
-
--- so many steps are left for a search that began with so many
-pub record Fuel (d start steps low high : ℕ) : Type 0 where
-  pub left : ℕ
-  pub sum : steps + left ≡ start + d
-  pub size : high < low + 2 ^ left
-
-pub fuel_start : (d start n : ℕ) → n < 2 ^ d → Fuel d start start 0 n
-fuel_start d start n p = record { left = d; sum = refl; size = omega (arith, p) }
-
-pub fuel_next : {d start steps low high low' high' : ℕ} → low < high → high' + high' + low ≤ low' + low' + high
-    → Fuel d start steps low high → Fuel d start (steps + 1) low' high'
-fuel_next {d} {start} {steps} {low} {high} {low'} {high'} p half f = go f.left f.sum f.size where
-  go : (k : ℕ) → steps + k ≡ start + d → high < low + 2 ^ k → Fuel d start (steps + 1) low' high'
-  go zero sum size = absurd (omega (arith, p, size, one_is))
-  go (suc k) sum size = record { left = k; sum = omega (arith, sum); size = omega (arith, size, half, double k) }

@@ -1,5 +1,6 @@
 -- The index, as names come, and what it finds.
-use Rattle.std.proofs.Common.{◌≡◌, ℕ, ◌+◌, ◌^◌, ◌<◌, ◌≤◌, List, [], ◌∷◌, ◌++◌, length, map, refl, sym, ap, subst, inl, inr, ◌∙◌, arith, get_or}
+use Rattle.std.proofs.Common.{◌≡◌, ℕ, ◌+◌, ◌^◌, ◌<◌, ◌≤◌, List, [], ◌∷◌, ◌++◌, length, map, refl, sym, ap, subst, inl}
+use Rattle.std.proofs.Common.{inr, ◌∙◌, arith, get_or}
 use Rattle.std.specs.Prelude.{Some, Contains, slice_get, unwrap_or}
 use Rattle.std.specs.BTreeMap.{BTreeMap, is_at}
 use Rattle.std.specs.Map.{lookup}
@@ -13,21 +14,22 @@ use Rattle.std.proofs.lemmas.Option.{slice_get_read, slice_get_within}
 use Rattle.deny_lists.proofs.Members.{there, from_there, from_contains_map}
 use Rattle.deny_lists.proofs.Sorted.{length-ascending}
 use Rattle.deny_lists.specs.Prefix.{IsPrefix}
+use Rattle.deny_lists.proofs.Options.{some_inj, none_is_no_some}
 use Rattle.deny_spec_index.specs.declared.bucket.Named.{Named}
 use Rattle.deny_spec_index.specs.Bucket.{name_of, IsNamedAt, IsGap, IsExtended}
 use Rattle.deny_spec_index.specs.Hash.{hash_of}
-use Rattle.deny_spec_index.specs.Index.{bucket_at, IsBucket, IsIndexed, Extends, Stays, GivesNumbers, GivesFirst, BoundsSteps}
+use Rattle.deny_spec_index.specs.Index.{bucket_at, IsBucket, IsIndexed, Extends, Stays, GivesNumbers, GivesFirst}
+use Rattle.deny_spec_index.specs.Index.{BoundsSteps}
 use Rattle.deny_spec_index.specs.Names.{HasNumber, AreNumbers, HasNames}
 use Rattle.deny_spec_index.proofs.BucketLemmas.{ascend_none, bucket_kept, bucket_extended, gap_numbers}
-use Rattle.deny_spec_index.proofs.Lists.{some_inj, none_at}
 
 -- the index
 
 bucket_none : (hash : ℕ) → IsBucket [] hash []
 bucket_none hash = record {
   ascend = ascend_none;
-  each = λ p e at. none_at at;
-  all = λ i name h hashed. none_at h;
+  each = λ p e at. none_is_no_some at;
+  all = λ i name h hashed. none_is_no_some h;
 }
 
 pub indexed_none : {names : List (List ℕ)} {buckets : ℕ → List Named} → names ≡ []
@@ -86,7 +88,11 @@ gives_none {bucket} {name} place gap names x = gap_numbers names name bucket pla
 
 names_fewer : (names : List (List ℕ)) (hash : ℕ) (bucket : List Named) (different : List (List ℕ))
     → IsBucket names hash bucket → HasNames names different → length bucket ≤ length different
-names_fewer names hash bucket different x has = omega (arith, length-ascending nat_list_cmp_total (map name_of bucket) different x.ascend listed, length-map bucket name_of) where
+names_fewer names hash bucket different x has = omega (
+  arith,
+  length-ascending nat_list_cmp_total (map name_of bucket) different x.ascend listed,
+  length-map bucket name_of,
+) where
   has_at : (i : ℕ) (name : List ℕ) → HasNumber names name i → Contains different name
   has_at i name h = has name (from_there names i name h)
 
@@ -102,7 +108,8 @@ pub bound_named : {bucket : List Named} {name : List ℕ} (place start middle en
     → slice_get bucket place ≡ Some named → named.name ≡ name
     → ((d : ℕ) → length bucket < 2 ^ d → middle ≤ start + d) → end ≤ middle + length named.numbers
     → BoundsSteps bucket name start end
-bound_named {bucket} {name} place start middle end named at is search_bound given names x different hits d has covers less =
+bound_named {bucket} {name} place start middle end named at is search_bound given names x different hits d has covers
+    less =
     let are = gives_named place named at is names x in
     let fewer = length-ascending nat_cmp_total named.numbers hits
     (sorted_from_strictly_increasing named.numbers are.ascending) (λ i c. covers i ((are.exact i).0 c)) in

@@ -1,6 +1,7 @@
 -- What is found by places and ranges is what stands and what is hit.
-use Rattle.std.proofs.Common.{◌≡◌, ◌++◌, ℕ, Bool, true, false, List, [], ◌∷◌, Contains, Option, Some, None, cond, filter, find, map, refl, sym, ap, ◌∙◌, subst, inl, inr, not}
-use Rattle.std.specs.Prelude.{◌&&◌, filter_map, is_none, is_some, option_and_then, option_map}
+use Rattle.std.proofs.Common.{◌≡◌, ◌++◌, ℕ, Bool, true, false, List, [], ◌∷◌, Contains, Option, Some, None, cond}
+use Rattle.std.proofs.Common.{filter, find, map, refl, sym, ap, ◌∙◌, subst, inl, inr, not}
+use Rattle.std.specs.Prelude.{◌&&◌, filter_map, is_none, option_and_then, option_map}
 use Rattle.std.specs.List.{flat_map, list_any}
 use Rattle.std.specs.List.Sorted.{IsStrictlySortedBy}
 use Rattle.std.specs.Map.{lookup}
@@ -17,6 +18,8 @@ use Rattle.deny_lists.proofs.Agreement.{filter_map_on, filter_on, find_on}
 use Rattle.deny_lists.proofs.Filters.{filter-map, filter_map-map, find-any, find-filter, find-map}
 use Rattle.deny_lists.proofs.Members.{Contains-first, Contains-rest}
 use Rattle.deny_lists.proofs.Sorted.{ascends_map}
+use Rattle.deny_lists.proofs.Options.{is_none-option_map}
+use Rattle.deny_lists.proofs.Booleans.{and-true, and-false}
 use Rattle.deny_base.specs.KeyOrder.{span_cmp}
 use Rattle.deny_base.specs.declared.entry.EntryKind.TheVariants.{ReplacementIgnore}
 use Rattle.deny_base.specs.declared.entry.Hit.{Hit}
@@ -30,10 +33,12 @@ use Rattle.deny_model.specs.Hits.{hit_of}
 use Rattle.deny_model.specs.Policy.{Entry, Replacing}
 use Rattle.deny_model.specs.Told.{crate_at}
 use Rattle.deny_model.specs.Wrappers.{same_span}
+use Rattle.deny_model.proofs.SpanLemmas.{same-span, eq_by_cmp-span_cmp}
 use Rattle.deny_codes.specs.FirstMatch.{first_of}
 use Rattle.deny_codes.specs.Saying.{Saying}
-use Rattle.deny_codes.specs.StdReplacements.{hits_ignore, ignore_at, ignore_hit, ignore_hits, ignore_of, ignore_range, ignores}
-use Rattle.deny_codes.specs.StdReplacements.{is_hit_ignore, is_replaced, is_told_replaced, is_unmatched_ignore, looks_at_none}
+use Rattle.deny_codes.specs.StdReplacements.{hits_ignore, ignore_at, ignore_hit, ignore_hits, ignore_of, ignore_range}
+use Rattle.deny_codes.specs.StdReplacements.{ignores, is_hit_ignore, is_replaced, is_told_replaced, is_unmatched_ignore}
+use Rattle.deny_codes.specs.StdReplacements.{looks_at_none}
 use Rattle.deny_std.specs.declared.first_witnesses.FirstWitnesses.{FirstWitnesses}
 use Rattle.deny_std.specs.declared.told.Unmatched.{Unmatched}
 use Rattle.deny_std.specs.private.FirstWitnesses.{place_in, same_range}
@@ -42,19 +47,6 @@ use Rattle.deny_std.specs.private.Kept.{AreKept, AreTold, AreUnmatched}
 use Rattle.deny_std.specs.private.Placed.{ArePlaced}
 use Rattle.deny_std.specs.private.Sorted.{passed_at, passed_of, range_at, told_at, told_of}
 use Rattle.deny_std.specs.private.Told.{unmatched_of}
-use Rattle.deny_std.proofs.SpanLemmas.{same-span, tied}
-
-and-true : (b : Bool) → (b && true) ≡ b
-and-true true = refl
-and-true false = refl
-
-and-false : (b : Bool) → (b && false) ≡ false
-and-false true = refl
-and-false false = refl
-
-none-mapped : {X Y : Type 0} (f : X → Y) (o : Option X) → is_none (option_map f o) ≡ not (is_some o)
-none-mapped f None = refl
-none-mapped f (Some x) = refl
 
 abbrev place_of : Crate → ℕ
 place_of c = c.place
@@ -99,10 +91,10 @@ module _ (r : Replacing) (g : Graph) (said : Saying) where
       by_same : (e : Entry) (s : Bool) → same_span (ignore_range e) u.range ≡ s
           → both e ≡ (s && unmatched_at u.range)
       by_same e true here =
-          ap (λ b. b && is_unmatched_ignore r g said e) (tied u.range (ignore_range e) ∙ here)
+          ap (λ b. b && is_unmatched_ignore r g said e) (eq_by_cmp-span_cmp u.range (ignore_range e) ∙ here)
           ∙ (by-range e ∙ ap unmatched_at (same-span (ignore_range e) u.range here))
       by_same e false here =
-          ap (λ b. b && is_unmatched_ignore r g said e) (tied u.range (ignore_range e) ∙ here)
+          ap (λ b. b && is_unmatched_ignore r g said e) (eq_by_cmp-span_cmp u.range (ignore_range e) ∙ here)
 
       agrees : (e : Entry) → unmatched_at u.range ≡ true → both e ≡ same e
       agrees e is_so = by_same e (same e) refl ∙ (ap (λ b. same e && b) is_so ∙ and-true (same e))
@@ -251,7 +243,7 @@ module _ (r : Replacing) (g : Graph) (said : Saying) where
           → is_unmatched passed e ≡ is_unmatched_ignore r g said (entry_view e)
       unmatched-is scope e =
           ap is_none (passed-is e.spec.name.span)
-          ∙ (none-mapped place_of (find (hits_range e.spec.name.span) g.crates)
+          ∙ (is_none-option_map place_of (find (hits_range e.spec.name.span) g.crates)
           ∙ (ap not (sym (find-any (hits_range e.spec.name.span) g.crates))
           ∙ (ap (λ b. not b && not (list_any (hits_range e.spec.name.span) g.crates)) (sym scope)
           ∙ sym (by-range (entry_view e)))))

@@ -1,5 +1,6 @@
 -- The keys of what is kept are those that stand, in their order, and what is told of them is what is told of each key.
-use Rattle.std.proofs.Common.{◌≡◌, ◌++◌, ◌∷◌, ◌⊎◌, ℕ, List, [], Option, Some, None, Contains, map, refl, sym, ap, ◌∙◌, subst}
+use Rattle.std.proofs.Common.{◌≡◌, ◌++◌, ◌∷◌, ◌⊎◌, ℕ, List, [], Option, Some, None, Contains, map, refl, sym, ap, ◌∙◌}
+use Rattle.std.proofs.Common.{subst}
 use Rattle.std.specs.Prelude.{codes, filter, option_map}
 use Rattle.std.specs.Option.{option_map_or}
 use Rattle.std.specs.Ordering.{nat_cmp}
@@ -7,7 +8,7 @@ use Rattle.std.specs.declared.cmp.Ordering.TheVariants.{Less}
 use Rattle.std.proofs.lemmas.Option.{none-some, same_Some}
 use Rattle.std.proofs.lemmas.Simd.{map-map}
 use Rattle.deny_lists.specs.Ascending.{Lists}
-use Rattle.deny_lists.proofs.Members.{contains_map, from_contains_map}
+use Rattle.deny_lists.proofs.Members.{from_contains_map, contains_map_within}
 use Rattle.deny_lists.proofs.Sorted.{ascends_map}
 use Rattle.deny_base.specs.Code.{code_number, diagnostic_code_number, section_number}
 use Rattle.deny_base.specs.KeyOrder.{key_cmp, span_cmp}
@@ -21,8 +22,9 @@ use Rattle.deny_model.specs.Keys.{key_of, unused_key}
 use Rattle.deny_model.specs.Policy.{Entry, Replacing, Words}
 use Rattle.deny_model.specs.Told.{label_at, primary, spec_text}
 use Rattle.deny_codes.specs.Saying.{Saying}
-use Rattle.deny_codes.specs.StdReplacements.{ignore_at, ignore_labels, ignore_range, is_told_replaced, is_unmatched_ignore}
-use Rattle.deny_codes.specs.StdReplacements.{replaced_key, replaced_keys, replaced_told, unmatched_ignore_keys, unmatched_ignore_told}
+use Rattle.deny_codes.specs.StdReplacements.{ignore_at, ignore_labels, ignore_range, is_told_replaced}
+use Rattle.deny_codes.specs.StdReplacements.{is_unmatched_ignore, replaced_key, replaced_keys, replaced_told}
+use Rattle.deny_codes.specs.StdReplacements.{unmatched_ignore_keys, unmatched_ignore_told}
 use Rattle.deny_codes.specs.Telling.{plainly}
 use Rattle.deny_codes.proofs.Parts.{lists_append}
 use Rattle.deny_std.specs.declared.told.Unmatched.{Unmatched}
@@ -33,13 +35,6 @@ abbrev pub ignore_key : Span → Key
 ignore_key range = unused_key UnmatchedReplacementIgnore range
 
 -- ---- keys
-
--- what two lists share, mapped
-shared : {A B : Type 0} (f : A → B) (xs ys : List A) → ((x : A) → Contains xs x → Contains ys x) → (y : B)
-    → Contains (map f xs) y → Contains (map f ys) y
-shared f xs ys there y is =
-    let of = from_contains_map f xs y is in
-    subst (Contains (map f ys)) of.2 (contains_map f ys of.0 (there of.0 of.1))
 
 ignore-below : (a b : Span) → span_cmp a b ≡ Less → key_cmp (ignore_key a) (ignore_key b) ≡ Less
 unfolding key_of section_number code_number diagnostic_code_number
@@ -66,10 +61,11 @@ module _ (r : Replacing) (g : Graph) (said : Saying) where
   lists-unmatched us are = record {
     ascending = ascends_map span_cmp key_cmp ignore_key (λ _. Unit {0}) (map (λ u. u.range) us)
         (λ a b _ _ less. ignore-below a b less) (λ _ _. tt) are.listed.ascending;
-    whole = λ key is. shared ignore_key (map ignore_range unmatched_entries) (map (λ u. u.range) us)
+    whole = λ key is. contains_map_within ignore_key (map ignore_range unmatched_entries) (map (λ u. u.range) us)
         are.listed.whole key (subst (λ (keys : List Key). Contains keys key) (sym unmatched-keys) is);
     sound = λ key is. subst (λ (keys : List Key). Contains keys key) unmatched-keys
-        (shared ignore_key (map (λ u. u.range) us) (map ignore_range unmatched_entries) are.listed.sound key is);
+        (contains_map_within ignore_key (map (λ u. u.range) us)
+        (map ignore_range unmatched_entries) are.listed.sound key is);
   }
 
   lists-told : (places : List ℕ) → AreTold r g said places

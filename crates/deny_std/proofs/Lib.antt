@@ -2,9 +2,7 @@ pub mod FoundLemmas
 pub mod IgnoredLemmas
 pub mod KeyLemmas
 pub mod NoteLemmas
-pub mod OutcomeLemmas
 pub mod PlaceLemmas
 pub mod SaidLemmas
-pub mod SpanLemmas
 pub mod StableLemmas
 pub mod TellingLemmas

@@ -1,6 +1,7 @@
 -- The note of a replaced crate, item by item, is its definition.
 use lib.Utf8.{encode, next}
-use Rattle.std.proofs.Common.{◌≡◌, ◌++◌, ◌+◌, ◌/◌, ◌≤◌, ℕ, Bool, true, false, inl, inr, List, [], ◌∷◌, cond, map, refl, sym, ap, ◌∙◌, append_assoc, arith}
+use Rattle.std.proofs.Common.{◌≡◌, ◌++◌, ◌+◌, ◌/◌, ◌≤◌, ℕ, Bool, true, false, inl, inr, List, [], ◌∷◌, cond, map, refl}
+use Rattle.std.proofs.Common.{sym, ap, ◌∙◌, append_assoc, arith}
 use Rattle.std.specs.Prelude.{codes, encode_utf8_all, nat_lt}
 use Rattle.std.specs.List.{flat_map}
 use Rattle.std.specs.Str.{IsUtf8, chars}
@@ -14,10 +15,12 @@ use Rattle.deny_std_table.specs.Spelling.{ApiText, GroupText, ItemsText, Replace
 use Rattle.deny_std_table.specs.Texts as text
 use Rattle.deny_std_table.specs.Texts.{ItemText, group_texts, item_texts, texts_left}
 use Rattle.deny_codes.specs.Saying.{Stable, items_said, stable_of}
-use Rattle.deny_codes.specs.StdReplacements.{below_heading, code_name, line, remark, replacement_lines, replacement_note, stable_lines, unavailable_line}
+use Rattle.deny_codes.specs.StdReplacements.{below_heading, code_name, line, remark, replacement_lines}
+use Rattle.deny_codes.specs.StdReplacements.{replacement_note, stable_lines, unavailable_line}
 use Rattle.deny_std.specs.declared.note.Heading.{Heading}
 use Rattle.deny_std.specs.declared.note.Heading.TheVariants as heading
-use Rattle.deny_std.specs.private.Note.{code_letter, heading_of, item_lines, lines_below, link_line, new_heading, replaced_lines, same_heading}
+use Rattle.deny_std.specs.private.Note.{code_letter, heading_of, item_lines, lines_below, link_line, new_heading}
+use Rattle.deny_std.specs.private.Note.{replaced_lines, same_heading}
 use Rattle.deny_std.specs.private.Said.{said_of}
 use Rattle.deny_std.proofs.SaidLemmas.{entry-said}
 

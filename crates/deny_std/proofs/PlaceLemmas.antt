@@ -1,6 +1,7 @@
 -- Crates stand at their places, and what follows.
-use Rattle.std.proofs.Common.{◌≡◌, ◌++◌, ◌+◌, ◌<◌, ℕ, Bool, true, false, List, [], ◌∷◌, Contains, Option, Some, None, cond, length, map, take, refl, sym, ap, ◌∙◌, subst, arith}
-use Rattle.std.specs.Prelude.{filter, option_map, slice_get}
+use Rattle.std.proofs.Common.{◌≡◌, ◌++◌, ◌+◌, ◌<◌, ℕ, Bool, true, false, List, [], ◌∷◌, Contains, Option, Some, cond}
+use Rattle.std.proofs.Common.{length, map, take, refl, sym, ap, ◌∙◌, subst, arith}
+use Rattle.std.specs.Prelude.{filter, slice_get}
 use Rattle.std.specs.Cmp.{nat_cmp_is}
 use Rattle.std.specs.List.{AllByRecursion, list_any}
 use Rattle.std.specs.List.Sorted.{IsStrictlySortedBy}
@@ -9,26 +10,18 @@ use Rattle.std.specs.Ordering.{nat_cmp, on}
 use Rattle.std.specs.declared.cmp.Ordering.TheVariants.{Less}
 use Rattle.std.proofs.lemmas.List.{map-append, take_more}
 use Rattle.std.proofs.lemmas.List.Elements.{All-contains, filter-append}
-use Rattle.std.proofs.lemmas.Option.{get_or_from_slice_get, none-some, same_Some}
+use Rattle.std.proofs.lemmas.Option.{get_or_from_slice_get}
 use Rattle.deny_lists.proofs.Booleans.{tests_agree}
-use Rattle.deny_lists.proofs.Members.{Contains-from_filter, Contains-from_map, any_from, any_passes, some_at, there}
+use Rattle.deny_lists.proofs.Members.{Contains-from_map, any_from, any_passes, some_at, there}
 use Rattle.deny_krates.specs.Crates.{crate_view, crates_from}
 use Rattle.deny_krates.specs.Dependents.{AreDirectDependents}
 use Rattle.deny_krates.specs.declared.krate.DirectDependent.{DirectDependent}
 use Rattle.deny_krates.specs.declared.krate.Krate.{Krate}
-use Rattle.deny_krates.proofs.ResolutionLemmas.{crates_from-at}
+use Rattle.deny_krates.proofs.PlaceLemmas.{place_in}
+use Rattle.deny_krates.proofs.NeighbourLemmas.{dependent_stands}
 use Rattle.deny_model.specs.Graph.{Crate, Graph, dependents}
 use Rattle.deny_model.specs.Told.{crate_at}
 use Rattle.deny_std.specs.private.Placed.{ArePlaced}
-
-place_from : (at : ℕ) (k : Option Krate) (c : Crate) → option_map (crate_view at) k ≡ Some c → c.place ≡ at
-place_from at None c is = absurd (none-some c is)
-place_from at (Some k) c is = sym (ap (λ (d : Crate). d.place) (same_Some (crate_view at k) c is))
-
-place_in : (ks : List Krate) (n : ℕ) (c : Crate) → slice_get (crates_from 0 ks) n ≡ Some c → c.place ≡ n
-place_in ks n c is =
-    let here : 0 + n ≡ n = omega arith in
-    place_from (0 + n) (slice_get ks n) c (sym (crates_from-at 0 ks n) ∙ is) ∙ here
 
 -- those from a place on are all above what is below it
 above : (low place : ℕ) (k : Krate) (ks : List Krate) → low < place
@@ -41,8 +34,8 @@ unfolding IsStrictlySortedBy
 ascend place [] = tt
 ascend place (k ∷ ks) = (above place (place + 1) k ks (omega arith), ascend (place + 1) ks)
 
-pub placed : (ks : List Krate) (crates : List Crate) → crates_from 0 ks ≡ crates → ArePlaced crates
-placed ks crates e = subst ArePlaced e (record {
+pub are_placed : (ks : List Krate) (crates : List Crate) → crates_from 0 ks ≡ crates → ArePlaced crates
+are_placed ks crates e = subst ArePlaced e (record {
   at = λ c is.
       let stands = there (crates_from 0 ks) c is in
       ap (slice_get (crates_from 0 ks)) (place_in ks stands.0 c stands.1) ∙ stands.1;
@@ -79,10 +72,6 @@ places-more test crates i old new placed inside before added =
     last false = refl
 
 -- ---- direct dependents
-
-dependent_stands : (g : Graph) (place : ℕ) (c : Crate) → Contains (dependents g place) c → Contains g.crates c
-unfolding dependents
-dependent_stands g place c is = (Contains-from_filter _ g.crates c is).0
 
 -- some direct dependent passes a test exactly where one does of those that the graph keeps
 pub any-dependent : (g : Graph) (place : ℕ) (ds : List DirectDependent) (test : Crate → Bool) → ArePlaced g.crates

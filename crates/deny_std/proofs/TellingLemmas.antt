@@ -1,5 +1,6 @@
 -- What is told of what is kept is what is told of the keys that stand, or of the first of them.
-use Rattle.std.proofs.Common.{◌≡◌, ◌++◌, ◌⊎◌, ℕ, List, [], Option, Some, Contains, length, map, take, sym, ap, ◌∙◌, subst, inl, inr, arith, append_assoc}
+use Rattle.std.proofs.Common.{◌≡◌, ◌++◌, ◌⊎◌, ℕ, List, [], Option, Some, Contains, length, map, take, sym, ap, ◌∙◌}
+use Rattle.std.proofs.Common.{subst, inl, inr, arith, append_assoc}
 use Rattle.std.specs.Prelude.{option_map}
 use Rattle.std.specs.Option.{option_map_or}
 use Rattle.std.proofs.lemmas.Bool.{cases_lt}
@@ -19,7 +20,8 @@ use Rattle.deny_model.specs.Keys.{key_of}
 use Rattle.deny_model.specs.Policy.{Replacing}
 use Rattle.deny_codes.specs.Circumstances.{Circumstances}
 use Rattle.deny_codes.specs.Saying.{Saying, said_by, said_in}
-use Rattle.deny_codes.specs.StdReplacements.{ignore_at, replaced_key, replaced_keys, replaced_told, unmatched_ignore_keys, unmatched_ignore_told}
+use Rattle.deny_codes.specs.StdReplacements.{ignore_at, replaced_key, replaced_keys, replaced_told}
+use Rattle.deny_codes.specs.StdReplacements.{unmatched_ignore_keys, unmatched_ignore_told}
 use Rattle.deny_codes.specs.Telling.{not_built}
 use Rattle.deny_codes.specs.Told.{pack_of, pack_told, words_as}
 use Rattle.deny_std.specs.Found.{IsFoundIn, IsOfStd, TellsStd, TellsStdPrefix}

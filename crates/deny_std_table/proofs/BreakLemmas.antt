@@ -1,11 +1,13 @@
 -- No reading of a table wants memory: each of its breaks has an offset.
-use Rattle.std.proofs.Common.{◌≡◌, ℕ, zero, suc, ◌+◌, ◌*◌, ◌&&◌, Bool, true, false, nat_lt, nat_le, List, length, Option, None, Some, Result, Ok, Err, if◌then◌else◌, ap, ◌∙◌}
+use Rattle.std.proofs.Common.{◌≡◌, ℕ, zero, suc, ◌+◌, ◌*◌, ◌&&◌, Bool, true, false, nat_lt, nat_le, List, length}
+use Rattle.std.proofs.Common.{Option, None, Some, Result, Ok, Err, if◌then◌else◌, ap, ◌∙◌}
 use Rattle.deny_std_table.specs.declared.error.ReplacementError.{ReplacementError}
 use Rattle.deny_std_table.specs.declared.error.ReplacementError.TheVariants.{Bad, Memory}
 use Rattle.deny_std_table.specs.declared.place.TextPlace.{TextPlace}
 use Rattle.deny_std_table.specs.declared.place.Read.{Read}
 use Rattle.deny_std_table.specs.Reading.{◌>>=◌, ◌>>◌, unless_bad, many, number}
-use Rattle.deny_std_table.specs.Region.{Bounds, byte, text, api, replacement, group_head, group, counts, counted_items, items}
+use Rattle.deny_std_table.specs.Region.{Bounds, byte, text, api, replacement, group_head, group, counts, counted_items}
+use Rattle.deny_std_table.specs.Region.{items}
 use Rattle.deny_std_table.specs.Head.{has_byte, header, version, count_of, offsets, is_offset, start_of}
 use Rattle.deny_std_table.specs.Entries.{Entry, entry, entries, bounds_of}
 use Rattle.deny_std_table.specs.Table.{table}

@@ -1,5 +1,6 @@
 -- An entry is written part by part, as it is read.
-use Rattle.std.proofs.Common.{◌≡◌, ℕ, List, [], ◌∷◌, ◌++◌, length, map, Result, Ok, Err, None, refl, sym, ap, ◌∙◌, subst}
+use Rattle.std.proofs.Common.{◌≡◌, ℕ, List, [], ◌∷◌, ◌++◌, length, map, Result, Ok, Err, None, refl, sym, ap, ◌∙◌}
+use Rattle.std.proofs.Common.{subst}
 use Rattle.std.specs.Prelude.{flat_map, IsOk}
 use Rattle.std.proofs.lemmas.List.{length-map}
 use Rattle.deny_std_table.specs.declared.error.ReplacementError.{ReplacementError}
@@ -10,9 +11,11 @@ use Rattle.deny_std_table.specs.declared.place.GroupHead.{GroupHead}
 use Rattle.deny_std_table.specs.declared.draft.Draft.{Draft}
 use Rattle.deny_std_table.specs.Place.{contents}
 use Rattle.deny_std_table.specs.Reading.{read, many, next_of}
-use Rattle.deny_std_table.specs.Region.{Bounds, Group, Items, text, api, replacement, group_head, group, counts, counted_items, items}
+use Rattle.deny_std_table.specs.Region.{Bounds, Group, Items, text, api, replacement, group_head, group, counts}
+use Rattle.deny_std_table.specs.Region.{counted_items, items}
 use Rattle.deny_std_table.specs.Entries.{Entry, entry}
-use Rattle.deny_std_table.specs.Spelling.{api_text, replacement_text, group_text, items_text, entry_text, text_bytes, api_bytes, replacement_bytes, group_bytes, items_bytes, entry_bytes}
+use Rattle.deny_std_table.specs.Spelling.{api_text, replacement_text, group_text, items_text, entry_text, text_bytes}
+use Rattle.deny_std_table.specs.Spelling.{api_bytes, replacement_bytes, group_bytes, items_bytes, entry_bytes}
 use Rattle.deny_std_table.specs.Draft.{Writes}
 use Rattle.deny_std_table.proofs.LayoutLemmas.{bind-ok, many-sound}
 use Rattle.deny_std_table.proofs.DraftLemmas.{writes-then, writes-same}
@@ -124,7 +127,8 @@ items-written b at count unstable unavailable d0 d1 d2 d3 d4 d5 d6 r here writte
 
 -- an entry is written, where it can be read
 pub entry-written : (b : Bounds) (start : ℕ) (name : Read TextPlace) (d0 d1 d2 : Draft)
-    (stop : Result ℕ ReplacementError) (e : Entry) → text b start ≡ Ok name → Writes d0 d1 (text_bytes (contents b.bytes name.value))
+    (stop : Result ℕ ReplacementError) (e : Entry) → text b start ≡ Ok name
+    → Writes d0 d1 (text_bytes (contents b.bytes name.value))
     → stop ≡ next_of (items b name.next)
     → ((r : Read Items) → items b name.next ≡ Ok r → Writes d1 d2 (items_bytes (items_text b.bytes r.value)))
     → entry b None start ≡ Ok e → IsOk stop × Writes d0 d2 (entry_bytes (entry_text b.bytes e))

@@ -1,5 +1,6 @@
 -- On what is read and written one after the other.
-use Rattle.std.proofs.Common.{◌≡◌, ℕ, suc, ◌+◌, List, [], ◌∷◌, ◌++◌, map, Result, Ok, Err, refl, sym, ap, ◌∙◌, arith, subst, append_assoc, append-nil}
+use Rattle.std.proofs.Common.{◌≡◌, ℕ, suc, ◌+◌, List, [], ◌∷◌, ◌++◌, map, Result, Ok, Err, refl, sym, ap, ◌∙◌, arith}
+use Rattle.std.proofs.Common.{subst, append_assoc, append-nil}
 use Rattle.std.specs.Prelude.{flat_map}
 use Rattle.deny_std_table.specs.declared.error.ReplacementError.{ReplacementError}
 use Rattle.deny_std_table.specs.declared.place.Read.{Read}

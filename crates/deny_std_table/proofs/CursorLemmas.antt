@@ -1,5 +1,6 @@
 -- On the items that are still to come.
-use Rattle.std.proofs.Common.{◌≡◌, ℕ, zero, suc, ◌-◌, ◌<◌, List, [], ◌∷◌, ◌++◌, map, Result, Ok, refl, sym, ap, ◌∙◌, arith, subst, append_assoc}
+use Rattle.std.proofs.Common.{◌≡◌, ℕ, zero, suc, ◌-◌, ◌<◌, List, [], ◌∷◌, ◌++◌, map, Result, Ok, refl, sym, ap, ◌∙◌}
+use Rattle.std.proofs.Common.{arith, subst, append_assoc}
 use Rattle.std.specs.Prelude.{flat_map}
 use Rattle.deny_std_table.specs.declared.error.ReplacementError.{ReplacementError}
 use Rattle.deny_std_table.specs.declared.place.ApiPlace.{ApiPlace}

@@ -1,5 +1,6 @@
 -- A cursor after it gave an item.
-use Rattle.std.proofs.Common.{◌≡◌, ℕ, ◌-◌, ◌<◌, ◌≤◌, [], ◌∷◌, length, Option, Some, Result, Ok, refl, sym, ap, ◌∙◌, arith, subst}
+use Rattle.std.proofs.Common.{◌≡◌, ℕ, ◌-◌, ◌<◌, ◌≤◌, [], ◌∷◌, length, Option, Some, Result, Ok, refl, sym, ap, ◌∙◌}
+use Rattle.std.proofs.Common.{arith, subst}
 use Rattle.std.specs.Prelude.{IsOk}
 use Rattle.std.specs.Result.{result_unwrap_or}
 use Rattle.deny_std_table.specs.declared.error.ReplacementError.{ReplacementError}
@@ -17,7 +18,8 @@ use Rattle.deny_std_table.specs.Region.{Bounds, bounds, api, replacement, group_
 use Rattle.deny_std_table.specs.Layout.{IsText, IsApi}
 use Rattle.deny_std_table.specs.Cursor.{coming, coming_of, left_of, Gives, Ends}
 use Rattle.deny_std_table.proofs.LayoutLemmas.{api-sound, replacement-sound, group_head-sound}
-use Rattle.deny_std_table.proofs.CursorLemmas.{ok-is, counts_are, none_left, IsStep, stable_gives, unstable_gives, unavailable_gives, group_gives}
+use Rattle.deny_std_table.proofs.CursorLemmas.{ok-is, counts_are, none_left, IsStep, stable_gives, unstable_gives}
+use Rattle.deny_std_table.proofs.CursorLemmas.{unavailable_gives, group_gives}
 
 text-in : (b : Bounds) (at : ℕ) (place : TextPlace) (next : ℕ) → b.stop ≤ length b.bytes → IsText b at place next
     → IsTextIn b.bytes place

@@ -1,5 +1,6 @@
 -- On the entries of a table that holds, and the one that has a name.
-use Rattle.std.proofs.Common.{◌≡◌, ℕ, zero, suc, ◌+◌, ◌<◌, ◌≤◌, Bool, true, false, nat_lt, List, [], ◌∷◌, length, Option, Some, None, Ok, refl, sym, ap, ◌∙◌, arith, subst, if◌then◌else◌}
+use Rattle.std.proofs.Common.{◌≡◌, ℕ, ◌+◌, ◌<◌, ◌≤◌, Bool, true, false, nat_lt, List, length, Option, Some, None, Ok}
+use Rattle.std.proofs.Common.{refl, sym, ap, ◌∙◌, arith, subst, if◌then◌else◌}
 use Rattle.std.specs.Prelude.{find, IsOk, option_map, bytes_eq, ◌≢◌}
 use Rattle.std.specs.List.{slice_get}
 use Rattle.std.specs.Cmp.Lexicographic.{slice_cmp, nat_list_cmp_total}
@@ -19,6 +20,7 @@ use Rattle.deny_std_table.specs.Names.{name_place, name_at, HasNames}
 use Rattle.deny_std_table.specs.Table.{Table, IsRead, read_entries, entry_named, items_in}
 use Rattle.deny_std_table.specs.Replacement.{EntryItems}
 use Rattle.deny_lists.proofs.Members.{some_at}
+use Rattle.deny_lists.proofs.Finding.{find-at, find-none}
 use Rattle.deny_std_table.proofs.LayoutLemmas.{place_is}
 use Rattle.deny_std_table.proofs.TableLaw.{IsEntries, entries-sound, entry-complete}
 use Rattle.deny_std_table.proofs.NamesLemmas.{rising_all}
@@ -98,25 +100,6 @@ opened width of_width bytes of_region count i stop start n wide same ends begins
     rw (wide, same, ends, begins)
     (entry-complete (bounds_of width bytes count i) None (start_of bytes i) n.e n.layout
     (record { above = λ b none. cc }))
-
--- the first that passes, where it stands at a number and none before it does
-find-at : {A : Type 0} (p : A → Bool) (xs : List A) (i : ℕ) (x : A) → slice_get xs i ≡ Some x → p x ≡ true
-    → ((k : ℕ) (y : A) → k < i → slice_get xs k ≡ Some y → p y ≡ false) → find p xs ≡ Some x
-find-at p [] i x at passes before = cc
-find-at p (a ∷ xs) zero x at passes before =
-    let same : a ≡ x = cc in
-    let here : p a ≡ true = ap p same ∙ passes in
-    rw here at
-find-at p (a ∷ xs) (suc i) x at passes before =
-    let here : p a ≡ false = before 0 a (omega arith) refl in
-    rw here (find-at p xs i x at passes (λ k y below is. before (suc k) y (omega arith) is))
-
-find-none : {A : Type 0} (p : A → Bool) (xs : List A) → ((k : ℕ) (y : A) → slice_get xs k ≡ Some y → p y ≡ false)
-    → find p xs ≡ None
-find-none p [] each = refl
-find-none p (a ∷ xs) each =
-    let here : p a ≡ false = each 0 a refl in
-    rw here (find-none p xs (λ k y is. each (suc k) y is))
 
 no_name : (a b : List ℕ) → a ≢ b → bytes_eq a b ≡ false
 no_name a b apart = chosen (bytes_eq a b) refl

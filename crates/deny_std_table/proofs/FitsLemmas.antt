@@ -1,5 +1,7 @@
 -- What was read from a table can be written in version 2.
-use Rattle.std.proofs.Common.{◌≡◌, ℕ, suc, ◌+◌, ◌<◌, ◌≤◌, ◌⊎◌, inl, inr, List, [], ◌∷◌, length, drop, map, Some, None, refl, sym, ap, ◌∙◌, arith, subst, length-take, length-drop, option_map, Result, Ok, Err, Bool, true, false, ◌==◌, if◌then◌else◌}
+use Rattle.std.proofs.Common.{◌≡◌, ℕ, suc, ◌+◌, ◌<◌, ◌≤◌, ◌⊎◌, inl, inr, List, [], ◌∷◌, length, drop, map, Some, None}
+use Rattle.std.proofs.Common.{refl, sym, ap, ◌∙◌, arith, subst, length-take, length-drop, option_map, Result, Ok, Err}
+use Rattle.std.proofs.Common.{Bool, true, false, ◌==◌, if◌then◌else◌}
 use Rattle.std.specs.Prelude.{slice_index, IfOk}
 use Rattle.std.specs.List.{slice_get, AllByRecursion}
 use Rattle.std.specs.Cmp.Lexicographic.{slice_cmp}
@@ -15,9 +17,11 @@ use Rattle.deny_std_table.specs.Reading.{number}
 use Rattle.deny_std_table.specs.Region.{Bounds, Group, Items, note_of}
 use Rattle.deny_std_table.specs.Head.{start_of}
 use Rattle.deny_std_table.specs.Entries.{Entry, bounds_of}
-use Rattle.deny_std_table.specs.Layout.{IsText, IsApi, IsReplacement, IsRow, ended, more, IsGroup, IsItems, IsEntry, IsTable}
+use Rattle.deny_std_table.specs.Layout.{IsText, IsApi, IsReplacement, IsRow, ended, more, IsGroup, IsItems, IsEntry}
+use Rattle.deny_std_table.specs.Layout.{IsTable}
 use Rattle.deny_std_table.specs.Table.{IsRead, read_entries}
-use Rattle.deny_std_table.specs.Spelling.{SaysTheSame, api_text, replacement_text, group_text, items_text, entry_text, texts_of, table_bytes}
+use Rattle.deny_std_table.specs.Spelling.{SaysTheSame, api_text, replacement_text, group_text, items_text, entry_text}
+use Rattle.deny_std_table.specs.Spelling.{texts_of, table_bytes}
 use Rattle.deny_std_table.proofs.EntryLemmas.{stop-inside}
 use Rattle.deny_std_table.proofs.TableLaw.{get-suc, table-sound}
 use Rattle.deny_std_table.proofs.SpellingLaw.{Fits, TextFits, ApiFits, ReplacementFits, GroupFits, ItemsFit, EntryFits}

@@ -1,5 +1,6 @@
 -- What the readers answer is what a table is, both ways.
-use Rattle.std.proofs.Common.{◌≡◌, ℕ, zero, suc, ◌+◌, ◌<◌, ◌≤◌, ◌&&◌, nat_lt, nat_le, Bool, true, false, List, [], ◌∷◌, length, Result, Ok, Err, slice_index, refl, sym, ap, ◌∙◌, arith, subst, if◌then◌else◌}
+use Rattle.std.proofs.Common.{◌≡◌, ℕ, zero, suc, ◌+◌, ◌<◌, ◌≤◌, ◌&&◌, nat_lt, nat_le, Bool, true, false, List, [], ◌∷◌}
+use Rattle.std.proofs.Common.{length, Result, Ok, Err, slice_index, refl, sym, ap, ◌∙◌, arith, subst, if◌then◌else◌}
 use Rattle.std.proofs.lemmas.Bool.{and_parts, ltb-true, lt-ltb}
 use Rattle.std.proofs.lemmas.Bool.Decides.{nat_tests}
 use Rattle.std.specs.Str.{is_utf8}
@@ -14,7 +15,8 @@ use Rattle.deny_std_table.specs.declared.place.Counts.{Counts}
 use Rattle.deny_std_table.specs.declared.place.Read.{Read}
 use Rattle.deny_std_table.specs.Place.{contents}
 use Rattle.deny_std_table.specs.Reading.{◌>>=◌, ◌>>◌, unless_bad, read, number, many}
-use Rattle.deny_std_table.specs.Region.{Bounds, Group, Items, note_of, text_place, byte, text, api, replacement, group_head, group, counts, counted_items, items}
+use Rattle.deny_std_table.specs.Region.{Bounds, Group, Items, note_of, text_place, byte, text, api, replacement}
+use Rattle.deny_std_table.specs.Region.{group_head, group, counts, counted_items, items}
 use Rattle.deny_std_table.specs.Layout.{IsByte, IsText, IsApi, IsReplacement, IsRow, ended, more, IsGroup, IsItems}
 
 -- a step that came to its end did so by a first part

@@ -1,5 +1,7 @@
 -- The bytes of version 2 that are written for what a table says are read as just that.
-use Rattle.std.proofs.Common.{◌≡◌, ℕ, zero, suc, ◌+◌, ◌*◌, ◌%◌, ◌/◌, ◌<◌, ◌≤◌, List, [], ◌∷◌, ◌++◌, length, take, drop, map, Option, Some, None, refl, sym, ap, ◌∙◌, arith, subst, append_assoc, length-append, option_map}
+use Rattle.std.proofs.Common.{◌≡◌, ℕ, zero, suc, ◌+◌, ◌*◌, ◌%◌, ◌/◌, ◌<◌, ◌≤◌, List, [], ◌∷◌, ◌++◌, length, take, drop}
+use Rattle.std.proofs.Common.{map, Option, Some, None, refl, sym, ap, ◌∙◌, arith, subst, append_assoc, length-append}
+use Rattle.std.proofs.Common.{option_map}
 use Rattle.std.specs.Prelude.{slice_index, flat_map, IsUtf8, false, ◌==◌}
 use Rattle.std.specs.List.{AllByRecursion}
 use Rattle.std.proofs.Math.Seq.{drop-nil, drop-append_seam, take-append_seam}
@@ -11,8 +13,12 @@ use Rattle.deny_std_table.specs.Place.{contents}
 use Rattle.deny_std_table.specs.Reading.{number}
 use Rattle.deny_std_table.specs.Region.{Bounds, note_of}
 use Rattle.deny_std_table.specs.Entries.{Entry}
-use Rattle.deny_std_table.specs.Layout.{IsByte, IsText, IsApi, IsReplacement, IsRow, ended, more, IsGroup, IsItems, IsEntry}
-use Rattle.deny_std_table.specs.Spelling.{ApiText, ReplacementText, GroupText, ItemsText, EntryText, api_text, replacement_text, group_text, items_text, entry_text, number_bytes, text_bytes, api_bytes, note_bytes, replacement_bytes, group_bytes, items_bytes, entry_bytes}
+use Rattle.deny_std_table.specs.Layout.{IsByte, IsText, IsApi, IsReplacement, IsRow, ended, more, IsGroup, IsItems}
+use Rattle.deny_std_table.specs.Layout.{IsEntry}
+use Rattle.deny_std_table.specs.Spelling.{ApiText, ReplacementText, GroupText, ItemsText, EntryText, api_text}
+use Rattle.deny_std_table.specs.Spelling.{replacement_text, group_text, items_text, entry_text, number_bytes}
+use Rattle.deny_std_table.specs.Spelling.{text_bytes, api_bytes, note_bytes, replacement_bytes, group_bytes}
+use Rattle.deny_std_table.specs.Spelling.{items_bytes, entry_bytes}
 
 -- These bytes stand at an offset, not past the end, and the rest follows.
 pub record Stands (b : Bounds) (at : ℕ) (xs : List ℕ) : Type 0 where

@@ -1,5 +1,6 @@
 -- The bytes of version 2 that are written for a table are read as a table that says the same.
-use Rattle.std.proofs.Common.{◌≡◌, ℕ, ◌+◌, ◌-◌, ◌*◌, ◌<◌, ◌≤◌, true, false, nat_lt, List, [], ◌∷◌, ◌++◌, length, take, Option, Some, None, Ok, refl, sym, ap, ◌∙◌, arith, subst, append-nil, length-append, inr}
+use Rattle.std.proofs.Common.{◌≡◌, ℕ, ◌+◌, ◌-◌, ◌*◌, ◌<◌, ◌≤◌, true, false, nat_lt, List, [], ◌∷◌, ◌++◌, length, take}
+use Rattle.std.proofs.Common.{Option, Some, None, Ok, refl, sym, ap, ◌∙◌, arith, subst, append-nil, length-append, inr}
 use Rattle.std.specs.Prelude.{flat_map}
 use Rattle.std.specs.List.{AllByRecursion}
 use Rattle.std.specs.Cmp.Lexicographic.{slice_cmp}
@@ -13,9 +14,11 @@ use Rattle.deny_std_table.specs.Region.{bounds}
 use Rattle.deny_std_table.specs.Head.{start_of, is_offset, offsets}
 use Rattle.deny_std_table.specs.Entries.{Entry, entry, entries, stop_of, bounds_of}
 use Rattle.deny_std_table.specs.Table.{table}
-use Rattle.deny_std_table.specs.Spelling.{EntryText, entry_text, texts_of, number_bytes, text_bytes, items_bytes, entry_bytes, offset_bytes, table_bytes}
+use Rattle.deny_std_table.specs.Spelling.{EntryText, entry_text, texts_of, number_bytes, text_bytes, items_bytes}
+use Rattle.deny_std_table.specs.Spelling.{entry_bytes, offset_bytes, table_bytes}
 use Rattle.deny_std_table.proofs.TableLaw.{IsAbove, entry-complete, header-complete, count-complete, true-is_offset}
-use Rattle.deny_std_table.proofs.SpellingLaw.{Stands, stands-first, stands-later, Fits, number-there, EntryFits, entry-there}
+use Rattle.deny_std_table.proofs.SpellingLaw.{Stands, stands-first, stands-later, Fits, number-there, EntryFits}
+use Rattle.deny_std_table.proofs.SpellingLaw.{entry-there}
 
 -- Each name is above the one before it.
 abbrev pub Rises : List EntryText → Type 0

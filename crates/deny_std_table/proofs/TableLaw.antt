@@ -1,31 +1,30 @@
 -- A table is what its reading answers, both ways.
-use Rattle.std.proofs.Common.{◌≡◌, ℕ, zero, suc, ◌+◌, ◌-◌, ◌*◌, ◌<◌, ◌≤◌, ◌==◌, ◌&&◌, nat_lt, nat_le, Bool, true, false, ◌⊎◌, inl, inr, if◌then◌else◌, List, [], ◌∷◌, length, take, Option, Some, None, Result, Ok, Err, slice_index, refl, sym, ap, ◌∙◌, arith, subst, ◌||◌, lit<, length-take}
+use Rattle.std.proofs.Common.{◌≡◌, ℕ, zero, suc, ◌+◌, ◌-◌, ◌*◌, ◌<◌, ◌≤◌, ◌==◌, ◌&&◌, nat_lt, nat_le, Bool, true, false}
+use Rattle.std.proofs.Common.{◌⊎◌, inl, inr, if◌then◌else◌, List, [], ◌∷◌, length, take, Option, Some, None, Result, Ok}
+use Rattle.std.proofs.Common.{Err, slice_index, refl, sym, ap, ◌∙◌, arith, subst, ◌||◌, lit<, length-take}
 use Rattle.std.specs.List.{slice_get}
 use Rattle.std.specs.Cmp.Lexicographic.{slice_cmp}
 use Rattle.std.specs.Ordering.{nat_cmp, is_lt}
-use Rattle.std.specs.declared.cmp.Ordering.{Ordering}
-use Rattle.std.specs.declared.cmp.Ordering.TheVariants.{Less, Equal, Greater}
+use Rattle.std.specs.declared.cmp.Ordering.TheVariants.{Less}
 use Rattle.std.proofs.lemmas.Bool.{and_parts, and_from, ltb-true, lt-ltb, eqb-true, eq-eqb}
 use Rattle.std.proofs.Math.Bool.{and-false}
 use Rattle.std.proofs.lemmas.Bool.Decides.{nat_tests}
 use Rattle.std.proofs.lemmas.List.{get_or-take}
+use Rattle.deny_lists.proofs.Orders.{less_from_is_lt}
 use Rattle.deny_std_table.specs.declared.error.ReplacementError.{ReplacementError}
 use Rattle.deny_std_table.specs.declared.error.ReplacementError.TheVariants.{Bad}
 use Rattle.deny_std_table.specs.declared.place.TextPlace.{TextPlace}
 use Rattle.deny_std_table.specs.Place.{contents}
 use Rattle.deny_std_table.specs.Reading.{◌>>=◌, ◌>>◌, number}
 use Rattle.deny_std_table.specs.Region.{Bounds, text, items}
-use Rattle.deny_std_table.specs.Head.{header, version, has_byte, count_of, start_of, is_offset, IsOffset, HasOffsets, offsets}
+use Rattle.deny_std_table.specs.Head.{header, version, has_byte, count_of, start_of, is_offset, IsOffset, HasOffsets}
+use Rattle.deny_std_table.specs.Head.{offsets}
 use Rattle.deny_std_table.specs.Entries.{Entry, is_above, entry, bounds_of, entries}
 use Rattle.deny_std_table.specs.Table.{table}
 use Rattle.deny_std_table.specs.Layout.{IsEntry, IsTable}
 use Rattle.deny_std_table.proofs.TableLemmas.{offsets-all}
-use Rattle.deny_std_table.proofs.LayoutLemmas.{bind-ok, unless_bad-then, text-sound, text-complete, items-sound, items-complete}
-
-is_lt-true : (o : Ordering) → is_lt o ≡ true → o ≡ Less
-is_lt-true Less is = refl
-is_lt-true Equal is = cc
-is_lt-true Greater is = cc
+use Rattle.deny_std_table.proofs.LayoutLemmas.{bind-ok, unless_bad-then, text-sound, text-complete, items-sound}
+use Rattle.deny_std_table.proofs.LayoutLemmas.{items-complete}
 
 -- The name of an entry is above the one before it, where there is one.
 pub record IsAbove (bytes : List ℕ) (before : Option TextPlace) (name : TextPlace) : Type 0 where
@@ -36,7 +35,7 @@ is_above-true : (bytes : List ℕ) (before : Option TextPlace) (name : TextPlace
 is_above-true bytes None name is = record { above = λ b none. cc }
 is_above-true bytes (Some a) name is = record {
   above = λ b some. let same : a ≡ b = cc in
-      subst (λ t. slice_cmp nat_cmp (contents bytes t) (contents bytes name) ≡ Less) same (is_lt-true _ is);
+      subst (λ t. slice_cmp nat_cmp (contents bytes t) (contents bytes name) ≡ Less) same (less_from_is_lt _ is);
 }
 
 true-is_above : (bytes : List ℕ) (before : Option TextPlace) (name : TextPlace) → IsAbove bytes before name

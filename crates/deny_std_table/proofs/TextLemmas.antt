@@ -7,7 +7,8 @@ use Rattle.deny_std_table.specs.Item.{IsApiAt, IsItemAt, IsReplacementAt, group_
 use Rattle.deny_std_table.specs.Region.{Group, Items}
 use Rattle.deny_std_table.specs.Replacement.{ItemsLeft}
 use Rattle.deny_std_table.specs.Spelling.{api_text, group_text, items_text, replacement_text}
-use Rattle.deny_std_table.specs.Texts.{Stable, Unavailable, Unstable, api_given, group_texts, item_given, item_text, item_texts, replacement_given, texts_left}
+use Rattle.deny_std_table.specs.Texts.{Stable, Unavailable, Unstable, api_given, group_texts, item_given, item_text}
+use Rattle.deny_std_table.specs.Texts.{item_texts, replacement_given, texts_left}
 use Rattle.deny_std_table.specs.declared.item.Api.{Api}
 use Rattle.deny_std_table.specs.declared.item.ApiReplacement.{ApiReplacement}
 use Rattle.deny_std_table.specs.declared.item.ReplacementItem.{ReplacementItem}

@@ -1,17 +1,20 @@
 -- A table is written entry by entry: to one draft the head and the offsets, to another the entries.
-use Rattle.std.proofs.Common.{◌≡◌, ℕ, zero, suc, ◌+◌, ◌*◌, ◌<◌, ◌≤◌, List, [], ◌∷◌, ◌++◌, length, take, drop, Some, None, Ok, sym, ap, ◌∙◌, arith, subst, append_assoc, append-nil, length-append}
+use Rattle.std.proofs.Common.{◌≡◌, ℕ, ◌+◌, ◌*◌, ◌<◌, ◌≤◌, List, [], ◌∷◌, ◌++◌, length, take, drop, Some, None, Ok, sym}
+use Rattle.std.proofs.Common.{ap, ◌∙◌, arith, subst, append_assoc, append-nil, length-append}
 use Rattle.std.specs.Prelude.{flat_map, option_map}
 use Rattle.std.specs.List.{slice_get}
 use Rattle.std.proofs.lemmas.List.{length-map, take_all}
 use Rattle.std.proofs.lemmas.Grind.{flat_map-append}
 use Rattle.std.proofs.lemmas.List.{take-append-drop}
 use Rattle.std.proofs.lemmas.Option.{slice_get-map}
+use Rattle.deny_lists.proofs.Places.{take-next}
 use Rattle.deny_std_table.specs.declared.draft.Draft.{Draft}
 use Rattle.deny_std_table.specs.Head.{start_of}
 use Rattle.deny_std_table.specs.Entries.{Entry, stop_of, entry}
 use Rattle.deny_std_table.specs.Region.{bounds}
 use Rattle.deny_std_table.specs.Table.{IsRead, read_entries}
-use Rattle.deny_std_table.specs.Spelling.{EntryText, entry_text, texts_of, number_bytes, entry_bytes, offset_bytes, table_bytes}
+use Rattle.deny_std_table.specs.Spelling.{EntryText, entry_text, texts_of, number_bytes, entry_bytes, offset_bytes}
+use Rattle.deny_std_table.specs.Spelling.{table_bytes}
 use Rattle.deny_std_table.specs.Draft.{IsDraft, Writes}
 use Rattle.deny_std_table.proofs.EntryLemmas.{named, all-entries, opened}
 
@@ -31,13 +34,6 @@ copied-start es count none head body size empty writes nothing = record {
       (subst (IsDraft head) (sym (append-nil (head_bytes count))) (writes.adds [] empty));
   body = nothing;
 }
-
-take-one : {A : Type 0} (xs : List A) (i : ℕ) (x : A) → slice_get xs i ≡ Some x → take (i + 1) xs ≡ take i xs ++ x ∷ []
-take-one [] i x is = cc
-take-one (a ∷ xs) zero x is = let same : a ≡ x = cc in ap (λ y. y ∷ []) same
-take-one (a ∷ xs) (suc i) x is =
-    let more : suc i + 1 ≡ suc (i + 1) = omega arith in
-    ap (λ n. take n (a ∷ xs)) more ∙ ap (λ l. a ∷ l) (take-one xs i x is)
 
 offsets-one : (at : ℕ) (es : List EntryText) (e : EntryText)
     → offset_bytes at (es ++ e ∷ []) ≡ offset_bytes at es ++ number_bytes 4 (at + length (flat_map entry_bytes es))
@@ -70,9 +66,9 @@ copied-more es count i e head body new_head new_body size at short head_writes b
     let offset : offset_bytes begin before ++ number_bytes 4 (8 + 4 * count + body.size)
     ≡ offset_bytes begin (take (i + 1) es) =
     ap (λ n. offset_bytes begin before ++ number_bytes 4 n) place ∙ (sym (offsets-one begin before e)
-    ∙ ap (offset_bytes begin) (sym (take-one es i e at))) in
+    ∙ ap (offset_bytes begin) (sym (take-next es i e at))) in
     let all : so_far ++ entry_bytes e ≡ flat_map entry_bytes (take (i + 1) es) = sym (entries-one before e)
-    ∙ ap (flat_map entry_bytes) (sym (take-one es i e at)) in
+    ∙ ap (flat_map entry_bytes) (sym (take-next es i e at)) in
     record {
       head = subst (IsDraft new_head)
           (append_assoc (head_bytes (length es)) (offset_bytes begin before)

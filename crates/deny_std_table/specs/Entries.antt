@@ -1,5 +1,6 @@
 -- The entries of a table, in the order in which they are tested.
-use Rattle.std.specs.Prelude.{ℕ, zero, suc, ◌+◌, Bool, true, nat_lt, List, [], ◌∷◌, length, Option, Some, None, Result, Ok, Err, if◌then◌else◌}
+use Rattle.std.specs.Prelude.{ℕ, zero, suc, ◌+◌, Bool, true, nat_lt, List, [], ◌∷◌, length, Option, Some, None, Result}
+use Rattle.std.specs.Prelude.{Ok, Err, if◌then◌else◌}
 use Rattle.std.specs.Cmp.Lexicographic.{slice_cmp}
 use Rattle.std.specs.Ordering.{nat_cmp, is_lt}
 use Rattle.deny_std_table.specs.declared.error.ReplacementError.{ReplacementError}

@@ -1,5 +1,6 @@
 -- The head of a table, in the order in which it is tested. Numbers are little endian.
-use Rattle.std.specs.Prelude.{ℕ, zero, suc, ◌+◌, ◌-◌, ◌*◌, ◌==◌, ◌&&◌, ◌||◌, ◌<◌, ◌≤◌, Bool, nat_lt, nat_le, List, length, Result, Ok, Err, slice_index, if◌then◌else◌}
+use Rattle.std.specs.Prelude.{ℕ, zero, suc, ◌+◌, ◌-◌, ◌*◌, ◌==◌, ◌&&◌, ◌||◌, ◌<◌, ◌≤◌, Bool, nat_lt, nat_le, List}
+use Rattle.std.specs.Prelude.{length, Result, Ok, Err, slice_index, if◌then◌else◌}
 use Rattle.deny_std_table.specs.declared.error.ReplacementError.{ReplacementError}
 use Rattle.deny_std_table.specs.declared.error.ReplacementError.TheVariants.{Bad}
 use Rattle.deny_std_table.specs.Reading.{◌>>◌, unless_bad, number}

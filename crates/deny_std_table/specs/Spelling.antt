@@ -1,5 +1,6 @@
 -- What a table says, text by text, and the bytes of version 2 that say so, in which nothing is ignored.
-use Rattle.std.specs.Prelude.{◌≡◌, ℕ, zero, suc, ◌+◌, ◌*◌, ◌%◌, ◌/◌, List, [], ◌∷◌, ◌++◌, Option, Some, None, Ok, length, map, flat_map, option_map}
+use Rattle.std.specs.Prelude.{◌≡◌, ℕ, zero, suc, ◌+◌, ◌*◌, ◌%◌, ◌/◌, List, [], ◌∷◌, ◌++◌, Option, Some, None, Ok}
+use Rattle.std.specs.Prelude.{length, map, flat_map, option_map}
 use Rattle.deny_std_table.specs.declared.place.ApiPlace.{ApiPlace}
 use Rattle.deny_std_table.specs.declared.place.ReplacementPlace.{ReplacementPlace}
 use Rattle.deny_std_table.specs.Place.{contents}

@@ -40,4 +40,5 @@ abbrev pub group_texts : GroupText → List ItemText
 group_texts group = map (λ r. Stable r group.minor) group.replacements
 
 abbrev pub item_texts : ItemsText → List ItemText
-item_texts items = flat_map group_texts items.groups ++ (map Unstable items.unstable ++ map Unavailable items.unavailable)
+item_texts items = flat_map group_texts items.groups
+    ++ (map Unstable items.unstable ++ map Unavailable items.unavailable)

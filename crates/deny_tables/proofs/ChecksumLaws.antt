@@ -3,7 +3,8 @@ use Rattle.std.proofs.lemmas.Str.Ascii.{IsAscii-nil, IsAscii-cons}
 use Rattle.std.specs.Str.{IsAscii}
 use Rattle.hex.specs.Hex.{lower_digits, encode_lower, IsBytes}
 use Rattle.hex.proofs.HexLemmas.{length-encode_with, decode_sized-encode_lower}
-use Rattle.std.proofs.Common.{lit<, drop, ◌≡◌, ℕ, zero, suc, ◌+◌, ◌*◌, false, not, List, [], ◌∷◌, length, Option, None, Some, refl, sym, ap, subst, arith, eq-eqb, ◌∙◌, inl, inr}
+use Rattle.std.proofs.Common.{lit<, drop, ◌≡◌, ℕ, zero, suc, ◌+◌, ◌*◌, false, not, List, [], ◌∷◌, length, Option, None}
+use Rattle.std.proofs.Common.{Some, refl, sym, ap, subst, arith, eq-eqb, ◌∙◌, inl, inr}
 use Rattle.std.proofs.lemmas.Bool.Decides.{eqb_tells}
 use Rattle.std.specs.Prelude.{find, is_some, unwrap_or, Result, Ok, Err, if◌then◌else◌, OnOk}
 use Rattle.std.specs.Result.{MatchResult, is_err}

@@ -9,14 +9,16 @@ use Rattle.deny_toml.specs.Calls.{text_in}
 use Rattle.deny_toml.specs.declared.value.Value.{Value}
 use Rattle.deny_entries.specs.RustVersion.{rust_version_in}
 use Rattle.deny_entries.specs.Reasons.{ReadsReason, ReadsReasonKey, ReadsReasoned}
-use Rattle.deny_tables.specs.Bans.{ReadsBan, ReadsBanEntry, ReadsTreeSkip, ReadsTreeSkipEntry, ban_fields, tree_skip_fields}
+use Rattle.deny_tables.specs.Bans.{ReadsBan, ReadsBanEntry, ReadsTreeSkip, ReadsTreeSkipEntry, ban_fields}
+use Rattle.deny_tables.specs.Bans.{tree_skip_fields}
 use Rattle.deny_tables.specs.Config.{ReadsConfig}
 use Rattle.deny_entries.proofs.RowLaws.{says_of}
 use Rattle.deny_entries.specs.PolicyKey.{name_of}
 use Rattle.deny_entries.specs.Entry.{ReadsEntry, ReadsEntryBy, ReadsEntryKeys, ReadsPair, ReadsSome}
 use Rattle.deny_tables.specs.Features.{ReadsCrateFeatures, ReadsFeatures, lists_in, nowhere}
 use Rattle.deny_entries.specs.Table.{Entries, Field, ReadsIfThere, ReadsTable, at_key}
-use Rattle.deny_entries.specs.Words.{ReadsAs, ReadsBool, ReadsCount, ReadsSpanned, ReadsText, ReadsTexts, level_of, scope_of}
+use Rattle.deny_entries.specs.Words.{ReadsAs, ReadsBool, ReadsCount, ReadsSpanned, ReadsText, ReadsTexts, level_of}
+use Rattle.deny_entries.specs.Words.{scope_of}
 use Rattle.deny_tables.specs.Highlight.{highlight_of}
 use Rattle.deny_tables.specs.StdReplacements.{ReadsRustVersion, ReadsStd}
 use Rattle.deny_tables.specs.Workspace.{ReadsWorkspace}
@@ -29,7 +31,9 @@ use Rattle.deny_entries.specs.declared.package_spec.PackageSpec.{PackageSpec}
 use Rattle.deny_entries.specs.declared.policy_key.PolicyKey.TheVariants as key
 use Rattle.deny_entries.specs.declared.scope.Scope.TheVariants as scope
 use Rattle.deny_entries.specs.declared.spec_or_extended.PackageSpecOrExtended.{PackageSpecOrExtended}
-use Rattle.deny_entries.proofs.ReadsLaws.{ReadsAlike, ReadsOne, SpecsAlike, alike_list_or, alike_table, keys_alike, one_as, one_bool, one_count, one_optional, one_or, one_spanned, one_text, one_texts, text_alike}
+use Rattle.deny_entries.proofs.ReadsLaws.{ReadsAlike, ReadsOne, SpecsAlike, alike_list_or, alike_table, keys_alike}
+use Rattle.deny_entries.proofs.ReadsLaws.{one_as, one_bool, one_count, one_optional, one_or, one_spanned, one_text}
+use Rattle.deny_entries.proofs.ReadsLaws.{one_texts, text_alike}
 
 -- what entries say besides their specs
 one_reason : ReadsOne ReadsReason
@@ -154,7 +158,7 @@ BothAlike Alike None (Some y) = ⊥
 BothAlike Alike (Some x) None = ⊥
 BothAlike Alike (Some x) (Some y) = Alike x y
 
-alike_optional : {T : Type 0} (Reads : Value → T → Type 0) (Alike : T → T → Type 0) → ReadsAlike Reads Alike
+pub alike_optional : {T : Type 0} (Reads : Value → T → Type 0) (Alike : T → T → Type 0) → ReadsAlike Reads Alike
     → ReadsAlike (ReadsIfThere Reads) (BothAlike Alike)
 alike_optional Reads Alike alike None None None one two = tt
 alike_optional Reads Alike alike None None (Some y) one two = absurd (cc two)

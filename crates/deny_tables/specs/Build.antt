@@ -6,7 +6,8 @@ use Rattle.deny_toml.specs.declared.value.Value.{Value}
 use Rattle.deny_entries.specs.declared.policy_key.PolicyKey.TheVariants as key
 use Rattle.deny_entries.specs.Entry.{ReadsEntryKeys, entry_fields}
 use Rattle.deny_entries.specs.Spec.{a_spec}
-use Rattle.deny_entries.specs.Table.{Entries, Field, ReadsRows, ReadsTable, Row, a_table, faults_of_table, fields_of, holds_or, may_hold, must_hold}
+use Rattle.deny_entries.specs.Table.{Entries, Field, ReadsRows, ReadsTable, Row, a_table, faults_of_table, fields_of}
+use Rattle.deny_entries.specs.Table.{holds_or, may_hold, must_hold}
 use Rattle.deny_entries.specs.Words.{Kind, ReadsAs, a_flag, a_level, a_list, a_text, faults_as, placed, some_texts}
 use Rattle.deny_tables.specs.declared.bans.cfg.build.BuildConfig.{BuildConfig}
 use Rattle.deny_tables.specs.declared.bans.cfg.bypass.Bypass.{Bypass}

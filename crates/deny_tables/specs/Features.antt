@@ -7,7 +7,8 @@ use Rattle.deny_toml.specs.declared.value.Value.{Value}
 use Rattle.deny_entries.specs.declared.policy_key.PolicyKey.TheVariants as key
 use Rattle.deny_entries.specs.Entry.{ReadsEntryKeys, entry_fields}
 use Rattle.deny_entries.specs.Reasons.{a_reason}
-use Rattle.deny_entries.specs.Table.{Entries, Field, ReadsRows, ReadsTable, Row, faults_of_table, fields_of, holds_or, may_hold}
+use Rattle.deny_entries.specs.Table.{Entries, Field, ReadsRows, ReadsTable, Row, faults_of_table, fields_of, holds_or}
+use Rattle.deny_entries.specs.Table.{may_hold}
 use Rattle.deny_entries.specs.Words.{Kind, a_flag, placed, some_texts}
 use Rattle.deny_tables.specs.declared.bans.cfg.features.CrateFeatures.{CrateFeatures}
 use Rattle.deny_tables.specs.declared.bans.cfg.features.FeatureLists.{FeatureLists}

@@ -5,7 +5,8 @@ use Rattle.deny_toml.specs.declared.error.ConfigFault.{ConfigFault}
 use Rattle.deny_toml.specs.declared.value.Value.{Value}
 use Rattle.deny_entries.specs.Entry.{ReadsEntryKeys, entry_fields}
 use Rattle.deny_entries.specs.Licence.{some_licences}
-use Rattle.deny_entries.specs.Table.{Entries, Field, ReadsRows, ReadsTable, Row, a_table, faults_of_table, fields_of, holds_or, must_hold, unread}
+use Rattle.deny_entries.specs.Table.{Entries, Field, ReadsRows, ReadsTable, Row, a_table, faults_of_table, fields_of}
+use Rattle.deny_entries.specs.Table.{holds_or, must_hold, unread}
 use Rattle.deny_entries.specs.Words.{Kind, a_flag, a_level, a_list, a_text}
 use Rattle.deny_entries.specs.declared.policy_key.PolicyKey.TheVariants as key
 use Rattle.deny_tables.specs.declared.licenses.config.Config.{Config}

@@ -9,7 +9,8 @@ use Rattle.deny_entries.specs.declared.policy_key.PolicyKey.TheVariants as key
 use Rattle.deny_entries.specs.declared.scope.Scope.TheVariants as word
 use Rattle.deny_entries.specs.Reasons.{a_reasoned_entry}
 use Rattle.deny_entries.specs.RustVersion.{rust_version_in}
-use Rattle.deny_entries.specs.Table.{Entries, Field, ReadsRows, ReadsTable, Row, faults_of_table, fields_of, holds_or, may_hold}
+use Rattle.deny_entries.specs.Table.{Entries, Field, ReadsRows, ReadsTable, Row, faults_of_table, fields_of, holds_or}
+use Rattle.deny_entries.specs.Table.{may_hold}
 use Rattle.deny_entries.specs.Words.{Kind, ReadsAs, a_level, a_list, a_scope, faults_as}
 use Rattle.deny_tables.specs.declared.bans.cfg.std_replacements.StdReplacementConfig.{StdReplacementConfig}
 

@@ -1,5 +1,6 @@
 -- A reader accepts exactly the tokens of `cfg(..)` around an expression.
-use Rattle.std.proofs.Common.{◌≡◌, ℕ, nat_eq, Bool, true, false, List, [], ◌∷◌, ◌++◌, Some, None, refl, sym, ◌∙◌, ap, subst, append_assoc, append-nil, if◌then◌else◌, codes}
+use Rattle.std.proofs.Common.{◌≡◌, ℕ, nat_eq, Bool, true, false, List, [], ◌∷◌, ◌++◌, Some, None, refl, sym, ◌∙◌, ap}
+use Rattle.std.proofs.Common.{subst, append_assoc, append-nil, if◌then◌else◌, codes}
 use Rattle.std.specs.Cmp.Lexicographic.{pointwise, same_text}
 use Rattle.deny_targets.specs.declared.token.Token.{Token}
 use Rattle.deny_targets.specs.declared.token.Token.TheVariants.{Name, All, Any, Not, Quoted, Equals, Comma, Open, Close}
@@ -7,8 +8,11 @@ use Rattle.deny_targets.specs.declared.reader.Holder.{Holder}
 use Rattle.deny_targets.specs.declared.reader.Holder.TheVariants.{One, Several}
 use Rattle.deny_targets.specs.declared.reader.Phase.{Phase}
 use Rattle.deny_targets.specs.declared.reader.Phase.TheVariants as phase
-use Rattle.deny_targets.specs.Grammar.{Tree, name, value, all, any, not, Trees, IsExpression, is_name, is_value, is_all, is_any, is_not, AreArguments, no_more, last, comma, IsCfg}
-use Rattle.deny_targets.specs.private.Reader.{reader, start, at_key, at_head, at_expression, closed, at_argument, next_argument, at_whole, at_name, at_value, step, is_done, if_some, accepts}
+use Rattle.deny_targets.specs.Grammar.{Tree, name, value, all, any, not, Trees, IsExpression, is_name, is_value, is_all}
+use Rattle.deny_targets.specs.Grammar.{is_any, is_not, AreArguments, no_more, last, comma, IsCfg}
+use Rattle.deny_targets.specs.private.Reader.{reader, start, at_key, at_head, at_expression, closed, at_argument}
+use Rattle.deny_targets.specs.private.Reader.{next_argument, at_whole, at_name, at_value, step, is_done, if_some}
+use Rattle.deny_targets.specs.private.Reader.{accepts}
 
 -- ---- what is spelled is accepted
 

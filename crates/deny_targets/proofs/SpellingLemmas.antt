@@ -1,11 +1,12 @@
 -- The tokens without commas are the tree's, and tell it.
 use Rattle.std.proofs.Common.{◌≡◌, ℕ, List, [], ◌∷◌, ◌++◌, refl, sym, ◌∙◌, ap, subst, append_assoc, append-nil, codes}
-use Rattle.std.specs.Prelude.{filter}
-use Rattle.std.specs.Prelude.{not as no}
+use Rattle.std.specs.Prelude.{filter, not as no}
 use Rattle.std.proofs.lemmas.List.Elements.{filter-append}
 use Rattle.deny_targets.specs.declared.token.Token.{Token}
 use Rattle.deny_targets.specs.declared.token.Token.TheVariants as token
-use Rattle.deny_targets.specs.Grammar.{Tree, name, value, all, any, not, Trees, none, then, IsExpression, is_name, is_value, is_all, is_any, is_not, AreArguments, no_more, last, comma, IsCfg, ReadsAs}
+use Rattle.deny_targets.specs.Grammar.{Tree, name, value, all, any, not, Trees, none, then, IsExpression, is_name}
+use Rattle.deny_targets.specs.Grammar.{is_value, is_all, is_any, is_not, AreArguments, no_more, last, comma, IsCfg}
+use Rattle.deny_targets.specs.Grammar.{ReadsAs}
 use Rattle.deny_targets.specs.Expression.{spelled, each_spelled, key_spelled}
 use Rattle.deny_targets.specs.private.Tokens.{is_comma}
 use Rattle.deny_targets.proofs.TokenLemmas.{tokens_same}

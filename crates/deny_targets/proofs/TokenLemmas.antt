@@ -1,9 +1,11 @@
 -- A text has one list of tokens at most, which is read token by token.
-use Rattle.std.proofs.Common.{◌≡◌, ◌≢◌, ℕ, suc, ◌+◌, Bool, true, false, cond, List, [], ◌∷◌, ◌++◌, length, drop, Some, None, refl, sym, ◌∙◌, ap, subst, arith, append_assoc, append-nil, ◌==◌}
+use Rattle.std.proofs.Common.{◌≡◌, ◌≢◌, ℕ, suc, ◌+◌, Bool, true, false, cond, List, [], ◌∷◌, ◌++◌, length, drop, Some}
+use Rattle.std.proofs.Common.{None, refl, sym, ◌∙◌, ap, subst, arith, append_assoc, append-nil, ◌==◌}
 use Rattle.std.specs.List.{prefix_len}
 use Rattle.std.proofs.lemmas.Bool.Decides.{nat_tests}
 use Rattle.deny_targets.specs.declared.token.Token.{Token}
-use Rattle.deny_targets.specs.Tokens.{is_blank, is_name_start, mark_first, mark_token, first_token, HasTokens, none, blank, more}
+use Rattle.deny_targets.specs.Tokens.{is_blank, is_name_start, mark_first, mark_token, first_token, HasTokens, none}
+use Rattle.deny_targets.specs.Tokens.{blank, more}
 use Rattle.deny_targets.specs.private.Tokens.{IsReadTo}
 
 -- the blanks at the begin
@@ -26,7 +28,7 @@ data IsFront : List ℕ → List Token → Type 0 where
   at_token : {text rest : List ℕ} {token : Token} {tokens : List Token} → first_token text ≡ Some (token, rest)
       → HasTokens rest tokens → IsFront text (token ∷ tokens)
 
-blank_first : (b : ℕ) (bs : List ℕ) → is_blank b ≡ true → first_token (b ∷ bs) ≡ None
+pub blank_first : (b : ℕ) (bs : List ℕ) → is_blank b ≡ true → first_token (b ∷ bs) ≡ None
 unfolding is_blank is_name_start mark_first mark_token first_token
 blank_first b bs e = at_blank (b == 32) refl
   where

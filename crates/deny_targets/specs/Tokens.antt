@@ -1,13 +1,11 @@
 -- The tokens of a target's expression.
-use Rattle.std.specs.Prelude.{◌≡◌, ◌==◌, ◌||◌, ◌&&◌, ℕ, nat_le, nat_lt, nat_eq, Bool, true, if◌then◌else◌, List, [], ◌∷◌, length, take, drop, Option, Some, None, option_map, codes}
+use Rattle.std.specs.Prelude.{◌≡◌, ◌==◌, ◌||◌, ◌&&◌, ℕ, nat_le, nat_lt, nat_eq, Bool, true, if◌then◌else◌, List, []}
+use Rattle.std.specs.Prelude.{◌∷◌, length, take, drop, Option, Some, None, option_map, codes}
 use Rattle.std.specs.List.{prefix_len, position_or_len, before_first, after_first}
 use Rattle.std.specs.Cmp.Lexicographic.{pointwise}
+unfoldable pub use Rattle.deny_lists.specs.Blanks.{is_blank}
 use Rattle.deny_targets.specs.declared.token.Token.{Token}
 use Rattle.deny_targets.specs.declared.token.Token.TheVariants.{Name, All, Any, Not, Quoted, Equals, Comma, Open, Close}
-
--- space and tab
-unfoldable pub is_blank : ℕ → Bool
-is_blank b = b == 32 || b == 9
 
 -- an ASCII letter or '_'
 unfoldable pub is_name_start : ℕ → Bool

@@ -14,9 +14,8 @@ use Rattle.deny_model.specs.Graph.{Crate, Graph}
 use Rattle.deny_model.specs.Policy.{FeatureEntry, Policy, Words}
 use Rattle.deny_model.specs.Text.{same_text}
 use Rattle.deny_model.specs.Told.{crate_at, primary}
-use Rattle.deny_codes.specs.Features.{default_level, default_severity, entry_and_crate, feature_entry_at}
-use Rattle.deny_codes.specs.Features.{is_enabled, mismatch_labels, missing, unlisted}
-use Rattle.deny_codes.specs.Features.{unlisted_note}
+use Rattle.deny_codes.specs.Features.{default_level, default_severity, entry_and_crate, feature_entry_at, is_enabled}
+use Rattle.deny_codes.specs.Features.{mismatch_labels, missing, unlisted, unlisted_note}
 use Rattle.deny_codes.specs.Members.{is_member}
 use Rattle.deny_facts.specs.Placed.{ArePlaced}
 use Rattle.deny_features.specs.Crates.{default_level_at, enabled_at}
@@ -33,12 +32,14 @@ pub of_entry : {A : Type 0} (p : Policy) (g : Graph) (key : Key) (told : Feature
     (e : FeatureEntry) → feature_entry_at p key.entry ≡ Some e
     → entry_and_crate p g key told nothing ≡ option_map_or (told e) (crate_at g key.place) nothing
 of_entry p g key told nothing e is =
-    ap (λ (o : Option FeatureEntry). option_map_or (λ d. option_map_or (told d) (crate_at g key.place) nothing) o nothing) is
+    ap (λ (o : Option FeatureEntry). option_map_or
+    (λ d. option_map_or (told d) (crate_at g key.place) nothing) o nothing) is
 
 pub of_none : {A : Type 0} (p : Policy) (g : Graph) (key : Key) (told : FeatureEntry → Crate → A) (nothing : A)
     → feature_entry_at p key.entry ≡ None → entry_and_crate p g key told nothing ≡ nothing
 of_none p g key told nothing is =
-    ap (λ (o : Option FeatureEntry). option_map_or (λ d. option_map_or (told d) (crate_at g key.place) nothing) o nothing) is
+    ap (λ (o : Option FeatureEntry). option_map_or
+    (λ d. option_map_or (told d) (crate_at g key.place) nothing) o nothing) is
 
 -- and of a crate there
 pub of_both : {A : Type 0} (p : Policy) (g : Graph) (key : Key) (told : FeatureEntry → Crate → A) (nothing : A)
@@ -65,7 +66,8 @@ unlisted_there p g e place placed = by_crate (crate_at g place) refl
         (unlisted_is p g placed e c (from_there g.crates place c at))
 
 -- the labels of an entry and of what it allows and is not enabled
-pub labels_told : (p : Policy) (g : Graph) (file : ℕ) (key : Key) {e : FeatureEntry} {c : Crate} (enabled : List (List ℕ))
+pub labels_told : (p : Policy) (g : Graph) (file : ℕ) (key : Key) {e : FeatureEntry} {c : Crate}
+    (enabled : List (List ℕ))
     → Some e ≡ feature_entry_at p key.entry → Some c ≡ crate_at g key.place → enabled ≡ enabled_at g key.place
     → the_labels file e (filter (λ w. not (list_any (same_text w.value) enabled)) e.allow.value)
     ≡ entry_and_crate p g key (mismatch_labels file) []

@@ -18,7 +18,9 @@ use Rattle.deny_telling.specs.Here.{AreToldHere, is_told_here}
 
 words_as_untabled : (d : Code) (c : Circumstances) (table : List ℕ) (key : Key) → IsTrue (is_told_here (Bans d))
     → words_as d (tabled c table) key ≡ words_as d c key
-unfolding words_as script_denied_told path_bypassed_told bypassed_by_glob_told checksum_match_told checksum_mismatch_told mismatch_note denied_by_extension_told detected_told unable_to_check_told features_enabled_told unmatched_path_told unmatched_glob_told
+unfolding words_as script_denied_told path_bypassed_told bypassed_by_glob_told checksum_match_told
+    checksum_mismatch_told mismatch_note denied_by_extension_told detected_told unable_to_check_told
+    features_enabled_told unmatched_path_told unmatched_glob_told
 words_as_untabled code.ReplacedInStd c table key here = absurd (cc here)
 words_as_untabled code.UnmatchedReplacementIgnore c table key here = absurd (cc here)
 words_as_untabled _ c table key here = refl

@@ -1,5 +1,6 @@
 -- What is looked up for a finding: entries by their ranges, and crates by their places.
-use Rattle.std.proofs.Common.{◌≡◌, ◌+◌, ◌||◌, ℕ, Bool, true, false, List, [], ◌∷◌, Option, Some, None, MatchOption, Bor, map, filter_map, option_map, refl, sym, ap, ◌∙◌, subst}
+use Rattle.std.proofs.Common.{◌≡◌, ◌+◌, ◌||◌, ℕ, Bool, true, false, List, [], ◌∷◌, Option, Some, None, MatchOption, Bor}
+use Rattle.std.proofs.Common.{map, filter_map, option_map, refl, sym, ap, ◌∙◌, subst}
 use Rattle.std.specs.Prelude.{codes, cond, find, option_and_then, unwrap_or}
 use Rattle.std.specs.List.{cons_option, list_any}
 use Rattle.std.specs.Option.{option_map_or}
@@ -43,7 +44,8 @@ root_found range n (e ∷ es) = by_test (same_span e.spec.name.span range) (root
     by_test false rest = rest
 
 pub root_seen : (range : Span) (es : List (PackageSpecOrExtended TreeSkipExtended))
-    (r : Option (Bor (PackageSpecOrExtended TreeSkipExtended))) → option_map (λ e. e.now) r ≡ first_of name_range range es
+    (r : Option (Bor (PackageSpecOrExtended TreeSkipExtended)))
+    → option_map (λ e. e.now) r ≡ first_of name_range range es
     → MatchOption r (find (λ t. same_span t.spec.range range) (roots_from 0 es) ≡ None)
     (λ e. (number : ℕ) × (find (λ t. same_span t.spec.range range) (roots_from 0 es) ≡ Some
     (root_view number e.now)))
@@ -74,7 +76,8 @@ pub wrapper_told : (p : Policy) (g : Graph) (file : ℕ) (range : Span) (place :
     → ban_at p range ≡ Some b → found ≡ option_and_then (λ c. wrapper_range p.deny range c.name) (crate_at g place)
     → option_map_or (λ ban. wrapper_labels file ban (option_and_then (wrapper_of ban.wrappers) (crate_at g place)))
     (ban_at p range) []
-    ≡ option_map_or (λ span. primary file b.spec.range (codes "banned here") ∷ primary file span (codes "allowed wrapper") ∷ []) found []
+    ≡ option_map_or (λ span. primary file b.spec.range (codes "banned here") ∷ primary file span
+    (codes "allowed wrapper") ∷ []) found []
 unfolding wrapper_of wrappers.first_of
 wrapper_told p g file range place b found is at =
     ap (λ (o : Option Ban). option_map_or (λ ban. wrapper_labels file ban
@@ -82,7 +85,8 @@ wrapper_told p g file range place b found is at =
     ∙ (by_crate (crate_at g place) ∙ ap told (sym at))
   where
     told : Option Span → List Label
-    told = λ o. option_map_or (λ span. primary file b.spec.range (codes "banned here") ∷ primary file span (codes "allowed wrapper") ∷ []) o []
+    told = λ o. option_map_or (λ span. primary file b.spec.range (codes "banned here") ∷ primary file span
+        (codes "allowed wrapper") ∷ []) o []
 
     by_wrapper : (o : Option Words) → wrapper_labels file b o ≡ told (option_map (λ (w : Words). w.span) o)
     by_wrapper None = refl

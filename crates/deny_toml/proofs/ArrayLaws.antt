@@ -36,9 +36,9 @@ empty_back : {A : Type 0} (xs ys : List A) → xs ++ ys ≡ [] → ys ≡ []
 empty_back [] ys e = e
 empty_back (x ∷ xs) ys e = cc e
 
-empty_under : (name : List ℕ) (faults : List ConfigFault) → under name faults ≡ [] → faults ≡ []
-empty_under name [] e = refl
-empty_under name (f ∷ fs) e = cc e
+pub under-none : (name : List ℕ) (faults : List ConfigFault) → under name faults ≡ [] → faults ≡ []
+under-none name [] e = refl
+under-none name (f ∷ fs) e = cc e
 
 -- the turn of the loop that reads one element
 pub read_more : {T : Type 0} (faults_of : Value → List ConfigFault) (Reads : Value → T → Type 0) (vs : List Value)
@@ -48,7 +48,7 @@ pub read_more : {T : Type 0} (faults_of : Value → List ConfigFault) (Reads : V
     → faults ≡ [] → ReadsEach Reads (vs ++ v ∷ []) more
 read_more faults_of Reads vs place v kept faults items more e each one none =
     let joined : kept ++ under (decimal place) (faults_of v) ≡ [] = sym e ∙ none in
-    let (x, added, read) = one (empty_under (decimal place) (faults_of v)
+    let (x, added, read) = one (under-none (decimal place) (faults_of v)
     (empty_back kept (under (decimal place) (faults_of v)) joined)) in
     subst (λ xs. ReadsEach Reads (vs ++ v ∷ []) xs) (sym added)
     (ReadsEach-push Reads vs items v x (each (empty_prefix kept (under (decimal place) (faults_of v)) joined)) read)

@@ -8,11 +8,10 @@ use Rattle.deny_toml_grammar.specs.declared.expression.Expression.TheVariants as
 use Rattle.deny_toml_grammar.specs.declared.expression.Assignment.{Assignment}
 use Rattle.deny_toml_grammar.specs.declared.expression.Written.{Written}
 use Rattle.deny_toml_grammar.specs.declared.expression.WrittenContent.TheVariants.{Scalar, Array, InlineTable}
-use Rattle.deny_toml_grammar.specs.Expression.{header_with}
-use Rattle.deny_toml_grammar.specs.Expression.{written_with, assignment_with}
-use Rattle.deny_toml_grammar.specs.Expression.{span_of}
+use Rattle.deny_toml_grammar.specs.Expression.{header_with, written_with, assignment_with, span_of}
 use Rattle.deny_toml.specs.Clash.{clash, clash_in, clash_after, walk, stand}
 use Rattle.deny_toml.proofs.ClashLaws.{clash_in-scalar, clash_in-array, clash_in-table}
+use Rattle.deny_toml.proofs.TreeCases.{assigned}
 
 abbrev a : ℕ → Key
 a at = record { name = codes "a"; span = span_of at 1 }
@@ -152,9 +151,6 @@ inline members = written_with (span_of 0 0) (InlineTable members)
 
 abbrev elements : List Written → Written
 elements values = written_with (span_of 0 0) (Array values)
-
-abbrev assigned : List Key → Written → Expression
-assigned path value = expression.Assignment (assignment_with path value)
 
 -- a = {}, a.b = true
 key_into_an_inline_table : clash (assigned (a 1 ∷ []) (inline []) ∷ key (a 2 ∷ b 3 ∷ []) ∷ []) ≡ at 2

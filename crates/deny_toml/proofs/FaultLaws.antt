@@ -1,5 +1,5 @@
 -- The order of faults is total, only equal faults tie, and `in_order` is the ascending list of what it is given.
-use Rattle.deny_lists.proofs.Orders.{then_first, then_second}
+use Rattle.deny_lists.proofs.Orders.{then_first, then_second, slice_cmp-append}
 use Rattle.std.proofs.Common.{length, arith, ◌≢◌, Bool, true, false, ◌&&◌, ◌||◌, ◌++◌, append-nil, ◌≡◌, ℕ, List, []}
 use Rattle.std.proofs.Common.{◌∷◌, Contains, slice_index_or, refl, sym, ap, subst, inl, inr, ◌∙◌}
 use Rattle.std.proofs.lemmas.List.{nil_from_length}
@@ -226,10 +226,6 @@ own_reverse Greater e = cc e
 nat_cmp-same : (n : ℕ) → nat_cmp n n ≡ Equal
 nat_cmp-same n = own_reverse (nat_cmp n n) (nat_cmp_total.antisymm n n)
 
-slice_cmp-prefix : (name xs ys : List ℕ) → slice_cmp nat_cmp (name ++ xs) (name ++ ys) ≡ slice_cmp nat_cmp xs ys
-slice_cmp-prefix [] xs ys = refl
-slice_cmp-prefix (c ∷ name) xs ys = rw (nat_cmp-same c) (slice_cmp-prefix name xs ys)
-
 -- what a name makes of the last two parts of the order, of faults of one kind
 abbrev path_cmp : List ℕ → Bool → Bool → Bool → List ℕ → List ℕ → Ordering
 path_cmp name names b c xs ys =
@@ -239,20 +235,20 @@ path_cmp name names b c xs ys =
 
 longer-below : (name : List ℕ) (y : ℕ) (ys : List ℕ) → slice_cmp nat_cmp name (name ++ y ∷ ys) ≡ Less
 longer-below name y ys =
-    subst (λ xs. slice_cmp nat_cmp xs (name ++ y ∷ ys) ≡ Less) (append-nil name) (slice_cmp-prefix name [] (y ∷ ys))
+    subst (λ xs. slice_cmp nat_cmp xs (name ++ y ∷ ys) ≡ Less) (append-nil name) (slice_cmp-append name [] (y ∷ ys))
 
 -- both empty: the one is of the value itself, or names a key, and the other of a value without a name
 empties-ascend : (name : List ℕ) (names b c : Bool) → bool_cmp b c ≡ Less → path_cmp name names b c [] [] ≡ Less
 empties-ascend name names true true below = cc below
 empties-ascend name names true false below = cc below
 empties-ascend name names false false below = cc below
-empties-ascend name true false true below = rw (slice_cmp-prefix name (46 ∷ []) (46 ∷ [])) refl
+empties-ascend name true false true below = rw (slice_cmp-append name (46 ∷ []) (46 ∷ [])) refl
 empties-ascend name false false true below = rw (longer-below name 46 []) refl
 
 -- an empty one comes before others
 empty-ascends : (name : List ℕ) (names b c : Bool) (y : ℕ) (ys : List ℕ) → path_cmp name names b c [] (y ∷ ys) ≡ Less
-empty-ascends name true b c y ys = rw (slice_cmp-prefix name (46 ∷ []) (46 ∷ y ∷ ys)) refl
-empty-ascends name false true c y ys = rw (slice_cmp-prefix name (46 ∷ []) (46 ∷ y ∷ ys)) refl
+empty-ascends name true b c y ys = rw (slice_cmp-append name (46 ∷ []) (46 ∷ y ∷ ys)) refl
+empty-ascends name false true c y ys = rw (slice_cmp-append name (46 ∷ []) (46 ∷ y ∷ ys)) refl
 empty-ascends name false false c y ys = rw (longer-below name 46 (y ∷ ys)) refl
 
 paths-ascend : (name : List ℕ) (names b c : Bool) (xs ys : List ℕ)
@@ -261,13 +257,13 @@ paths-ascend : (name : List ℕ) (names b c : Bool) (xs ys : List ℕ)
 paths-ascend name names b c [] [] below = empties-ascend name names b c below
 paths-ascend name names b c [] (y ∷ ys) below = empty-ascends name names b c y ys
 paths-ascend name names b c (x ∷ xs) [] below = cc below
-paths-ascend name names true true (x ∷ xs) (y ∷ ys) below = rw (slice_cmp-prefix name (46 ∷ x ∷ xs) (46 ∷ y ∷ ys)) below
+paths-ascend name names true true (x ∷ xs) (y ∷ ys) below = rw (slice_cmp-append name (46 ∷ x ∷ xs) (46 ∷ y ∷ ys)) below
 paths-ascend name names true false (x ∷ xs) (y ∷ ys) below =
-    rw (slice_cmp-prefix name (46 ∷ x ∷ xs) (46 ∷ y ∷ ys)) below
+    rw (slice_cmp-append name (46 ∷ x ∷ xs) (46 ∷ y ∷ ys)) below
 paths-ascend name names false true (x ∷ xs) (y ∷ ys) below =
-    rw (slice_cmp-prefix name (46 ∷ x ∷ xs) (46 ∷ y ∷ ys)) below
+    rw (slice_cmp-append name (46 ∷ x ∷ xs) (46 ∷ y ∷ ys)) below
 paths-ascend name names false false (x ∷ xs) (y ∷ ys) below =
-    rw (slice_cmp-prefix name (46 ∷ x ∷ xs) (46 ∷ y ∷ ys)) below
+    rw (slice_cmp-append name (46 ∷ x ∷ xs) (46 ∷ y ∷ ys)) below
 
 then_less : (r s t u : Ordering) → ordering_then r (ordering_then s t) ≡ Less → (s ≡ Equal → t ≡ Less → u ≡ Less)
     → ordering_then r (ordering_then s u) ≡ Less

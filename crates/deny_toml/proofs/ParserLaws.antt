@@ -1,5 +1,5 @@
 -- Where a clash stands, and what a tree holds.
-use Rattle.std.proofs.Common.{◌≡◌, ℕ, List, IsUtf8, IfSome, Option, Some, sym, subst, ◌∙◌, arith}
+use Rattle.std.proofs.Common.{◌≡◌, ℕ, List, IsUtf8, IfSome, Option, Some, sym, subst, ◌∙◌, arith, ap}
 use Rattle.std.proofs.lemmas.Str.{IsCharBoundary-start, IsCharBoundary-end}
 use Rattle.deny_base.specs.declared.span.Span.{Span}
 use Rattle.deny_toml.specs.declared.value.Value.{Value}
@@ -8,7 +8,7 @@ use Rattle.deny_toml_grammar.specs.Expression.{span_of}
 use Rattle.deny_toml.specs.Ranges.{IsRange, KeyStands, Stands, StandsIn}
 use Rattle.deny_toml.specs.Clash.{clash}
 use Rattle.deny_toml.specs.Tree.{tree}
-use Rattle.deny_toml.specs.Parser.{IsDocumentOf, whole}
+use Rattle.deny_toml.specs.Parser.{IsDocumentOf, whole, IsTreeOf}
 use Rattle.deny_toml_grammar.proofs.RangesLaws.{all_stand, keys_placed}
 use Rattle.deny_toml.proofs.ClashRanges.{clash_placed}
 use Rattle.deny_toml.proofs.TreeRanges.{tree_ok}
@@ -45,3 +45,8 @@ tree_stands text es span v utf8 of range exact =
     (tree_ok (KeyStands text) (Stands text) (λ key here. record { placed = here.placed; written = tt })
     (record { placed = empty_range text utf8; written = tt })
     (whole text) (record { placed = whole_range text utf8; written = tt }) es (all_stand text utf8 es of.written))
+
+-- a text has one tree at most
+pub one_tree : (text : List ℕ) (v w : Value) → IsTreeOf text v → IsTreeOf text w → v ≡ w
+one_tree text v w one other =
+    one.3 ∙ ap (tree (whole text)) (sym (one.1.only other.0 other.1.written)) ∙ sym other.3

@@ -3,7 +3,6 @@ use Rattle.std.proofs.Common.{◌≡◌, ℕ, ◌+◌, ◌==◌, ◌&&◌, Bool,
 use Rattle.std.proofs.Common.{◌∙◌, subst, Option, Some, None, Result, Ok, Err, length-append}
 use Rattle.std.specs.Prelude.{if◌then◌else◌, cond, SomeIff, IsErrAnd, option_map, ◌<◌, ◌^◌}
 use Rattle.std.specs.BTreeMap.{BTreeMap}
-use Rattle.std.specs.Cmp.{unsigned_ties}
 use Rattle.std.specs.BTreeMap as tree
 use Rattle.std.specs.Cmp.Lexicographic.{slice_cmp}
 use Rattle.std.specs.Ordering.{nat_cmp, ordering_then, is_eq}
@@ -14,6 +13,7 @@ use Rattle.std.proofs.lemmas.Bool.{eqb-true, and_parts}
 use Rattle.std.proofs.lemmas.List.{append-nil, map-append}
 use Rattle.std.proofs.lemmas.Map.Text.{is_eq-slice_cmp}
 use Rattle.std.proofs.lemmas.Slice.Eq.{bytes_eq-Decides}
+use Rattle.deny_lists.proofs.Orders.{is_eq-nat_cmp}
 use Rattle.deny_base.specs.declared.span.Span.{Span}
 use Rattle.deny_toml.specs.declared.clash.Role.{Role}
 use Rattle.deny_toml.specs.declared.clash.Role.TheVariants.{HeaderPasses, HeaderNames, ArrayNames, KeyPasses, KeySets}
@@ -29,14 +29,12 @@ use Rattle.deny_toml_grammar.specs.Expression.{assigned_path, assigned_value}
 use Rattle.deny_toml.specs.Clash.{Segment, at_place, roles_of, names_array, is_empty, may_stand, table_of}
 use Rattle.deny_toml.specs.Clash.{segment_after, stand, walk, walk_header, walk_key, Line, header_line, clash_in}
 use Rattle.deny_toml.specs.Clash.{member_line, clash_after}
-use Rattle.deny_toml.specs.private.Places.{admits, standing_after, standing_at, TellsPlace, Tells, Takes, TakesKey, Finds}
+use Rattle.deny_toml.specs.private.Places.{admits, standing_after, standing_at, TellsPlace, Tells, Takes, TakesKey}
+use Rattle.deny_toml.specs.private.Places.{Finds}
 use Rattle.deny_toml.proofs.ClashLaws.{may_stand_more, may_stand-more, table_of-first, table_of-array, table_of-other}
 use Rattle.deny_toml.proofs.ClashLaws.{at_place-more, walk_stops, key_clashes, header_clashes}
 
 -- ---- a look-up after one place was put in
-
-is_eq-nat_cmp : (a b : ℕ) → is_eq (nat_cmp a b) ≡ (a == b)
-is_eq-nat_cmp a b = sym (unsigned_ties a b)
 
 is_eq-then : (r s : Ordering) → is_eq (ordering_then r s) ≡ (is_eq r && is_eq s)
 is_eq-then Less s = refl

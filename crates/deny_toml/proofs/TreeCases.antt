@@ -19,8 +19,8 @@ use Rattle.deny_toml.proofs.TreeValues.{value_is, members_in, elements_in}
 abbrev pub key : ℕ → List ℕ → Key
 key at name = record { name = name; span = span_of at (length name) }
 
-abbrev pub set : List Key → Written → Expression
-set path value = expression.Assignment (assignment_with path value)
+abbrev pub assigned : List Key → Written → Expression
+assigned path value = expression.Assignment (assignment_with path value)
 
 abbrev pub header : List Key → Expression
 header path = expression.Header (record { path = path; is_array = false })
@@ -36,7 +36,7 @@ table_value span entries = value_with span (content.Table (table_with entries))
 
 -- `b = 1`, `a = 2`: the names stand in byte order
 pub order_of_names : (text : Span) (one two : Written)
-    → tree text (set (key 0 (codes "b") ∷ []) one ∷ set (key 6 (codes "a") ∷ []) two ∷ [])
+    → tree text (assigned (key 0 (codes "b") ∷ []) one ∷ assigned (key 6 (codes "a") ∷ []) two ∷ [])
     ≡ table_value text ((key 6 (codes "a"), written_value two) ∷ (key 0 (codes "b"), written_value one) ∷ [])
 unfolding table table_of depth longest steps names lines_through groups elements until_element leading header_lines
     value_of_lines
@@ -56,9 +56,9 @@ empty_table text = refl
 
 -- `[a.b]`, `x = 1`, `[c]`, `[a]`, `y = 2`: a table has its first part's range, and its lines may stand apart
 pub nested_headers : (text : Span) (one two : Written)
-    → tree text (header (key 1 (codes "a") ∷ key 3 (codes "b") ∷ []) ∷ set (key 6 (codes "x") ∷ []) one ∷ header
+    → tree text (header (key 1 (codes "a") ∷ key 3 (codes "b") ∷ []) ∷ assigned (key 6 (codes "x") ∷ []) one ∷ header
     (key 13 (codes "c") ∷ [])
-    ∷ header (key 17 (codes "a") ∷ []) ∷ set (key 20 (codes "y") ∷ []) two ∷ [])
+    ∷ header (key 17 (codes "a") ∷ []) ∷ assigned (key 20 (codes "y") ∷ []) two ∷ [])
     ≡ table_value text
     (table_at (key 1 (codes "a")) (table_at (key 3 (codes "b")) ((key 6 (codes "x"), written_value one) ∷ []) ∷
     (key 20 (codes "y"), written_value two) ∷ [])
@@ -69,7 +69,8 @@ nested_headers text one two = refl
 
 -- `a.y = 1`, `b = 2`, `a.x = 3`: dotted keys make one table, with the range of the first
 pub dotted_keys : (text : Span) (one two three : Written)
-    → tree text (set (key 0 (codes "a") ∷ key 2 (codes "y") ∷ []) one ∷ set (key 8 (codes "b") ∷ []) two ∷ set
+    → tree text (assigned (key 0 (codes "a") ∷ key 2 (codes "y") ∷ []) one ∷ assigned
+    (key 8 (codes "b") ∷ []) two ∷ assigned
     (key 14 (codes "a") ∷ key 16 (codes "x") ∷ []) three ∷ [])
     ≡ table_value text
     (table_at (key 0 (codes "a")) ((key 16 (codes "x"), written_value three) ∷ (key 2 (codes "y"), written_value one) ∷
@@ -83,13 +84,17 @@ dotted_keys text one two three = refl
 -- the
 -- array that of the first.
 pub fruits : (text : Span) (apple red round delicious smith banana plantain : Written)
-    → tree text (element (key 2 (codes "fruits") ∷ []) ∷ set (key 11 (codes "name") ∷ []) apple
-    ∷ header (key 28 (codes "fruits") ∷ key 35 (codes "physical") ∷ []) ∷ set (key 45 (codes "color") ∷ []) red ∷ set
+    → tree text (element (key 2 (codes "fruits") ∷ []) ∷ assigned (key 11 (codes "name") ∷ []) apple
+    ∷ header (key 28 (codes "fruits") ∷ key 35 (codes "physical") ∷ []) ∷ assigned
+    (key 45 (codes "color") ∷ []) red ∷ assigned
     (key 59 (codes "shape") ∷ []) round
-    ∷ element (key 77 (codes "fruits") ∷ key 84 (codes "varieties") ∷ []) ∷ set (key 96 (codes "name") ∷ []) delicious
-    ∷ element (key 121 (codes "fruits") ∷ key 128 (codes "varieties") ∷ []) ∷ set (key 140 (codes "name") ∷ []) smith
-    ∷ element (key 164 (codes "fruits") ∷ []) ∷ set (key 173 (codes "name") ∷ []) banana
-    ∷ element (key 192 (codes "fruits") ∷ key 199 (codes "varieties") ∷ []) ∷ set (key 211 (codes "name") ∷ []) plantain
+    ∷ element (key 77 (codes "fruits") ∷ key 84 (codes "varieties") ∷ []) ∷ assigned
+    (key 96 (codes "name") ∷ []) delicious
+    ∷ element (key 121 (codes "fruits") ∷ key 128 (codes "varieties") ∷ []) ∷ assigned
+    (key 140 (codes "name") ∷ []) smith
+    ∷ element (key 164 (codes "fruits") ∷ []) ∷ assigned (key 173 (codes "name") ∷ []) banana
+    ∷ element (key 192 (codes "fruits") ∷ key 199 (codes "varieties") ∷ []) ∷ assigned
+    (key 211 (codes "name") ∷ []) plantain
     ∷ [])
     ≡ table_value text ((
       key 2 (codes "fruits"),

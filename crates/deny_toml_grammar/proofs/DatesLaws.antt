@@ -1,7 +1,7 @@
 -- Dates and times: the test of the reader holds exactly where the grammar says.
-use Rattle.std.proofs.Common.{◌≡◌, ℕ, zero, suc, ◌+◌, ◌-◌, ◌*◌, ◌<◌, ◌≤◌, ◌⊎◌, Bool, true, false, ◌&&◌, ◌||◌, ◌==◌}
-use Rattle.std.proofs.Common.{nat_le, List, [], ◌∷◌, length, take, drop, Option, Some, None, refl, subst, inl, inr}
-use Rattle.std.proofs.Common.{arith, drop_at}
+use Rattle.std.proofs.Common.{◌≡◌, ℕ, zero, suc, ◌+◌, ◌-◌, ◌*◌, ◌<◌, ◌⊎◌, Bool, true, false, ◌&&◌, ◌||◌, ◌==◌, nat_le}
+use Rattle.std.proofs.Common.{List, [], ◌∷◌, length, take, drop, Option, Some, None, refl, subst, inl, inr, arith}
+use Rattle.std.proofs.Common.{drop_at}
 use Rattle.std.proofs.lemmas.Option.{none-some, same_Some}
 use Rattle.std.proofs.lemmas.Bool.{cases_Bool, and_parts, true≢false, false≢true, cases_lt}
 use Rattle.std.proofs.lemmas.Bool.Decides.{nat_tests}
@@ -9,20 +9,20 @@ use Rattle.std.proofs.lemmas.List.{take-append-drop, get_or_past}
 use Rattle.std.specs.List.{prefix_len, list_all, slice_index}
 use Rattle.std.specs.Char.{is_ascii_digit}
 use Rattle.deny_toml_grammar.specs.Lexical.{first}
-use Rattle.deny_toml_grammar.specs.private.Dates.{has_number, starts_date, starts_time, after_fraction, is_offset, ends_time}
-use Rattle.deny_toml_grammar.specs.private.Dates.{is_time, is_divider, is_divided_time, is_date_time, is_date}
+use Rattle.deny_toml_grammar.specs.private.Dates.{has_number, starts_date, starts_time, after_fraction, is_offset}
+use Rattle.deny_toml_grammar.specs.private.Dates.{ends_time, is_time, is_divider, is_divided_time, is_date_time}
+use Rattle.deny_toml_grammar.specs.private.Dates.{is_date}
 use Rattle.deny_toml_grammar.specs.GrammarWords.{IsTwo, StartsDate, StartsTime, IsSecondsFraction, IsOffset, IsDivider}
 use Rattle.deny_toml_grammar.specs.GrammarWords.{IsDate}
 use Rattle.deny_toml_grammar.specs.GrammarWords as grammar
 use Rattle.deny_toml_grammar.proofs.LexicalLaws.{prefix_len-run}
 use Rattle.deny_lists.proofs.PrefixLemmas.{list_all-take}
+use Rattle.deny_lists.proofs.Numbers.{nat_le-true, le_from_nat_le}
+use Rattle.deny_lists.proofs.Booleans.{or-true}
 
 abbrev is_two : ℕ → ℕ → ℕ → ℕ → Bool
 is_two low high a b = (is_ascii_digit a && is_ascii_digit b) &&
     (nat_le low ((a - 48) * 10 + (b - 48)) && nat_le ((a - 48) * 10 + (b - 48)) high)
-
-le_of : (m n : ℕ) → nat_le m n ≡ true → m ≤ n
-le_of m n e = grind (arith, nat_tests)
 
 two-sound : (low high a b : ℕ) → is_two low high a b ≡ true → IsTwo low high a b
 two-sound low high a b e =
@@ -31,14 +31,12 @@ two-sound low high a b e =
     let (tens, ones) = and_parts (is_ascii_digit a) (is_ascii_digit b) digits in
     let (above, below) = and_parts (nat_le low ((a - 48) * 10 + (b - 48))) (nat_le ((a - 48) * 10 + (b - 48)) high)
     range in
-    grammar.two a b tens ones (le_of low ((a - 48) * 10 + (b - 48)) above) (le_of ((a - 48) * 10 + (b - 48)) high below)
-
-of_le : (m n : ℕ) → m ≤ n → nat_le m n ≡ true
-of_le m n e = grind (arith, nat_tests)
+    grammar.two a b tens ones (le_from_nat_le low ((a - 48) * 10 + (b - 48)) above)
+    (le_from_nat_le ((a - 48) * 10 + (b - 48)) high below)
 
 two-complete : (low high a b : ℕ) → IsTwo low high a b → is_two low high a b ≡ true
 two-complete low high a b (grammar.two _ _ tens ones above below) =
-    rw (tens, ones, of_le low ((a - 48) * 10 + (b - 48)) above, of_le ((a - 48) * 10 + (b - 48)) high below)
+    rw (tens, ones, nat_le-true low ((a - 48) * 10 + (b - 48)) above, nat_le-true ((a - 48) * 10 + (b - 48)) high below)
 
 -- two digits stand inside the text
 within_two : (cs : List ℕ) (at low high : ℕ) → has_number cs at low high ≡ true → at + 1 < length cs
@@ -333,10 +331,6 @@ date_is-sound cs e =
       | inr other ↦ hour_of cs (local-sound cs (rw other at e))
     ]
 
-or_true : (b : Bool) → (b || true) ≡ true
-or_true true = refl
-or_true false = refl
-
 day_test : (cs : List ℕ) → StartsDate [] cs → is_date_time cs ≡ true
 unfolding is_date_time
 day_test cs is = rw (date-complete cs [] is) (ten cs is)
@@ -357,7 +351,7 @@ moment_test c cs time_ rest offset is divides is_time_ is_fraction is_offset_ =
       divider-complete c divides,
       time_with-complete time_ rest
           offset is_time_ is_fraction is_offset_,
-    ) (or_true (length cs == 10))
+    ) (or-true (length cs == 10))
 
 -- a date is read
 pub date_is-complete : (cs : List ℕ) → IsDate cs → is_date cs ≡ true
@@ -365,4 +359,4 @@ date_is-complete cs (grammar.day _ is) = rw (day_test cs is) refl
 date_is-complete cs (grammar.moment c _ time_ rest offset is divides is_time_ is_fraction is_offset_) =
     rw (moment_test c cs time_ rest offset is divides is_time_ is_fraction is_offset_) refl
 date_is-complete cs (grammar.hour _ rest is is_fraction) = rw (local-complete cs rest is is_fraction)
-    (or_true (is_date_time cs))
+    (or-true (is_date_time cs))

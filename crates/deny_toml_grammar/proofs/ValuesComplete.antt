@@ -10,14 +10,14 @@ use Rattle.deny_toml_grammar.specs.declared.parts.Scalar.{Scalar}
 use Rattle.deny_toml_grammar.specs.declared.expression.Written.{Written}
 use Rattle.deny_toml_grammar.specs.declared.expression.WrittenContent.TheVariants as written
 use Rattle.deny_toml_grammar.specs.declared.expression.Assignment.{Assignment}
-use Rattle.deny_toml_grammar.specs.Expression.{span_of}
-use Rattle.deny_toml_grammar.specs.Expression.{written_with, assignment_with}
+use Rattle.deny_toml_grammar.specs.Expression.{span_of, written_with, assignment_with}
 use Rattle.deny_toml_grammar.specs.Lexical.{Read, first, is_space, is_bare, is_word, skip_spaces, skip_turn, skip_from}
 use Rattle.deny_toml_grammar.specs.Lexical.{skip_blank}
 use Rattle.deny_toml_grammar.specs.Strings.{starts_string}
 use Rattle.deny_toml_grammar.specs.Expression.{depth_limit}
 use Rattle.deny_toml_grammar.specs.private.Keys.{key}
-use Rattle.deny_toml_grammar.specs.private.Values.{scalar, after_element, elements, assignment, members, inline_table, value}
+use Rattle.deny_toml_grammar.specs.private.Values.{scalar, after_element, elements, assignment, members, inline_table}
+use Rattle.deny_toml_grammar.specs.private.Values.{value}
 use Rattle.deny_toml_grammar.specs.GrammarStrings.{AreSpaces, IsNewline, IsBlank, IsText, is_delimiter}
 use Rattle.deny_toml_grammar.specs.GrammarStrings as strings
 use Rattle.deny_toml_grammar.specs.Grammar.{IsKey, IsValue, IsElements, IsMembers, IsAssignment}

@@ -11,8 +11,8 @@ use Rattle.deny_toml_grammar.specs.Expression.{assignment_with}
 use Rattle.deny_toml_grammar.specs.Lexical.{Read, first, is_word, skip_spaces, skip_from, skip_blank}
 use Rattle.deny_toml_grammar.specs.private.Words.{unquoted, word_len}
 use Rattle.deny_toml_grammar.specs.private.Keys.{key}
-use Rattle.deny_toml_grammar.specs.private.Values.{scalar, after_element, elements, assigned, assignment, members, inline_table}
-use Rattle.deny_toml_grammar.specs.private.Values.{value, whole}
+use Rattle.deny_toml_grammar.specs.private.Values.{scalar, after_element, elements, assigned, assignment, members}
+use Rattle.deny_toml_grammar.specs.private.Values.{inline_table, value, whole}
 
 pub elements_end : (val : List ℕ → Read Written) (m : ℕ) (found : List Written) (text : List ℕ) → 0 < m
     → (first (skip_blank text) == 93) ≡ true

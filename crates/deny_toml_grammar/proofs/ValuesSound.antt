@@ -11,16 +11,15 @@ use Rattle.deny_toml_grammar.specs.declared.parts.Scalar.{Scalar}
 use Rattle.deny_toml_grammar.specs.declared.expression.Written.{Written}
 use Rattle.deny_toml_grammar.specs.declared.expression.WrittenContent.TheVariants as written
 use Rattle.deny_toml_grammar.specs.declared.expression.Assignment.{Assignment}
-use Rattle.deny_toml_grammar.specs.Expression.{span_of}
-use Rattle.deny_toml_grammar.specs.Expression.{written_with, assignment_with}
+use Rattle.deny_toml_grammar.specs.Expression.{span_of, written_with, assignment_with}
 use Rattle.deny_toml_grammar.specs.Lexical.{Read, first, is_comment_byte, skip_spaces, skip_blank}
 use Rattle.deny_toml_grammar.specs.private.Reading.{read_map}
 use Rattle.deny_toml_grammar.specs.Strings.{quoted, starts_string}
 use Rattle.deny_toml_grammar.specs.private.Words.{unquoted}
 use Rattle.deny_toml_grammar.specs.Expression.{depth_limit}
 use Rattle.deny_toml_grammar.specs.private.Keys.{key}
-use Rattle.deny_toml_grammar.specs.private.Values.{quoted_value, whole, scalar, after_element, elements, assigned, assignment}
-use Rattle.deny_toml_grammar.specs.private.Values.{members, inline_table, value}
+use Rattle.deny_toml_grammar.specs.private.Values.{quoted_value, whole, scalar, after_element, elements, assigned}
+use Rattle.deny_toml_grammar.specs.private.Values.{assignment, members, inline_table, value}
 use Rattle.deny_toml_grammar.specs.GrammarStrings.{AreSpaces, IsBlank}
 use Rattle.deny_toml_grammar.specs.Grammar.{IsKey, IsValue, IsElements, IsMembers, IsAssignment}
 use Rattle.deny_toml_grammar.specs.Grammar as grammar

@@ -28,7 +28,7 @@ use Rattle.deny_krates.specs.declared.krate.DirectDependent.{DirectDependent}
 use Rattle.deny_krates.specs.declared.krate.Krate.{Krate}
 use Rattle.deny_krates.proofs.InOrderLemmas.{in_order_is}
 use Rattle.deny_krates.proofs.NodeLemmas.{crate_within, node_of_crate, placed}
-use Rattle.deny_krates.proofs.SourceLemmas.{edge_asked}
+use Rattle.deny_krates.proofs.SourceLemmas.{edge_asked, incoming_from-is}
 use Rattle.deny_model.specs.Graph.{Crate, Graph, dependents}
 use Rattle.deny_trees.specs.Parents.{dependents_in, dependents_of, least_kind, least_of}
 use Rattle.deny_trees.specs.private.Growing.{IsInside, edge_from}
@@ -73,13 +73,6 @@ kept_kind g p c Build stands least =
 
 -- ---- the order of sources
 
-incoming_of : Option (List ℕ) → Option DepKind → ℕ → Incoming
-incoming_of feature kind place = record { node = record { place = place; feature = feature }; kind = kind }
-
-incoming_of-is : (i : Incoming) → incoming_of i.node.feature i.kind i.node.place ≡ i
-unfolding incoming_of
-incoming_of-is i = refl
-
 kind_told : (a b : Option DepKind) → option_cmp kind_cmp a b ≡ Equal → a ≡ b
 kind_told None None e = refl
 kind_told None (Some b) e = cc
@@ -96,7 +89,7 @@ sources_exact g a b e =
     let kind : a.kind ≡ b.kind = kind_told a.kind b.kind (then_first _ _ last) in
     let place : a.node.place ≡ b.node.place = nat_cmp-IsAntisymmetric a.node.place b.node.place
     (then_second (option_cmp kind_cmp a.kind b.kind) _ last) in
-    cc (incoming_of-is a, incoming_of-is b)
+    cc (incoming_from-is a, incoming_from-is b)
 
 sources_total : (g : Graph) → IsTotalOrder (incoming_cmp g)
 unfolding incoming_cmp

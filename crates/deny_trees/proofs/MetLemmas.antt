@@ -4,7 +4,6 @@ use Rattle.std.proofs.Common.{ap, sym, refl, subst, arith, eq-eqb, eqb-true, get
 use Rattle.std.specs.Prelude.{◌==◌, AllPairs, unwrap_or}
 use Rattle.std.specs.declared.cmp.Ordering.TheVariants.{Equal}
 use Rattle.std.specs.BTreeMap.{is_at}
-use Rattle.std.specs.Cmp.Lexicographic.{same_text as text_told}
 use Rattle.std.specs.Cmp.{Equal-is, tied_itself}
 use Rattle.std.specs.FinMap.{nat_cmp-IsAntisymmetric}
 use Rattle.std.specs.List.{list_any}
@@ -17,15 +16,10 @@ use Rattle.std.proofs.lemmas.Option.{slice_get-get_or}
 use Rattle.deny_krates.specs.Nodes.{Node, node_at, nodes_of}
 use Rattle.deny_model.specs.Graph.{Graph}
 use Rattle.deny_model.specs.Text.{same_text}
+use Rattle.deny_model.proofs.Texts.{equal_from_option_eq}
 use Rattle.deny_trees.specs.Parents.{same_node}
 use Rattle.deny_trees.specs.Tree.{is_met}
 use Rattle.deny_trees.specs.private.Growing.{AreMet}
-
-same_feature : (a b : Option (List ℕ)) → option_eq same_text a b ≡ true → a ≡ b
-same_feature None None is = refl
-same_feature None (Some y) is = cc
-same_feature (Some x) None is = cc
-same_feature (Some x) (Some y) is = ap (λ t. Some t) (text_told x y (sym is))
 
 feature_same : (a : Option (List ℕ)) → option_eq same_text a a ≡ true
 feature_same None = refl
@@ -37,7 +31,7 @@ unfolding same_node
 same_node-true a b is =
     let parts = and_parts (a.place == b.place) (option_eq same_text a.feature b.feature) is in
     let place : a.place ≡ b.place = eqb-true a.place b.place parts.0 in
-    let feature : a.feature ≡ b.feature = same_feature a.feature b.feature parts.1 in
+    let feature : a.feature ≡ b.feature = equal_from_option_eq a.feature b.feature parts.1 in
     ap (λ p. record { place = p; feature = a.feature }) place
     ∙ ap (λ f. record { place = b.place; feature = f }) feature
 

@@ -10,6 +10,7 @@ use Rattle.std.proofs.lemmas.List.{map-append}
 use Rattle.std.proofs.lemmas.List.Folds.{list_all-append, list_any-append, list_any_at}
 use Rattle.std.proofs.lemmas.List.Kept.{AllPairs-cons}
 use Rattle.std.proofs.lemmas.Option.{same_Some}
+use Rattle.deny_lists.proofs.Filters.{list_all-map}
 use Rattle.deny_base.specs.declared.finding.GraphNode as base
 use Rattle.deny_krates.specs.Ids.{crate_of}
 use Rattle.deny_krates.specs.Nodes.{Incoming, Node, crate_node, feature_node, is_enabled, node_in, node_named}
@@ -26,10 +27,6 @@ use Rattle.deny_trees.proofs.MetLemmas.{same_node-true, same_node_refl}
 flat_map-map : {A B : Type 0} (f : A → List B) (xs : List A) → flat_map (λ ys. ys) (map f xs) ≡ flat_map f xs
 flat_map-map f [] = refl
 flat_map-map f (x ∷ xs) = ap (λ ys. f x ++ ys) (flat_map-map f xs)
-
-list_all-map : {A : Type 0} (p : A → Bool) (xs : List A) → list_all (λ b. b) (map p xs) ≡ list_all p xs
-list_all-map p [] = refl
-list_all-map p (x ∷ xs) = ap (λ b. p x && b) (list_all-map p xs)
 
 -- what a node shows, by its parts
 expanded-node : (inner : NodeInner) (parents : List GraphNode)

@@ -1,11 +1,10 @@
 -- Small cases of trees and their texts worked out, so that the definitions can be read against them.
 use lib.Utf8.{encode}
 use Rattle.std.proofs.Common.{◌≡◌, ℕ, List, [], ◌∷◌, true, false, Option, Some, None, codes, refl}
-use Rattle.std.specs.Cmp.Lexicographic.{nat_list_cmp_total, slice_cmp}
 use Rattle.std.specs.FinMap as finite
 use Rattle.std.specs.Fmt.{digits}
-use Rattle.std.specs.Ordering.{nat_cmp}
 use Rattle.std.specs.Prelude.{⊤, encode_utf8_all}
+use Rattle.deny_lists.proofs.TextMapLemmas.{get-from_entries}
 use Rattle.deny_base.specs.Edge.{kind_number}
 use Rattle.deny_base.specs.declared.edge.DepKind.{DepKind}
 use Rattle.deny_base.specs.declared.edge.DepKind.TheVariants.{Normal, Dev, Build}
@@ -156,16 +155,12 @@ std_of_x = record { kid = record { 0 = codes "x" }; feature = Some (codes "std")
 feature : List ℕ → List GraphNode → GraphNode
 feature name parents = node_with (Feature (codes "x") name) false parents
 
-get_in : (table : List (List ℕ × List (List ℕ))) (name : List ℕ)
-    → finite.get {R = slice_cmp nat_cmp} (finite.from_entries table) name ≡ finite.find (slice_cmp nat_cmp) name table
-get_in table name = finite.get-from_entries nat_list_cmp_total table name
-
 -- a feature stands under its crate, and what leads to it above
 under_its_crate : graph_of with_std None std_of_x
     ≡ Some (shown (codes "x") None (feature (codes "std")
     (feature (codes "default") (shown (codes "app") None [] ∷ []) ∷ []) ∷ []))
 unfolding on_cases with_std std_of_x feature
-under_its_crate = simp get_in
+under_its_crate = simp get-from_entries
 
 -- above a feature at the greatest depth the dependents of its crate are shown
 no_deeper : graph_of with_std (Some 0) std_of_x
@@ -193,6 +188,7 @@ feature_text = simp text-node
 
 branches : tree_text (shown (codes "d") None (shown (codes "b") (Some Dev) (shown (codes "a") None [] ∷ [])
     ∷ shown (codes "c") None (again (codes "a") (Some Build) ∷ []) ∷ []))
-    ≡ encode_utf8_all (codes "d v1.0.0\n├── (dev) b v1.0.0\n│   └── a v1.0.0\n└── c v1.0.0\n    └── (build) a v1.0.0 (*)\n")
+    ≡ encode_utf8_all (codes
+    "d v1.0.0\n├── (dev) b v1.0.0\n│   └── a v1.0.0\n└── c v1.0.0\n    └── (build) a v1.0.0 (*)\n")
 unfolding on_texts
 branches = simp text-node

@@ -1,5 +1,5 @@
 -- Only equal entries tie.
-use Rattle.std.proofs.Common.{◌≡◌, ℕ, List, [], ◌∷◌, None, Some, slice_index_or, refl, sym, ap, ◌∙◌}
+use Rattle.std.proofs.Common.{◌≡◌, ℕ, List, [], ◌∷◌, slice_index_or, refl, sym, ap, ◌∙◌}
 use Rattle.std.specs.Cmp.{IsTotalOrder, nat_cmp_total, on_total, then_total}
 use Rattle.std.specs.Cmp.Lexicographic.{nat_list_cmp_total, options_total, slice_cmp}
 use Rattle.std.specs.FinMap.{IsAntisymmetric, nat_cmp-IsAntisymmetric}
@@ -7,7 +7,7 @@ use Rattle.std.specs.Option.{option_cmp}
 use Rattle.std.specs.Ordering.{nat_cmp, ordering_then}
 use Rattle.std.specs.declared.cmp.Ordering.{Ordering}
 use Rattle.std.specs.declared.cmp.Ordering.TheVariants.{Equal}
-use Rattle.deny_lists.proofs.Orders.{text_cmp-exact, then_first, then_second}
+use Rattle.deny_lists.proofs.Orders.{text_cmp-exact, then_first, then_second, option_cmp-exact}
 use Rattle.deny_base.specs.declared.span.Kid.{Kid}
 use Rattle.deny_unread.specs.Purpose.{purpose_cmp, purpose_number}
 use Rattle.deny_unread.specs.Unread.{asked, kid_cmp, unread_cmp}
@@ -34,12 +34,6 @@ pub purpose_cmp-exact : IsAntisymmetric purpose_cmp
 purpose_cmp-exact a b e =
     sym (purpose_at-number a)
     ∙ (ap purpose_at (nat_cmp-IsAntisymmetric (purpose_number a) (purpose_number b) e) ∙ purpose_at-number b)
-
-pub option_cmp-exact : {A : Type 0} (cmp : A → A → Ordering) → IsAntisymmetric cmp → IsAntisymmetric (option_cmp cmp)
-option_cmp-exact cmp exact None None e = refl
-option_cmp-exact cmp exact None (Some b) e = cc e
-option_cmp-exact cmp exact (Some a) None e = cc e
-option_cmp-exact cmp exact (Some a) (Some b) e = ap (λ x. Some x) (exact a b e)
 
 kid_of : List ℕ → Kid
 kid_of text = record { 0 = text }

@@ -1,6 +1,5 @@
 -- Entries of other crates, or for other purposes, change nothing of a view, nor does their order.
-use Rattle.std.proofs.Common.{◌≡◌, ◌∙◌, ◌||◌, ℕ, Bool, true, false, List}
-use Rattle.std.proofs.Common.{◌++◌, Option, None, Some, refl, sym, ap, subst}
+use Rattle.std.proofs.Common.{◌≡◌, ◌∙◌, ◌||◌, ℕ, true, false, List, ◌++◌, Option, None, Some, refl, sym, ap, subst}
 use Rattle.std.specs.Prelude.{Contains}
 use Rattle.std.specs.Cmp.{Equal-is, eq_by_cmp_equiv}
 use Rattle.std.specs.List.Sorted.{IsPermutation}
@@ -10,6 +9,7 @@ use Rattle.std.proofs.lemmas.Bool.{false_from_ne_true}
 use Rattle.std.proofs.lemmas.List.Folds.{list_any-append}
 use Rattle.std.proofs.lemmas.List.Sorted.{list_any-IsPermutation}
 use Rattle.deny_lists.proofs.Members.{any_from, any_passes}
+use Rattle.deny_lists.proofs.Booleans.{or-false}
 use Rattle.deny_outside.specs.Children.{children}
 use Rattle.deny_outside.specs.Disk.{Files, bytes_at}
 use Rattle.deny_base.specs.declared.span.Kid.{Kid}
@@ -45,10 +45,6 @@ not_left_out us krate purpose path absent =
 
 -- ---- entries behind and in front
 
-or_none : (b : Bool) → (b || false) ≡ b
-or_none true = refl
-or_none false = refl
-
 is_unread-append : (us vs : List Unread) (krate : Option Kid) (purpose : Purpose) (path : List ℕ)
     → is_unread (us ++ vs) krate purpose path ≡ (is_unread us krate purpose path || is_unread vs krate purpose path)
 unfolding is_unread
@@ -62,7 +58,7 @@ absent_behind : (us vs : List Unread) (krate : Option Kid) (purpose : Purpose) (
 absent_behind us vs krate purpose path absent =
     is_unread-append us vs krate purpose path
     ∙ (ap (λ b. is_unread us krate purpose path || b) (not_left_out vs krate purpose path absent)
-    ∙ or_none (is_unread us krate purpose path))
+    ∙ or-false (is_unread us krate purpose path))
 
 -- and in front
 absent_before : (us vs : List Unread) (krate : Option Kid) (purpose : Purpose) (path : List ℕ)

@@ -1,6 +1,7 @@
 -- Whether a bound explains that something was not read. This is computed from the disk before and after: no one has to
 -- say which cause an entry has.
-use Rattle.std.specs.Prelude.{ℕ, Bool, false, ◌||◌, nat_eq, nat_le, List, filter, length, sum_by, Option, None, Some, option_map}
+use Rattle.std.specs.Prelude.{ℕ, Bool, false, ◌||◌, nat_eq, nat_le, List, filter, length, sum_by, Option, None, Some}
+use Rattle.std.specs.Prelude.{option_map}
 use Rattle.std.specs.FinMap as finite
 use Rattle.std.specs.List.{starts_with}
 use Rattle.std.specs.Str.{bytes_eq}

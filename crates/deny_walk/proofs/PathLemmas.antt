@@ -1,6 +1,6 @@
 -- The paths of what lies below a folder: they are above the folder's in the order, and lie in it.
-use Rattle.std.proofs.Common.{nat_cmp, ◌≡◌, ◌∙◌, ◌||◌, ℕ, Bool, true, false, cond, List, [], ◌∷◌, ◌++◌, drop, length}
-use Rattle.std.proofs.Common.{refl, sym, ap, subst, append_assoc, inl, inr}
+use Rattle.std.proofs.Common.{nat_cmp, ◌≡◌, ◌∙◌, ◌||◌, ℕ, true, false, cond, List, [], ◌∷◌, ◌++◌, drop, length, refl}
+use Rattle.std.proofs.Common.{sym, ap, subst, append_assoc, inl, inr}
 use Rattle.std.specs.Prelude.{codes, nat_eq}
 use Rattle.std.specs.Cmp.{nat_cmp_total, tied_itself}
 use Rattle.std.specs.Cmp.Lexicographic.{slice_cmp}
@@ -11,6 +11,7 @@ use Rattle.std.specs.declared.cmp.Ordering.TheVariants.{Less}
 use Rattle.std.proofs.lemmas.Bool.{or_cases}
 use Rattle.std.proofs.lemmas.Bool.Decides.{Decides-eqb}
 use Rattle.std.proofs.lemmas.Slice.Eq.{bytes_eq-Decides, starts_is}
+use Rattle.deny_lists.proofs.Booleans.{or-true}
 use Rattle.deny_outside.specs.Children.{child, front_of, is_child_name}
 use Rattle.deny_unread.specs.Bound.{is_in}
 use Rattle.deny_walk.specs.Walk.{IsFolderBy}
@@ -53,12 +54,8 @@ child_begins front folder name begins =
           (ap (λ p. p ++ codes "/") is ∙ append_assoc front rest (codes "/"))
     ]
 
-or_true : (b : Bool) → (b || true) ≡ true
-or_true true = refl
-or_true false = refl
-
 in_behind : (root path : List ℕ) → starts_with nat_eq path (front_of root) ≡ true → is_in root path ≡ true
-in_behind root path begins = ap (λ b. bytes_eq path root || b) begins ∙ or_true (bytes_eq path root)
+in_behind root path begins = ap (λ b. bytes_eq path root || b) begins ∙ or-true (bytes_eq path root)
 
 in_itself : (root : List ℕ) → is_in root root ≡ true
 in_itself root = ap (λ b. b || starts_with nat_eq root (front_of root)) ((bytes_eq-Decides root root).1 refl)

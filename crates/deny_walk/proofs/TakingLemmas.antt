@@ -1,6 +1,6 @@
 -- What is pending after the folders of a list were put to it, and which paths are taken of a list.
-use Rattle.std.proofs.Common.{◌≡◌, ◌&&◌, ◌+◌, ◌≤◌, ℕ, Bool, true, false, not, cond, List, [], ◌∷◌, fold, length}
-use Rattle.std.proofs.Common.{Option, None, Some, refl, sym, ap, subst, arith, inl, inr}
+use Rattle.std.proofs.Common.{◌≡◌, ◌&&◌, ◌+◌, ◌≤◌, ℕ, Bool, true, false, not, cond, List, [], ◌∷◌, fold, length, Option}
+use Rattle.std.proofs.Common.{None, Some, refl, sym, ap, subst, arith, inl, inr}
 use Rattle.std.specs.Prelude.{◌⊎◌, All, Contains, IsTrue}
 use Rattle.std.specs.BTreeMap.Range.{IsLtBy}
 use Rattle.std.specs.BTreeSet.{insert_key}
@@ -8,7 +8,7 @@ use Rattle.std.specs.Cmp.Lexicographic.{slice_cmp}
 use Rattle.std.specs.List.{cons_option, filter_map}
 use Rattle.std.specs.Ordering.{match_ordering, nat_cmp}
 use Rattle.std.specs.declared.cmp.Ordering.TheVariants.{Equal, Greater, Less}
-use Rattle.std.proofs.lemmas.Bool.{and_parts}
+use Rattle.std.proofs.lemmas.Bool.{and_parts, not-true}
 use Rattle.std.proofs.lemmas.List.Elements.{All-contains}
 use Rattle.deny_lists.proofs.Members.{Contains-by_cases, Contains-cases, Contains-filter_map, Contains-first}
 use Rattle.deny_lists.proofs.Members.{Contains-rest, from_filter_map, no_member}
@@ -131,10 +131,6 @@ same_is true false is = cc is
 same_is false true is = cc is
 same_is false false is = refl
 
-not_true : (b : Bool) → not b ≡ true → b ≡ false
-not_true true is = cc is
-not_true false is = refl
-
 some_path : (b : Bool) (p q : List ℕ) → cond b (Some p) None ≡ Some q → (b ≡ true) × (q ≡ p)
 some_path true p q is = (refl, inside is)
   where
@@ -155,7 +151,7 @@ from_taken by_git root folder is_folder entries path there =
       name = entry.name;
       member = subst (λ (b : Bool). Contains entries record { name = entry.name; folder = b })
           (same_is is_folder entry.folder parts.0) given.member;
-      kept = not_true (is_left_out by_git root folder entry.name) parts.1;
+      kept = not-true (is_left_out by_git root folder entry.name) parts.1;
       is = passes.1;
     }
 

@@ -1,6 +1,6 @@
 -- How a walk begins, and what a folder more comes to.
-use Rattle.std.proofs.Common.{nat_cmp, ◌≡◌, ◌∙◌, ◌+◌, ◌^◌, ◌≤◌, ℕ, Bool, true, false, List, [], ◌∷◌, ◌++◌, fold}
-use Rattle.std.proofs.Common.{length, map, Option, None, Some, refl, sym, ap, subst, arith, inl, inr, append_assoc}
+use Rattle.std.proofs.Common.{nat_cmp, ◌≡◌, ◌∙◌, ◌+◌, ◌^◌, ◌≤◌, ℕ, Bool, true, false, List, [], ◌∷◌, ◌++◌, fold, length}
+use Rattle.std.proofs.Common.{map, Option, None, Some, refl, sym, ap, subst, arith, inl, inr, append_assoc}
 use Rattle.std.specs.BTreeMap.Range.{IsLtBy}
 use Rattle.std.specs.Cmp.Lexicographic.{nat_list_cmp_total}
 use Rattle.std.specs.List.{AllByRecursion}
@@ -295,7 +295,8 @@ module _ (krate : Kid) (root : List ℕ) (by_git : Bool) (start : Disk) (first :
         (subst (λ (ns : List Unlisted). AreNoted krate root start first new unread ns) (sym same)
         (record { paths = noted.paths; causes = noted_wider notes noted }))
 
-    added_more : (more : List Unread) → more ≡ unread ++ entry ∷ [] → added first more ≡ added first unread ++ entry ∷ []
+    added_more : (more : List Unread) → more ≡ unread ++ entry ∷ []
+        → added first more ≡ added first unread ++ entry ∷ []
     added_more more is =
         let whole : more ≡ first ++ (walk.own ++ entry ∷ []) =
         is ∙ ap (λ us. us ++ entry ∷ []) walk.longer ∙ append_assoc first walk.own (entry ∷ []) in

@@ -1,5 +1,6 @@
 -- The first crate that fits, among those of a name.
-use Rattle.std.proofs.Common.{◌≡◌, ◌+◌, ◌<◌, ◌≤◌, ◌-◌, ℕ, List, [], ◌∷◌, Bool, true, false, Option, Some, None, length, drop, refl, sym, ap, ◌∙◌, add-one, arith, suc}
+use Rattle.std.proofs.Common.{◌≡◌, ◌+◌, ◌<◌, ◌≤◌, ◌-◌, ℕ, List, [], ◌∷◌, Bool, true, false, Option, Some, None, length}
+use Rattle.std.proofs.Common.{drop, refl, sym, ap, ◌∙◌, add-one, arith, suc}
 use Rattle.std.specs.Prelude.{◌&&◌, IfSome, cond, filter, find, option_map, slice_index_or, take}
 use Rattle.std.proofs.Math.Seq.{drop-cons}
 use Rattle.std.proofs.Math.ListN.{drop_of_length-le}
@@ -40,7 +41,8 @@ module _ (p : Crate → Bool) where
       → find p (crates_from (start + (i + 1)) (drop (i + 1) ks)) ≡ find p (crates_from start ks)
   passed start i ks k inside is other so =
       sym (ap (find p) (next_crates start i ks k inside is)
-      ∙ ap (λ b. cond b (Some (crate_view (start + i) k)) (find p (crates_from (start + (i + 1)) (drop (i + 1) ks)))) other)
+      ∙ ap (λ b. cond b (Some (crate_view (start + i) k)) (find p (crates_from (start + (i + 1)) (drop (i + 1) ks))))
+      other)
       ∙ so
 
   pub stopped : (start i : ℕ) (ks : List Krate) (k : Krate) → i < length ks → k ≡ slice_index_or ks i k
@@ -50,7 +52,8 @@ module _ (p : Crate → Bool) where
   stopped start i ks k inside is fit so =
       ap (option_map (λ c. c.place))
       (sym (ap (find p) (next_crates start i ks k inside is)
-      ∙ ap (λ b. cond b (Some (crate_view (start + i) k)) (find p (crates_from (start + (i + 1)) (drop (i + 1) ks)))) fit)
+      ∙ ap (λ b. cond b (Some (crate_view (start + i) k)) (find p (crates_from (start + (i + 1)) (drop (i + 1) ks))))
+      fit)
       ∙ so)
 
   pub all_passed : (start i : ℕ) (ks : List Krate) → length ks ≤ i
@@ -79,12 +82,14 @@ module _ (p : Crate → Bool) where
     where
       by_test : (b : Bool)
           → IfSome (option_map (λ c. c.place) (find p (crates_from (start + 1) ks))) (λ n. n < start + 1 + length ks)
-          → IfSome (option_map (λ c. c.place) (cond b (Some (crate_view start k)) (find p (crates_from (start + 1) ks))))
+          → IfSome (option_map (λ c. c.place)
+          (cond b (Some (crate_view start k)) (find p (crates_from (start + 1) ks))))
           (λ n. n < start + length (k ∷ ks))
       by_test true rest = omega arith
       by_test false rest = later (option_map (λ c. c.place) (find p (crates_from (start + 1) ks))) rest
         where
-          later : (o : Option ℕ) → IfSome o (λ n. n < start + 1 + length ks) → IfSome o (λ n. n < start + length (k ∷ ks))
+          later : (o : Option ℕ) → IfSome o (λ n. n < start + 1 + length ks)
+              → IfSome o (λ n. n < start + length (k ∷ ks))
           later None rest = tt
           later (Some n) rest = omega (arith, rest)
 

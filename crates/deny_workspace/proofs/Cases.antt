@@ -1,34 +1,14 @@
 -- Crates, graphs and manifests of which small cases are made.
-use Rattle.std.proofs.Common.{ℕ, Bool, false, List, [], ◌∷◌, Option, Some, None, codes}
+use Rattle.std.proofs.Common.{ℕ, false, List, [], ◌∷◌, Option, Some, None, codes}
 use Rattle.std.specs.FinMap as finite
 use Rattle.semver.specs.Parse.{Held}
 use Rattle.semver.specs.declared.Op.TheVariants.{Caret}
-use Rattle.deny_base.specs.declared.span.Span.{Span}
 use Rattle.deny_base.specs.declared.span.Spanned.{Spanned}
 use Rattle.deny_model.specs.Graph.{Crate, Graph}
 use Rattle.deny_model.specs.Graph as model
 use Rattle.deny_toml.specs.Key.{Key}
-use Rattle.deny_toml.specs.Scalar.TheVariants as scalar
-use Rattle.deny_toml.specs.Value.{span_of, table_with, value_with}
-use Rattle.deny_toml.specs.declared.value.Content.TheVariants as content
 use Rattle.deny_toml.specs.declared.value.Value.{Value}
-
--- the range of one byte
-abbrev pub range : ℕ → Span
-range at = span_of at 1
-
-abbrev pub text : ℕ → List ℕ → Value
-text at bytes = value_with (range at) (content.Scalar (scalar.Text bytes))
-
-abbrev pub flag : ℕ → Bool → Value
-flag at b = value_with (range at) (content.Scalar (scalar.Boolean b))
-
-abbrev pub table : ℕ → List (Key × Value) → Value
-table at entries = value_with (range at) (content.Table (table_with entries))
-
--- a key with its value
-abbrev pub entry : ℕ → List ℕ → Value → Key × Value
-entry at name value = (record { name = name; span = range at }, value)
+use Rattle.deny_manifests.proofs.Cases.{range, table, entry}
 
 -- a crate of this version, from a source or from a folder
 abbrev pub crate : ℕ → List ℕ → ℕ → Option model.Source → List ℕ → Crate

@@ -1,5 +1,6 @@
 -- The entry of a name, where names ascend, and the tables of a tree in which they do.
-use Rattle.std.proofs.Common.{◌≡◌, ◌+◌, inl, inr, ◌<◌, ◌≤◌, ℕ, List, [], ◌∷◌, Bool, true, false, Option, Some, None, length, map, refl, sym, ap, ◌∙◌, subst, arith, get_or}
+use Rattle.std.proofs.Common.{◌≡◌, ◌+◌, inl, inr, ◌<◌, ◌≤◌, ℕ, List, [], ◌∷◌, Bool, true, false, Option, Some, None}
+use Rattle.std.proofs.Common.{length, map, refl, sym, ap, ◌∙◌, subst, arith, get_or}
 use Rattle.std.specs.Prelude.{cond, find, option_and_then, option_map, slice_get}
 use Rattle.std.specs.Cmp.Lexicographic.{slice_cmp, nat_list_cmp_total}
 use Rattle.std.specs.List.Sorted.{IsStrictlySortedBy, IsSortedBy}

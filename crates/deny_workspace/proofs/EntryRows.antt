@@ -2,10 +2,11 @@
 use Rattle.std.proofs.Common.{◌≡◌, [], ◌∷◌, Some, None, codes, rules}
 use Rattle.semver.proofs.OnLiterals.{semver_on_literals}
 use Rattle.deny_manifests.specs.Found.{rename_of, requirement_in, version_of, versioned}
+use Rattle.deny_manifests.proofs.Cases.{entry, range, table, text}
 use Rattle.deny_toml.specs.Key.{Key}
 use Rattle.deny_toml.specs.declared.value.Content.{the_lemmas}
 use Rattle.deny_toml.specs.declared.value.Value.{Value}
-use Rattle.deny_workspace.proofs.Cases.{at, entry, from_major, range, table, text}
+use Rattle.deny_workspace.proofs.Cases.{at, from_major}
 use Rattle.deny_workspace.specs.Entries.{entries_of, patch_of, patched_entry}
 use Rattle.deny_workspace.specs.EntryKey.{name_of}
 use Rattle.deny_workspace.specs.Origin.{origin_in}
@@ -15,7 +16,8 @@ use Rattle.deny_workspace.specs.declared.origin.Origin.TheVariants.{Path, Regist
 -- x = { version = "1", package = "y" }
 abbrev renamed : Key × Value
 renamed = entry 20 (codes "x")
-    (table 21 (entry 22 (codes "package") (text 23 (codes "y")) ∷ entry 24 (codes "version") (text 25 (codes "1")) ∷ []))
+    (table 21 (entry 22 (codes "package") (text 23 (codes "y")) ∷ entry 24 (codes "version")
+    (text 25 (codes "1")) ∷ []))
 
 -- x = { path = "x" }
 abbrev patch : Key × Value

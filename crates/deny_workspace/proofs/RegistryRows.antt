@@ -27,17 +27,20 @@ abbrev comes_from_registry : List ℕ → Option model.Source → Bool
 comes_from_registry name source = is_registered (source_of_registry known name) source
 
 the_first : comes_from_registry (codes "a") (Some (model.Registry (codes "https://r.org/i"))) ≡ true
-unfolding url_on_literals source_of_registry source_text_of has_prefix source_of known_or crates_io_of addressed prefixed
+unfolding url_on_literals source_of_registry source_text_of has_prefix source_of known_or crates_io_of addressed
+    prefixed
     after is_same_source
 the_first = refl
 
 not_the_second : comes_from_registry (codes "a") (Some (model.Registry (codes "https://s.org/i"))) ≡ false
-unfolding url_on_literals source_of_registry source_text_of has_prefix source_of known_or crates_io_of addressed prefixed
+unfolding url_on_literals source_of_registry source_text_of has_prefix source_of known_or crates_io_of addressed
+    prefixed
     after is_same_source
 not_the_second = refl
 
 of_another_kind : comes_from_registry (codes "s") (Some (model.Registry (codes "https://r.org/i/"))) ≡ false
-unfolding url_on_literals source_of_registry source_text_of has_prefix source_of known_or crates_io_of addressed prefixed
+unfolding url_on_literals source_of_registry source_text_of has_prefix source_of known_or crates_io_of addressed
+    prefixed
     after is_same_source
 of_another_kind = refl
 
@@ -47,6 +50,7 @@ not_known = refl
 
 -- what does not read is no crate's source, also of one that has none
 not_read : comes_from_registry (codes "bad") None ≡ false
-unfolding url_on_literals source_of_registry source_text_of has_prefix source_of known_or crates_io_of addressed prefixed
+unfolding url_on_literals source_of_registry source_text_of has_prefix source_of known_or crates_io_of addressed
+    prefixed
     after
 not_read = refl

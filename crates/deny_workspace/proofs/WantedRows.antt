@@ -2,9 +2,10 @@
 use Rattle.std.proofs.Common.{◌≡◌, [], ◌∷◌, true, Some, None, codes, rules}
 use Rattle.semver.proofs.OnLiterals.{semver_on_literals}
 use Rattle.deny_manifests.specs.Found.{rename_of, requirement_in, version_of, versioned}
+use Rattle.deny_manifests.proofs.Cases.{entry, flag, table, text}
 use Rattle.deny_krates.specs.source.GitSpec.TheVariants as spec
 use Rattle.deny_toml.specs.declared.value.Content.{the_lemmas}
-use Rattle.deny_workspace.proofs.Cases.{at, entry, flag, from_major, table, text}
+use Rattle.deny_workspace.proofs.Cases.{at, from_major}
 use Rattle.deny_workspace.specs.EntryKey.{name_of}
 use Rattle.deny_workspace.specs.Origin.{origin_in, reference_in}
 use Rattle.deny_workspace.specs.Wanted.{wanted_in}

@@ -1,5 +1,7 @@
 -- Spans by the places of crates, as entries are put there one by one.
-use Rattle.std.proofs.Common.{◌≡◌, ◌++◌, ◌+◌, ◌<◌, ℕ, zero, suc, List, [], ◌∷◌, Bool, true, false, Option, Some, None, length, map, refl, sym, ap, ◌∙◌, subst, arith, ◌==◌, inl, inr, append-nil, true≢false, length-append, get_or}
+use Rattle.std.proofs.Common.{◌≡◌, ◌++◌, ◌+◌, ◌<◌, ℕ, zero, suc, List, [], ◌∷◌, Bool, true, false, Option, Some, None}
+use Rattle.std.proofs.Common.{length, map, refl, sym, ap, ◌∙◌, subst, arith, ◌==◌, inl, inr, append-nil, true≢false}
+use Rattle.std.proofs.Common.{length-append}
 use Rattle.std.specs.Prelude.{IfSome, cond, find, is_none, option_map, slice_get, slice_set}
 use Rattle.std.specs.Option.{option_map_or}
 use Rattle.std.proofs.Math.ListN.{length-set}
@@ -7,15 +9,13 @@ use Rattle.std.proofs.lemmas.Bool.{cases_Bool, eq-eqb, eqb-true}
 use Rattle.std.proofs.lemmas.Simd.{map-map}
 use Rattle.std.proofs.lemmas.List.{map-append, reverse-append}
 use Rattle.std.proofs.lemmas.List.Elements.{filter-append}
-use Rattle.std.proofs.lemmas.Option.{slice_get-get_or}
-use Rattle.deny_krates.proofs.ResolutionLemmas.{crates_from-at}
-use Rattle.deny_krates.specs.Crates.{crate_view, crates_from}
-use Rattle.deny_krates.specs.declared.krate.Krate.{Krate}
+use Rattle.deny_krates.specs.Crates.{crate_view}
 use Rattle.deny_model.specs.View.{WorkspaceEntry}
 use Rattle.deny_model.specs.Graph.{Graph}
 use Rattle.deny_toml.specs.declared.value.Value.{Value}
 use Rattle.deny_workspace.specs.Entries.{dependencies_in, entries_of, entry_view, patches_in}
-use Rattle.deny_workspace.specs.Workspace.{AreSpans, IsPut, dep_view, entries_in, resolved_entry, resolves_to, span_at, span_of, span_view, unused_in}
+use Rattle.deny_workspace.specs.Workspace.{AreSpans, IsPut, dep_view, entries_in, resolved_entry, resolves_to, span_at}
+use Rattle.deny_workspace.specs.Workspace.{span_of, span_view, unused_in}
 use Rattle.deny_workspace.specs.declared.entries.Entry.{Entry as Read}
 use Rattle.deny_workspace.specs.declared.registries.Registry.{Registry}
 use Rattle.deny_workspace.specs.declared.workspace.UnusedWorkspaceDep.{UnusedWorkspaceDep}
@@ -95,7 +95,8 @@ module _ (g : Graph) (es : List WorkspaceEntry) (e : WorkspaceEntry) (place : �
       as (λ _. IfSome (span_at new p) (λ s. slice_get g.crates p ≡ Some (crate_view p s.krate.now))) [
         | inl same ↦ subst (λ p. IfSome (span_at new p) (λ s. slice_get g.crates p ≡ Some (crate_view p s.krate.now)))
             (eqb-true place p same)
-            (subst (λ o. IfSome o (λ s. slice_get g.crates place ≡ Some (crate_view place s.krate.now))) (sym is_put) put.of)
+            (subst (λ o. IfSome o (λ s. slice_get g.crates place ≡ Some (crate_view place s.krate.now)))
+            (sym is_put) put.of)
         | inr other ↦ subst (λ o. IfSome o (λ s. slice_get g.crates p ≡ Some (crate_view p s.krate.now)))
             (sym (others p other)) (are.krates p)
       ]
@@ -139,15 +140,6 @@ no_spans_all g count spans are all = record {
 }
 
 -- ---- the crate at a place
-
-pub krate_at : (g : Graph) (ks : List Krate) (place : ℕ) (k : Krate) → crates_from 0 ks ≡ g.crates
-    → place < length ks → k ≡ get_or ks place k → slice_get g.crates place ≡ Some (crate_view place k)
-krate_at g ks place k same inside is =
-    let zero_on : 0 + place ≡ place = omega arith in
-    ap (λ cs. slice_get cs place) (sym same)
-    ∙ crates_from-at 0 ks place
-    ∙ ap (λ n. option_map (crate_view n) (slice_get ks place)) zero_on
-    ∙ ap (option_map (crate_view place)) (slice_get-get_or ks place k inside ∙ ap (λ j. Some j) (sym is))
 
 -- ---- the entries that were taken, one by one
 

@@ -7,13 +7,14 @@ use Rattle.semver.proofs.OnLiterals.{semver_on_literals}
 use Rattle.url.proofs.OnLiterals.{url_on_literals}
 use Rattle.deny_base.specs.declared.span.Spanned.{Spanned}
 use Rattle.deny_manifests.specs.Found.{rename_of, requirement_in, version_of, versioned}
+use Rattle.deny_manifests.proofs.Cases.{entry, range, table, text}
 use Rattle.deny_krates.specs.source.GitSpec.TheVariants as spec
 use Rattle.deny_model.specs.Crates.{folder_of}
 use Rattle.deny_model.specs.View.{WorkspaceEntry}
 use Rattle.deny_model.specs.Graph.{Graph}
 use Rattle.deny_model.specs.Groups.{has_name}
 use Rattle.deny_toml.specs.declared.value.Content.{the_lemmas}
-use Rattle.deny_workspace.proofs.Cases.{at, entry, from_major, graph, manifest, of_branch, of_crates_io, of_folder, range, table, text}
+use Rattle.deny_workspace.proofs.Cases.{at, from_major, graph, manifest, of_branch, of_crates_io, of_folder}
 use Rattle.deny_workspace.specs.Agreement.{comes_from, fits, home_of, place_of}
 use Rattle.deny_workspace.specs.Entries.{entries_of, patch_of, patched_entry}
 use Rattle.deny_workspace.specs.EntryKey.{name_of}

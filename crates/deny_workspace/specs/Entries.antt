@@ -1,5 +1,6 @@
 -- The entries of a workspace's dependencies, with the patches that stand in their places.
-use Rattle.std.specs.Prelude.{⊤, ℕ, Bool, true, false, List, [], Option, Some, None, filter_map, option_and_then, option_map, if◌then◌else◌}
+use Rattle.std.specs.Prelude.{⊤, ℕ, Bool, true, false, List, [], Option, Some, None, filter_map, option_and_then}
+use Rattle.std.specs.Prelude.{option_map, if◌then◌else◌}
 use Rattle.std.specs.Option.{option_map_or}
 use Rattle.deny_base.specs.declared.span.Span.{Span}
 use Rattle.deny_toml.specs.Key.{Key}

@@ -1,5 +1,6 @@
 -- The registries that are handed in, and the sources of crates that they are.
-use Rattle.std.specs.Prelude.{ℕ, ◌++◌, ◌||◌, Bool, true, false, List, Option, codes, find, nat_eq, option_and_then, if◌then◌else◌}
+use Rattle.std.specs.Prelude.{ℕ, ◌++◌, ◌||◌, Bool, true, false, List, Option, codes, find, nat_eq, option_and_then}
+use Rattle.std.specs.Prelude.{if◌then◌else◌}
 use Rattle.std.specs.List.{starts_with}
 use Rattle.deny_krates.specs.Source.{source_of}
 use Rattle.deny_krates.specs.source.Source.{Source}

@@ -1,5 +1,6 @@
 -- When the repository of an entry is that of a crate.
-use Rattle.std.specs.Prelude.{ℕ, zero, suc, ◌-◌, ◌&&◌, ◌||◌, Bool, true, false, List, Option, Some, codes, drop, length, option_map, take, if◌then◌else◌}
+use Rattle.std.specs.Prelude.{ℕ, zero, suc, ◌-◌, ◌&&◌, ◌||◌, Bool, true, false, List, Option, Some, codes, drop, length}
+use Rattle.std.specs.Prelude.{option_map, take, if◌then◌else◌}
 use Rattle.std.specs.Option.{option_eq, option_map_or}
 use Rattle.url.specs.Host.{host_text}
 use Rattle.url.specs.Parts.{Parts, nonempty_host}

@@ -1,5 +1,5 @@
 -- The texts of globs, and sets of them.
-use Rattle.std.specs.Prelude.{◌≡◌, ℕ, Bool, List, Option, is_some, map}
+use Rattle.std.specs.Prelude.{ℕ, Bool, List, Option, is_some, map}
 use Rattle.std.specs.FinMap as finite
 use Rattle.std.specs.List.{list_any}
 use Rattle.deny_build_cfg.specs.BuildingView.{words_of}
@@ -8,7 +8,7 @@ use Rattle.deny_build_model.specs.Building.{Building, Bypass}
 use Rattle.deny_build_model.specs.declared.package.PackageFile.{PackageFile}
 use Rattle.deny_codes.specs.PackageFiles.{globs_of}
 use Rattle.deny_lists.specs.TextMap.{TextFinMap}
-use Rattle.deny_model.specs.Text.{same_text}
+pub use Rattle.deny_model.specs.TextSets.{IsSetOf}
 
 -- of a bypass, and of scripts
 abbrev pub own_texts : Option Bypass → List (List ℕ)
@@ -16,10 +16,6 @@ own_texts used = map (λ w. w.value) (globs_of used)
 
 abbrev pub script_texts : Building → List (List ℕ)
 script_texts b = map (λ e. e.text) b.extensions
-
--- a map has exactly these texts as keys
-pub record IsSetOf (texts : List (List ℕ)) (set : TextFinMap Bool) : Type 0 where
-  pub each : (text : List ℕ) → is_some (finite.get set text) ≡ list_any (same_text text) texts
 
 -- one of the globs of a set decides of a file
 abbrev pub decides : TextFinMap Bool → PackageFile → Bool

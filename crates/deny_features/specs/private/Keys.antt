@@ -1,5 +1,6 @@
 -- The keys of the crate at a place, by each rule.
-use Rattle.std.specs.Prelude.{◌≡◌, ◌&&◌, ◌||◌, ◌∷◌, ℕ, Bool, true, false, not, List, [], Contains, Some, filter, map, if◌then◌else◌}
+use Rattle.std.specs.Prelude.{◌≡◌, ◌&&◌, ◌||◌, ◌∷◌, ℕ, Bool, true, false, not, List, [], Contains, Some, filter, map}
+use Rattle.std.specs.Prelude.{if◌then◌else◌}
 use Rattle.std.specs.List.{list_any}
 use Rattle.std.specs.Option.{option_map_or}
 use Rattle.deny_base.specs.declared.code.Code.TheVariants as code
@@ -28,7 +29,8 @@ pub record OfOne {X T : Type 0} (P : X → T → Type 0) (xs : List X) (y : T) :
 -- ---- denied features
 
 unfoldable pub banned_keys_at : Graph → List policy.Words → ℕ → List Key
-banned_keys_at g words place = map (λ w. crate_key code.FeatureBanned place w.span) (filter (is_among (enabled_at g place)) words)
+banned_keys_at g words place =
+    map (λ w. crate_key code.FeatureBanned place w.span) (filter (is_among (enabled_at g place)) words)
 
 -- ---- unknown features
 

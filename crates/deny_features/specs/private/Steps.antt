@@ -1,5 +1,6 @@
 -- The features of a table by their numbers, and where plain entries lead.
-use Rattle.std.specs.Prelude.{◌≡◌, ◌↔◌, ℕ, IsTrue, is_some, List, [], Option, None, Some, Contains, filter, filter_map, slice_get, if◌then◌else◌}
+use Rattle.std.specs.Prelude.{◌≡◌, ◌↔◌, ℕ, IsTrue, is_some, List, [], Option, None, Some, Contains, filter, filter_map}
+use Rattle.std.specs.Prelude.{slice_get, if◌then◌else◌}
 use Rattle.std.specs.FinMap as finite
 use Rattle.std.specs.Option.{option_map_or}
 use Rattle.deny_lists.specs.TextMap.{TextFinMap}

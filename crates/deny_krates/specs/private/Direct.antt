@@ -1,5 +1,6 @@
 -- How the rows of neighbours are sorted out of the edges.
-use Rattle.std.specs.Prelude.{◌≡◌, ◌==◌, ◌<◌, ◌++◌, ◌∷◌, ℕ, List, [], Bool, false, if◌then◌else◌, length, slice_get, slice_index_or}
+use Rattle.std.specs.Prelude.{◌≡◌, ◌==◌, ◌<◌, ◌++◌, ◌∷◌, ℕ, List, [], Bool, false, if◌then◌else◌, length, slice_get}
+use Rattle.std.specs.Prelude.{slice_index_or}
 use Rattle.std.specs.Cmp.Lexicographic.{slice_cmp}
 use Rattle.std.specs.Option.{option_map_or}
 use Rattle.std.specs.Ordering.{nat_cmp, on, then_cmp}
@@ -60,9 +61,11 @@ with_incoming child ds a = if a.child == child then with_dependent ds (record { 
 
 -- a row for each of these crates, of any graph with these edges
 abbrev pub AreDependents : List Krate → List Edge → List (List DirectDependent) → Type 0
-AreDependents krates edges rows = (targeted : List TargetEdge) (root members : List ℕ) → AreRows (graph_of targeted root krates members edges)
+AreDependents krates edges rows =
+    (targeted : List TargetEdge) (root members : List ℕ) → AreRows (graph_of targeted root krates members edges)
     (AreDirectDependents (graph_of targeted root krates members edges)) rows
 
 abbrev pub AreDependencies : List Krate → List Edge → List (List DirectDependent) → Type 0
-AreDependencies krates edges rows = (targeted : List TargetEdge) (root members : List ℕ) → AreRows (graph_of targeted root krates members edges)
+AreDependencies krates edges rows =
+    (targeted : List TargetEdge) (root members : List ℕ) → AreRows (graph_of targeted root krates members edges)
     (AreDirectDependencies (graph_of targeted root krates members edges)) rows

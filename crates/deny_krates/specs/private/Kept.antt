@@ -19,8 +19,10 @@ use Rattle.deny_model.specs.declared.target_edge.TargetEdge.{TargetEdge}
 
 -- the crates are in order and few, their lock text and nodes too, and what is kept of the crates' neighbours,
 -- ids, features and declarations is the graph's
-pub record IsKept (targeted : List TargetEdge) (root : List ℕ) (krates : List Krate) (members : List ℕ) (edges : List Edge)
-    (dependents dependencies : List (List DirectDependent)) (entries : List Entry) (starts : List ℕ) (resolved : List ResolvedAt) : Type 0 where
+pub record IsKept (targeted : List TargetEdge) (root : List ℕ) (krates : List Krate) (members : List ℕ)
+    (edges : List Edge)
+    (dependents dependencies : List (List DirectDependent)) (entries : List Entry) (starts : List ℕ)
+    (resolved : List ResolvedAt) : Type 0 where
   pub few : length krates < 2 ^ 28
   pub names : IsSortedByKey (λ k. k.name) (slice_cmp nat_cmp) krates
   pub orderly : IsOrderly (graph_of targeted root krates members edges)

@@ -3,7 +3,8 @@ use Rattle.std.specs.Prelude.{◌≡◌, ℕ, List, Bool, Contains, Ok}
 use Rattle.std.specs.List.{AllZip}
 use Rattle.semver.specs.Parse.{Parts, version_parts}
 use Rattle.deny_lists.specs.Ascending.{Lists}
-use Rattle.deny_metadata.specs.Checked.{distinct, known, node_ids, node_numbers, package_ids, package_numbers, resolved_node}
+use Rattle.deny_metadata.specs.Checked.{distinct, known, node_ids, node_numbers, package_ids, package_numbers}
+use Rattle.deny_metadata.specs.Checked.{resolved_node}
 use Rattle.deny_krates.specs.private.Graph.{IsKeptNode, kept_cmp}
 use Rattle.deny_krates.specs.private.Reach.{AreReached}
 use Rattle.deny_metadata.specs.declared.checked.ResolvedNode.{ResolvedNode}

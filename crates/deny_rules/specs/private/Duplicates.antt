@@ -1,8 +1,8 @@
 -- Crates of one name that stand side by side, as the code finds them.
-use Rattle.std.specs.Prelude.{◌≡◌, ◌⊎◌, ◌&&◌, ◌++◌, ◌-◌, ◌<◌, ◌≤◌, ℕ, Bool, not, List, filter, take, drop, map, length, nat_lt, Option, Some, None, Contains, if◌then◌else◌}
+use Rattle.std.specs.Prelude.{◌≡◌, ◌⊎◌, ◌&&◌, ◌++◌, ◌-◌, ◌<◌, ◌≤◌, ℕ, Bool, not, List, filter, take, drop, map, length}
+use Rattle.std.specs.Prelude.{nat_lt, Option, Some, None, Contains, if◌then◌else◌}
 use Rattle.std.specs.List.{list_any}
 use Rattle.std.specs.Option.{option_to_list}
-use Rattle.std.specs.Str.{bytes_eq}
 use Rattle.deny_lists.specs.Ascending.{Lists}
 use Rattle.deny_base.specs.declared.key.Key.{Key}
 use Rattle.deny_base.specs.declared.level.LintLevel.{LintLevel}
@@ -15,6 +15,7 @@ use Rattle.deny_model.specs.Groups.{has_name}
 use Rattle.deny_model.specs.Keys.{duplicate_key}
 use Rattle.deny_model.specs.Policy.{Policy}
 use Rattle.deny_model.specs.VersionOrder.{version_cmp}
+pub use Rattle.deny_model.specs.Ids.{same_id}
 use Rattle.deny_facts.specs.Groups.{AreGroups}
 use Rattle.deny_facts.specs.Marks.{mark_at, marked}
 use Rattle.deny_rules.specs.declared.duplicates.DuplicatePolicy.{DuplicatePolicy}
@@ -30,9 +31,6 @@ pub record IsDuplicatePolicy (p : Policy) (g : Graph) (facts : Facts) (m : Dupli
 -- a crate at its place
 abbrev pub placed_view : PlacedKrate → Crate
 placed_view s = crate_view s.place s.krate.now
-
-abbrev pub same_id : Crate → Crate → Bool
-same_id a b = bytes_eq a.id b.id
 
 -- the crate at a place is in the reduced group of its name, and no skip speaks of it
 unfoldable pub is_unmarked_at : Groups → ℕ → Bool

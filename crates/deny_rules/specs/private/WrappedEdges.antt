@@ -1,6 +1,7 @@
 -- Wrapped edges: those that lead to a crate that a ban concerns from one that bears a wrapper's name. A
 -- wrapper's hit is made of the first of its edges.
-use Rattle.std.specs.Prelude.{◌≡◌, ◌&&◌, ℕ, Bool, not, List, Option, filter, filter_map, find, map, option_and_then, option_map}
+use Rattle.std.specs.Prelude.{◌≡◌, ◌&&◌, ℕ, Bool, not, List, Option, filter, filter_map, find, map, option_and_then}
+use Rattle.std.specs.Prelude.{option_map}
 use Rattle.std.specs.BTreeMap.{BTreeMap}
 use Rattle.std.specs.BTreeMap as tree
 use Rattle.std.specs.List.{flat_map}

@@ -1,6 +1,6 @@
 -- What was found in manifests, before it is put in order.
-use Rattle.std.specs.Prelude.{◌≡◌, ℕ, ◌++◌, Bool, Contains, IfSome, List, None, Option, Some, is_some, length, map, option_map, slice_get}
-use Rattle.std.specs.Prelude.{◌||◌}
+use Rattle.std.specs.Prelude.{◌≡◌, ℕ, ◌++◌, Bool, Contains, IfSome, List, None, Option, Some, is_some, length, map}
+use Rattle.std.specs.Prelude.{option_map, slice_get, ◌||◌}
 use Rattle.std.specs.Cmp.Lexicographic.{slice_cmp}
 use Rattle.std.specs.List.{flat_map}
 use Rattle.std.specs.Option.{option_flatten}

@@ -1,6 +1,6 @@
 -- What is made of the manifests of crates, one after another.
-use Rattle.std.specs.Prelude.{◌≡◌, ◌<◌, ℕ, ◌^◌, ◌++◌, Bool, Contains, IfSome, List, [], ◌∷◌, None, Option, Some, false, if◌then◌else◌}
-use Rattle.std.specs.Prelude.{is_none, is_some, length, map, option_map, slice_get}
+use Rattle.std.specs.Prelude.{◌≡◌, ◌<◌, ℕ, ◌^◌, ◌++◌, Bool, Contains, IfSome, List, [], ◌∷◌, None, Option, Some, false}
+use Rattle.std.specs.Prelude.{if◌then◌else◌, is_none, is_some, length, map, option_map, slice_get}
 use Rattle.std.specs.List.{flat_map}
 use Rattle.std.specs.Option.{option_flatten, option_map_or}
 use Rattle.deny_outside.specs.Disk.{Files, bytes_at}

@@ -1,5 +1,6 @@
 -- What is made of the manifest of the workspace.
-use Rattle.std.specs.Prelude.{◌≡◌, ◌<◌, ℕ, ◌^◌, ◌++◌, ◌&&◌, Bool, IfSome, List, MatchOption, None, Option, Some, is_none, is_some, length, map, option_map, position, slice_get}
+use Rattle.std.specs.Prelude.{◌≡◌, ◌<◌, ℕ, ◌^◌, ◌++◌, ◌&&◌, Bool, IfSome, List, MatchOption, None, Option, Some}
+use Rattle.std.specs.Prelude.{is_none, is_some, length, map, option_map, position, slice_get}
 use Rattle.std.specs.Option.{option_and_then, option_flatten}
 use Rattle.deny_outside.specs.Disk.{Files}
 use Rattle.deny_base.specs.declared.files.File.{File}

@@ -9,7 +9,8 @@ use Rattle.deny_base.specs.declared.level.LintLevel.{LintLevel}
 use Rattle.deny_model.specs.Graph.{Graph}
 use Rattle.deny_model.specs.Policy.{Replacing}
 use Rattle.deny_codes.specs.Saying.{Saying}
-use Rattle.deny_codes.specs.StdReplacements.{ignore_at, ignore_hits, ignore_range, is_told_replaced, is_unmatched_ignore}
+use Rattle.deny_codes.specs.StdReplacements.{ignore_at, ignore_hits, ignore_range, is_told_replaced}
+use Rattle.deny_codes.specs.StdReplacements.{is_unmatched_ignore}
 use Rattle.deny_std.specs.declared.told.Unmatched.{Unmatched}
 use Rattle.deny_std.specs.private.Told.{unmatched_of}
 

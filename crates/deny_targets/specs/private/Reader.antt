@@ -18,7 +18,8 @@ start = reader [] phase.Key
 
 -- the key begins with the word `cfg`
 unfoldable pub at_key : List Holder → Token → Option Reader
-at_key brackets (Name word) = if pointwise nat_eq word (codes "cfg") then Some (reader brackets (phase.Head One)) else None
+at_key brackets (Name word) =
+    if pointwise nat_eq word (codes "cfg") then Some (reader brackets (phase.Head One)) else None
 at_key brackets _ = None
 
 -- what stands first behind a parenthesis

@@ -12,7 +12,8 @@ AreAll text None = (tokens : List Token) → HasTokens text tokens → ⊥
 -- the tokens before the rest, whichever stand in that
 pub record IsReadTo (text rest : List ℕ) (tokens : List Token) : Type 0 where
   pub whole : (more : List Token) → HasTokens rest more → HasTokens text (tokens ++ more)
-  pub back : (all : List Token) → HasTokens text all → (more : List Token) × HasTokens rest more × (all ≡ tokens ++ more)
+  pub back : (all : List Token) → HasTokens text all
+      → (more : List Token) × HasTokens rest more × (all ≡ tokens ++ more)
 
 abbrev pub is_comma : Token → Bool
 is_comma (Name _) = false

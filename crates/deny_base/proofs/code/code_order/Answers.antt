@@ -1,4 +1,5 @@
-use Rattle.deny_base.proofs.CodeEqual.{diagnostic_code_cmp-total, diagnostic_code_cmp-exact, code_cmp-exact, license_code_cmp-exact, same_word}
+use Rattle.deny_base.proofs.CodeEqual.{diagnostic_code_cmp-total, diagnostic_code_cmp-exact, code_cmp-exact}
+use Rattle.deny_base.proofs.CodeEqual.{license_code_cmp-exact, same_word}
 use Rattle.deny_base.proofs.code.code_order.Goals as goal
 
 pub returns-clause-total : goal.returns-clause-total

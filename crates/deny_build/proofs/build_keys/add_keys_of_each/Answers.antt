@@ -13,13 +13,16 @@ use Rattle.deny_build.proofs.build_keys.add_keys_of_each.Goals as goal
 pub add_package_keys-requires : goal.add_package_keys-requires
 add_package_keys-requires c =
     subst (λ (l : Looking). IsSetOf (script_texts l.building) c.in_ok-scripts.scripts)
-    (sym (looks_as (looking_of c.args.ctx.now) c.args.all.now c.requires c.loop-at.at-index c.at-item.result c.loop-at-test.true
+    (sym (looks_as (looking_of c.args.ctx.now) c.args.all.now c.requires c.loop-at.at-index c.at-item.result
+    c.loop-at-test.true
     c.at-item.is)) c.in_ok-scripts.ensures
 
 pub returns : goal.returns
 returns c =
     let l = looking_of c.args.ctx.now in
     let all = c.args.all.now in
-    pushed_all (λ (ats : List Looked). flat_map (at_each package_keys) (map looked_view ats)) all c.loop-at.at-index c.loop-at.keys
-    (c.args.keys.now ++ flat_map (at_each package_keys) (map looked_view all)) refl c.loop-at-test.false c.loop-at.invariant
+    pushed_all (λ (ats : List Looked). flat_map (at_each package_keys) (map looked_view ats)) all c.loop-at.at-index
+    c.loop-at.keys
+    (c.args.keys.now ++ flat_map (at_each package_keys) (map looked_view all)) refl c.loop-at-test.false
+    c.loop-at.invariant
     ∙ ap (λ (keys : List Key). c.args.keys.now ++ keys) (flat_of_each l all c.requires (at_each package_keys))

@@ -27,14 +27,18 @@ returns c =
     let first = option_map (λ (y : Bor ValidBypass). bypass_view y.now) at.bypass in
     on_ok_weaker c.add_unmatched_keys.result
     (λ added. joined (map (folder_key place) unlisted) (flat_map (met_keys own scripts place) (map met_view all))
-    (option_map_or (missed_keys place (map met_view all)) first []) old c.add_unmatched_keys.new.keys c.add_folder_keys.new.keys
+    (option_map_or (missed_keys place (map met_view all)) first []) old c.add_unmatched_keys.new.keys
+    c.add_folder_keys.new.keys
     c.add_met_keys.new.keys
     (c.in_ok-add_folder_keys.ensures ∙ ap (λ (us : List Seen). old ++ map (folder_key place) us) c.as_slice.ensures)
     (c.in_ok-add_met_keys.ensures
-    ∙ ap (λ (ms : List Met). c.add_folder_keys.new.keys ++ flat_map (met_keys own scripts place) (map met_view ms)) c.as_slice-2.ensures.value)
-    (added ∙ ap (λ (ms : List Met). c.add_met_keys.new.keys ++ option_map_or (missed_keys place (map met_view ms)) first [])
+    ∙ ap (λ (ms : List Met). c.add_folder_keys.new.keys ++ flat_map (met_keys own scripts place) (map met_view ms))
+    c.as_slice-2.ensures.value)
+    (added ∙ ap (λ (ms : List Met). c.add_met_keys.new.keys
+    ++ option_map_or (missed_keys place (map met_view ms)) first [])
     c.as_slice-3.ensures.value)
     ∙ ap (λ (keys : List Key). old ++ keys)
-    (walked_are (looking_at at) (krate_of at) first own scripts at.krate.now.id at.contents.now unlisted (map met_view all)
+    (walked_are (looking_at at) (krate_of at) first own scripts at.krate.now.id at.contents.now unlisted
+    (map met_view all)
     at.uses c.in_ok-own.ensures c.requires at.seen refl c.in_ok-all.ensures))
     c.add_unmatched_keys.ensures

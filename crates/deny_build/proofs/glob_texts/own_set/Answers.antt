@@ -4,8 +4,9 @@ use Rattle.deny_build_cfg.specs.BuildingView.{bypass_view, words_of}
 use Rattle.deny_build_cfg.specs.declared.valid.ValidBypass.{ValidBypass}
 use Rattle.deny_lists.specs.TextMap.{TextFinMap}
 use Rattle.deny_model.specs.Policy.{Words}
+use Rattle.deny_model.proofs.Texts.{no_texts}
 use Rattle.deny_build.specs.private.Globs.{IsSetOf, own_texts, pattern_text}
-use Rattle.deny_build.proofs.SetLemmas.{all_texts_taken, no_texts, one_text_taken}
+use Rattle.deny_build.proofs.SetLemmas.{all_texts_taken, one_text_taken}
 use Rattle.deny_build.proofs.glob_texts.own_set.Goals as goal
 
 pub loop-pattern-init : goal.loop-pattern-init
@@ -15,9 +16,11 @@ pub loop-pattern-preserved : goal.loop-pattern-preserved
 loop-pattern-preserved c =
     let i = c.loop-pattern.pattern-index in
     let globs = c.globs_if-globs.result.now in
-    subst (λ (set : TextFinMap Bool). IsSetOf (map pattern_text (take (i + 1) globs)) set) (sym c.in_ok-insert.ensures.ok)
+    subst (λ (set : TextFinMap Bool). IsSetOf (map pattern_text (take (i + 1) globs)) set)
+    (sym c.in_ok-insert.ensures.ok)
     (one_text_taken pattern_text globs c.pattern-item.result i c.loop-pattern.set c.in_ok-clone.field-0 (omega arith)
-    c.pattern-item.is (c.in_ok-clone.ensures.cases ∙ ap (λ (w : Words). w.value) c.words_of.ensures) c.loop-pattern.invariant)
+    c.pattern-item.is (c.in_ok-clone.ensures.cases
+    ∙ ap (λ (w : Words). w.value) c.words_of.ensures) c.loop-pattern.invariant)
 
 pub returns : goal.returns
 returns c =

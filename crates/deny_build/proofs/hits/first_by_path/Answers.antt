@@ -8,9 +8,11 @@ pub returns-in-Some : goal.returns-in-Some
 returns-in-Some c =
     let range = c.args.range in
     found_at (meets_path range) c.args.met.now c.in-Some.number.now (option_copied c.met_at.result) c.met_at.ensures
-    (subst (IsFirstAt (meets_path range) (map met_view c.args.met.now)) (sym c.get.ensures.value ∙ ap option_copied c.in-Some.is) c.requires)
+    (subst (IsFirstAt (meets_path range) (map met_view c.args.met.now))
+    (sym c.get.ensures.value ∙ ap option_copied c.in-Some.is) c.requires)
 
 pub returns-in-None : goal.returns-in-None
 returns-in-None c =
     let range = c.args.range in
-    sym (subst (IsFirstAt (meets_path range) (map met_view c.args.met.now)) (sym c.get.ensures.value ∙ ap option_copied c.in-None.is) c.requires)
+    sym (subst (IsFirstAt (meets_path range) (map met_view c.args.met.now))
+    (sym c.get.ensures.value ∙ ap option_copied c.in-None.is) c.requires)

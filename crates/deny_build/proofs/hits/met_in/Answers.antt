@@ -17,12 +17,15 @@ returns-in-Some c =
     let y = bypass_view c.args.bypass.now in
     let group = c.in-Some.group.now.items in
     IfOk-weaker c.met_of.result
-    (λ met. map met_view met.items ≡ flat_map (met_walked y) (map (λ (u : Bor Looked). looked_view u.now) c.as_slice.result.now))
+    (λ met. map met_view met.items
+    ≡ flat_map (met_walked y) (map (λ (u : Bor Looked). looked_view u.now) c.as_slice.result.now))
     (λ met. map met_view met.items ≡ met_in l y)
     (λ met is. is
-    ∙ (ap (λ (own : List (Bor Looked)). flat_map (met_walked y) (map (λ (u : Bor Looked). looked_view u.now) own)) c.as_slice.ensures.value
+    ∙ (ap (λ (own : List (Bor Looked)). flat_map (met_walked y) (map (λ (u : Bor Looked). looked_view u.now) own))
+    c.as_slice.ensures.value
     ∙ met_users l c.args.users.now c.requires y (Some group)
-    (ap (λ o. option_map_or (λ g. map (λ (u : Bor Looked). u.now) g.now.items) o []) (sym c.in-Some.is) ∙ c.of.ensures)))
+    (ap (λ o. option_map_or (λ g. map (λ (u : Bor Looked). u.now) g.now.items) o []) (sym c.in-Some.is)
+    ∙ c.of.ensures)))
     c.met_of.ensures
 
 pub returns-in-None : goal.returns-in-None

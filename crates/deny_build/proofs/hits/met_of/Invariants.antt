@@ -8,5 +8,6 @@ use Rattle.deny_build.proofs.hits.met_of.Given as goal
 
 abbrev pub invariant-loop-at : goal.invariant-loop-at
 invariant-loop-at l =
-    map met_view l.met.items ++ flat_map (met_walked (bypass_view l.bypass)) (map (λ u. looked_view u.now) (drop l.at-index l.group))
+    map met_view l.met.items
+    ++ flat_map (met_walked (bypass_view l.bypass)) (map (λ u. looked_view u.now) (drop l.at-index l.group))
     ≡ flat_map (met_walked (bypass_view l.bypass)) (map (λ u. looked_view u.now) l.group)

@@ -11,6 +11,7 @@ loop-number-init c = λ text. subst (IsFirstAt (meets_glob text) [])
     (sym (ap (λ (m : TextFinMap ℕ). finite.get m text) c.new-firsts.ensures ∙ nothing_at text)) refl
 
 pub loop-number-preserved : goal.loop-number-preserved
-loop-number-preserved c = λ text. firsts_more c.args.all.now c.loop-number.number c.index-all-number.result (meets_glob text)
+loop-number-preserved c =
+    λ text. firsts_more c.args.all.now c.loop-number.number c.index-all-number.result (meets_glob text)
     (finite.get c.loop-number.firsts text) (finite.get c.note.new.firsts text) (omega arith) c.index-all-number.is
     (c.loop-number.invariant text) (c.in_ok-note.ensures text)

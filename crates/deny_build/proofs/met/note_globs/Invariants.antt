@@ -8,4 +8,5 @@ use Rattle.deny_build.proofs.met.note_globs.Given as goal
 
 abbrev pub invariant-loop-glob : goal.invariant-loop-glob
 invariant-loop-glob l = (text : List ℕ) → finite.get l.firsts text
-    ≡ option_or (finite.get l.fn.firsts text) (cond (list_any (same_text text) (take l.glob-index l.globs)) (Some l.number) None)
+    ≡ option_or (finite.get l.fn.firsts text)
+    (cond (list_any (same_text text) (take l.glob-index l.globs)) (Some l.number) None)

@@ -1,12 +1,12 @@
 use Rattle.std.proofs.Common.{◌≡◌, ◌∙◌, Bor, Option, ap, option_map, sym}
 use Rattle.std.specs.Option.{option_copied}
 use Rattle.std.proofs.lemmas.Result.{IfOk-weaker}
+use Rattle.deny_lists.proofs.Options.{option_map-now}
 use Rattle.deny_build_cfg.specs.BuildingView.{bypass_view, path_view}
 use Rattle.deny_build_cfg.specs.declared.valid.ValidBypass.{ValidBypass}
 use Rattle.deny_build_model.specs.Building.{Bypass}
 use Rattle.deny_codes.specs.PackageFiles.{path_of_used}
 use Rattle.deny_tables.specs.declared.bans.cfg.bypass.BypassPath.{BypassPath}
-use Rattle.deny_build.proofs.MetLemmas.{behind}
 use Rattle.deny_build.proofs.met.path_of.Goals as goal
 
 pub returns : goal.returns
@@ -18,5 +18,5 @@ returns c =
     ≡ path_of_used (option_map bypass_view (option_copied bypass)) path)
     (λ found. option_map (λ (a : Bor BypassPath). path_view a.now) found
     ≡ path_of_used (option_map (λ (y : Bor ValidBypass). bypass_view y.now) bypass) path)
-    (λ found is. is ∙ ap (λ (o : Option Bypass). path_of_used o path) (sym (behind bypass_view bypass)))
+    (λ found is. is ∙ ap (λ (o : Option Bypass). path_of_used o path) (sym (option_map-now bypass_view bypass)))
     c.path_of.ensures

@@ -20,6 +20,7 @@ returns c =
     (c.in_ok-push.ensures.ok ∙ ap (λ (key : Key). old ++ key ∷ []) c.in_ok-path_key.ensures)
     ∙ (append_assoc old _ unknown
     ∙ ap (λ (keys : List Key). old ++ keys)
-    (right_are (looking_at at) (krate_of at) c.args.sum.now.span c.in_ok-shown.shown at.contents.now words c.in_ok-shown.ensures
+    (right_are (looking_at at)
+    (krate_of at) c.args.sum.now.span c.in_ok-shown.shown at.contents.now words c.in_ok-shown.ensures
     at.seen (ap (map (λ (w : Bor Words). w.now)) c.as_slice.ensures.value ∙ c.in_ok-unknown.ensures at.place)))))
     c.add_words.ensures

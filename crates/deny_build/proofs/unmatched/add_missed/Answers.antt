@@ -19,6 +19,8 @@ returns c =
     ∙ (ap (λ (keys : List Key). keys ++ missed_glob_keys place all (map words_of c.globs_of.result.now))
     (c.in_ok-add_missed_paths.ensures
     ∙ ap (λ (paths : List BypassPath). old ++ missed_path_keys place all (map path_view paths)) c.as_slice.ensures)
-    ∙ (append_assoc old (missed_path_keys place all y.allow) (missed_glob_keys place all (map words_of c.globs_of.result.now))
-    ∙ ap (λ (globs : List Words). old ++ (missed_path_keys place all y.allow ++ missed_glob_keys place all globs)) c.globs_of.ensures)))
+    ∙ (append_assoc old (missed_path_keys place all y.allow)
+    (missed_glob_keys place all (map words_of c.globs_of.result.now))
+    ∙ ap (λ (globs : List Words). old ++ (missed_path_keys place all y.allow ++ missed_glob_keys place all globs))
+    c.globs_of.ensures)))
     c.add_missed_globs.ensures

@@ -12,7 +12,8 @@ returns-in-Some c =
     let at = c.args.at.now in
     on_ok_weaker c.add_to.result
     (λ is asked. is asked ∙ ap (λ (o : Option Span). users_at c.args.groups.now asked
-    ++ cond (option_map_or (λ own. same_span own asked) o false) (at ∷ []) []) (sym c.in-Some.is ∙ c.range_used.ensures))
+    ++ cond (option_map_or (λ own. same_span own asked) o false) (at ∷ []) [])
+    (sym c.in-Some.is ∙ c.range_used.ensures))
     c.add_to.ensures
 
 pub returns-in-None : goal.returns-in-None

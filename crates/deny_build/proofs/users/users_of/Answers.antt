@@ -10,5 +10,6 @@ pub returns : goal.returns
 returns c =
     let l = looking_of c.args._ctx.now in
     let all = c.args.all.now in
-    IfOk-weaker c.new.result (λ users. (range : Span) → users_at users.groups range ≡ filter (uses_range range) all) (AreUsers l)
+    IfOk-weaker c.new.result (λ users. (range : Span) → users_at users.groups range ≡ filter (uses_range range) all)
+    (AreUsers l)
     (λ users grouped. users_are l all users c.requires grouped) c.new.ensures

@@ -13,4 +13,5 @@ extensions-preserved c =
     c.extensions.all.set c.gather.new.self.patterns c.gather.new.self.set c.extensions.invariant
     (subst (λ text. Gathers text (User c.in-Some.extension) c.extensions.all.patterns c.extensions.all.set
     c.gather.new.self.patterns c.gather.new.self.set)
-    (c.as_str-in-extensions.ensures.value ∙ (c.in_ok-text.ensures.ok ∙ ap (λ text. 42 ∷ 46 ∷ text) c.as_str.ensures)) c.in_ok-gather.ensures)
+    (c.as_str-in-extensions.ensures.value
+    ∙ (c.in_ok-text.ensures.ok ∙ ap (λ text. 42 ∷ 46 ∷ text) c.as_str.ensures)) c.in_ok-gather.ensures)

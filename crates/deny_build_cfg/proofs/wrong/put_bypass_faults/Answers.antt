@@ -8,7 +8,8 @@ loop-entry-init c = any_none IsGlobFault c.args.bypass.now c.args.faults.now
 
 pub loop-entry-preserved : goal.loop-entry-preserved
 loop-entry-preserved c =
-    any_more IsGlobFault c.args.bypass.now c.loop-entry.entry-index c.entry-item.result c.args.faults.now c.loop-entry.faults _
+    any_more IsGlobFault c.args.bypass.now c.loop-entry.entry-index c.entry-item.result c.args.faults.now
+    c.loop-entry.faults _
     (omega (arith, c.loop-entry-test.true)) c.entry-item.is c.loop-entry.invariant
     (of_same IsGlobFaultOf c.listed.ensures c.in_ok-put_globs_faults.ensures)
 

@@ -17,7 +17,8 @@ returns c =
           on_ok c.match-parse.result _
           (subst (Adds (IsGlobFaultOf c.args.glob.now) old) (sym w.faults-is)
           (fault_one c.args.glob.now text w.in-Err-Bad.byte old w.push.new.self c.as_str.ensures
-          (w.in-Err-Bad.ensures.bad w.in-Err-Bad.byte (ap Err w.in-Err-Bad.field-0-is)) (w.in-Err-Bad.ensures.first w.in-Err-Bad.byte (ap Err w.in-Err-Bad.field-0-is))
+          (w.in-Err-Bad.ensures.bad w.in-Err-Bad.byte (ap Err w.in-Err-Bad.field-0-is))
+          (w.in-Err-Bad.ensures.first w.in-Err-Bad.byte (ap Err w.in-Err-Bad.field-0-is))
           w.in_ok-push-in-Err-Bad.ensures.ok))
       | in-Err-Memory w ↦ on_err c.match-parse.result _ _ w.result-is
     ]

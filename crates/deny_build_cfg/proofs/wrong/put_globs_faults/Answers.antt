@@ -8,7 +8,8 @@ loop-glob-init c = any_none IsGlobFaultOf c.args.globs.now c.args.faults.now
 
 pub loop-glob-preserved : goal.loop-glob-preserved
 loop-glob-preserved c =
-    any_more IsGlobFaultOf c.args.globs.now c.loop-glob.glob-index c.glob-item.result c.args.faults.now c.loop-glob.faults _
+    any_more IsGlobFaultOf c.args.globs.now c.loop-glob.glob-index c.glob-item.result c.args.faults.now
+    c.loop-glob.faults _
     (omega (arith, c.loop-glob-test.true)) c.glob-item.is c.loop-glob.invariant c.in_ok-put_glob_fault.ensures
 
 pub returns : goal.returns

@@ -13,4 +13,5 @@ pub returns-clause-ended : goal.returns-clause-ended
 returns-clause-ended g c = λ start hashing last.
     let read = c.in_ok-n.ensures in
     hashing_ended start (g.D.PackageFiles.seen c.args.disk.now) c.args.path.now c.read_at.new.buf c.args.hasher.now
-    c.update.new.self c.args.count.now c.in_ok-n.n (none_left c.in_ok-n.n last) (omega arith) hashing read.bytes c.update.ensures
+    c.update.new.self c.args.count.now c.in_ok-n.n (none_left c.in_ok-n.n last)
+    (omega arith) hashing read.bytes c.update.ensures

@@ -1,12 +1,13 @@
 use Rattle.std.proofs.Common.{◌≡◌, List, ℕ, Option, sym, ap, subst, ◌∙◌}
 use Rattle.std.specs.Prelude.{IfOk}
 use Rattle.std.proofs.lemmas.Str.{is_utf8-from_IsUtf8}
+use Rattle.deny_lists.proofs.Texts.{is_utf8-false}
 use Rattle.deny_build_files.specs.Script.{interpreter_of_text}
-use Rattle.deny_build_files.proofs.ScriptLemmas.{not_utf8, no_text, a_text}
+use Rattle.deny_build_files.proofs.ScriptLemmas.{no_text, a_text}
 use Rattle.deny_build_files.proofs.script.interpreter_of_line.Goals as goal
 
 pub returns-in-Err : goal.returns-in-Err
-returns-in-Err c = sym (no_text c.args.path.now c.args.line.now (not_utf8 _ c.in-Err.ensures.cases.0))
+returns-in-Err c = sym (no_text c.args.path.now c.args.line.now (is_utf8-false _ c.in-Err.ensures.cases.0))
 
 pub returns-in-Ok : goal.returns-in-Ok
 returns-in-Ok c = subst (λ (known : Option (List ℕ)). IfOk c.interpreter_of_text.result (λ name. name ≡ known))

@@ -26,7 +26,8 @@ returns c =
     (λ labels. labels ≡ extension_labels (building_view build) told file)
     (λ labels are. are
     ∙ (ap (λ (f : PackageFile). map (script_label told.files.policy number)
-    (filter (λ pattern. is_decided_by f (extension_text pattern)) c.as_slice-patterns.result.now)) c.in_ok-deciding.ensures
+    (filter (λ pattern. is_decided_by f (extension_text pattern)) c.as_slice-patterns.result.now))
+    c.in_ok-deciding.ensures
     ∙ (ap (λ (patterns : List GlobPattern). map (script_label told.files.policy number)
     (filter (λ pattern. is_decided_by file (extension_text pattern)) patterns)) c.as_slice-patterns.ensures
     ∙ labels_seen told.files number file is build.script_extensions.patterns))) c.labels_of_extensions.ensures

@@ -12,7 +12,8 @@ returns-clause-is c =
     let krate = c.args.krate.now in
     λ place. bypass_found place krate c.args.config.now c.first_match.result
     (c.first_match.ensures
-    ∙ ap (find (λ (y : ValidBypass). speaks_of (spec_view y.spec) krate.name (parts_of krate.version))) c.as_slice.ensures)
+    ∙ ap (find (λ (y : ValidBypass). speaks_of (spec_view y.spec) krate.name (parts_of krate.version)))
+    c.as_slice.ensures)
 
 pub returns-clause-listed : goal.returns-clause-listed
 returns-clause-listed c =
@@ -20,4 +21,5 @@ returns-clause-listed c =
     found_listed (λ (y : ValidBypass). speaks_of (spec_view y.spec) krate.name (parts_of krate.version))
     c.args.config.now.bypass c.first_match.result
     (c.first_match.ensures
-    ∙ ap (find (λ (y : ValidBypass). speaks_of (spec_view y.spec) krate.name (parts_of krate.version))) c.as_slice.ensures)
+    ∙ ap (find (λ (y : ValidBypass). speaks_of (spec_view y.spec) krate.name (parts_of krate.version)))
+    c.as_slice.ensures)

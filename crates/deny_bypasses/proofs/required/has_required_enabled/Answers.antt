@@ -10,7 +10,8 @@ use Rattle.deny_bypasses.proofs.required.has_required_enabled.Goals as goal
 
 pub returns : goal.returns
 returns c = λ place is. c.has_any.ensures
-    ∙ (ap (λ (features : List Text). list_any (λ (w : Words). list_any (same_text w.value) features) c.required_of.result.now)
+    ∙ (ap (λ (features : List Text). list_any
+    (λ (w : Words). list_any (same_text w.value) features) c.required_of.result.now)
     (c.enabled_of.ensures place is)
     ∙ some_enabled (building_view c.args.config.now) (crate_view place c.args.krate.now) c.required_of.result.now
     (c.required_of.ensures place))

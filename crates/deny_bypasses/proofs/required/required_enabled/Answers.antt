@@ -16,10 +16,12 @@ returns c =
     let b = building_view c.args.config.now in
     let words = c.required_of.result.now in
     IfOk-weaker c.kept_of.result
-    (λ kept. map (λ (w : Bor Words). w.now) kept.items ≡ filter (λ (w : Words). list_any (same_text w.value) c.enabled_of.result.now) words)
+    (λ kept. map (λ (w : Bor Words). w.now) kept.items
+    ≡ filter (λ (w : Words). list_any (same_text w.value) c.enabled_of.result.now) words)
     (λ kept. (place : _) → Contains c.args.krates.now.crates (crate_view place c.args.krate.now)
     → map (λ (w : Bor Words). w.now) kept.items ≡ required_enabled b (crate_view place c.args.krate.now))
     (λ kept are. λ place is. are
-    ∙ (ap (λ (features : List Text). filter (λ (w : Words). list_any (same_text w.value) features) words) (c.enabled_of.ensures place is)
+    ∙ (ap (λ (features : List Text). filter (λ (w : Words). list_any (same_text w.value) features) words)
+    (c.enabled_of.ensures place is)
     ∙ enabled_are b (crate_view place c.args.krate.now) words (c.required_of.ensures place)))
     c.kept_of.ensures

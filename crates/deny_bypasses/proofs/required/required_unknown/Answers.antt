@@ -14,7 +14,8 @@ returns c =
     let krate = c.args.krate.now in
     let words = c.required_of.result.now in
     IfOk-weaker c.unknown_of.result
-    (λ kept. map (λ (w : Bor Words). w.now) kept.items ≡ filter (λ (w : Words). not (is_some (finite.get krate.features w.value))) words)
+    (λ kept. map (λ (w : Bor Words). w.now) kept.items
+    ≡ filter (λ (w : Words). not (is_some (finite.get krate.features w.value))) words)
     (λ kept. (place : _) → map (λ (w : Bor Words). w.now) kept.items ≡ required_unknown b (crate_view place krate))
     (λ kept are. λ place. are ∙ unknown_are b (crate_view place krate) words (c.required_of.ensures place))
     c.unknown_of.ensures

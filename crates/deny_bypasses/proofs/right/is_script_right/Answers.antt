@@ -9,14 +9,16 @@ use Rattle.deny_bypasses.proofs.right.is_script_right.Goals as goal
 
 pub returns-in-Some : goal.returns-in-Some
 returns-in-Some c = λ place. c.has_script_sum.ensures
-    ∙ (ap (λ o. option_map_or (λ (sum : Bor (Spanned Checksum)). has_sum sum.now.value.0 (script_found c.args.contents.now)) o false)
+    ∙ (ap (λ o. option_map_or
+    (λ (sum : Bor (Spanned Checksum)). has_sum sum.now.value.0 (script_found c.args.contents.now)) o false)
     (sym c.in-Some.is)
     ∙ right_by place c.args.krate.now (building_view c.args.config.now) c.args.contents.now c.wanted_sum.result
     (c.wanted_sum.ensures place))
 
 pub returns-in-None : goal.returns-in-None
 returns-in-None c = λ place.
-    ap (λ o. option_map_or (λ (sum : Bor (Spanned Checksum)). has_sum sum.now.value.0 (script_found c.args.contents.now)) o false)
+    ap (λ o. option_map_or (λ (sum : Bor (Spanned Checksum)). has_sum sum.now.value.0
+    (script_found c.args.contents.now)) o false)
     (sym c.in-None.is)
     ∙ right_by place c.args.krate.now (building_view c.args.config.now) c.args.contents.now c.wanted_sum.result
     (c.wanted_sum.ensures place)

@@ -1,7 +1,8 @@
 use Rattle.std.proofs.Common.{subst, List, ℕ}
 use Rattle.deny_cli.specs.Outputs.{LeavesErr}
 use Rattle.deny_cli.specs.Words.{asked_by, texts}
-use Rattle.deny_cli.proofs.CausesLemmas.{AnswerLaws, completes, dead_on, fails_by, headline_on, is_refused, is_text, not_written, refused_words, status_by}
+use Rattle.deny_cli.proofs.CausesLemmas.{AnswerLaws, completes, dead_on, fails_by, headline_on, is_refused, is_text}
+use Rattle.deny_cli.proofs.CausesLemmas.{not_written, refused_words, status_by}
 use Rattle.deny_cli.proofs.ToldLemmas.{json_reported}
 use Rattle.deny_cli.proofs.program.run.Goals as goal
 

@@ -1,6 +1,6 @@
 use Rattle.std.proofs.Common.{arith}
 use Rattle.deny_facts.proofs.NeighbourLemmas.{edges_stay_back}
-use Rattle.deny_facts.proofs.PlaceLemmas.{length_of}
+use Rattle.deny_krates.proofs.PlaceLemmas.{length_of}
 use Rattle.deny_dup_edges.proofs.above.uncounted.Goals as goal
 
 pub reach_from-requires-clause-few : goal.reach_from-requires-clause-few

@@ -1,6 +1,6 @@
 use Rattle.std.proofs.Common.{ℕ, IfOk, sym, subst}
 use Rattle.deny_lists.specs.Walk.{AreUnset}
-use Rattle.deny_facts.proofs.PlaceLemmas.{length_of}
+use Rattle.deny_krates.proofs.PlaceLemmas.{length_of}
 use Rattle.deny_dup_edges.proofs.above.unset_distances.Goals as goal
 
 pub returns : goal.returns

@@ -6,7 +6,8 @@ use Rattle.deny_dup_edges.specs.DupEdges.{AreEdgesOf, is_of_duplicate}
 use Rattle.deny_dup_edges.specs.declared.dup_edges.DupEdges.{DupEdges}
 use Rattle.deny_dup_edges.proofs.DupSetLemmas.{zip_kept, zip_passed}
 use Rattle.deny_dup_edges.proofs.dup_edges.dup_edges_of.Goals as goal
-use Rattle.deny_dup_edges.proofs.dup_edges.dup_edges_of.Goals.{then-is_of_duplicate+in_ok-edges_of+in_ok-push, else-is_of_duplicate}
+use Rattle.deny_dup_edges.proofs.dup_edges.dup_edges_of.Goals.{then-is_of_duplicate+in_ok-edges_of+in_ok-push}
+use Rattle.deny_dup_edges.proofs.dup_edges.dup_edges_of.Goals.{else-is_of_duplicate}
 
 pub loop-key-preserved : goal.loop-key-preserved
 loop-key-preserved c =

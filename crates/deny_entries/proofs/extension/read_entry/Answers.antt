@@ -3,7 +3,8 @@ use Rattle.deny_toml.specs.TableHelper.{table_faults}
 use Rattle.deny_entries.specs.Table.{Gives, State, after_all, faults_of_table, state_of}
 use Rattle.deny_entries.specs.Spec.{spec_fields, ReadsSpecKeys}
 use Rattle.deny_entries.specs.Entry.{ReadsPair, entry_fields}
-use Rattle.deny_entries.proofs.TableLaws.{all_faults, no_field_faults, read_in, reports_same, after_all-append, after_all-entries, none_left, none_before, said_whole}
+use Rattle.deny_entries.proofs.TableLaws.{all_faults, no_field_faults, read_in, reports_same, after_all-append}
+use Rattle.deny_entries.proofs.TableLaws.{after_all-entries, none_left, none_before, said_whole}
 use Rattle.deny_entries.proofs.extension.read_entry.Goals as goal
 
 pub returns-in_err-finalize-clause-faults : goal.returns-in_err-finalize-clause-faults

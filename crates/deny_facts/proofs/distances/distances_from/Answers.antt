@@ -1,6 +1,7 @@
 use Rattle.std.proofs.Common.{arith}
-use Rattle.deny_facts.proofs.NeighbourLemmas.{distances_by_steps, edges_stay}
-use Rattle.deny_facts.proofs.PlaceLemmas.{length_of}
+use Rattle.deny_krates.proofs.NeighbourLemmas.{edges_stay}
+use Rattle.deny_facts.proofs.NeighbourLemmas.{distances_by_steps}
+use Rattle.deny_krates.proofs.PlaceLemmas.{length_of}
 use Rattle.deny_facts.proofs.distances.distances_from.Goals as goal
 
 pub breadth_first-requires-clause-few : goal.breadth_first-requires-clause-few

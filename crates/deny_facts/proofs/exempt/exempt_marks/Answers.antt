@@ -3,7 +3,7 @@ use Rattle.std.specs.Prelude.{All}
 use Rattle.std.proofs.lemmas.List.{length-map}
 use Rattle.deny_cfg.specs.PolicyView.{policy_view}
 use Rattle.deny_facts.proofs.ExemptLemmas.{members_exempt, none_exempt}
-use Rattle.deny_facts.proofs.PlaceLemmas.{are_placed}
+use Rattle.deny_krates.proofs.PlaceLemmas.{are_placed}
 use Rattle.deny_facts.proofs.exempt.exempt_marks.Goals as goal
 
 pub returns-then-not-cfg : goal.returns-then-not-cfg

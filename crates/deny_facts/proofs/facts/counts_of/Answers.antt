@@ -4,7 +4,7 @@ use Rattle.deny_base.specs.declared.edge.DepKind.TheVariants.{Dev}
 use Rattle.deny_krates.specs.Filtered.{AreMarks}
 use Rattle.deny_facts.specs.Marks.{AreCounted}
 use Rattle.deny_facts.proofs.FactLemmas.{all_counted, counted_without_dev}
-use Rattle.deny_facts.proofs.PlaceLemmas.{are_placed, length_of}
+use Rattle.deny_krates.proofs.PlaceLemmas.{are_placed, length_of}
 use Rattle.deny_facts.proofs.facts.counts_of.Goals as goal
 
 pub returns-then-include_dev : goal.returns-then-include_dev

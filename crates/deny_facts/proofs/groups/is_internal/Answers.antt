@@ -1,7 +1,7 @@
 use Rattle.std.proofs.Common.{◌∙◌, arith}
 use Rattle.std.proofs.lemmas.List.Elements.{Contains-get_or}
 use Rattle.deny_facts.proofs.DependentLemmas.{all_bear-dependents, dependent_within}
-use Rattle.deny_facts.proofs.PlaceLemmas.{are_placed, length_of}
+use Rattle.deny_krates.proofs.PlaceLemmas.{are_placed, length_of}
 use Rattle.deny_facts.proofs.groups.is_internal.Goals as goal
 
 pub all_bear-requires : goal.all_bear-requires

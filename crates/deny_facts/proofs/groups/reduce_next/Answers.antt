@@ -2,7 +2,7 @@ use Rattle.std.proofs.Common.{◌==◌, ◌<◌, List, ℕ, length, filter, sym,
 use Rattle.deny_model.specs.Graph.{Crate}
 use Rattle.deny_facts.specs.Marks.{marked}
 use Rattle.deny_facts.proofs.GroupLemmas.{left_in_run}
-use Rattle.deny_facts.proofs.PlaceLemmas.{are_placed, krate_there, length_of}
+use Rattle.deny_krates.proofs.PlaceLemmas.{are_placed, krate_there, length_of}
 use Rattle.deny_facts.proofs.RunLemmas.{count-run, run_of}
 use Rattle.deny_facts.proofs.groups.reduce_next.Goals as goal
 

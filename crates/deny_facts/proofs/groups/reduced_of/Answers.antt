@@ -3,7 +3,7 @@ use Rattle.std.proofs.lemmas.List.{take_all}
 use Rattle.deny_facts.specs.Groups.{is_left}
 use Rattle.deny_facts.specs.Marks.{marked}
 use Rattle.deny_facts.proofs.GroupLemmas.{more_left}
-use Rattle.deny_facts.proofs.PlaceLemmas.{length_of}
+use Rattle.deny_krates.proofs.PlaceLemmas.{length_of}
 use Rattle.deny_facts.proofs.groups.reduced_of.Goals as goal
 
 pub reduce_next-requires : goal.reduce_next-requires

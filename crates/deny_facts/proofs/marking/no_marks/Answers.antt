@@ -1,6 +1,6 @@
 use Rattle.std.proofs.Common.{false, replicate, sym, ap, ◌∙◌, rules}
 use Rattle.deny_facts.proofs.MarkLemmas.{no_marks-are}
-use Rattle.deny_facts.proofs.PlaceLemmas.{length_of}
+use Rattle.deny_krates.proofs.PlaceLemmas.{length_of}
 use Rattle.deny_facts.proofs.marking.no_marks.Goals as goal
 
 pub returns : goal.returns

@@ -4,7 +4,7 @@ use Rattle.deny_model.specs.Graph.{Crate}
 use Rattle.deny_model.specs.Groups.{has_name}
 use Rattle.deny_facts.specs.private.Matching.{is_met_by}
 use Rattle.deny_facts.proofs.MatchingLemmas.{named-matches}
-use Rattle.deny_facts.proofs.PlaceLemmas.{length_of}
+use Rattle.deny_krates.proofs.PlaceLemmas.{length_of}
 use Rattle.deny_facts.proofs.matching.matched.Goals as goal
 
 pub meeting-requires-clause-within : goal.meeting-requires-clause-within

@@ -1,4 +1,5 @@
-use Rattle.std.proofs.Common.{◌≡◌, ◌++◌, ◌<◌, List, Some, drop, filter, length, map, slice_get, take, refl, sym, ap, ◌∙◌, arith, ℕ}
+use Rattle.std.proofs.Common.{◌≡◌, ◌++◌, ◌<◌, List, Some, drop, filter, length, map, slice_get, take, refl, sym, ap}
+use Rattle.std.proofs.Common.{◌∙◌, arith, ℕ}
 use Rattle.std.proofs.lemmas.List.{append-nil, map-append}
 use Rattle.deny_cfg.specs.SpecView.{spec_view}
 use Rattle.deny_krates.specs.Crates.{crate_view, crates_from}
@@ -8,7 +9,7 @@ use Rattle.deny_model.specs.Match.{meets}
 use Rattle.semver.specs.Identifiers.{parts_of}
 use Rattle.deny_facts.specs.private.Matching.{is_met_by}
 use Rattle.deny_facts.proofs.MatchingLemmas.{met_is}
-use Rattle.deny_facts.proofs.PlaceLemmas.{krate_there, place_of}
+use Rattle.deny_krates.proofs.PlaceLemmas.{krate_there, place_of}
 use Rattle.deny_facts.proofs.RunLemmas.{one-kept, one-left_out, run-step}
 use Rattle.deny_facts.proofs.matching.meeting.Goals as goal
 use Rattle.deny_facts.proofs.matching.meeting.Goals.{then-meets+in_ok-push, else-meets}

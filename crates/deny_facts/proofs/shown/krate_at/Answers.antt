@@ -1,6 +1,6 @@
 use Rattle.std.proofs.Common.{sym, ◌∙◌}
 use Rattle.deny_krates.specs.Crates.{crate_view}
-use Rattle.deny_facts.proofs.PlaceLemmas.{at_place}
+use Rattle.deny_krates.proofs.PlaceLemmas.{at_place}
 use Rattle.deny_facts.proofs.GetLemmas.{got}
 use Rattle.deny_facts.proofs.shown.krate_at.Goals as goal
 

@@ -1,4 +1,5 @@
-use Rattle.std.proofs.Common.{◌≡◌, ◌+◌, ◌++◌, [], ◌∷◌, List, ℕ, false, true, is_some, take, sym, ap, ◌∙◌, subst, arith, rules}
+use Rattle.std.proofs.Common.{◌≡◌, ◌+◌, ◌++◌, [], ◌∷◌, List, ℕ, false, true, is_some, take, sym, ap, ◌∙◌, subst, arith}
+use Rattle.std.proofs.Common.{rules}
 use Rattle.std.specs.FinMap as finite
 use Rattle.std.proofs.lemmas.List.{take_more}
 use Rattle.deny_lists.specs.TextMap.{TextFinMap}
@@ -7,7 +8,8 @@ use Rattle.deny_model.specs.Policy.{Words}
 use Rattle.deny_facts.specs.Wrappers.{AreFirst}
 use Rattle.deny_facts.proofs.WrapperLemmas.{first_kept, first_new, no_ranges}
 use Rattle.deny_facts.proofs.wrappers.ranges_by_name.Goals as goal
-use Rattle.deny_facts.proofs.wrappers.ranges_by_name.Goals.{then-not-contains_key+in_ok-clone+in_ok-insert, else-not-contains_key}
+use Rattle.deny_facts.proofs.wrappers.ranges_by_name.Goals.{then-not-contains_key+in_ok-clone+in_ok-insert}
+use Rattle.deny_facts.proofs.wrappers.ranges_by_name.Goals.{else-not-contains_key}
 
 pub loop-wrapper-init : goal.loop-wrapper-init
 loop-wrapper-init c = subst (λ (ranges : TextFinMap Span). AreFirst [] ranges) (sym c.new-ranges.ensures) no_ranges

@@ -6,5 +6,6 @@ use Rattle.deny_features.proofs.banned.add_banned_at.Given as goal
 
 abbrev pub invariant-loop-word : goal.invariant-loop-word
 invariant-loop-word l =
-    l.keys ++ map (λ w. crate_key FeatureBanned l.place w.span) (filter (is_among l.enabled) (drop l.word-index l.denied))
+    l.keys ++ map (λ w. crate_key FeatureBanned l.place w.span)
+    (filter (is_among l.enabled) (drop l.word-index l.denied))
     ≡ l.fn.keys ++ map (λ w. crate_key FeatureBanned l.place w.span) (filter (is_among l.enabled) l.denied)

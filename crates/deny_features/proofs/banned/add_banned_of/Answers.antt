@@ -18,7 +18,9 @@ pub returns : goal.returns
 returns c =
     let g = c.args.krates.now in
     let e = feature_view c.args.entry.now in
-    let are = ap (λ (words : List Words). flat_map (banned_keys_at g words) c.as_slice.result.now) c.as_slice-denied.ensures
-    ∙ banned_are g c.are_placed.ensures e c.as_slice.result.now c.if-entry.false (c.as_slice.ensures ∙ c.in_ok-places.ensures) in
+    let are = ap (λ (words : List Words). flat_map (banned_keys_at g words) c.as_slice.result.now)
+    c.as_slice-denied.ensures
+    ∙ banned_are g c.are_placed.ensures e c.as_slice.result.now c.if-entry.false
+    (c.as_slice.ensures ∙ c.in_ok-places.ensures) in
     on_ok_weaker c.add_banned_among.result
     (λ added. added ∙ ap (λ (keys : List Key). c.args.keys.now ++ keys) are) c.add_banned_among.ensures

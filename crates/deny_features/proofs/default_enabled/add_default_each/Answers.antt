@@ -1,10 +1,10 @@
 use Rattle.std.proofs.Common.{◌++◌, List, ℕ, length, sym, ap, ◌∙◌, append-nil, arith}
 use Rattle.std.specs.List.{flat_map, range_with_len}
-use Rattle.deny_facts.proofs.PlaceLemmas.{length_of}
+use Rattle.deny_lists.proofs.Loops.{flat-run}
+use Rattle.deny_krates.proofs.PlaceLemmas.{length_of}
 use Rattle.deny_facts.proofs.RunLemmas.{no_range}
 use Rattle.deny_cfg.specs.PolicyView.{policy_view}
 use Rattle.deny_features.specs.private.Keys.{default_keys_at}
-use Rattle.deny_features.proofs.FlatLemmas.{flat-run}
 use Rattle.deny_features.proofs.default_enabled.add_default_each.Goals as goal
 
 pub loop-place-preserved : goal.loop-place-preserved
@@ -19,7 +19,8 @@ returns c =
     let crates = c.args.krates.now.crates in
     let end = length c.krates.result.now in
     sym (append-nil c.loop-place.keys)
-    ∙ (ap (λ (places : List ℕ). c.loop-place.keys ++ flat_map f places) (sym (no_range c.loop-place.place end (omega arith)))
+    ∙ (ap (λ (places : List ℕ). c.loop-place.keys ++ flat_map f places)
+    (sym (no_range c.loop-place.place end (omega arith)))
     ∙ (c.loop-place.invariant
     ∙ ap (λ (n : ℕ). c.args.keys.now ++ flat_map f (range_with_len 0 n))
     (sym (length_of c.krates.result.now crates c.krates.ensures.crates))))

@@ -16,7 +16,8 @@ returns c =
     let entries = ap (map feature_view) c.as_slice-entries.ensures in
     let are = default_are p g c.are_placed.ensures c.as_slice.result.now c.as_slice-2.result.now
     (c.as_slice.ensures ∙ (c.in_ok-spoken.ensures
-    ∙ ap (λ (es : List FeatureEntry). map (λ d. list_any (λ (e : FeatureEntry). matches e.spec d) es) g.crates) entries))
+    ∙ ap (λ (es : List FeatureEntry). map (λ d. list_any (λ (e : FeatureEntry). matches e.spec d) es) g.crates)
+    entries))
     (c.as_slice-2.ensures ∙ (c.in_ok-unsettled.ensures
     ∙ ap (λ (es : List FeatureEntry). map (λ d. list_any (leaves_default d) es) g.crates) entries)) in
     on_ok_weaker c.add_default_each.result

@@ -2,7 +2,8 @@ use Rattle.std.proofs.Common.{◌⊎◌}
 use Rattle.std.specs.Prelude.{Contains}
 use Rattle.std.proofs.lemmas.Result.{on_ok_weaker}
 use Rattle.deny_cfg.specs.PolicyView.{policy_view}
-use Rattle.deny_codes.specs.Features.{IsFeatureNotAllowed, default_enabled_keys, feature_banned_keys, mismatched_keys, unknown_feature_keys}
+use Rattle.deny_codes.specs.Features.{IsFeatureNotAllowed, default_enabled_keys, feature_banned_keys, mismatched_keys}
+use Rattle.deny_codes.specs.Features.{unknown_feature_keys}
 use Rattle.deny_lists.proofs.Adding.{adds_list, adds_then}
 use Rattle.deny_features.proofs.feature_keys.add_feature_keys.Goals as goal
 
@@ -19,7 +20,8 @@ returns c =
     on_ok_weaker c.add_default_keys.result
     (λ last.
     adds_then (Contains (mismatched_keys p g)) (λ key. IsFeatureNotAllowed p g key
-    ⊎ (Contains (feature_banned_keys p g) key ⊎ (Contains (unknown_feature_keys p g) key ⊎ Contains (default_enabled_keys p g) key)))
+    ⊎ (Contains (feature_banned_keys p g) key
+    ⊎ (Contains (unknown_feature_keys p g) key ⊎ Contains (default_enabled_keys p g) key)))
     at0 at1 at5 (adds_list at0 at1 (mismatched_keys p g) c.in_ok-add_mismatched_keys.ensures)
     (adds_then (IsFeatureNotAllowed p g) (λ key. Contains (feature_banned_keys p g) key
     ⊎ (Contains (unknown_feature_keys p g) key ⊎ Contains (default_enabled_keys p g) key))

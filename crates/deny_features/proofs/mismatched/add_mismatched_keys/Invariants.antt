@@ -6,5 +6,6 @@ use Rattle.deny_features.proofs.mismatched.add_mismatched_keys.Given as goal
 
 abbrev pub invariant-loop-entry : goal.invariant-loop-entry
 invariant-loop-entry l =
-    l.keys ++ flat_map (mismatched_keys_of (policy_view l.cfg) l.krates) (map feature_view (drop l.entry-index l.entries))
+    l.keys ++ flat_map (mismatched_keys_of (policy_view l.cfg) l.krates)
+    (map feature_view (drop l.entry-index l.entries))
     ≡ l.fn.keys ++ flat_map (mismatched_keys_of (policy_view l.cfg) l.krates) (map feature_view l.entries)

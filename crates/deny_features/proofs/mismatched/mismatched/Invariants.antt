@@ -5,5 +5,6 @@ use Rattle.deny_features.proofs.mismatched.mismatched.Given as goal
 
 abbrev pub invariant-loop-place : goal.invariant-loop-place
 invariant-loop-place l =
-    l.others ++ filter (is_mismatched_at (policy_view l.cfg) l.krates (feature_view l.entry)) (drop l.place-index l.places)
+    l.others ++ filter (is_mismatched_at (policy_view l.cfg) l.krates (feature_view l.entry))
+    (drop l.place-index l.places)
     ≡ filter (is_mismatched_at (policy_view l.cfg) l.krates (feature_view l.entry)) l.places

@@ -9,7 +9,8 @@ use Rattle.deny_features.proofs.not_allowed.add_not_allowed_among.Goals as goal
 
 pub loop-place-init : goal.loop-place-init
 loop-place-init c =
-    adds_none (IsNotAllowedAt (policy_view c.args.cfg.now) c.args.krates.now (feature_view c.args.entry.now)) c.args.keys.now
+    adds_none (IsNotAllowedAt (policy_view c.args.cfg.now) c.args.krates.now (feature_view c.args.entry.now))
+    c.args.keys.now
 
 pub loop-place-preserved : goal.loop-place-preserved
 loop-place-preserved c =

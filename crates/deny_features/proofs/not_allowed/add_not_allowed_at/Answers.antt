@@ -20,9 +20,12 @@ returns c =
     let g = c.args.krates.now in
     let e = feature_view c.args.entry.now in
     let set = c.in_ok-reached.reached in
-    let reached = subst (λ (words : List Words). AreReachedAt g c.args.place words set) c.as_slice.ensures c.in_ok-reached.ensures in
+    let reached = subst (λ (words : List Words). AreReachedAt g c.args.place words set) c.as_slice.ensures
+    c.in_ok-reached.ensures in
     on_ok_weaker c.add_unreached.result
     (λ added. unreached_are p g e c.args.place set c.args.keys.now c.add_unreached.new.keys reached
-    (added ∙ ap (λ (features : List (List ℕ)). c.args.keys.now ++ map (not_allowed_feature_key c.args.place e.spec.range)
-    (filter (λ feature. not (is_some (finite.get set feature))) features)) (c.as_slice-2.ensures ∙ c.in_ok-others.ensures)))
+    (added ∙ ap (λ (features : List (List ℕ)). c.args.keys.now
+    ++ map (not_allowed_feature_key c.args.place e.spec.range)
+    (filter (λ feature. not (is_some (finite.get set feature))) features))
+    (c.as_slice-2.ensures ∙ c.in_ok-others.ensures)))
     c.add_unreached.ensures

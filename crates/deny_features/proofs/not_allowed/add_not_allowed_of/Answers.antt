@@ -23,6 +23,7 @@ returns c =
     let some = ap (λ (words : List Words). length words == 0) (sym c.as_slice-listed.ensures)
     ∙ (sym c.is_empty.ensures ∙ c.if-is_empty.false) in
     on_ok_weaker c.add_not_allowed_among.result
-    (λ adds. among_are (policy_view c.args.cfg.now) c.args.krates.now c.are_placed.ensures (feature_view c.args.entry.now)
+    (λ adds. among_are (policy_view c.args.cfg.now) c.args.krates.now c.are_placed.ensures
+    (feature_view c.args.entry.now)
     c.as_slice.result.now c.args.keys.now c.add_not_allowed_among.new.keys c.if-entry.false some
     (c.as_slice.ensures ∙ c.in_ok-places.ensures) adds) c.add_not_allowed_among.ensures

@@ -1,10 +1,10 @@
 use Rattle.std.proofs.Common.{◌≡◌, ◌++◌, [], List, ℕ, Bool, cond, length, sym, ap, refl, ◌∙◌, append-nil, arith}
 use Rattle.std.proofs.lemmas.Option.{get_or_from_slice_get, slice_get_read}
 use Rattle.std.specs.Prelude.{slice_index_or}
+use Rattle.deny_lists.proofs.Loops.{flat-run}
 use Rattle.deny_facts.specs.Marks.{mark_at}
 use Rattle.deny_features.specs.private.Reached.{led_to_by}
 use Rattle.deny_features.specs.private.Steps.{plain_of}
-use Rattle.deny_features.proofs.FlatLemmas.{flat-run}
 use Rattle.deny_features.proofs.reached.led_to.Goals as goal
 use Rattle.deny_features.proofs.reached.led_to.Goals.{then-mark_at+in_ok-add_plain, else-mark_at}
 
@@ -26,6 +26,7 @@ loop-number-preserved c =
           ∙ (ap (λ b. by b name) (sym (sym c.mark_at.ensures ∙ w.if-mark_at.true))
           ∙ ap (λ (t : List ℕ). by (mark_at c.args.marks.now n) t) (sym (get_or_from_slice_get names n name [] at))))
       | else-mark_at w ↦ w.texts-is
-          ∙ (sym (append-nil old) ∙ ap (λ b. by b (slice_index_or names n [])) (sym (sym c.mark_at.ensures ∙ w.if-mark_at.false)))
+          ∙ (sym (append-nil old) ∙ ap (λ b. by b (slice_index_or names n []))
+          (sym (sym c.mark_at.ensures ∙ w.if-mark_at.false)))
     ] in
     flat-run f old c.if-mark_at.texts _ n (length names) (omega arith) added c.loop-number.invariant

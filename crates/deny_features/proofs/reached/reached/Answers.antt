@@ -34,9 +34,11 @@ returns c =
     let texts : c.as_slice-6.result.now
     ≡ flat_map (led_to_by features names c.in_ok-marks.marks) (range_with_len 0 (length names)) =
     c.as_slice-6.ensures ∙ (c.in_ok-texts.ensures
-    ∙ (ap (λ (ns : List (List ℕ)). flat_map (led_to_by features ns c.as_slice-5.result.now) (range_with_len 0 (length ns)))
+    ∙ (ap (λ (ns : List (List ℕ)). flat_map (led_to_by features ns c.as_slice-5.result.now)
+    (range_with_len 0 (length ns)))
     c.as_slice-4.ensures
-    ∙ ap (λ (ms : List Bool). flat_map (led_to_by features names ms) (range_with_len 0 (length names))) c.as_slice-5.ensures)) in
+    ∙ ap (λ (ms : List Bool). flat_map (led_to_by features names ms) (range_with_len 0 (length names)))
+    c.as_slice-5.ensures)) in
     IfOk-weaker c.set_of.result (IsSetOf c.as_slice-6.result.now) (AreReached features c.args.words.now)
     (λ set held. are_reached_by features names numbers c.in_ok-names.ensures numbered c.in_ok-rows.rows
     c.as_slice-3.result.now c.args.words.now c.in_ok-marks.marks c.as_slice-6.result.now set

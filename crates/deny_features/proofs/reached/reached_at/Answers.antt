@@ -13,7 +13,8 @@ returns-in-Some c =
     let krate = crate_view c.args.place c.in-Some.krate.now in
     let at = sym c.krate_at.ensures
     ∙ ap (option_map (λ (k : Bor Krate). crate_view c.args.place k.now)) c.in-Some.is in
-    IfOk-weaker c.reached.result (AreReached krate.features c.args.words.now) (AreReachedAt g c.args.place c.args.words.now)
+    IfOk-weaker c.reached.result (AreReached krate.features c.args.words.now)
+    (AreReachedAt g c.args.place c.args.words.now)
     (λ set are. reached_there g c.args.place c.args.words.now set krate at are) c.reached.ensures
 
 pub returns-in-None : goal.returns-in-None

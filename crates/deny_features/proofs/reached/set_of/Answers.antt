@@ -3,8 +3,8 @@ use Rattle.std.specs.FinMap as finite
 use Rattle.std.proofs.lemmas.List.{take_all, take_more}
 use Rattle.deny_lists.specs.TextMap.{TextFinMap}
 use Rattle.deny_features.specs.private.Reached.{IsSetOf}
-use Rattle.deny_features.proofs.NumberLemmas.{no_texts, one_text_more}
 use Rattle.deny_features.proofs.reached.set_of.Goals as goal
+use Rattle.deny_model.proofs.Texts.{no_texts, one_text_more}
 
 pub loop-text-init : goal.loop-text-init
 loop-text-init c = subst (λ (set : TextFinMap Bool). IsSetOf [] set) (sym c.new-set.ensures) no_texts
@@ -18,7 +18,8 @@ loop-text-preserved c =
     ∙ ap (λ (t : List ℕ). take i texts ++ t ∷ []) (sym c.text-item.is) in
     subst (λ (ts : List (List ℕ)). IsSetOf ts c.insert.new.self) (sym more)
     (subst (λ (set : TextFinMap Bool). IsSetOf (take i texts ++ text ∷ []) set)
-    (sym (c.in_ok-insert.ensures.ok ∙ ap (λ (t : List ℕ). finite.insert c.loop-text.set t true) c.in_ok-clone.ensures.cases))
+    (sym (c.in_ok-insert.ensures.ok
+    ∙ ap (λ (t : List ℕ). finite.insert c.loop-text.set t true) c.in_ok-clone.ensures.cases))
     (one_text_more (take i texts) c.loop-text.set text true c.loop-text.invariant))
 
 pub returns : goal.returns

@@ -22,4 +22,5 @@ loop-number-preserved c =
     c.loop-number.invariant)
 
 pub returns : goal.returns
-returns c = all_numbered c.args.names.now c.loop-number.numbers c.loop-number.number (omega arith) c.loop-number.invariant
+returns c = all_numbered c.args.names.now c.loop-number.numbers c.loop-number.number
+    (omega arith) c.loop-number.invariant

@@ -8,5 +8,6 @@ abbrev pub invariant-loop-place : goal.invariant-loop-place
 invariant-loop-place l =
     l.keys ++ flat_map (unknown_keys_at l.krates ((feature_view l.entry).allow.value ++ (feature_view l.entry).deny))
     (drop l.place-index l.places)
-    ≡ l.fn.keys ++ flat_map (unknown_keys_at l.krates ((feature_view l.entry).allow.value ++ (feature_view l.entry).deny))
+    ≡ l.fn.keys ++ flat_map (unknown_keys_at l.krates
+    ((feature_view l.entry).allow.value ++ (feature_view l.entry).deny))
     l.places

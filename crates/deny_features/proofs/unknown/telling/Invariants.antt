@@ -5,5 +5,6 @@ use Rattle.deny_features.proofs.unknown.telling.Given as goal
 
 abbrev pub invariant-loop-place : goal.invariant-loop-place
 invariant-loop-place l =
-    l.told ++ filter (tells_unknown_at (policy_view l.cfg) l.krates (feature_view l.entry)) (drop l.place-index l.places)
+    l.told ++ filter (tells_unknown_at (policy_view l.cfg) l.krates (feature_view l.entry))
+    (drop l.place-index l.places)
     ≡ filter (tells_unknown_at (policy_view l.cfg) l.krates (feature_view l.entry)) l.places

@@ -41,7 +41,8 @@ returns-clause-told g c =
           (subst (λ (name : List ℕ). IsSeen old.files krates extras.registries.now
           (c.args.files.now ++ lock_file name krates ∷ []) c.synthesize.new.files spans.unread spans.malformed
           (spans_view spans)) c.workspace_root-root.ensures c.in_ok-spans.ensures.seen);
-      looked_at = subst (λ (told : Option Files). AreSeenBy told building home krates (of_packages joined) checked.packages)
+      looked_at = subst (λ (told : Option Files). AreSeenBy told building home krates
+          (of_packages joined) checked.packages)
           c.synthesize.ensures.later.files
           (seen_by_joined spans.unread others joined listed mine none between.files building home krates
           checked.packages checked.looked_at);
@@ -62,7 +63,8 @@ returns-clause-wanted g c =
     let none = none_for_manifest between.files (building_of c.args.policy.now.bans)
     (option_copied c.args.extras.now.home) krates c.in_ok-checked.checked.unread checked.packages checked.looked_at in
     subst (λ (us : List Unread). AreWanted krates us)
-    (sym (manifests_are spans.unread c.in_ok-checked.checked.unread c.in_ok-unread.unread c.in_ok-unread.ensures mine none
+    (sym (manifests_are spans.unread c.in_ok-checked.checked.unread c.in_ok-unread.unread c.in_ok-unread.ensures mine
+    none
     c.in_ok-spans.ensures.seen.missing.ascending))
     c.in_ok-spans.ensures.wanted
 

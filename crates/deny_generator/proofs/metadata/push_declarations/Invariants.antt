@@ -5,4 +5,5 @@ use Rattle.deny_generator.proofs.metadata.push_declarations.Given as goal
 
 abbrev pub invariant-loop-number : goal.invariant-loop-number
 invariant-loop-number l =
-    l.text ++ flat_map declaration_text (drop l.number-index l.numbers) ≡ l.fn.text ++ flat_map declaration_text l.numbers
+    l.text ++ flat_map declaration_text (drop l.number-index l.numbers) ≡ l.fn.text
+    ++ flat_map declaration_text l.numbers

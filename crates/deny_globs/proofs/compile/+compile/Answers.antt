@@ -1,6 +1,8 @@
 use Rattle.std.proofs.Common.{arith}
 use Rattle.std.proofs.lemmas.Result.{IfOk-weaker}
-use Rattle.deny_globs.proofs.BuildLemmas.{built_character, built_any_character, built_any_text, built_alternatives, built_beside, built_next, built_back, built_for, built_over_same, grows_on, on_err_of}
+use Rattle.deny_lists.proofs.Results.{on_err_always}
+use Rattle.deny_globs.proofs.BuildLemmas.{built_character, built_any_character, built_any_text, built_alternatives}
+use Rattle.deny_globs.proofs.BuildLemmas.{built_beside, built_next, built_back, built_for, built_over_same, grows_on}
 use Rattle.deny_globs.proofs.compile.+compile.Goals as goal
 
 pub compile-loop-token-preserved : goal.compile-loop-token-preserved
@@ -14,7 +16,7 @@ compile_alternative-returns-clause-ok t c =
 pub compile_one-returns-in_err-start-2-clause-err :
     goal.compile_one-returns-in_err-start-2-clause-err
 compile_one-returns-in_err-start-2-clause-err t c =
-    on_err_of c.from_residual-in_err-start-2.result
+    on_err_always c.from_residual-in_err-start-2.result
     (grows_on c.loop-alternative.invariant.grows c.in_err-start-2.ensures.err)
 
 pub compile_one-loop-alternative-preserved : goal.compile_one-loop-alternative-preserved

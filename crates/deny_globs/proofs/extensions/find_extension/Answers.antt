@@ -1,5 +1,6 @@
 use Rattle.std.proofs.Common.{arith, subst, sym}
-use Rattle.deny_globs.proofs.FindLemmas.{between_all, gap_between, Fuel, fuel_start, fuel_next}
+use Rattle.deny_lists.proofs.Fuel.{Fuel, fuel_start, fuel_next}
+use Rattle.deny_globs.proofs.FindLemmas.{between_all, gap_between}
 use Rattle.deny_globs.proofs.extensions.find_extension.Goals as goal
 
 pub loop-low-init : goal.loop-low-init

@@ -1,6 +1,6 @@
 use Rattle.std.proofs.Common.{ℕ, ◌<◌, ◌^◌, ◌-◌, length}
 use Rattle.deny_globs.specs.Index.{IsBetween}
-use Rattle.deny_globs.proofs.FindLemmas.{Fuel}
+use Rattle.deny_lists.proofs.Fuel.{Fuel}
 use Rattle.deny_globs.proofs.extensions.find_extension.Given as goal
 
 abbrev pub invariant-loop-low : goal.invariant-loop-low

@@ -1,8 +1,8 @@
 use Rattle.std.proofs.Common.{arith, ap, drop, length, length-drop, sym, ◌∙◌, ◌-◌}
 use Rattle.std.proofs.lemmas.Result.{on_ok_weaker}
+use Rattle.deny_lists.proofs.Results.{on_err_always}
 use Rattle.deny_globs.specs.Sets.{is_simple}
 use Rattle.deny_globs.proofs.MarkedLemmas.{take_all}
-use Rattle.deny_globs.proofs.BuildLemmas.{on_err_of}
 use Rattle.deny_globs.proofs.StartLemmas.{starts_stay}
 use Rattle.deny_globs.proofs.SetLemmas.{indexes_simple, indexes_other}
 use Rattle.deny_globs.proofs.set.index_glob.Goals as goal
@@ -25,4 +25,4 @@ returns-clause-ok c =
     c.add_states.ensures.ok
 
 pub returns-then-is_simple-clause-starts : goal.returns-then-is_simple-clause-starts
-returns-then-is_simple-clause-starts c = on_err_of c.add_extension.result (starts_stay c.requires.starts)
+returns-then-is_simple-clause-starts c = on_err_always c.add_extension.result (starts_stay c.requires.starts)

@@ -1,10 +1,9 @@
 use Rattle.std.proofs.Common.{arith, drop, length, length-drop, refl, sym, subst, ◌∙◌, ◌-◌}
 use Rattle.std.proofs.lemmas.Result.{on_ok_weaker}
+use Rattle.deny_lists.proofs.Options.{none_is_no_some, some_inj}
 use Rattle.deny_globs.specs.Sets.{AsksFor}
 use Rattle.deny_globs.specs.Walk.{Notes}
-use Rattle.deny_globs.proofs.IndexLemmas.{none_at}
 use Rattle.deny_globs.proofs.MarkedLemmas.{take_all}
-use Rattle.deny_globs.proofs.StateLemmas.{some_inj}
 use Rattle.deny_globs.proofs.WalkLemmas.{notes_same, notes_none}
 use Rattle.deny_globs.proofs.set.note_simple.Goals as goal
 
@@ -30,4 +29,4 @@ returns-in-Some-clause-steps g c globs hits d x covers less =
     (λ i a. covers i (drop place path, c.in-Some.ensures.found, subst (λ n. AsksFor globs i n) same a)) less
 
 pub returns-in-None-clause-notes : goal.returns-in-None-clause-notes
-returns-in-None-clause-notes g c globs x = notes_none refl (λ i h. none_at (sym c.in-None.ensures.none ∙ h.1))
+returns-in-None-clause-notes g c globs x = notes_none refl (λ i h. none_is_no_some (sym c.in-None.ensures.none ∙ h.1))

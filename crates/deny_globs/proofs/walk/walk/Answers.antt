@@ -3,7 +3,8 @@ use Rattle.std.specs.Prelude.{Contains}
 use Rattle.std.proofs.lemmas.Result.{on_ok_weaker}
 use Rattle.deny_globs.specs.Walk.{HasEnd, Notes}
 use Rattle.deny_globs.proofs.MarkedLemmas.{take_all}
-use Rattle.deny_globs.proofs.WalkLemmas.{IsAtPlace, at_next_place, at_last_place, rest_at_end, notes_back, notes_none, no_more, times}
+use Rattle.deny_globs.proofs.WalkLemmas.{IsAtPlace, at_next_place, at_last_place, rest_at_end, notes_back, notes_none}
+use Rattle.deny_globs.proofs.WalkLemmas.{no_more, times}
 use Rattle.deny_globs.proofs.walk.walk.Goals as goal
 
 pub mark_starts-requires-clause-within : goal.mark_starts-requires-clause-within

@@ -1,7 +1,7 @@
 use Rattle.std.proofs.Common.{arith, ap, sym, take, ◌++◌, ◌∷◌, [], ◌∙◌}
 use Rattle.std.proofs.lemmas.List.{take_more}
 use Rattle.std.proofs.lemmas.Result.{on_ok_weaker, on_err_weaker}
-use Rattle.deny_globs.proofs.BuildLemmas.{on_err_of}
+use Rattle.deny_lists.proofs.Results.{on_err_always}
 use Rattle.deny_globs.proofs.MarkedLemmas.{take_all}
 use Rattle.deny_globs.proofs.WordLemmas.{at_root, along_on, along_kept, keeps_on, keeps_still, word_put}
 use Rattle.deny_globs.proofs.words.add_word.Goals as goal
@@ -28,7 +28,7 @@ loop-character-preserved c =
     }
 
 pub returns-in_err-node-clause-err : goal.returns-in_err-node-clause-err
-returns-in_err-node-clause-err c = on_err_of c.from_residual-in_err-node.result
+returns-in_err-node-clause-err c = on_err_always c.from_residual-in_err-node.result
     (keeps_on c.loop-character.invariant.keeps c.in_err-node.ensures.keeps)
 
 pub returns-clause-ok : goal.returns-clause-ok

@@ -13,6 +13,7 @@ returns-in_ok-write_node-in-Some-clause-text c =
       | else-top w ↦ w.out-is
           ∙ (sym (append-nil old) ∙ ap (λ (b : Bool). old ++ comma_if b) (sym w.if-top.false))
     ] in
-    next_written old c.if-top.out c.write_node.new.out c.in-Some.graph.now c.in-Some.graphs.now c.args.top _ c.args.below.now.items _
+    next_written old c.if-top.out c.write_node.new.out c.in-Some.graph.now c.in-Some.graphs.now c.args.top _
+    c.args.below.now.items _
     c.write_node.new.below.items
     first c.in-Some.ensures.cases.0 c.in_ok-push-in-Some.ensures.items refl c.in_ok-write_node-in-Some.ensures.text

@@ -1,16 +1,18 @@
 use Rattle.std.proofs.Common.{◌≡◌, ◌<◌, ◌+◌, ◌∙◌, ℕ, List, [], length, sym, subst, arith}
 use Rattle.std.specs.List.{AllZip}
+use Rattle.deny_lists.proofs.Places.{slice_get-read}
 use Rattle.deny_krates.specs.private.Graph.{IsKrateAs, IsKrateOf, features_at, listed}
 use Rattle.deny_metadata.specs.declared.document.Package.{Package}
 use Rattle.deny_krates.specs.declared.graph.KeptPackage.{KeptPackage}
 use Rattle.deny_krates.specs.declared.krate.Krate.{Krate}
-use Rattle.deny_krates.proofs.GraphLemmas.{features_are, read_at, zip_more}
+use Rattle.deny_krates.proofs.GraphLemmas.{features_are, zip_more}
 use Rattle.deny_krates.proofs.TakenLemmas.{AreLeft, all_left, left_after}
 use Rattle.deny_krates.proofs.crates.krates_of.Goals as goal
 
 pub loop-each-init : goal.loop-each-init
 loop-each-init c = record {
-  made = subst (λ (ks : List Krate). AllZip (IsKrateOf c.args.packages c.args.nodes.now) [] ks) (sym c.new-krates.ensures) tt;
+  made = subst (λ (ks : List Krate). AllZip (IsKrateOf c.args.packages c.args.nodes.now) [] ks)
+      (sym c.new-krates.ensures) tt;
   left = all_left c.args.packages c.args.kept.now;
 }
 
@@ -31,13 +33,13 @@ loop-each-preserved c =
     let k = c.each-item.result in
     let node_there = c.index-nodes-each.result in
     let krate = c.in_ok-krate_of.field-0 in
-    let at = read_at kept i k c.loop-each-test.true c.each-item.is in
+    let at = slice_get-read kept i k c.loop-each-test.true c.each-item.is in
     let node : k.node < length nodes = subst (λ (x : KeptPackage). x.node < length nodes) (sym c.each-item.is)
     (c.requires.nodes i k c.loop-each-test.true) in
     let of : c.take_package-listed.result ≡ listed packages k = c.take_package-listed.ensures.taken
     ∙ c.loop-each.invariant.left.each i k (omega arith) at in
     let features : features_at nodes k.node ≡ node_there.features = features_are nodes k.node node_there
-    (read_at nodes k.node node_there node c.index-nodes-each.is) in
+    (slice_get-read nodes k.node node_there node c.index-nodes-each.is) in
     let made : IsKrateOf packages nodes k krate =
     subst (λ (p : Package). IsKrateAs p (features_at nodes k.node) krate) of
     (subst (λ (fs : List (List ℕ)). IsKrateAs c.take_package-listed.result fs krate) (sym features)

@@ -1,12 +1,13 @@
 use Rattle.std.proofs.Common.{◌<◌, ◌+◌, ◌∙◌, ap, sym, subst, ℕ, List, Vec, Global, take}
 use Rattle.std.specs.Prelude.{◌++◌, ◌∷◌, [], slice_index_or}
 use Rattle.std.proofs.lemmas.Option.{slice_get-get_or}
+use Rattle.deny_lists.proofs.Places.{slice_get-read}
 use Rattle.deny_base.specs.declared.edge.DepKind.TheVariants.{Normal}
 use Rattle.deny_krates.specs.private.OtherLinks.{AreWays, link_of}
 use Rattle.deny_metadata.specs.declared.checked.Link.{Link}
 use Rattle.deny_metadata.specs.declared.checked.ResolvedNode.{ResolvedNode}
 use Rattle.deny_krates.proofs.FilteredLemmas.{just_of, not_of, ways_more, ways_skip}
-use Rattle.deny_krates.proofs.GraphLemmas.{links_of_row, read_at}
+use Rattle.deny_krates.proofs.GraphLemmas.{links_of_row}
 use Rattle.deny_krates.proofs.filtered.ways.Goals.{then-ne+in_ok-push, else-ne}
 use Rattle.deny_krates.proofs.filtered.ways.Goals as goal
 
@@ -27,7 +28,7 @@ loop-edge-preserved c =
           (not_of c.args.kind e c.ne.result c.ne.ensures w.if-ne.true) within
           (w.in_ok-push.ensures.ok ∙ ap (λ (ls : List Link). ls ++ link_of e ∷ [])
           (sym (links_of_row c.loop-edge.rows.items e.parent row
-          (read_at c.loop-edge.rows.items e.parent row
+          (slice_get-read c.loop-edge.rows.items e.parent row
           (subst (λ (n : ℕ). e.parent < n) (sym c.loop-edge.invariant.long) within) w.index_mut-row.ensures.value)))))
       | else-ne w ↦
           subst (λ (v : Vec ResolvedNode Global). AreWays c.args.kind (take (i + 1) edges) c.args.crates v.items)

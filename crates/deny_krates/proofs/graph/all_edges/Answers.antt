@@ -1,11 +1,12 @@
 use Rattle.std.proofs.Common.{◌≡◌, ◌<◌, ◌++◌, ◌∙◌, sym, ap, subst, List, length, map, append_assoc}
 use Rattle.std.specs.Prelude.{All}
+use Rattle.deny_lists.proofs.Places.{slice_get-read}
 use Rattle.deny_krates.specs.private.Graph.{edge_to}
 use Rattle.deny_krates.specs.private.Reach.{links_at}
 use Rattle.deny_metadata.specs.declared.checked.Link.{Link}
 use Rattle.deny_metadata.specs.declared.checked.ResolvedNode.{ResolvedNode}
 use Rattle.deny_krates.specs.declared.graph.KeptPackage.{KeptPackage}
-use Rattle.deny_krates.proofs.GraphLemmas.{edges_next, links_of_row, read_at}
+use Rattle.deny_krates.proofs.GraphLemmas.{edges_next, links_of_row}
 use Rattle.deny_krates.proofs.graph.all_edges.Goals as goal
 
 pub push_edges-requires : goal.push_edges-requires
@@ -15,7 +16,7 @@ push_edges-requires c =
     let inside : node < length rows = subst (λ (k : KeptPackage). k.node < length rows) (sym c.index-kept-place.is)
     (c.requires.nodes c.loop-place.place c.index-kept-place.result c.loop-place-test.true) in
     let links = links_of_row rows node c.index-rows-each.result
-    (read_at rows node c.index-rows-each.result inside c.index-rows-each.is) in
+    (slice_get-read rows node c.index-rows-each.result inside c.index-rows-each.is) in
     let same : c.as_slice.result.now ≡ links_at rows node = c.as_slice.ensures
     ∙ (ap (λ (r : ResolvedNode). r.links) (sym c.index-rows-each.is) ∙ sym links) in
     subst (λ (ls : List Link). All (λ l. l.node < length c.args.places.now) ls) (sym same) (c.requires.links node)
@@ -29,7 +30,7 @@ loop-place-preserved c =
     let inside : node < length rows = subst (λ (k : KeptPackage). k.node < length rows) (sym c.index-kept-place.is)
     (c.requires.nodes place c.index-kept-place.result c.loop-place-test.true) in
     let links = links_of_row rows node c.index-rows-each.result
-    (read_at rows node c.index-rows-each.result inside c.index-rows-each.is) in
+    (slice_get-read rows node c.index-rows-each.result inside c.index-rows-each.is) in
     let same : c.as_slice.result.now ≡ links_at rows node = c.as_slice.ensures
     ∙ (ap (λ (r : ResolvedNode). r.links) (sym c.index-rows-each.is) ∙ sym links) in
     let next = edges_next rows places c.args.kept.now place c.index-kept-place.result c.loop-place-test.true

@@ -1,11 +1,12 @@
 use Rattle.std.proofs.Common.{◌≡◌, ◌<◌, ◌+◌, ◌∙◌, List, Some, length, refl, sym, subst, ap}
 use Rattle.std.specs.Prelude.{slice_get}
+use Rattle.deny_lists.proofs.Places.{slice_get-read}
 use Rattle.deny_krates.specs.private.Graph.{IsKeptNode, listed}
 use Rattle.deny_krates.specs.Packages.{rank_of}
 use Rattle.deny_metadata.specs.declared.checked.ResolvedNode.{ResolvedNode}
 use Rattle.deny_metadata.specs.declared.document.Package.{Package}
 use Rattle.deny_krates.specs.declared.graph.KeptPackage.{KeptPackage}
-use Rattle.deny_krates.proofs.GraphLemmas.{IsGathered, gathered_more, gathered_skip, listed_is, read_at}
+use Rattle.deny_krates.proofs.GraphLemmas.{IsGathered, gathered_more, gathered_skip, listed_is}
 use Rattle.deny_krates.proofs.graph.gather.Goals.{then-marks-node+in_ok-rank_in+in_ok-push, else-marks-node}
 use Rattle.deny_krates.proofs.graph.gather.Goals as goal
 
@@ -16,13 +17,13 @@ loop-node-preserved c =
     let marks = c.args.marks.now in
     let node = c.loop-node.node in
     let row = c.index-rows-node.result in
-    let at = read_at rows node row c.loop-node-test.true c.index-rows-node.is in
+    let at = slice_get-read rows node row c.loop-node-test.true c.index-rows-node.is in
     elim c.if-marks-node.branch [
       | then-marks-node+in_ok-rank_in+in_ok-push w ↦
           let owned : row.owner < length packages = subst (λ (r : ResolvedNode). r.owner < length packages)
           (sym c.index-rows-node.is) (c.requires.owned node row c.loop-node-test.true) in
           let package_there = w.index-packages-row.result in
-          let owner = read_at packages row.owner package_there owned w.index-packages-row.is in
+          let owner = slice_get-read packages row.owner package_there owned w.index-packages-row.is in
           let k : KeptPackage = record { rank = w.in_ok-rank_in.field-0; owner = row.owner; node = node } in
           let of : listed packages k ≡ package_there = listed_is packages k package_there owner in
           let is : IsKeptNode packages rows marks k = record {

@@ -6,5 +6,6 @@ use Rattle.deny_krates.specs.declared.ids.Entry.{Entry}
 use Rattle.deny_krates.proofs.ids.ids_of.Goals as goal
 
 pub returns : goal.returns
-returns c = subst (λ (xs : List Entry). Lists id_entry_cmp (Contains xs) c.put_in_order.new.list) c.in_ok-entries.ensures
+returns c = subst (λ (xs : List Entry). Lists id_entry_cmp (Contains xs) c.put_in_order.new.list)
+    c.in_ok-entries.ensures
     c.in_ok-put_in_order.ensures.ok

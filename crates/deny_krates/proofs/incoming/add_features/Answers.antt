@@ -38,7 +38,8 @@ returns c x p x_at p_at =
     ∙ ap (λ (fs : List (List ℕ)). old ++ map (λ f. parent_in (crate_view parent kp) (Some kind) (Some f)) fs)
     (filter_same (is_led_over kp run kind feature)
     (feature_leads g (crate_view child kc) feature (crate_view parent kp) kind) kp.enabled
-    (λ from. led_answer g child parent kc kp kind run kp.deps p_here c.resolved_between-run.ensures refl feature from)) in
+    (λ from. led_answer g child parent kc kp kind run kp.deps p_here c.resolved_between-run.ensures refl feature
+    from)) in
     subst (λ (q : Crate). new ≡ old ++ map (λ f. parent_in q (Some kind) (Some f))
     (filter (feature_leads g x feature q kind) q.enabled)) p_same
     (subst (λ (y : Crate). new ≡ old ++ map (λ f. parent_in (crate_view parent kp) (Some kind) (Some f))

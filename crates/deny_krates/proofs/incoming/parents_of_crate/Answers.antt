@@ -25,7 +25,8 @@ loop-direct-init c x x_at =
     let k = c.index-krates-place.result in
     let inside : place < length ks = omega (arith, as_many ks g c.krates.ensures.crates) in
     let here = crate_read ks g c.krates.ensures.crates place k inside c.index-krates-place.is in
-    ap (λ (ps : List Parent). ps ++ flat_map (row_parents g (sources_of_crate g x)) c.direct_dependents-dependents.result.now)
+    ap (λ (ps : List Parent). ps
+    ++ flat_map (row_parents g (sources_of_crate g x)) c.direct_dependents-dependents.result.now)
     (own_first g x place k (placed ks g c.krates.ensures.crates) here x_at c.new-parents.result c.add_own.new.parents
     c.new-parents.ensures c.in_ok-add_own.ensures)
 
@@ -60,7 +61,9 @@ returns c x x_at p =
     let ds = c.direct_dependents-dependents.result.now in
     let are = placed c.krates.result.now g c.krates.ensures.crates in
     parents_done g are (own_features x) x ds (sources_of_crate g x) c.loop-direct.parents
-    (subst (λ n. AreDirectDependents g n ds) (sym (are.each c.args.place x x_at)) c.direct_dependents-dependents.ensures)
+    (subst (λ n. AreDirectDependents g n ds)
+    (sym (are.each c.args.place x x_at)) c.direct_dependents-dependents.ensures)
     (rows_done g (sources_of_crate g x) ds c.loop-direct.direct-index c.loop-direct.parents
-    (map (parent_of g) (own_features x) ++ flat_map (row_parents g (sources_of_crate g x)) ds) (omega (arith, c.loop-direct-test.false))
+    (map (parent_of g) (own_features x) ++ flat_map (row_parents g (sources_of_crate g x)) ds)
+    (omega (arith, c.loop-direct-test.false))
     (c.loop-direct.invariant x x_at)) p

@@ -10,4 +10,5 @@ use Rattle.deny_model.specs.Graph.{Crate}
 abbrev pub invariant-loop-direct : goal.invariant-loop-direct
 invariant-loop-direct l = (x : Crate) → slice_get l.krates.crates l.place ≡ Some x
     → l.parents ++ flat_map (row_parents l.krates (sources_of_crate l.krates x)) (drop l.direct-index l.dependents)
-    ≡ map (parent_of l.krates) (own_features x) ++ flat_map (row_parents l.krates (sources_of_crate l.krates x)) l.dependents
+    ≡ map (parent_of l.krates) (own_features x)
+    ++ flat_map (row_parents l.krates (sources_of_crate l.krates x)) l.dependents

@@ -25,8 +25,10 @@ loop-direct-init c x x_at =
     let k = c.index-krates-place.result in
     let inside : place < length ks = omega (arith, as_many ks g c.krates.ensures.crates) in
     let here = crate_read ks g c.krates.ensures.crates place k inside c.index-krates-place.is in
-    ap (λ (ps : List Parent). ps ++ flat_map (row_parents g (sources_of_feature g x c.args.feature.now)) c.direct_dependents-dependents.result.now)
-    (leading_first g x place k c.args.feature.now (placed ks g c.krates.ensures.crates) here x_at c.new-parents.result c.add_own_leading.new.parents
+    ap (λ (ps : List Parent). ps ++ flat_map
+    (row_parents g (sources_of_feature g x c.args.feature.now)) c.direct_dependents-dependents.result.now)
+    (leading_first g x place k c.args.feature.now
+    (placed ks g c.krates.ensures.crates) here x_at c.new-parents.result c.add_own_leading.new.parents
     c.new-parents.ensures c.in_ok-add_own_leading.ensures)
 
 pub add_to_feature-requires-clause-parent : goal.add_to_feature-requires-clause-parent
@@ -49,7 +51,8 @@ loop-direct-preserved c x x_at =
     let p = row_inside g (placed c.krates.result.now g c.krates.ensures.crates) c.args.place ds d
     c.direct_dependents-dependents.ensures (from_there ds i d (slice_get-get_or ds i none c.loop-direct-test.true)) in
     row_more g (sources_of_feature g x c.args.feature.now) ds d p.0 i c.loop-direct.parents c.add_to_feature.new.parents
-    (map (parent_of g) (own_leading x c.args.feature.now) ++ flat_map (row_parents g (sources_of_feature g x c.args.feature.now)) ds)
+    (map (parent_of g) (own_leading x c.args.feature.now)
+    ++ flat_map (row_parents g (sources_of_feature g x c.args.feature.now)) ds)
     c.loop-direct-test.true (get_or_default ds i none d c.loop-direct-test.true) p.1
     (c.in_ok-add_to_feature.ensures x p.0 x_at p.1) (c.loop-direct.invariant x x_at)
 
@@ -59,8 +62,11 @@ returns c x x_at p =
     let g = c.args.krates.now in
     let ds = c.direct_dependents-dependents.result.now in
     let are = placed c.krates.result.now g c.krates.ensures.crates in
-    parents_done g are (own_leading x c.args.feature.now) x ds (sources_of_feature g x c.args.feature.now) c.loop-direct.parents
-    (subst (λ n. AreDirectDependents g n ds) (sym (are.each c.args.place x x_at)) c.direct_dependents-dependents.ensures)
+    parents_done g are (own_leading x c.args.feature.now) x ds
+    (sources_of_feature g x c.args.feature.now) c.loop-direct.parents
+    (subst (λ n. AreDirectDependents g n ds)
+    (sym (are.each c.args.place x x_at)) c.direct_dependents-dependents.ensures)
     (rows_done g (sources_of_feature g x c.args.feature.now) ds c.loop-direct.direct-index c.loop-direct.parents
-    (map (parent_of g) (own_leading x c.args.feature.now) ++ flat_map (row_parents g (sources_of_feature g x c.args.feature.now)) ds) (omega (arith, c.loop-direct-test.false))
+    (map (parent_of g) (own_leading x c.args.feature.now) ++ flat_map
+    (row_parents g (sources_of_feature g x c.args.feature.now)) ds) (omega (arith, c.loop-direct-test.false))
     (c.loop-direct.invariant x x_at)) p

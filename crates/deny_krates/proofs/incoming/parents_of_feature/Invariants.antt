@@ -9,5 +9,7 @@ use Rattle.deny_model.specs.Graph.{Crate}
 
 abbrev pub invariant-loop-direct : goal.invariant-loop-direct
 invariant-loop-direct l = (x : Crate) → slice_get l.krates.crates l.place ≡ Some x
-    → l.parents ++ flat_map (row_parents l.krates (sources_of_feature l.krates x l.feature)) (drop l.direct-index l.dependents)
-    ≡ map (parent_of l.krates) (own_leading x l.feature) ++ flat_map (row_parents l.krates (sources_of_feature l.krates x l.feature)) l.dependents
+    → l.parents ++ flat_map (row_parents l.krates (sources_of_feature l.krates x l.feature))
+    (drop l.direct-index l.dependents)
+    ≡ map (parent_of l.krates) (own_leading x l.feature)
+    ++ flat_map (row_parents l.krates (sources_of_feature l.krates x l.feature)) l.dependents

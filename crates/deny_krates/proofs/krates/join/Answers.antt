@@ -79,7 +79,8 @@ finish-requires-clause-names c =
 
 pub finish-requires-clause-orderly : goal.finish-requires-clause-orderly
 finish-requires-clause-orderly c =
-    let zip = as_listed c.args.document _ c.args.kept.now c.in_ok-krates.krates c.as_slice-4.ensures c.in_ok-krates.ensures in
+    let zip = as_listed c.args.document _ c.args.kept.now c.in_ok-krates.krates c.as_slice-4.ensures
+    c.in_ok-krates.ensures in
     let members = subst (λ (ps : List ℕ). Lists nat_cmp (Contains (map (place_at ps) c.args.starts.now))
     c.in_ok-members.members) c.as_slice.ensures c.in_ok-members.ensures in
     let targeted = subst (λ (ps : List ℕ). Lists target_edge_cmp
@@ -94,7 +95,8 @@ finish-requires-clause-orderly c =
 
 pub returns : goal.returns
 returns c =
-    let zip = as_listed c.args.document _ c.args.kept.now c.in_ok-krates.krates c.as_slice-4.ensures c.in_ok-krates.ensures in
+    let zip = as_listed c.args.document _ c.args.kept.now c.in_ok-krates.krates c.as_slice-4.ensures
+    c.in_ok-krates.ensures in
     let members = subst (λ (ps : List ℕ). Lists nat_cmp (Contains (map (place_at ps) c.args.starts.now))
     c.in_ok-members.members) c.as_slice.ensures c.in_ok-members.ensures in
     let targeted = subst (λ (ps : List ℕ). Lists target_edge_cmp

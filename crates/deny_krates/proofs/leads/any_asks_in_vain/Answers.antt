@@ -24,16 +24,24 @@ pub returns-then-asks_in_vain_at : goal.returns-then-asks_in_vain_at
 returns-then-asks_in_vain_at c =
     let ds = map dependency_view c.args.declarations.now in
     any_stopped (passes_there ds (λ d. is_of_kind c.args.kind d && asks_in_vain (crate_view 0 c.args.krate.now) d))
-    c.args.run.now (slice_index_or c.args.run.now c.loop-at.at-index (record { child = 0; parent = 0; index = 0 })) c.loop-at.at-index c.loop-at-test.true (get_or_default c.args.run.now c.loop-at.at-index (record { child = 0; parent = 0; index = 0 })
-    (slice_index_or c.args.run.now c.loop-at.at-index (record { child = 0; parent = 0; index = 0 })) c.loop-at-test.true)
-    (in_vain ds c.args.kind c.args.krate.now c.as_slice-enabled.result.now (slice_index_or c.args.run.now c.loop-at.at-index (record { child = 0; parent = 0; index = 0 })) _ c.as_slice-enabled.ensures
+    c.args.run.now (slice_index_or c.args.run.now c.loop-at.at-index (record { child = 0; parent = 0; index = 0 }))
+    c.loop-at.at-index c.loop-at-test.true
+    (get_or_default c.args.run.now c.loop-at.at-index (record { child = 0; parent = 0; index = 0 })
+    (slice_index_or c.args.run.now c.loop-at.at-index (record { child = 0; parent = 0; index = 0 }))
+    c.loop-at-test.true)
+    (in_vain ds c.args.kind c.args.krate.now c.as_slice-enabled.result.now (slice_index_or c.args.run.now
+    c.loop-at.at-index (record { child = 0; parent = 0; index = 0 })) _ c.as_slice-enabled.ensures
     c.asks_in_vain_at.ensures ∙ c.if-asks_in_vain_at.true) c.loop-at.invariant
 
 pub loop-at-preserved : goal.loop-at-preserved
 loop-at-preserved c =
     let ds = map dependency_view c.args.declarations.now in
     any_more (passes_there ds (λ d. is_of_kind c.args.kind d && asks_in_vain (crate_view 0 c.args.krate.now) d))
-    c.args.run.now (slice_index_or c.args.run.now c.loop-at.at-index (record { child = 0; parent = 0; index = 0 })) c.loop-at.at-index c.loop-at-test.true (get_or_default c.args.run.now c.loop-at.at-index (record { child = 0; parent = 0; index = 0 })
-    (slice_index_or c.args.run.now c.loop-at.at-index (record { child = 0; parent = 0; index = 0 })) c.loop-at-test.true)
-    (in_vain ds c.args.kind c.args.krate.now c.as_slice-enabled.result.now (slice_index_or c.args.run.now c.loop-at.at-index (record { child = 0; parent = 0; index = 0 })) _ c.as_slice-enabled.ensures
+    c.args.run.now (slice_index_or c.args.run.now c.loop-at.at-index (record { child = 0; parent = 0; index = 0 }))
+    c.loop-at.at-index c.loop-at-test.true
+    (get_or_default c.args.run.now c.loop-at.at-index (record { child = 0; parent = 0; index = 0 })
+    (slice_index_or c.args.run.now c.loop-at.at-index (record { child = 0; parent = 0; index = 0 }))
+    c.loop-at-test.true)
+    (in_vain ds c.args.kind c.args.krate.now c.as_slice-enabled.result.now (slice_index_or c.args.run.now
+    c.loop-at.at-index (record { child = 0; parent = 0; index = 0 })) _ c.as_slice-enabled.ensures
     c.asks_in_vain_at.ensures ∙ c.if-asks_in_vain_at.false) c.loop-at.invariant

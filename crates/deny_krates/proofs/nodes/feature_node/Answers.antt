@@ -1,4 +1,5 @@
-use Rattle.std.proofs.Common.{◌≡◌, ◌<◌, ◌+◌, ◌^◌, ◌∙◌, ℕ, List, Option, Some, None, ap, arith, length, slice_index_or, subst, sym}
+use Rattle.std.proofs.Common.{◌≡◌, ◌<◌, ◌+◌, ◌^◌, ◌∙◌, ℕ, List, Option, Some, None, ap, arith, length, slice_index_or}
+use Rattle.std.proofs.Common.{subst, sym}
 use Rattle.std.specs.Prelude.{IfNone, slice_get}
 use Rattle.std.specs.Cmp.Lexicographic.{slice_cmp}
 use Rattle.std.specs.List.{list_any}
@@ -8,7 +9,8 @@ use Rattle.std.proofs.lemmas.Option.{slice_get-get_or}
 use Rattle.deny_krates.specs.private.NodeNumbers.{first_features_of}
 use Rattle.deny_krates.specs.Nodes.{nodes_of}
 use Rattle.deny_krates.specs.declared.krate.Krate.{Krate}
-use Rattle.deny_krates.proofs.NodeLemmas.{as_many, enabled_ascend, feature_within, no_feature, nodes_few, number_of_feature}
+use Rattle.deny_krates.proofs.NodeLemmas.{as_many, enabled_ascend, feature_within, no_feature, nodes_few}
+use Rattle.deny_krates.proofs.NodeLemmas.{number_of_feature}
 use Rattle.deny_krates.proofs.NumberLemmas.{length-first_features}
 use Rattle.deny_krates.proofs.nodes.feature_node.Goals as goal
 use Rattle.deny_model.specs.Text.{same_text}
@@ -62,7 +64,8 @@ overflow_cast-result c =
     let ns = c.first_features.result.now in
     let s = slice_index_or ns p 0 in
     let inside : p < length ks = omega (arith, as_many ks g same) in
-    let at : slice_get ks p ≡ Some k = slice_get-get_or ks p k inside ∙ ap (λ x. Some x) (sym c.index-krates-place.is) in
+    let at : slice_get ks p ≡ Some k =
+    slice_get-get_or ks p k inside ∙ ap (λ x. Some x) (sym c.index-krates-place.is) in
     let of : slice_get k.enabled j ≡ Some f = ap (λ (fs : List (List ℕ)). slice_get fs j)
     (sym (c.as_slice-enabled.ensures ∙ ap (λ (x : Krate). x.enabled) (sym c.index-krates-place.is)))
     ∙ c.in_ok-index.ensures.found in
@@ -86,7 +89,8 @@ overflow_add-result c =
     let ns = c.first_features.result.now in
     let s = slice_index_or ns p 0 in
     let inside : p < length ks = omega (arith, as_many ks g same) in
-    let at : slice_get ks p ≡ Some k = slice_get-get_or ks p k inside ∙ ap (λ x. Some x) (sym c.index-krates-place.is) in
+    let at : slice_get ks p ≡ Some k =
+    slice_get-get_or ks p k inside ∙ ap (λ x. Some x) (sym c.index-krates-place.is) in
     let of : slice_get k.enabled j ≡ Some f = ap (λ (fs : List (List ℕ)). slice_get fs j)
     (sym (c.as_slice-enabled.ensures ∙ ap (λ (x : Krate). x.enabled) (sym c.index-krates-place.is)))
     ∙ c.in_ok-index.ensures.found in
@@ -110,7 +114,8 @@ returns-clause-found c =
     let ns = c.first_features.result.now in
     let s = slice_index_or ns p 0 in
     let inside : p < length ks = omega (arith, as_many ks g same) in
-    let at : slice_get ks p ≡ Some k = slice_get-get_or ks p k inside ∙ ap (λ x. Some x) (sym c.index-krates-place.is) in
+    let at : slice_get ks p ≡ Some k =
+    slice_get-get_or ks p k inside ∙ ap (λ x. Some x) (sym c.index-krates-place.is) in
     let of : slice_get k.enabled j ≡ Some f = ap (λ (fs : List (List ℕ)). slice_get fs j)
     (sym (c.as_slice-enabled.ensures ∙ ap (λ (x : Krate). x.enabled) (sym c.index-krates-place.is)))
     ∙ c.in_ok-index.ensures.found in
@@ -132,7 +137,8 @@ returns-clause-within c =
     let ns = c.first_features.result.now in
     let s = slice_index_or ns p 0 in
     let inside : p < length ks = omega (arith, as_many ks g same) in
-    let at : slice_get ks p ≡ Some k = slice_get-get_or ks p k inside ∙ ap (λ x. Some x) (sym c.index-krates-place.is) in
+    let at : slice_get ks p ≡ Some k =
+    slice_get-get_or ks p k inside ∙ ap (λ x. Some x) (sym c.index-krates-place.is) in
     let of : slice_get k.enabled j ≡ Some f = ap (λ (fs : List (List ℕ)). slice_get fs j)
     (sym (c.as_slice-enabled.ensures ∙ ap (λ (x : Krate). x.enabled) (sym c.index-krates-place.is)))
     ∙ c.in_ok-index.ensures.found in

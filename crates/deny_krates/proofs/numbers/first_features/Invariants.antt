@@ -7,7 +7,8 @@ use Rattle.deny_krates.proofs.numbers.first_features.Given as goal
 
 abbrev pub invariant-loop-krate : goal.invariant-loop-krate
 invariant-loop-krate l = record {
-  room : l.next + feature_count (crates_from l.krate-index (drop l.krate-index l.krates)) ≡ node_count (crates_from 0 l.krates);
+  room : l.next + feature_count (crates_from l.krate-index (drop l.krate-index l.krates))
+      ≡ node_count (crates_from 0 l.krates);
   made : l.starts ++ features_from l.next (crates_from l.krate-index (drop l.krate-index l.krates))
       ≡ features_from (length l.krates) (crates_from 0 l.krates);
 }

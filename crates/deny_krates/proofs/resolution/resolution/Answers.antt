@@ -13,7 +13,8 @@ returns-in-Some c g same_crates same_edges =
     let own = c.edges_between-own.result.now in
     let crates = crates_from 0 c.args.krates.now in
     let d = dependency_view c.args.declaration.now in
-    sym (resolution_is g c.args.parent c.run_of-named.result.start c.run_of-named.result.end d crates c.args.edges.now own same_crates same_edges
+    sym (resolution_is g c.args.parent c.run_of-named.result.start c.run_of-named.result.end d crates c.args.edges.now
+    own same_crates same_edges
     c.edges_between-own.ensures (subst
     (λ (t : List ℕ). (place : ℕ) → passes_at (has_name t) crates place ≡ true
     → (c.run_of-named.result.start ≤ place) × (place < c.run_of-named.result.end)) c.as_str.ensures
@@ -27,7 +28,8 @@ returns-in-None c g same_crates same_edges =
     let crates = crates_from 0 c.args.krates.now in
     let d = dependency_view c.args.declaration.now in
     c.first_suiting.ensures
-    ∙ sym (resolution_is g c.args.parent c.run_of-named.result.start c.run_of-named.result.end d crates c.args.edges.now own same_crates same_edges
+    ∙ sym (resolution_is g c.args.parent c.run_of-named.result.start c.run_of-named.result.end d crates c.args.edges.now
+    own same_crates same_edges
     c.edges_between-own.ensures (subst
     (λ (t : List ℕ). (place : ℕ) → passes_at (has_name t) crates place ≡ true
     → (c.run_of-named.result.start ≤ place) × (place < c.run_of-named.result.end)) c.as_str.ensures

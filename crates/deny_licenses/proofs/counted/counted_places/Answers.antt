@@ -16,6 +16,7 @@ returns c =
       marks = marks;
       counted = c.in_ok-marks.ensures;
       are = are
-          ∙ (ap (λ (ms : List Bool). flat_map (place_if ms) (range_with_len 0 (length g.crates))) c.as_slice.ensures.value
+          ∙ (ap (λ (ms : List Bool). flat_map (place_if ms) (range_with_len 0 (length g.crates)))
+          c.as_slice.ensures.value
           ∙ places-are marks g.crates c.are_placed.ensures);
     }) c.places_of.ensures

@@ -6,7 +6,7 @@ use Rattle.deny_lists.specs.First.{FindsFirst}
 use Rattle.deny_base.specs.declared.finding.Pack.{Pack}
 use Rattle.deny_model.specs.Licensing.{Licensing}
 use Rattle.deny_facts.specs.Marks.{marked}
-use Rattle.deny_facts.proofs.PlaceLemmas.{place_of}
+use Rattle.deny_krates.proofs.PlaceLemmas.{place_of}
 use Rattle.deny_cfg.specs.LicensingView.{licensing_view}
 use Rattle.deny_licenses.specs.declared.granter.Granter.{Granter}
 use Rattle.deny_licenses.specs.private.Found.{crate_pack, packs_at, witnessed_at}
@@ -34,7 +34,8 @@ returns-clause-checked c =
     c.in_ok-found.ensures.packs
     ∙ (ap (λ (m : Licensing). flat_map (packs_at m g) c.as_slice.result.now) same
     ∙ (ap (flat_map (packs_at l g)) places ∙ packs-are l g placed counts)) in
-    is-licensed l g c.args.id placed counts counted.counted.each found.witnesses unused c.in_ok-hits.hits c.args.sink.now
+    is-licensed l g c.args.id placed counts counted.counted.each found.witnesses unused c.in_ok-hits.hits
+    c.args.sink.now
     c.append.new.sink c.tell_unused.new.packs
     (subst (λ (ns : List ℕ). FindsFirst same_granter (flat_map (witnessed_at l g) ns) (place_in found.witnesses)) places
     (subst (λ (m : Licensing). FindsFirst same_granter (flat_map (witnessed_at m g) c.as_slice.result.now)

@@ -4,7 +4,8 @@ use Rattle.std.proofs.lemmas.List.Elements.{All-weaker}
 use Rattle.deny_lists.specs.Walk.{TakesInStep}
 use Rattle.deny_lists.specs.private.Reaching.{reached}
 use Rattle.deny_lists.proofs.ReachingLemmas.{State, grows_all}
-use Rattle.deny_lists.proofs.WalkLemmas.{IsSpreading, next_is, spreading_from, spreading_more, spreading_end, good_those, row_inside, steps_more, steps_grown, steps_reached}
+use Rattle.deny_lists.proofs.WalkLemmas.{IsSpreading, next_is, spreading_from, spreading_more, spreading_end}
+use Rattle.deny_lists.proofs.WalkLemmas.{good_those, row_inside, steps_more, steps_grown, steps_reached}
 use Rattle.deny_lists.proofs.walk.reach_from.Goals as goal
 
 pub loop-next-init : goal.loop-next-init

@@ -1,6 +1,6 @@
 use Rattle.std.proofs.Common.{◌++◌, ℕ, List, length, map, sym, ap, ◌∙◌, append-nil, arith}
 use Rattle.std.specs.List.{range_with_len}
-use Rattle.deny_facts.proofs.PlaceLemmas.{length_of}
+use Rattle.deny_krates.proofs.PlaceLemmas.{length_of}
 use Rattle.deny_facts.proofs.RunLemmas.{no_range, pushed-run}
 use Rattle.deny_manifest_rules.specs.private.Asked.{is_asked_at}
 use Rattle.deny_manifest_rules.proofs.asked.asked_by.Goals as goal

@@ -1,10 +1,10 @@
 use Rattle.std.proofs.Common.{◌++◌, List, ℕ, length, sym, ap, ◌∙◌, append-nil, arith}
 use Rattle.std.specs.List.{flat_map, range_with_len}
-use Rattle.deny_facts.proofs.PlaceLemmas.{length_of}
+use Rattle.deny_lists.proofs.Loops.{flat-run}
+use Rattle.deny_krates.proofs.PlaceLemmas.{length_of}
 use Rattle.deny_facts.proofs.RunLemmas.{no_range}
 use Rattle.deny_manifest_rules.specs.Uses.{rows_in}
 use Rattle.deny_manifest_rules.specs.private.Sharing.{duplicated_keys_at}
-use Rattle.deny_manifest_rules.proofs.FlatLemmas.{flat-run}
 use Rattle.deny_manifest_rules.proofs.sharing.add_duplicated.Goals as goal
 
 pub loop-place-preserved : goal.loop-place-preserved

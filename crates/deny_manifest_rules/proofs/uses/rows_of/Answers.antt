@@ -4,7 +4,7 @@ use Rattle.std.specs.List.{flat_map}
 use Rattle.std.proofs.lemmas.List.{take_all}
 use Rattle.deny_cfg.specs.PolicyView.{sharing_view}
 use Rattle.deny_codes.specs.Sharing.{Use, all_uses, uses_at}
-use Rattle.deny_facts.proofs.PlaceLemmas.{length_of}
+use Rattle.deny_krates.proofs.PlaceLemmas.{length_of}
 use Rattle.deny_spans.specs.SpansView.{spans_view}
 use Rattle.deny_manifest_rules.specs.declared.uses.Use.{Use as Kept}
 use Rattle.deny_manifest_rules.specs.private.Rows.{AreRowsOf}

@@ -1,11 +1,11 @@
 use Rattle.std.proofs.Common.{◌++◌, List, ℕ, length, sym, ap, ◌∙◌, append-nil, arith}
 use Rattle.std.specs.List.{flat_map, range_with_len}
-use Rattle.deny_facts.proofs.PlaceLemmas.{length_of}
+use Rattle.deny_lists.proofs.Loops.{flat-run}
+use Rattle.deny_krates.proofs.PlaceLemmas.{length_of}
 use Rattle.deny_facts.proofs.RunLemmas.{no_range}
 use Rattle.deny_cfg.specs.PolicyView.{policy_view}
 use Rattle.deny_spans.specs.SpansView.{spans_view}
 use Rattle.deny_manifest_rules.specs.private.Wildcards.{found_keys_at}
-use Rattle.deny_manifest_rules.proofs.FlatLemmas.{flat-run}
 use Rattle.deny_manifest_rules.proofs.wildcard_keys.add_each.Goals as goal
 
 pub loop-place-preserved : goal.loop-place-preserved

@@ -6,5 +6,6 @@ use Rattle.deny_manifest_told.proofs.sharing.unused_at.Goals as goal
 
 pub returns : goal.returns
 returns c =
-    seen (λ e. same_span e.key c.args.range) (dep_view None) c.args._told.now.spans.now.unused_workspace_deps c.at.result
+    seen (λ e. same_span e.key c.args.range)
+    (dep_view None) c.args._told.now.spans.now.unused_workspace_deps c.at.result
     (c.at.ensures ∙ c.requires.at c.args.range)

@@ -3,7 +3,8 @@ use Rattle.std.proofs.lemmas.Result.{IfOk-weaker}
 use Rattle.deny_codes.specs.Wildcards.{unresolved_labels, unresolved_labels_in}
 use Rattle.deny_krates.specs.Crates.{crate_view}
 use Rattle.deny_spans.specs.SpansView.{manifest_view, spans_view}
-use Rattle.deny_manifest_told.proofs.ManifestLemmas.{manifests_unresolved, no_crates_unresolved, no_manifests_unresolved}
+use Rattle.deny_manifest_told.proofs.ManifestLemmas.{manifests_unresolved, no_crates_unresolved}
+use Rattle.deny_manifest_told.proofs.ManifestLemmas.{no_manifests_unresolved}
 use Rattle.deny_manifest_told.proofs.wildcards.unresolved_labels.Goals as goal
 
 pub returns-in_default : goal.returns-in_default

@@ -4,8 +4,8 @@ use Rattle.std.specs.FinMap as finite
 use Rattle.std.specs.List.{list_any}
 use Rattle.std.specs.Ordering.{nat_cmp}
 use Rattle.std.proofs.lemmas.Cmp.{nat_cmp_total}
+use Rattle.deny_lists.proofs.Finding.{place_found}
 use Rattle.deny_krates.proofs.SearchLemmas.{search_finds}
-use Rattle.deny_manifests.proofs.IgnoredLemmas.{place_found}
 use Rattle.deny_manifests.proofs.ignored.is_member.Goals as goal
 
 pub returns : goal.returns

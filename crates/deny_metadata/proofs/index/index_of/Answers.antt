@@ -4,7 +4,8 @@ use Rattle.std.specs.List.{list_any}
 use Rattle.deny_model.specs.Text.{same_text}
 use Rattle.deny_metadata.specs.Checked.{distinct_after}
 use Rattle.deny_metadata.specs.private.Index.{hash_of, number_by}
-use Rattle.deny_metadata.proofs.IndexLemmas.{asked_by, ids_next, ids_more, ids_end, ids_length, any_numbered, index_more, stood_before, is_new, no_more_ids}
+use Rattle.deny_metadata.proofs.IndexLemmas.{asked_by, ids_next, ids_more, ids_end, ids_length, any_numbered}
+use Rattle.deny_metadata.proofs.IndexLemmas.{index_more, stood_before, is_new, no_more_ids}
 use Rattle.deny_metadata.proofs.index.index_of.Goals as goal
 
 pub returns-then-contains_key-clause-distinct : goal.returns-then-contains_key-clause-distinct

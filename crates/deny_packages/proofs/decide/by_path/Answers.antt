@@ -1,7 +1,8 @@
 use Rattle.std.proofs.Common.{Some, arith, option_map}
 use Rattle.std.specs.Option.{option_copied}
 use Rattle.deny_build_cfg.specs.BuildingView.{building_view, bypass_view, path_view}
-use Rattle.deny_packages.proofs.DecideLemmas.{decided_glob, decided_path, decided_sum, own_fit, path_alone, path_leaves, path_summed}
+use Rattle.deny_packages.proofs.DecideLemmas.{decided_glob, decided_path, decided_sum, own_fit, path_alone, path_leaves}
+use Rattle.deny_packages.proofs.DecideLemmas.{path_summed}
 use Rattle.deny_packages.proofs.decide.by_path.Goals as goal
 
 pub returns-then-is_none : goal.returns-then-is_none

@@ -5,10 +5,12 @@ use Rattle.deny_build_cfg.specs.BuildingView.{building_view}
 use Rattle.deny_build_model.specs.declared.package.Package.{Package}
 use Rattle.deny_bypasses.specs.Marks.{reached_by}
 use Rattle.deny_krates.specs.Crates.{crate_view}
+use Rattle.deny_krates.proofs.PlaceLemmas.{krate_at}
 use Rattle.deny_lists.proofs.Members.{from_there}
+use Rattle.deny_lists.proofs.Places.{take-next}
 use Rattle.deny_model.specs.Graph.{Crate}
-use Rattle.deny_packages.proofs.GraphLemmas.{all_long, front_apart, front_long, front_places, take_next}
-use Rattle.deny_packages.proofs.PackagesLemmas.{AreSoFar, all_because, all_seen, all_wanted, caused_next, crate_here, so_far_more}
+use Rattle.deny_packages.proofs.GraphLemmas.{all_long, front_apart, front_long, front_places}
+use Rattle.deny_packages.proofs.PackagesLemmas.{AreSoFar, all_because, all_seen, all_wanted, caused_next, so_far_more}
 use Rattle.deny_outside.specs.Disk.{Files}
 use Rattle.deny_packages.proofs.packages.see_packages.Goals as goal
 use Rattle.deny_packages.specs.Seen.{IsPackageSeen}
@@ -22,7 +24,7 @@ use Rattle.deny_unread.specs.declared.unread.Unread.{Unread}
 pub see_package-requires-clause-member : goal.see_package-requires-clause-member
 see_package-requires-clause-member g c =
     from_there c.args.krates.now.crates c.loop-place.place (crate_view c.loop-place.place c.krate-item.result)
-    (crate_here c.args.krates.now c.krates-krate-items.result.now c.loop-place.place c.krate-item.result
+    (krate_at c.args.krates.now c.krates-krate-items.result.now c.loop-place.place c.krate-item.result
     c.krates-krate-items.ensures.crates c.loop-place-test.true c.krate-item.is)
 
 pub loop-place-preserved : goal.loop-place-preserved
@@ -41,7 +43,7 @@ loop-place-preserved g c =
     let same = c.krates-krate-items.ensures.crates in
     let inside = c.loop-place-test.true in
     let here = crate_view l.place c.krate-item.result in
-    let at = crate_here graph ks l.place c.krate-item.result same inside c.krate-item.is in
+    let at = krate_at graph ks l.place c.krate-item.result same inside c.krate-item.is in
     let b = building_view a.config.now in
     let reached = reached_by a.marks.now in
     let home = option_copied a.home in
@@ -61,7 +63,7 @@ loop-place-preserved g c =
           (sym (added_then a.unread.now l.unread c.see_package.new.unread before.longer step.longer))
           (subst (λ (cs : List Crate). AreSoFar start.files b reached home graph start end
           (added a.unread.now l.unread ++ added l.unread c.see_package.new.unread) cs c.push.new.self)
-          (sym (take_next graph.crates l.place here at))
+          (sym (take-next graph.crates l.place here at))
           (subst (λ (ps : List Package). AreSoFar start.files b reached home graph start end
           (added a.unread.now l.unread ++ added l.unread c.see_package.new.unread)
           (take l.place graph.crates ++ here ∷ []) ps) (sym c.in_ok-push.ensures.ok) more));

@@ -1,7 +1,7 @@
 use Rattle.std.proofs.Common.{◌<◌, ℕ, List, length, sym, subst, arith}
 use Rattle.std.specs.Prelude.{All}
 use Rattle.deny_lists.specs.Walk.{AreUnset}
-use Rattle.deny_reach.proofs.PlaceLemmas.{are_placed, length_of}
+use Rattle.deny_krates.proofs.PlaceLemmas.{are_placed, length_of}
 use Rattle.deny_reach.proofs.ReachedLemmas.{marked, starts_inside, walk_within}
 use Rattle.deny_reach.proofs.StartLemmas.{starts_are}
 use Rattle.deny_reach.proofs.reach.build_reach.Goals as goal

@@ -3,7 +3,7 @@ use Rattle.std.proofs.lemmas.Result.{on_ok_weaker}
 use Rattle.deny_base.specs.declared.key.Key.{Key}
 use Rattle.deny_facts.specs.Marks.{mark_at}
 use Rattle.deny_rules.proofs.AllowedLemmas.{left_are}
-use Rattle.deny_facts.proofs.PlaceLemmas.{length_of}
+use Rattle.deny_krates.proofs.PlaceLemmas.{length_of}
 use Rattle.deny_rules.proofs.allowed.add_unmarked_keys.Goals as goal
 
 pub returns : goal.returns

@@ -3,7 +3,7 @@ use Rattle.deny_cfg.specs.SpecView.{spec_view}
 use Rattle.deny_model.specs.Match.{matches}
 use Rattle.deny_facts.specs.Marks.{mark_at, marked}
 use Rattle.deny_lists.proofs.Filters.{filter-filter, filter-map}
-use Rattle.deny_facts.proofs.PlaceLemmas.{place_of}
+use Rattle.deny_krates.proofs.PlaceLemmas.{place_of}
 use Rattle.deny_rules.proofs.banned.concerned.Goals as goal
 
 pub returns : goal.returns

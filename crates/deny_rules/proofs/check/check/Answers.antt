@@ -1,5 +1,6 @@
 use Rattle.std.proofs.Common.{◌++◌, List, ap, inr, refl, subst, sym, ◌∙◌}
 use Rattle.std.specs.Prelude.{filter, map, option_copied}
+use Rattle.deny_lists.proofs.Results.{on_err_always}
 use Rattle.deny_base.specs.declared.key.Key.{Key}
 use Rattle.deny_build_model.specs.declared.package.Package.{Package}
 use Rattle.deny_codes.specs.Circumstances.{Circumstances, tabled}
@@ -11,8 +12,8 @@ use Rattle.deny_telling.specs.Here.{AreToldHere}
 use Rattle.deny_telling.specs.Telling.{TellsPrefix}
 use Rattle.deny_told.specs.Told.{told_by}
 use Rattle.deny_rules.specs.private.OfPackages.{facts_by}
-use Rattle.deny_rules.proofs.CheckLemmas.{both_told, first_cut, found_of, hits_then, on_error}
-use Rattle.deny_rules.proofs.CheckLemmas.{same_duplicates, second_cut, told_by_rules}
+use Rattle.deny_rules.proofs.CheckLemmas.{both_told, first_cut, found_of, hits_then, same_duplicates, second_cut}
+use Rattle.deny_rules.proofs.CheckLemmas.{told_by_rules}
 use Rattle.deny_rules.proofs.OwnRuleLemmas.{lists_own}
 use Rattle.deny_rules.proofs.StdLemmas.{std_ordered}
 use Rattle.deny_rules.proofs.check.check.Goals as goal
@@ -77,7 +78,7 @@ returns-in_err-tell_all-clause-prefix g c =
     let rules = c.in_ok-keys.keys in
     let listed = c.in_ok-keys.ensures in
     let std = std_ordered d in
-    on_error c.from_residual-in_err-tell_all.result (inr (record {
+    on_err_always c.from_residual-in_err-tell_all.result (inr (record {
       unread = looked.unread;
       packages = looked.packages;
       seen = c.in_ok-looked.ensures.seen;
@@ -107,9 +108,10 @@ returns-in_err-tell_replaced-clause-prefix g c =
     let facts : Facts = facts_by c.in_ok-marks.marks looked.reached.items in
     let rules = c.in_ok-keys.keys in
     let listed = c.in_ok-keys.ensures in
-    let std = c.in_err-tell_replaced.ensures.prefix d refl (found_of d ctx.cfg.now.file_id c.in_ok-replaced.replaced refl
+    let std = c.in_err-tell_replaced.ensures.prefix d refl
+    (found_of d ctx.cfg.now.file_id c.in_ok-replaced.replaced refl
     c.in_ok-replaced.ensures) in
-    on_error c.from_residual-in_err-tell_replaced.result (inr (record {
+    on_err_always c.from_residual-in_err-tell_replaced.result (inr (record {
       unread = looked.unread;
       packages = looked.packages;
       seen = c.in_ok-looked.ensures.seen;

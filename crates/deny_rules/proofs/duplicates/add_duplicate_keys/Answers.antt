@@ -2,7 +2,7 @@ use Rattle.std.proofs.Common.{arith}
 use Rattle.deny_cfg.specs.PolicyView.{policy_view}
 use Rattle.deny_facts.specs.Marks.{facts_of}
 use Rattle.deny_rules.proofs.DuplicateLemmas.{after_run, all_names, duplicates_added}
-use Rattle.deny_facts.proofs.PlaceLemmas.{are_placed, length_of}
+use Rattle.deny_krates.proofs.PlaceLemmas.{are_placed, length_of}
 use Rattle.deny_rules.proofs.duplicates.add_duplicate_keys.Goals as goal
 
 pub add_next-requires : goal.add_next-requires

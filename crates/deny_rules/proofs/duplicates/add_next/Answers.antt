@@ -3,7 +3,7 @@ use Rattle.std.proofs.lemmas.List.{append-nil}
 use Rattle.deny_base.specs.declared.key.Key.{Key}
 use Rattle.deny_rules.specs.private.Duplicates.{IsKeyOfCrates}
 use Rattle.deny_rules.proofs.DuplicateLemmas.{adds_key}
-use Rattle.deny_facts.proofs.PlaceLemmas.{are_placed, krate_there, length_of}
+use Rattle.deny_krates.proofs.PlaceLemmas.{are_placed, krate_there, length_of}
 use Rattle.deny_facts.proofs.RunLemmas.{run_of}
 use Rattle.deny_rules.proofs.duplicates.add_next.Goals as goal
 

@@ -3,7 +3,7 @@ use Rattle.std.proofs.lemmas.List.{append-nil, map-append}
 use Rattle.deny_krates.specs.Crates.{crate_view, crates_from}
 use Rattle.deny_model.specs.Graph.{Crate}
 use Rattle.deny_rules.specs.private.Duplicates.{is_unmarked, is_unmarked_at, placed_view}
-use Rattle.deny_facts.proofs.PlaceLemmas.{are_placed, krate_there, length_of, stands_at}
+use Rattle.deny_krates.proofs.PlaceLemmas.{are_placed, krate_there, length_of, stands_at}
 use Rattle.deny_facts.proofs.RunLemmas.{one-kept, one-left_out}
 use Rattle.deny_rules.proofs.duplicates.keep.Goals as goal
 

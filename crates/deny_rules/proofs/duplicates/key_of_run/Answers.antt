@@ -2,7 +2,7 @@ use Rattle.std.proofs.Common.{◌-◌, List, take, drop, filter, sym, ap, ◌∙
 use Rattle.std.specs.List.{IsDistinct}
 use Rattle.deny_model.specs.Graph.{Crate}
 use Rattle.deny_rules.specs.private.Duplicates.{is_unmarked, same_id}
-use Rattle.deny_facts.proofs.PlaceLemmas.{length_of}
+use Rattle.deny_krates.proofs.PlaceLemmas.{length_of}
 use Rattle.deny_rules.proofs.VersionLemmas.{distinct-run}
 use Rattle.deny_rules.proofs.duplicates.key_of_run.Goals as goal
 

@@ -9,7 +9,7 @@ use Rattle.deny_facts.specs.Marks.{marked}
 use Rattle.deny_rules.specs.private.WrappedEdges.{wrapped_edges_at, wrapped_edges_of}
 use Rattle.deny_rules.specs.declared.hits.WrappedEdge.{WrappedEdge}
 use Rattle.deny_facts.proofs.MarkLemmas.{places_within}
-use Rattle.deny_facts.proofs.PlaceLemmas.{place_of}
+use Rattle.deny_krates.proofs.PlaceLemmas.{place_of}
 use Rattle.deny_rules.proofs.hits.wrapped_edges_of.Goals as goal
 
 pub add_all_wrapped_edges-requires : goal.add_all_wrapped_edges-requires

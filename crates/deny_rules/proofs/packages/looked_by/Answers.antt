@@ -24,11 +24,13 @@ returns-clause-seen g c =
       tells = c.requires.reached.each;
       seen = subst (λ (marks : List Bool). ArePackagesSeen told b (reached_by marks) home krates us packages)
           c.as_slice.ensures.value
-          (subst (λ (vs : List Unread). ArePackagesSeen told b (reached_by c.as_slice.result.now) home krates vs packages)
+          (subst (λ (vs : List Unread). ArePackagesSeen told b
+          (reached_by c.as_slice.result.now) home krates vs packages)
           same c.in_ok-packages.ensures.seen);
       wanted = subst (λ (marks : List Bool). AreWantedPackages told b (reached_by marks) krates us packages us)
           c.as_slice.ensures.value
-          (subst (λ (vs : List Unread). AreWantedPackages told b (reached_by c.as_slice.result.now) krates vs packages vs)
+          (subst (λ (vs : List Unread). AreWantedPackages told b
+          (reached_by c.as_slice.result.now) krates vs packages vs)
           same c.in_ok-packages.ensures.wanted);
     }
 

@@ -3,7 +3,8 @@ use Rattle.std.specs.List.{flat_map}
 use Rattle.deny_base.specs.declared.code.Code.TheVariants.{UnmatchedSkip, UnnecessarySkip, UnmatchedSkipRoot}
 use Rattle.deny_cfg.specs.PolicyView.{entry_view, policy_view, roots_from}
 use Rattle.deny_model.specs.Keys.{unused_key}
-use Rattle.deny_model.specs.Skips.{has_root, is_hit_skip, is_needless, skipped_keys_of, skipped_by_root_keys_of, unmatched_skip_keys, unnecessary_skip_keys, unmatched_skip_root_keys}
+use Rattle.deny_model.specs.Skips.{has_root, is_hit_skip, is_needless, skipped_keys_of, skipped_by_root_keys_of}
+use Rattle.deny_model.specs.Skips.{unmatched_skip_keys, unnecessary_skip_keys, unmatched_skip_root_keys}
 use Rattle.deny_facts.specs.Marks.{facts_of}
 use Rattle.deny_lists.proofs.Adding.{adds_list}
 use Rattle.deny_rules.proofs.SkipLemmas.{joined}

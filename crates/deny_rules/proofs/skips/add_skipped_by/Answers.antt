@@ -6,7 +6,7 @@ use Rattle.deny_cfg.specs.PolicyView.{entry_view}
 use Rattle.deny_model.specs.Keys.{crate_key}
 use Rattle.deny_model.specs.Skips.{is_skipped, skipped_keys_of}
 use Rattle.deny_facts.specs.Marks.{facts_of}
-use Rattle.deny_facts.proofs.PlaceLemmas.{place_of}
+use Rattle.deny_krates.proofs.PlaceLemmas.{place_of}
 use Rattle.deny_rules.proofs.skips.add_skipped_by.Goals as goal
 
 pub returns : goal.returns

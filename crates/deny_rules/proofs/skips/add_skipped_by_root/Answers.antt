@@ -11,7 +11,7 @@ use Rattle.deny_model.specs.Keys.{crate_key}
 use Rattle.deny_model.specs.Skips.{is_skipped_by_root, skipped_by_root_keys_of}
 use Rattle.deny_facts.specs.Marks.{facts_of}
 use Rattle.deny_rules.specs.private.Skipping.{is_left_out}
-use Rattle.deny_facts.proofs.PlaceLemmas.{are_placed, length_of, place_of}
+use Rattle.deny_krates.proofs.PlaceLemmas.{are_placed, length_of, place_of}
 use Rattle.deny_rules.proofs.SkipLemmas.{left-out, no-tree}
 use Rattle.deny_rules.proofs.skips.add_skipped_by_root.Goals as goal
 

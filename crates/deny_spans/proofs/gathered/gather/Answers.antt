@@ -1,11 +1,11 @@
 use Rattle.std.proofs.Common.{ap, arith, length, length-append, refl}
 use Rattle.deny_krates.specs.Crates.{crate_view}
+use Rattle.deny_krates.proofs.PlaceLemmas.{krate_at}
 use Rattle.deny_spans.proofs.CountLemmas.{caused_more}
 use Rattle.deny_spans.proofs.GatherLemmas.{gathered_all, gathered_next, kept_few}
 use Rattle.deny_spans.proofs.gathered.gather.Goals as goal
 use Rattle.deny_spans.specs.Look.{kept_as}
 use Rattle.deny_unread.proofs.Later.{later_later}
-use Rattle.deny_workspace.proofs.WorkspaceLemmas.{krate_at}
 
 pub look_at-requires-clause-stands : goal.look_at-requires-clause-stands
 look_at-requires-clause-stands g c =

@@ -1,5 +1,6 @@
 use Rattle.std.proofs.Common.{refl}
-use Rattle.deny_spdx.proofs.ReadingLemmas.{read_nothing, read_more, read_shorter, read_stops, turn_on, turn_wrong, rest_within}
+use Rattle.deny_spdx.proofs.ReadingLemmas.{read_nothing, read_more, read_shorter, read_stops, turn_on, turn_wrong}
+use Rattle.deny_spdx.proofs.ReadingLemmas.{rest_within}
 use Rattle.deny_spdx.proofs.reading.read_tokens.Goals as goal
 
 pub loop-after-init : goal.loop-after-init

@@ -1,10 +1,11 @@
 use Rattle.deny_spdx.specs.Tokens.{is_word_byte}
-use Rattle.deny_spdx.proofs.PrefixLemmas.{within_prefix, words_ascii, word_prefix, plus_prefix}
+use Rattle.deny_spdx.proofs.PrefixLemmas.{words_ascii, word_prefix, plus_prefix}
 use Rattle.std.proofs.Common.{◌∙◌, sym}
+use Rattle.deny_lists.proofs.Texts.{prefix_within}
 use Rattle.deny_spdx.proofs.token.word.Goals as goal
 
 pub split-requires-clause-within : goal.split-requires-clause-within
-split-requires-clause-within c = within_prefix is_word_byte c.args.text.now _ c.word_length-length.result
+split-requires-clause-within c = prefix_within is_word_byte c.args.text.now _ c.word_length-length.result
     c.as_bytes.ensures.value c.word_length-length.ensures
 
 pub split-requires-clause-ascii : goal.split-requires-clause-ascii

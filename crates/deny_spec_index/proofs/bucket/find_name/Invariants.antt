@@ -1,6 +1,6 @@
 use Rattle.std.proofs.Common.{ℕ, ◌<◌, ◌^◌, ◌-◌, length}
 use Rattle.deny_spec_index.specs.Bucket.{IsBetween}
-use Rattle.deny_spec_index.proofs.FindLemmas.{Fuel}
+use Rattle.deny_lists.proofs.Fuel.{Fuel}
 use Rattle.deny_spec_index.proofs.bucket.find_name.Given as goal
 
 abbrev pub invariant-loop-low : goal.invariant-loop-low

@@ -1,5 +1,5 @@
-use Rattle.deny_std.proofs.PlaceLemmas.{placed}
+use Rattle.deny_std.proofs.PlaceLemmas.{are_placed}
 use Rattle.deny_std.proofs.places.are_placed.Goals as goal
 
 pub returns : goal.returns
-returns c = placed c.krates.result.now c.args.krates.now.crates c.krates.ensures.crates
+returns c = are_placed c.krates.result.now c.args.krates.now.crates c.krates.ensures.crates

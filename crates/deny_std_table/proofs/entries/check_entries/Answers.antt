@@ -1,6 +1,7 @@
 use Rattle.std.proofs.Common.{rules, ◌∙◌, ◌+◌, ◌-◌, arith, sym, ap}
 use Rattle.deny_std_table.specs.Width.{width_of}
-use Rattle.deny_std_table.proofs.TableLemmas.{entries-more, entries-break, entries-none, name_of-region, place_in-region}
+use Rattle.deny_std_table.proofs.TableLemmas.{entries-more, entries-break, entries-none, name_of-region}
+use Rattle.deny_std_table.proofs.TableLemmas.{place_in-region}
 use Rattle.deny_std_table.proofs.entries.check_entries.Goals as goal
 
 pub returns-in_err-check_entry : goal.returns-in_err-check_entry

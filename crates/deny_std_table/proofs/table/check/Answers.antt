@@ -1,5 +1,6 @@
 use Rattle.std.proofs.Common.{rules, sym}
-use Rattle.deny_std_table.proofs.TableLemmas.{table-header, table-count, table-offsets, table-bad, entries-read, offsets-all}
+use Rattle.deny_std_table.proofs.TableLemmas.{table-header, table-count, table-offsets, table-bad, entries-read}
+use Rattle.deny_std_table.proofs.TableLemmas.{offsets-all}
 use Rattle.deny_std_table.proofs.table.check.Goals as goal
 
 pub returns-in_err-width : goal.returns-in_err-width

@@ -3,7 +3,8 @@ use Rattle.deny_std_table.specs.Reading.{next_of}
 use Rattle.deny_std_table.specs.Width.{width_of}
 use Rattle.deny_std_table.specs.Region.{bounds, api}
 use Rattle.deny_std_table.specs.Spelling.{api_text, api_bytes}
-use Rattle.deny_std_table.proofs.CopyLemmas.{progress-start, progress-more, progress-break, progress-value, progress-written, broken-nothing, writes-read}
+use Rattle.deny_std_table.proofs.CopyLemmas.{progress-start, progress-more, progress-break, progress-value}
+use Rattle.deny_std_table.proofs.CopyLemmas.{progress-written, broken-nothing, writes-read}
 use Rattle.deny_std_table.proofs.CursorSteps.{api-read-in}
 use Rattle.deny_std_table.proofs.upgrade.copy_apis.Goals as goal
 

@@ -2,7 +2,8 @@ use Rattle.std.proofs.Common.{rules, ◌+◌, ◌-◌, arith, sym}
 use Rattle.deny_std_table.specs.Width.{width_of}
 use Rattle.deny_std_table.specs.Region.{bounds, group}
 use Rattle.deny_std_table.specs.Spelling.{group_text, group_bytes}
-use Rattle.deny_std_table.proofs.CopyLemmas.{progress-start, progress-more, progress-break, progress-value, progress-written, broken-nothing}
+use Rattle.deny_std_table.proofs.CopyLemmas.{progress-start, progress-more, progress-break, progress-value}
+use Rattle.deny_std_table.proofs.CopyLemmas.{progress-written, broken-nothing}
 use Rattle.deny_std_table.proofs.upgrade.copy_groups.Goals as goal
 
 pub loop-place-init : goal.loop-place-init

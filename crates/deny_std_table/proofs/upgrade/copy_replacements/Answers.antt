@@ -3,7 +3,8 @@ use Rattle.deny_std_table.specs.Reading.{next_of}
 use Rattle.deny_std_table.specs.Width.{width_of}
 use Rattle.deny_std_table.specs.Region.{bounds, replacement}
 use Rattle.deny_std_table.specs.Spelling.{replacement_text, replacement_bytes}
-use Rattle.deny_std_table.proofs.CopyLemmas.{progress-start, progress-more, progress-break, progress-value, progress-written, broken-nothing, writes-read}
+use Rattle.deny_std_table.proofs.CopyLemmas.{progress-start, progress-more, progress-break, progress-value}
+use Rattle.deny_std_table.proofs.CopyLemmas.{progress-written, broken-nothing, writes-read}
 use Rattle.deny_std_table.proofs.CursorSteps.{replacement-in}
 use Rattle.deny_std_table.proofs.upgrade.copy_replacements.Goals as goal
 
@@ -16,7 +17,8 @@ pub returns-in_err-read-clause-value : goal.returns-in_err-read-clause-value
 returns-in_err-read-clause-value c =
     let b = bounds (width_of c.args.region.now.width) c.args.region.now.bytes.now c.args.region.now.stop in
     let left = c.args.count - c.loop-place._place in
-    let stops = progress-break (replacement b) (replacement_text b.bytes) replacement_bytes c.args.count c.args.at left (left - 1)
+    let stops = progress-break (replacement b) (replacement_text b.bytes) replacement_bytes c.args.count c.args.at left
+    (left - 1)
     c.loop-place.next _ _ _ (omega arith) (ap next_of (sym c.in_err-read.ensures)) c.loop-place.invariant in
     rw stops (search rules)
 
@@ -24,7 +26,8 @@ pub returns-in_err-read-clause-written : goal.returns-in_err-read-clause-written
 returns-in_err-read-clause-written c = λ r is.
     let b = bounds (width_of c.args.region.now.width) c.args.region.now.bytes.now c.args.region.now.stop in
     let left = c.args.count - c.loop-place._place in
-    let stops = progress-break (replacement b) (replacement_text b.bytes) replacement_bytes c.args.count c.args.at left (left - 1)
+    let stops = progress-break (replacement b) (replacement_text b.bytes) replacement_bytes c.args.count c.args.at left
+    (left - 1)
     c.loop-place.next _ _ _ (omega arith) (ap next_of (sym c.in_err-read.ensures)) c.loop-place.invariant in
     absurd (broken-nothing _ _ r stops is)
 
@@ -40,7 +43,8 @@ loop-place-preserved c =
     progress-more (replacement b) (replacement_text b.bytes) replacement_bytes c.args.count c.args.at left
     (c.args.count - (c.loop-place._place + 1)) c.loop-place.next c.in_ok-read.read.next _ _ _ (omega arith)
     (ap next_of (sym c.in_ok-read.ensures))
-    (λ r is. writes-read (replacement b) (replacement_text b.bytes) replacement_bytes _ _ _ _ r (sym c.in_ok-read.ensures) is
+    (λ r is. writes-read (replacement b) (replacement_text b.bytes) replacement_bytes _ _ _ _ r
+    (sym c.in_ok-read.ensures) is
     c.put_replacement.ensures)
     c.loop-place.invariant
 

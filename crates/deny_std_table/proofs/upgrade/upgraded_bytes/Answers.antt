@@ -6,7 +6,8 @@ use Rattle.deny_std_table.specs.Width.{width_of}
 use Rattle.deny_std_table.specs.Spelling.{entry_text, entry_bytes}
 use Rattle.deny_std_table.specs.Draft.{Writes}
 use Rattle.deny_std_table.proofs.FitsLemmas.{if_ok-both, says-the-same}
-use Rattle.deny_std_table.proofs.UpgradeLemmas.{copied-start, copied-more, copied-long, copied-all, read_texts, texts-size, EntryRead, entry-read}
+use Rattle.deny_std_table.proofs.UpgradeLemmas.{copied-start, copied-more, copied-long, copied-all, read_texts}
+use Rattle.deny_std_table.proofs.UpgradeLemmas.{texts-size, EntryRead, entry-read}
 use Rattle.deny_std_table.proofs.upgrade.upgraded_bytes.Goals as goal
 use Rattle.deny_std_table.proofs.upgrade.upgraded_bytes.Goals.{After-copy_entry}
 

@@ -10,7 +10,8 @@ returns-in_default-wrapper_at c =
     let teller = c.args.teller.now in
     let key = c.args.key.now in
     c.new-in_default-wrapper_at.ensures
-    ∙ sym (wrapper_told (policy_view teller.told.cfg.now) teller.told.krates.now teller.told.cfg.now.file_id key.entry key.other
+    ∙ sym (wrapper_told (policy_view teller.told.cfg.now) teller.told.krates.now teller.told.cfg.now.file_id key.entry
+    key.other
     (ban_view c.in-Some.ban.now) None (sym c.in-Some.ensures) c.in_default-wrapper_at.ensures)
 
 pub returns : goal.returns
@@ -23,5 +24,6 @@ returns c =
     let told : c.push.new.self ≡ primary file ban.spec.range (codes "banned here")
     ∷ primary file wrapper (codes "allowed wrapper") ∷ [] = search rules in
     told
-    ∙ sym (wrapper_told (policy_view teller.told.cfg.now) teller.told.krates.now teller.told.cfg.now.file_id key.entry key.other
+    ∙ sym (wrapper_told (policy_view teller.told.cfg.now) teller.told.krates.now teller.told.cfg.now.file_id key.entry
+    key.other
     ban (Some wrapper) (sym c.in-Some.ensures) c.in-Some-wrapper_at.ensures)

@@ -10,9 +10,11 @@ returns-then-branch c =
     let requirement = option_map (λ r. requirement_read r.now) c.args.requirement in
     let k = c.index-krates-index.result in
     let place = c.args.start + c.loop-index.index in
-    stopped (fits c.args.home.now requirement) c.args.start c.loop-index.index c.args.krates.now k c.loop-index-test.true
+    stopped (fits c.args.home.now requirement) c.args.start c.loop-index.index c.args.krates.now k
+    c.loop-index-test.true
     c.index-krates-index.is
-    (wherever c.args.home.now requirement place 0 k ∙ sym c.in_ok-fits.ensures ∙ c.if-branch.true) c.loop-index.invariant
+    (wherever c.args.home.now requirement place 0 k ∙ sym c.in_ok-fits.ensures
+    ∙ c.if-branch.true) c.loop-index.invariant
 
 pub loop-index-preserved : goal.loop-index-preserved
 loop-index-preserved c =
@@ -21,4 +23,5 @@ loop-index-preserved c =
     let place = c.args.start + c.loop-index.index in
     passed (fits c.args.home.now requirement) c.args.start c.loop-index.index c.args.krates.now k c.loop-index-test.true
     c.index-krates-index.is
-    (wherever c.args.home.now requirement place 0 k ∙ sym c.in_ok-fits.ensures ∙ c.if-branch.false) c.loop-index.invariant
+    (wherever c.args.home.now requirement place 0 k ∙ sym c.in_ok-fits.ensures
+    ∙ c.if-branch.false) c.loop-index.invariant

@@ -1,6 +1,6 @@
 use Rattle.std.proofs.Common.{arith, ap, length, refl}
 use Rattle.deny_krates.proofs.Runs.{length-crates_from}
-use Rattle.deny_workspace.proofs.WorkspaceLemmas.{krate_at}
+use Rattle.deny_krates.proofs.PlaceLemmas.{krate_at}
 use Rattle.deny_workspace.proofs.workspace.put.Goals as goal
 
 pub bounds-krates-place : goal.bounds-krates-place

@@ -13,7 +13,8 @@ loop-at-preserved c = λ range.
     let p = uses_range range in
     c.in_ok-add.ensures range
     ∙ (ap (λ (us : List Looked). us ++ filter p (at ∷ [])) (c.loop-at.invariant range)
-    ∙ sym (ap (filter p) (take_more all i at c.loop-at-test.true ∙ ap (λ (u : Looked). take i all ++ u ∷ []) (sym c.at-item.is))
+    ∙ sym (ap (filter p) (take_more all i at c.loop-at-test.true
+    ∙ ap (λ (u : Looked). take i all ++ u ∷ []) (sym c.at-item.is))
     ∙ filter-append p (take i all) (at ∷ [])))
 
 pub returns : goal.returns

@@ -21,14 +21,18 @@ returns c =
     let numbers = c.numbers_of.new.numbers.items in
     let files = c.files_of.result.now in
     IfOk-weaker c.first_with.result
-    (λ found. option_copied found ≡ option_and_then (slice_get files) (find (has_components_at files names) c.as_slice-2.result.now))
-    (λ found. option_map (λ (file : Bor BypassPath). path_view file.now) found ≡ path_of_used (option_map bypass_view bypass) path)
+    (λ found. option_copied found
+    ≡ option_and_then (slice_get files) (find (has_components_at files names) c.as_slice-2.result.now))
+    (λ found. option_map (λ (file : Bor BypassPath). path_view file.now) found
+    ≡ path_of_used (option_map bypass_view bypass) path)
     (λ found is. path_found bypass path names asked numbers files found
     (ap (map text) c.as_slice-3.ensures.value ∙ c.in_ok-names.ensures)
     (c.as_str.ensures ∙ (c.in_ok-spelling.ensures
-    ∙ ap (λ (ns : List (Bor (List ℕ))). spelled (map text ns)) (c.as_slice.ensures.value ∙ sym c.as_slice-3.ensures.value)))
+    ∙ ap (λ (ns : List (Bor (List ℕ))). spelled (map text ns))
+    (c.as_slice.ensures.value ∙ sym c.as_slice-3.ensures.value)))
     c.files_of.ensures c.in_ok-numbers_of.ensures.ascending
     (subst (λ (ns : List (List ℕ)). (i : ℕ) → Contains numbers i ↔ (slice_get ns i ≡ Some asked)) self.spelled
     c.in_ok-numbers_of.ensures.exact)
-    (is ∙ ap (λ (ns : List ℕ). option_and_then (slice_get files) (find (has_components_at files names) ns)) c.as_slice-2.ensures.value))
+    (is ∙ ap (λ (ns : List ℕ). option_and_then (slice_get files) (find (has_components_at files names) ns))
+    c.as_slice-2.ensures.value))
     c.first_with.ensures

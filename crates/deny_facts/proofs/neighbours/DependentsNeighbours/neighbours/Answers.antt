@@ -1,5 +1,5 @@
 use Rattle.deny_facts.proofs.NeighbourLemmas.{each_needing, few_needing}
-use Rattle.deny_facts.proofs.PlaceLemmas.{are_placed}
+use Rattle.deny_krates.proofs.PlaceLemmas.{are_placed}
 use Rattle.deny_facts.proofs.neighbours.DependentsNeighbours.neighbours.Goals as goal
 
 pub returns-clause-each : goal.returns-clause-each

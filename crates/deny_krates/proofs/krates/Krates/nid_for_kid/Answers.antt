@@ -18,4 +18,5 @@ returns c =
     record { found = c.place_of.ensures.found; none = c.place_of.ensures.none }) in
     subst (λ (g : Graph). place ≡ option_map (λ (c : Crate). c.place) (crate_of g id)) c.self.view_is
     (place_answers k.target_edges k.root k.krates k.members k.edges k.ids
-    (apart_of k.target_edges k.root k.krates k.members k.edges c.self.invariant.orderly) c.self.invariant.ids id place found)
+    (apart_of k.target_edges k.root k.krates k.members k.edges c.self.invariant.orderly) c.self.invariant.ids id place
+    found)

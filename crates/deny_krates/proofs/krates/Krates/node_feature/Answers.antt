@@ -4,14 +4,16 @@ use Rattle.std.proofs.lemmas.Option.{slice_get-get_or, slice_get_within, same_So
 use Rattle.deny_krates.specs.Nodes.{Node}
 use Rattle.deny_krates.specs.declared.krate.Krate.{Krate}
 use Rattle.deny_krates.specs.private.NodeNumbers.{IsLastUpTo, first_features_of}
-use Rattle.deny_krates.proofs.NodeLemmas.{as_many, crate_node_of, crate_read, first_start, owned_feature, owner_features, read_start, some_starts}
+use Rattle.deny_krates.proofs.NodeLemmas.{as_many, crate_node_of, crate_read, first_start, owned_feature}
+use Rattle.deny_krates.proofs.NodeLemmas.{owner_features, read_start, some_starts}
 use Rattle.deny_krates.proofs.NumberLemmas.{length-first_features}
 use Rattle.deny_krates.proofs.krates.Krates.node_feature.Goals as goal
 
 pub returns-then-node-krates : goal.returns-then-node-krates
 returns-then-node-krates c =
     sym (ap (λ (m : Node). m.feature)
-    (crate_node_of c.krates-krates.result.now c.args.self.now c.krates-krates.ensures.crates c.args.node.0 (omega arith)))
+    (crate_node_of c.krates-krates.result.now c.args.self.now c.krates-krates.ensures.crates c.args.node.0
+    (omega arith)))
 
 pub owner_of-place-requires-clause-few : goal.owner_of-place-requires-clause-few
 owner_of-place-requires-clause-few c =
@@ -25,7 +27,8 @@ owner_of-place-requires-clause-few c =
 
 pub owner_of-place-requires-clause-some : goal.owner_of-place-requires-clause-some
 owner_of-place-requires-clause-some c = subst (λ (ns : List ℕ). 0 < length ns) (sym c.first_features-starts.ensures)
-    (some_starts c.krates-krates.result.now c.args.self.now c.krates-krates.ensures.crates c.args.node.0 (omega arith) c.requires)
+    (some_starts c.krates-krates.result.now c.args.self.now c.krates-krates.ensures.crates c.args.node.0
+    (omega arith) c.requires)
 
 pub owner_of-place-requires-clause-first : goal.owner_of-place-requires-clause-first
 owner_of-place-requires-clause-first c =
@@ -44,7 +47,8 @@ bounds-starts-place c =
     let read : slice_index_or starts p 0 ≡ last.start = read_start starts p last.start
     (ap (λ (ns : List ℕ). slice_get ns p) c.first_features-starts.ensures ∙ last.here) in
     let owned = owned_feature ks g same n p last c.requires in
-    let long : length starts ≡ length (first_features_of g) = ap (λ (ns : List ℕ). length ns) c.first_features-starts.ensures in
+    let long : length starts ≡ length (first_features_of g) =
+    ap (λ (ns : List ℕ). length ns) c.first_features-starts.ensures in
     omega (arith, long, slice_get_within (first_features_of g) p last.start last.here)
 
 pub overflow_sub-index : goal.overflow_sub-index

@@ -38,7 +38,8 @@ returns c =
     c.in_ok-place.ensures.found) in
     subst (λ (g : Graph). Answers id c.get.result g) c.self.view_is
     (krate_answers k.target_edges k.root k.krates k.members k.edges k.ids
-    (apart_of k.target_edges k.root k.krates k.members k.edges c.self.invariant.orderly) c.self.invariant.ids id place c.get.result
+    (apart_of k.target_edges k.root k.krates k.members k.edges c.self.invariant.orderly) c.self.invariant.ids id place
+    c.get.result
     found
     (got c.as_slice-2.result.now place c.get.result c.get.ensures.lookup.3 ∙ ap
     (λ (ks : List Krate). slice_get ks place) c.as_slice-2.ensures))

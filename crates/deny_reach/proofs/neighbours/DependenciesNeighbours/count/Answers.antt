@@ -1,5 +1,5 @@
 use Rattle.std.proofs.Common.{sym}
-use Rattle.deny_reach.proofs.PlaceLemmas.{length_of}
+use Rattle.deny_krates.proofs.PlaceLemmas.{length_of}
 use Rattle.deny_reach.proofs.neighbours.DependenciesNeighbours.count.Goals as goal
 
 pub returns : goal.returns

@@ -1,5 +1,5 @@
-use Rattle.deny_reach.proofs.NeighbourLemmas.{each_needed, few_needed}
-use Rattle.deny_reach.proofs.PlaceLemmas.{are_placed}
+use Rattle.deny_krates.proofs.NeighbourLemmas.{each_needed, few_needed}
+use Rattle.deny_krates.proofs.PlaceLemmas.{are_placed}
 use Rattle.deny_reach.proofs.neighbours.DependenciesNeighbours.neighbours.Goals as goal
 
 pub returns-clause-each : goal.returns-clause-each

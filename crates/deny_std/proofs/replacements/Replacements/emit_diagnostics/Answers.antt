@@ -1,8 +1,8 @@
 use Rattle.std.proofs.Common.{◌++◌, List, ℕ, map, ap, ◌∙◌, subst}
+use Rattle.deny_lists.proofs.Results.{on_err_then, on_err_always, on_ok_then}
 use Rattle.deny_codes.specs.Saying.{said_in}
 use Rattle.deny_std.specs.declared.told.Unmatched.{Unmatched}
 use Rattle.deny_std.specs.private.Told.{TellsFirst, replaced_pack, unmatched_pack}
-use Rattle.deny_std.proofs.OutcomeLemmas.{on_err, on_err_always, on_ok}
 use Rattle.deny_std.proofs.TellingLemmas.{told-all, told-first, told-second}
 use Rattle.deny_std.proofs.replacements.Replacements.emit_diagnostics.Goals as goal
 
@@ -13,7 +13,7 @@ returns-in_err-tell_unmatched-clause-prefix c = on_err_always c.from_residual.re
     c.as_slice.ensures c.in_err-tell_unmatched.ensures.prefix))
 
 pub returns-clause-told : goal.returns-clause-told
-returns-clause-told c = on_ok c.tell_replaced.result c.tell_replaced.ensures.ok (λ added d same is.
+returns-clause-told c = on_ok_then c.tell_replaced.result c.tell_replaced.ensures.ok (λ added d same is.
     told-all d c.args.id c.args.self is c.args.krates.now c.args.sink.now c.tell_unmatched.new.sink
     c.tell_replaced.new.sink same
     (c.in_ok-tell_unmatched.ensures.ok
@@ -23,7 +23,7 @@ returns-clause-told c = on_ok c.tell_replaced.result c.tell_replaced.ensures.ok 
     (said_in c.args.self.table)) places) c.as_slice-2.ensures))
 
 pub returns-clause-prefix : goal.returns-clause-prefix
-returns-clause-prefix c = on_err c.tell_replaced.result c.tell_replaced.ensures.prefix (λ first d same is.
+returns-clause-prefix c = on_err_then c.tell_replaced.result c.tell_replaced.ensures.prefix (λ first d same is.
     told-second d c.args.id c.args.self is c.args.krates.now c.args.sink.now c.tell_unmatched.new.sink
     c.tell_replaced.new.sink same
     (c.in_ok-tell_unmatched.ensures.ok

@@ -8,8 +8,8 @@ use Rattle.deny_base.specs.declared.span.Span.{Span}
 use Rattle.deny_cfg.specs.PolicyView.{ban_view}
 use Rattle.deny_model.specs.Policy.{Words}
 use Rattle.deny_model.specs.Wrappers.{same_span}
+use Rattle.deny_model.proofs.SpanLemmas.{is_eq-span_cmp}
 use Rattle.deny_facts.specs.Wrappers.{AreFirst}
-use Rattle.deny_facts.proofs.SpanLemmas.{ties}
 use Rattle.deny_telling.proofs.wrapper_ranges.WrapperRanges.put.Goals as goal
 
 chosen : {X Y : Type 0} (f : X → Option Y) (b : Bool) (x : X) (o : Option X)
@@ -28,7 +28,7 @@ returns c range name =
     subst (λ (ws : List Words). AreFirst ws ranges) c.wrappers_of.ensures c.in_ok-ranges.ensures in
     ap (option_and_then (λ (rs : TextFinMap Span). finite.get rs name))
     (c.in_ok-insert.ensures.updates.0 range ∙ ap (λ b. cond b (Some ranges) (tree.get span_cmp old range))
-    (ties ban.spec.range range))
+    (is_eq-span_cmp ban.spec.range range))
     ∙ (chosen (λ (rs : TextFinMap Span). finite.get rs name) same ranges (tree.get span_cmp old range)
     ∙ ap (λ (found : Option Span). cond same found (option_and_then (λ (rs : TextFinMap Span). finite.get rs name)
     (tree.get span_cmp old range))) (first name))

@@ -1,33 +1,27 @@
 -- Crates stand at their places.
-use Rattle.std.proofs.Common.{◌≡◌, ◌+◌, ◌<◌, ℕ, zero, suc, List, [], ◌∷◌, Contains, Option, Some, None, get_or, length, map, option_map, slice_get, refl, sym, ap, ◌∙◌, subst, arith}
-use Rattle.std.specs.List.{range_with_len}
+use Rattle.std.proofs.Common.{◌≡◌, ◌+◌, ◌<◌, ℕ, List, [], ◌∷◌, Contains, Option, Some, None, get_or, length, map}
+use Rattle.std.proofs.Common.{option_map, slice_get, refl, sym, ap, ◌∙◌, subst, arith, ◌++◌}
+use Rattle.std.specs.List.{range_with_len, flat_map}
 use Rattle.std.proofs.lemmas.Option.{none-some, same_Some, slice_get-get_or, slice_get_within}
 use Rattle.deny_krates.specs.Crates.{crate_view, crates_from}
 use Rattle.deny_krates.specs.declared.krate.Krate.{Krate}
-use Rattle.deny_lists.proofs.Members.{some_at, there}
+use Rattle.deny_lists.proofs.Members.{some_at, there, Contains-first, Contains-rest}
+use Rattle.deny_krates.proofs.ResolutionLemmas.{crates_from-at}
 use Rattle.deny_krates.proofs.Runs.{length-crates_from}
-use Rattle.deny_model.specs.Graph.{Crate}
-use Rattle.deny_facts.specs.Placed.{ArePlaced}
+use Rattle.deny_model.specs.Graph.{Crate, Graph}
+use Rattle.deny_krates.specs.Placed.{ArePlaced}
 
 abbrev pub place_of : Crate → ℕ
 place_of c = c.place
 
-slice_get-crates_from : (at n : ℕ) (ks : List Krate) → slice_get (crates_from at ks) n ≡ option_map (crate_view
-    (at + n)) (slice_get ks n)
-slice_get-crates_from at n [] = refl
-slice_get-crates_from at zero (k ∷ ks) = let same : at ≡ at + 0 = omega arith in ap (λ p. Some (crate_view p k)) same
-slice_get-crates_from at (suc n) (k ∷ ks) =
-    let moved : at + 1 + n ≡ at + suc n = omega arith in
-    slice_get-crates_from (at + 1) n ks ∙ ap (λ p. option_map (crate_view p) (slice_get ks n)) moved
-
-place_from : (at : ℕ) (k : Option Krate) (c : Crate) → option_map (crate_view at) k ≡ Some c → c.place ≡ at
+pub place_from : (at : ℕ) (k : Option Krate) (c : Crate) → option_map (crate_view at) k ≡ Some c → c.place ≡ at
 place_from at None c is = absurd (none-some c is)
 place_from at (Some k) c is = sym (ap place_of (same_Some (crate_view at k) c is))
 
-place_in : (ks : List Krate) (n : ℕ) (c : Crate) → slice_get (crates_from 0 ks) n ≡ Some c → c.place ≡ n
+pub place_in : (ks : List Krate) (n : ℕ) (c : Crate) → slice_get (crates_from 0 ks) n ≡ Some c → c.place ≡ n
 place_in ks n c is =
     let here : 0 + n ≡ n = omega arith in
-    place_from (0 + n) (slice_get ks n) c (sym (slice_get-crates_from 0 n ks) ∙ is) ∙ here
+    place_from (0 + n) (slice_get ks n) c (sym (crates_from-at 0 ks n) ∙ is) ∙ here
 
 places_from : (at : ℕ) (ks : List Krate) → map place_of (crates_from at ks) ≡ range_with_len at
     (length (crates_from at ks))
@@ -55,7 +49,7 @@ pub at_place : (ks : List Krate) (crates : List Crate) (n : ℕ) → crates_from
     → slice_get crates n ≡ option_map (crate_view n) (slice_get ks n)
 at_place ks crates n e =
     let here : 0 + n ≡ n = omega arith in
-    ap (λ cs. slice_get cs n) (sym e) ∙ (slice_get-crates_from 0 n ks ∙ ap (λ p. option_map (crate_view p)
+    ap (λ cs. slice_get cs n) (sym e) ∙ (crates_from-at 0 ks n ∙ ap (λ p. option_map (crate_view p)
     (slice_get ks n)) here)
 
 pub krate_there : (ks : List Krate) (crates : List Crate) (n : ℕ) (d : Krate) → crates_from 0 ks ≡ crates
@@ -76,3 +70,20 @@ module _ (crates : List Crate) (placed : ArePlaced crates) where
   -- a crate stands at each place that is within them
   pub stands_at : (n : ℕ) → n < length crates → (c : Crate) × (slice_get crates n ≡ Some c) × (c.place ≡ n)
   stands_at n inside = let found = some_at crates n inside in (found.0, found.1, placed.place n found.0 found.1)
+
+pub krate_at : (g : Graph) (ks : List Krate) (place : ℕ) (k : Krate) → crates_from 0 ks ≡ g.crates
+    → place < length ks → k ≡ get_or ks place k → slice_get g.crates place ≡ Some (crate_view place k)
+krate_at g ks place k same inside is =
+    let zero_on : 0 + place ≡ place = omega arith in
+    ap (λ cs. slice_get cs place) (sym same)
+    ∙ crates_from-at 0 ks place
+    ∙ ap (λ n. option_map (crate_view n) (slice_get ks place)) zero_on
+    ∙ ap (option_map (crate_view place)) (slice_get-get_or ks place k inside ∙ ap (λ j. Some j) (sym is))
+
+-- what places give is what crates give
+pub flat_map-place_of : {Y : Type 0} (f : ℕ → List Y) (h : Crate → List Y) (cs : List Crate)
+    → ((c : Crate) → Contains cs c → f c.place ≡ h c) → flat_map f (map place_of cs) ≡ flat_map h cs
+flat_map-place_of f h [] same = refl
+flat_map-place_of f h (c ∷ cs) same =
+    ap (λ ys. ys ++ flat_map f (map place_of cs)) (same c (Contains-first c cs))
+    ∙ ap (λ ys. h c ++ ys) (flat_map-place_of f h cs (λ d is. same d (Contains-rest c cs d is)))

@@ -1,46 +1,60 @@
--- The first entry that passes a test is found among the numbers of those that have a name, where all that pass have it.
-use Rattle.std.proofs.Common.{◌≡◌, ◌+◌, ◌<◌, ◌≤◌, ℕ, zero, suc, Bool, true, false, List, [], ◌∷◌, Contains, Option, Some, None, cond, find, map, refl, sym, ap, ◌∙◌, inl, inr, arith}
-use Rattle.std.specs.Prelude.{◌↔◌, option_and_then, slice_get}
-use Rattle.std.specs.Cmp.{nat_cmp_is}
+-- What a search finds: one of the list, the first that passes, and by the numbers of those that have a name.
+use Rattle.std.proofs.Common.{◌≡◌, List, [], ◌∷◌, Bool, true, false, Some, subst, ◌<◌, ℕ, zero, suc, refl, ap, ◌∙◌, ◌+◌}
+use Rattle.std.proofs.Common.{arith, None, ◌≤◌, Option, map, sym, inl, inr}
+use Rattle.std.specs.Prelude.{Contains, cond, find, slice_get, ◌==◌, IsTrue, ◌↔◌, option_and_then}
+use Rattle.std.proofs.lemmas.Option.{none-some, same_Some}
+use Rattle.std.specs.List.{list_any}
+use Rattle.std.proofs.lemmas.Bool.Decides.{Decides-eqb}
 use Rattle.std.specs.List.Sorted.{IsStrictlyIncreasing, IsStrictlySortedBy}
 use Rattle.std.specs.Option.{option_map_or}
 use Rattle.std.specs.Ordering.{nat_cmp}
-use Rattle.std.specs.declared.cmp.Ordering.TheVariants.{Equal, Greater, Less}
-use Rattle.std.proofs.lemmas.Bool.{cases_Bool, cases_eq, cases_lt}
+use Rattle.std.specs.declared.cmp.Ordering.TheVariants.{Less}
+use Rattle.std.proofs.lemmas.Bool.{cases_Bool, cases_lt}
 use Rattle.std.proofs.lemmas.Map.Keys.{sorted_from_strictly_increasing}
-use Rattle.std.proofs.lemmas.Option.{none-some, same_Some}
-use Rattle.deny_lists.proofs.Members.{Contains-by_cases, at_member, map_at, no_member}
+use Rattle.deny_lists.proofs.Members.{Contains-first, Contains-rest, any_from, any_passes, Contains-by_cases, at_member}
+use Rattle.deny_lists.proofs.Members.{map_at, no_member}
+use Rattle.deny_lists.proofs.Agreement.{same_test}
+use Rattle.deny_lists.proofs.Options.{some_from_passes}
+use Rattle.deny_lists.proofs.Numbers.{less_from_nat_cmp}
 
-below-first : (n i : ℕ) → nat_cmp n i ≡ Less → n < i
-below-first n i less = elim (cases_lt n i) as (λ _. n < i) [
-  | inl below ↦ below
-  | inr over ↦ elim (cases_eq n i) as (λ _. n < i) [
-    | inl same ↦ absurd (cc (nat_cmp_is n i Equal same))
-    | inr other ↦ absurd (cc (nat_cmp_is n i Greater (omega arith)))
-  ]
-]
+-- what is found stands in the list
+pub found_member : {A : Type 0} (p : A → Bool) (xs : List A) (x : A) → find p xs ≡ Some x → Contains xs x
+found_member p [] x is = absurd (none-some x is)
+found_member {A} p (y ∷ xs) x is = by_test (p y) (found_member p xs x) is
+  where
+    by_test : (b : Bool) → (find p xs ≡ Some x → Contains xs x) → cond b (Some y) (find p xs) ≡ Some x
+        → Contains (y ∷ xs) x
+    by_test true rest is = subst (λ (z : A). Contains (y ∷ xs) z) (same_Some y x is) (Contains-first y xs)
+    by_test false rest is = Contains-rest y xs x (rest is)
 
-find-first : {E : Type 0} (p : E → Bool) (xs : List E) (n : ℕ) (e : E) → slice_get xs n ≡ Some e → p e ≡ true
+-- the first that passes, where it stands at a number and none before it does
+pub find-at : {E : Type 0} (p : E → Bool) (xs : List E) (n : ℕ) (e : E) → slice_get xs n ≡ Some e → p e ≡ true
     → ((i : ℕ) (x : E) → i < n → slice_get xs i ≡ Some x → p x ≡ false) → find p xs ≡ Some e
-find-first p [] n e at is before = absurd (none-some e at)
-find-first {E} p (x ∷ xs) zero e at is before =
+find-at p [] n e at is before = absurd (none-some e at)
+find-at {E} p (x ∷ xs) zero e at is before =
     ap (λ (y : E). cond (p y) (Some y) (find p xs)) (same_Some x e at) ∙ ap (λ b. cond b (Some e) (find p xs)) is
-find-first p (x ∷ xs) (suc n) e at is before =
+find-at p (x ∷ xs) (suc n) e at is before =
     ap (λ b. cond b (Some x) (find p xs)) (before zero x (omega arith) refl)
-    ∙ find-first p xs n e at is (λ i y below there. before (suc i) y (omega arith) there)
+    ∙ find-at p xs n e at is (λ i y below there. before (suc i) y (omega arith) there)
 
-find-none : {E : Type 0} (p : E → Bool) (xs : List E) → ((i : ℕ) (x : E) → slice_get xs i ≡ Some x → p x ≡ false)
+pub find-none : {E : Type 0} (p : E → Bool) (xs : List E) → ((i : ℕ) (x : E) → slice_get xs i ≡ Some x → p x ≡ false)
     → find p xs ≡ None
 find-none p [] fails = refl
 find-none p (x ∷ xs) fails =
     ap (λ b. cond b (Some x) (find p xs)) (fails zero x refl)
     ∙ find-none p xs (λ i y there. fails (suc i) y there)
 
-passing : {E : Type 0} (p : E → Bool) (o : Option E) → option_map_or p o false ≡ true
-    → (e : E) × (o ≡ Some e) × (p e ≡ true)
-passing p None is = absurd (cc is)
-passing p (Some e) is = (e, refl, is)
+-- whether a number was found is whether the list has it
+pub place_found : (found : Bool) (xs : List ℕ) (x : ℕ)
+    → (IsTrue found → Contains xs x) × (Contains xs x → IsTrue found) → found ≡ list_any (λ y. y == x) xs
+place_found found xs x is = same_test found (list_any (λ y. y == x) xs) is (
+  (λ any.
+      let one = any_passes (λ y. y == x) xs any in
+      subst (Contains xs) ((Decides-eqb one.one x).0 one.passes) one.member),
+  (λ one. any_from (λ y. y == x) xs x one ((Decides-eqb x x).1 refl)),
+)
 
+-- the first entry that passes is found among the numbers of those that have a name, where all that pass have it
 module _ {E : Type 0} (p : E → Bool) (entries : List E) where
   abbrev test_at : ℕ → Bool
   test_at n = option_map_or p (slice_get entries n) false
@@ -60,9 +74,9 @@ module _ {E : Type 0} (p : E → Bool) (entries : List E) where
   numbered (n ∷ ns) low up fails whole = elim (cases_Bool (test_at n))
       as (λ _. option_and_then (slice_get entries) (find test_at (n ∷ ns)) ≡ find p entries) [
         | inl holds ↦
-            let e = passing p (slice_get entries n) holds in
+            let e = some_from_passes p (slice_get entries n) holds in
             ap (λ b. option_and_then (slice_get entries) (cond b (Some n) (find test_at ns))) holds
-            ∙ (e.1 ∙ sym (find-first p entries n e.0 e.1 e.2 (λ i x below at. elim (cases_Bool (p x))
+            ∙ (e.1 ∙ sym (find-at p entries n e.0 e.1 e.2 (λ i x below at. elim (cases_Bool (p x))
             as (λ _. p x ≡ false) [
               | inr fails_so ↦ fails_so
               | inl passes ↦ elim (cases_lt i low) as (λ _. p x ≡ false) [
@@ -71,7 +85,7 @@ module _ {E : Type 0} (p : E → Bool) (entries : List E) where
                     (λ same. absurd (omega arith))
                     (λ later. absurd (omega (
                       arith,
-                      below-first n i
+                      less_from_nat_cmp n i
                           (at_member (λ m. nat_cmp n m ≡ Less) ns i up.0 later),
                     )))
               ]
@@ -87,7 +101,7 @@ module _ {E : Type 0} (p : E → Bool) (entries : List E) where
                     ∙ at)) ∙ fails_so)
                     (λ later. absurd (omega (
                       arith,
-                      below-first n i
+                      less_from_nat_cmp n i
                           (at_member (λ m. nat_cmp n m ≡ Less) ns i up.0 later),
                     )))
               ]

@@ -13,12 +13,14 @@ use Rattle.deny_base.specs.declared.edge.Edge.{Edge}
 use Rattle.deny_krates.specs.Dependents.{AreDirectDependencies, by_id, id_at}
 use Rattle.deny_krates.specs.Orderly.{IsOrderly}
 use Rattle.deny_krates.specs.declared.krate.DirectDependent.{DirectDependent}
-use Rattle.deny_lists.proofs.Members.{Contains-filter, Contains-from_filter, Contains-from_map, any_from, any_passes, contains_map, from_there}
+use Rattle.deny_lists.proofs.Members.{Contains-filter, Contains-from_filter, Contains-from_map, any_from, any_passes}
+use Rattle.deny_lists.proofs.Members.{contains_map, from_there}
 use Rattle.deny_lists.proofs.Sorted.{ascends_map, length-ascending}
 use Rattle.deny_lists.specs.Walk as walk
-use Rattle.deny_model.specs.Graph.{Crate, Graph, dependencies, leads}
-use Rattle.deny_reach.specs.private.Steps.{HasEdge}
-use Rattle.deny_reach.proofs.PlaceLemmas.{ArePlaced, place_of, stands_at}
+use Rattle.deny_model.specs.Graph.{Crate, Graph, dependencies, leads, dependents}
+use Rattle.deny_krates.specs.Steps.{HasEdge}
+use Rattle.deny_krates.specs.Placed.{ArePlaced}
+use Rattle.deny_krates.proofs.PlaceLemmas.{place_of, stands_at}
 
 -- an edge joins crates of the graph
 pub parent_stands : (g : Graph) → IsOrderly g → (e : Edge) → Contains g.edges e → e.parent < length g.crates
@@ -78,7 +80,7 @@ module _ (g : Graph) (placed : ArePlaced g.crates) (Joined : ℕ → Type 0) (cr
       (λ (d : DirectDependent). d.place) ds) c.place) crates c.0 whole member in
       subst (λ (m : ℕ). Contains (map (λ (d : DirectDependent). d.place) ds) m) c.2 listed
 
-  each_joined : (n : ℕ) → Joined n ↔ Contains (map (λ (d : DirectDependent). d.place) ds) n
+  pub each_joined : (n : ℕ) → Joined n ↔ Contains (map (λ (d : DirectDependent). d.place) ds) n
   each_joined n = (of_joined n, joined_of n)
 
   -- no two neighbours have one id, so that there are no more of them than crates that are joined
@@ -92,7 +94,7 @@ module _ (g : Graph) (placed : ArePlaced g.crates) (Joined : ℕ → Type 0) (cr
       subst (λ (i : List ℕ). Contains (map (λ (c : Crate). c.id) crates) i) (sym here ∙ (ap (id_at g) c.2 ∙ d.is))
       (contains_map (λ (c : Crate). c.id) crates c.0 c.1)
 
-  few_joined : IsStrictlySortedBy (by_id g) ds → length ds ≤ length crates
+  pub few_joined : IsStrictlySortedBy (by_id g) ds → length ds ≤ length crates
   few_joined ascending =
       let id = λ (d : DirectDependent). id_at g d.place in
       let ids = ascends_map (by_id g) (slice_cmp nat_cmp) id (Contains ds) ds (λ x y _ _ below. below)
@@ -127,3 +129,7 @@ module _ (g : Graph) (placed : ArePlaced g.crates) (orderly : IsOrderly g) (plac
     few_needed = few_joined g placed (HasEdge g place)
         (dependencies g place) ds needed_stands needed_joined needed_kept needed_within are.whole are.sound
         are.ascending
+
+pub dependent_stands : (g : Graph) (place : ℕ) (c : Crate) → Contains (dependents g place) c → Contains g.crates c
+unfolding dependents
+dependent_stands g place c is = (Contains-from_filter _ g.crates c is).0
