@@ -1,5 +1,5 @@
 pub mod AgreementLaw
-mod Cases
+pub mod Cases
 pub mod DeclarationLemmas
 pub mod FormLemmas
 mod FoundRows
