@@ -7,14 +7,17 @@ use crate::children::is_child_name;
 use crate::disk::{DiskError, Entry, PackageFiles};
 use deny_lists::{List, Text, put_records_in_order};
 use std::alloc::Global;
+use std::fs::File;
 use std::os::unix::fs::FileExt;
 use std::{fs, io};
 
 /// The files of the system. It tells nothing of what they hold, and has one count of failures for
-/// every call and path.
+/// every call and path. The file that was read last stays open, so that one is opened once for all
+/// its pieces.
 #[derive(Debug, Drop)]
 pub struct RealDisk<'r> {
     rt: &'r HostRuntime,
+    last: LastFile,
     faults: u64,
     given: u64,
     listed: u64,
@@ -27,6 +30,7 @@ impl<'r> RealDisk<'r> {
     {
         RealDisk {
             rt,
+            last: LastFile::new(rt.alloc()),
             faults: 0,
             given: 0,
             listed: 0,
@@ -34,11 +38,49 @@ impl<'r> RealDisk<'r> {
     }
 }
 
-/// Opens the file and reads from `offset` on.
-fn read_file(rt: &HostRuntime, path: &str, offset: u64, buf: &mut [u8]) -> io::Result<usize>
-    ensures { IfOk result (λ n. n ≤ length buf.new) }
-{
-    fs::open(rt, path)?.read_at(buf, offset)
+/// The file that was read last, by its path, if it is still open.
+#[derive(Debug, Drop)]
+struct LastFile {
+    path: String,
+    file: Option<File>,
+}
+
+impl LastFile {
+    fn new(alloc: Global) -> LastFile {
+        LastFile {
+            path: String::new(alloc),
+            file: None,
+        }
+    }
+
+    /// Reads from `offset` on of the file at `path`, which is opened where it is not the last one.
+    fn read_at(
+        &mut self,
+        rt: &HostRuntime,
+        path: &str,
+        offset: u64,
+        buf: &mut [u8],
+    ) -> io::Result<usize>
+        ensures { IfOk result (λ n. n ≤ length buf.new) }
+    {
+        match &self.file {
+            Some(file) if self.path.as_str() == path => return file.read_at(buf, offset),
+            _ => {}
+        }
+        self.file = None;
+        let file = fs::open(rt, path)?;
+        let n = file.read_at(buf, offset)?;
+        self.keep(path, file);
+        Ok(n)
+    }
+
+    /// Keeps a file open, unless memory is wanting for its path.
+    fn keep(&mut self, path: &str, file: File) {
+        self.path.clear();
+        if self.path.push_str(path).is_ok() {
+            self.file = Some(file);
+        }
+    }
 }
 
 /// What the error of the system comes to. Want of memory is no failure of the disk.
@@ -102,7 +144,7 @@ impl<'r> PackageFiles for RealDisk<'r> {
     }
 
     fn read_at(&mut self, path: &str, offset: u64, buf: &mut [u8]) -> Result<usize, DiskError> {
-        match read_file(self.rt, path, offset, buf) {
+        match self.last.read_at(self.rt, path, offset, buf) {
             Ok(n) => {
                 self.given = self.given.saturating_add(n as u64);
                 Ok(n)
