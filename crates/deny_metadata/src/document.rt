@@ -309,7 +309,7 @@ pub fn value_of(alloc: Global, bytes: &[u8]) -> Result<Value, MetadataFault>
 fn json_in(alloc: Global, bytes: &[u8]) -> Result<Value, MetadataFault>
     ensures { MatchResult result (λ v. json_at bytes.now ≡ Ok (view v)) (λ e. Fails e (json_at bytes.now)) }
 {
-    match str::from_utf8(bytes) {
+    match simdutf8::compat::from_utf8(bytes) {
         Ok(text) => value_of_text(alloc, text),
         Err(_) => Err(MetadataFault::Json),
     }
