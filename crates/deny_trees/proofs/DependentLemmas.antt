@@ -79,7 +79,7 @@ kind_told None (Some b) e = cc
 kind_told (Some a) None e = cc
 kind_told (Some a) (Some b) e = ap (λ x. Some x) (kind_cmp-exact a b e)
 
-sources_exact : (g : Graph) → IsAntisymmetric (incoming_cmp g)
+pub sources_exact : (g : Graph) → IsAntisymmetric (incoming_cmp g)
 unfolding incoming_cmp
 sources_exact g a b e =
     let feature : a.node.feature ≡ b.node.feature = option_text_cmp-exact a.node.feature b.node.feature
@@ -91,7 +91,7 @@ sources_exact g a b e =
     (then_second (option_cmp kind_cmp a.kind b.kind) _ last) in
     cc (incoming_from-is a, incoming_from-is b)
 
-sources_total : (g : Graph) → IsTotalOrder (incoming_cmp g)
+pub sources_total : (g : Graph) → IsTotalOrder (incoming_cmp g)
 unfolding incoming_cmp
 sources_total g =
     then_total (on_total (λ (i : Incoming). i.node.feature) (options_total nat_list_cmp_total))

@@ -1,5 +1,6 @@
 pub mod AdvanceLemmas
 pub mod DependentLemmas
+pub mod EnoughLemmas
 pub mod GraphLemmas
 pub mod GrowingLemmas
 pub mod LevelLemmas

@@ -55,13 +55,13 @@ Apart [] = Unit {0}
 Apart (n ∷ ns) = (is_met ns n ≡ false) × Apart ns
 
 -- trees that were grown where some nodes were met: what they show with what leads to it was not met before
-record Fresh (g : Graph) (met : List Node) (trees : List GraphNode) (after : List Node) : Type 0 where
-  sources : List Incoming
-  are : flat_map expanded_in trees ≡ map (inner_of g) sources
-  apart : Apart (map (λ i. i.node) sources)
-  new : (n : Node) → is_met (map (λ i. i.node) sources) n ≡ true → is_met met n ≡ false
-  both : (n : Node) → is_met after n ≡ (is_met (map (λ i. i.node) sources) n || is_met met n)
-  bare : list_all repeats_are_bare trees ≡ true
+pub record Fresh (g : Graph) (met : List Node) (trees : List GraphNode) (after : List Node) : Type 0 where
+  pub sources : List Incoming
+  pub are : flat_map expanded_in trees ≡ map (inner_of g) sources
+  pub apart : Apart (map (λ i. i.node) sources)
+  pub new : (n : Node) → is_met (map (λ i. i.node) sources) n ≡ true → is_met met n ≡ false
+  pub both : (n : Node) → is_met after n ≡ (is_met (map (λ i. i.node) sources) n || is_met met n)
+  pub bare : list_all repeats_are_bare trees ≡ true
 
 one_of : (a b : Bool) → (a || b) ≡ true → (a ≡ false → b ≡ true)
 one_of true b is never = cc
@@ -208,7 +208,7 @@ module _ (g : Graph) (above : List Node → Node → GrownTrees)
       fresh_both g met first.met rest.met (first.tree ∷ []) rest.trees (one_fresh met i (is_met met i.node) refl)
       (each_fresh is first.met)
 
-grow_fresh : (g : Graph) (most : Option ℕ) (levels depth : ℕ) (met : List Node) (node : Node)
+pub grow_fresh : (g : Graph) (most : Option ℕ) (levels depth : ℕ) (met : List Node) (node : Node)
     → Fresh g met (grow g most levels depth met node).trees (grow g most levels depth met node).met
 unfolding grow
 grow_fresh g most zero depth met node = fresh_none g met

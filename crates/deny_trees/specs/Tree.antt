@@ -93,6 +93,10 @@ grow g most (suc levels) depth met node =
 abbrev pub all_levels : Graph → ℕ
 all_levels g = suc (length (nodes_of g))
 
+-- the tree of a node, grown so many levels high
+abbrev pub tree_to : Graph → Option ℕ → ℕ → Node → GraphNode
+tree_to g most levels node = (expanded g (start node) (grow g most levels 0 (node ∷ []) node)).tree
+
 -- The tree of a node. Features are shown above the nodes of lesser depths than this, or above all.
 unfoldable pub tree_of : Graph → Option ℕ → Node → GraphNode
 tree_of g most node = (expanded g (start node) (grow g most (all_levels g) 0 (node ∷ []) node)).tree

@@ -4,6 +4,7 @@
 mod apart;
 mod build;
 mod graphs;
+mod laws;
 mod node;
 mod parents;
 mod shown;
@@ -16,4 +17,5 @@ pub mod grapher {
 
 pub use apart::let_go;
 pub use graphs::{GraphEnd, InclusionGrapher, graphs_of};
+pub use laws::levels_are_enough;
 pub use text::write_graph_as_text;
