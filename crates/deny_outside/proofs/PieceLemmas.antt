@@ -1,11 +1,11 @@
 -- Reading goes on by a piece.
-use Rattle.std.proofs.Common.{◌≡◌, ℕ, ◌≤◌, List, ◌++◌, length, take, drop, sym, ap, subst, ◌∙◌, arith, length-append}
+use Rattle.std.proofs.Common.{◌≡◌, ℕ, ◌+◌, ◌≤◌, List, ◌++◌, length, take, drop, sym, ap, subst, ◌∙◌, arith, length-append}
 use Rattle.std.proofs.Common.{Option, Some, None, IfSome, rules}
 use Rattle.std.proofs.Math.Seq.{take-add}
 use Rattle.std.proofs.lemmas.List.{length-take-le}
 use Rattle.deny_outside.specs.Count.{counted}
 use Rattle.deny_outside.specs.Disk.{Disk, Files, IsLater, IsPieceOf, bytes_at}
-use Rattle.deny_outside.specs.Read.{IsReading}
+use Rattle.deny_outside.specs.Read.{GaveAtMost, IsReading}
 
 -- a front of a text with the next piece behind it is a longer front
 pub front_more : (text bytes piece : List ℕ) → bytes ≡ take (length bytes) text
@@ -39,6 +39,28 @@ reading_more start old new path bytes buf at n fits here reading later given nex
     listed = omega arith;
   };
   given = omega (arith, given, reading.given, length-append bytes (take n buf), length-take-le n buf fits);
+  once = omega (arith, given, reading.once, length-append bytes (take n buf), length-take-le n buf fits);
   text = (let P : Option Files → Type 0 = λ known. IfSome known (λ files. IsPieceOf (bytes_at files path) at n buf) in
       text_more start.files path bytes buf at n fits here reading.text (subst P reading.later.files next));
 }
+
+-- what was given before and behind
+pub gave_then : (a b c : Disk) (few more : Files → ℕ) → b.files ≡ a.files → GaveAtMost a b few → GaveAtMost b c more
+    → GaveAtMost a c (λ files. few files + more files)
+gave_then a b c few more same before behind = by_files a.files before
+    (subst (λ (told : Option Files). IfSome told (λ files. c.given ≤ b.given + more files)) same behind)
+  where
+    by_files : (told : Option Files) → IfSome told (λ files. b.given ≤ a.given + few files)
+        → IfSome told (λ files. c.given ≤ b.given + more files)
+        → IfSome told (λ files. c.given ≤ a.given + (few files + more files))
+    by_files None before behind = tt
+    by_files (Some files) before behind = omega (arith, before, behind)
+
+pub gave_within : (a b : Disk) (few more : Files → ℕ) → ((files : Files) → few files ≤ more files)
+    → GaveAtMost a b few → GaveAtMost a b more
+gave_within a b few more fewer gave = by_files a.files gave
+  where
+    by_files : (told : Option Files) → IfSome told (λ files. b.given ≤ a.given + few files)
+        → IfSome told (λ files. b.given ≤ a.given + more files)
+    by_files None gave = tt
+    by_files (Some files) gave = omega (arith, gave, fewer files)

@@ -1,16 +1,25 @@
 -- Reading a text to its end.
-use Rattle.std.specs.Prelude.{◌≡◌, ℕ, List, length, take, IfSome}
+use Rattle.std.specs.Prelude.{◌≡◌, ℕ, ◌+◌, ◌≤◌, List, length, take, IfSome}
 use Rattle.deny_outside.specs.Count.{RoseBy}
-use Rattle.deny_outside.specs.Disk.{Disk, IsLater, bytes_at}
+use Rattle.deny_outside.specs.Disk.{Disk, Files, IsLater, bytes_at}
 use Rattle.deny_outside.specs.declared.disk.DiskError.{DiskError}
 use Rattle.deny_outside.specs.declared.disk.DiskError.TheVariants.{Failed, Memory}
 use Rattle.deny_outside.specs.declared.read.ReadEnd.{ReadEnd}
 use Rattle.deny_outside.specs.declared.read.ReadEnd.TheVariants.{Fault, Memory as OutOfMemory}
 
+-- where the disk tells its files, reading gave at most so many bytes of them in between
+abbrev pub GaveAtMost : Disk → Disk → (Files → ℕ) → Type 0
+GaveAtMost old new bytes = IfSome old.files (λ files. new.given ≤ old.given + bytes files)
+
+-- the path's text was given at most once, and no other
+abbrev pub GaveOnce : Disk → Disk → List ℕ → Type 0
+GaveOnce old new path = GaveAtMost old new (λ files. length (bytes_at files path))
+
 -- the bytes are what was read of the path's text so far, from a disk that stood at `start`
 pub record IsReading (start now : Disk) (path bytes : List ℕ) : Type 0 where
   pub later : IsLater start now
   pub given : RoseBy (length bytes) start.given now.given
+  pub once : now.given ≤ start.given + length bytes
   pub text : IfSome start.files (λ files. bytes ≡ take (length bytes) (bytes_at files path))
 
 -- the bytes are all of the path's text

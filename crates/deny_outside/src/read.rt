@@ -1,7 +1,7 @@
 ghost use Rattle.std.specs.Prelude.{◌≡◌, ◌+◌, ◌<◌, ◌≤◌, ◌^◌, length, IfOk, IfSome, IsErrOf, OnErr, true, false, IsOk, Ok};
 ghost use Rattle.deny_outside.specs.Count.{RoseBy};
 ghost use Rattle.deny_outside.specs.Disk.{Disk, IsLater, FailedAt, bytes_at};
-ghost use Rattle.deny_outside.specs.Read.{IsReading, IsWhole};
+ghost use Rattle.deny_outside.specs.Read.{GaveOnce, IsReading, IsWhole};
 
 use crate::disk::{Call, DiskError, PackageFiles};
 use deny_lists::NoMemory;
@@ -75,6 +75,8 @@ fn read_piece<D: PackageFiles>(
     ensures last { result ≡ Ok false → bytes.new.items ≡ bytes.old.items }
     ensures ended { (start : Disk) → IsReading start (D.seen disk.old) path.now bytes.old.items
         → result ≡ Ok false → IsWhole start path.now bytes.new.items }
+    ensures once { (start : Disk) → IsReading start (D.seen disk.old) path.now bytes.old.items
+        → GaveOnce start (D.seen disk.new) path.now }
     ensures later { IsLater (D.seen disk.old) (D.seen disk.new) }
     ensures fault { IsErrOf result ReadEnd.Fault →
         FailedAt (D.seen disk.old) (D.seen disk.new) Call.Read path.now }
@@ -88,7 +90,8 @@ fn read_piece<D: PackageFiles>(
 /// Reads the text at `path` to its end.
 ///
 /// `Fault` comes only where a read of this path failed, `Long` only where the text has 2^28 bytes
-/// or more; a text of that size is never given. The time grows with the text alone.
+/// or more; a text of that size is never given. However it ends, each byte is asked for at most once.
+/// The time grows with the text alone.
 pub fn read_whole<D: PackageFiles>(
     alloc: Global,
     disk: &mut D,
@@ -99,6 +102,7 @@ pub fn read_whole<D: PackageFiles>(
         (λ files. bytes.items ≡ bytes_at files path.now)) }
     ensures given { IfOk result (λ bytes.
         RoseBy (length bytes.items) (D.seen disk.old).given (D.seen disk.new).given) }
+    ensures once { GaveOnce (D.seen disk.old) (D.seen disk.new) path.now }
     ensures later { IsLater (D.seen disk.old) (D.seen disk.new) }
     ensures fault { IsErrOf result ReadEnd.Fault →
         FailedAt (D.seen disk.old) (D.seen disk.new) Call.Read path.now }

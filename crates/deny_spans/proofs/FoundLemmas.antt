@@ -10,7 +10,7 @@ use Rattle.deny_model.specs.Graph.{Graph}
 use Rattle.deny_outside.specs.Disk.{Files}
 use Rattle.deny_spans.proofs.HomeLemmas.{HomeIs, home_is, nowhere, shared_by, text_is, text_short, there, utf8_text}
 use Rattle.deny_spans.specs.Look.{IsReadAt, Look, ReadsAs, Reading, kept_as, kept_of, number_of, tree_of}
-use Rattle.deny_spans.specs.Look.{workspace_look, workspace_reading}
+use Rattle.deny_spans.specs.Look.{home_in, workspace_look, workspace_reading}
 use Rattle.deny_spans.specs.Paths.{workspace_path}
 use Rattle.deny_spans.specs.declared.gathered.Gathered.{Gathered}
 use Rattle.deny_spans.specs.declared.krate_spans.Found.{Found}
@@ -19,7 +19,7 @@ use Rattle.deny_spans.specs.declared.workspace.Workspace.{Workspace}
 use Rattle.deny_spans.specs.private.Found.{IsFound, broken_alone}
 use Rattle.deny_spans.specs.private.Gathered.{IsGathered, broken_of, missing_of}
 use Rattle.deny_spans.specs.private.Workspace.{AreSharedIf, AreSharedOf, IsNotRead, IsReadAlone, IsShortAt}
-use Rattle.deny_spans.specs.private.Workspace.{IsWorkspaceBy, IsWorkspaceIn, home_file, home_in, text_at}
+use Rattle.deny_spans.specs.private.Workspace.{IsWorkspaceBy, IsWorkspaceIn, home_file, text_at}
 use Rattle.deny_unread.specs.Unread.{asked, if_unread}
 use Rattle.deny_unread.specs.declared.purpose.Purpose.TheVariants as purpose
 use Rattle.deny_unread.specs.declared.unread.Unread.{Unread}

@@ -21,9 +21,9 @@ use Rattle.deny_model.specs.Text.{same_text}
 use Rattle.deny_outside.specs.Disk.{Files}
 use Rattle.deny_spans.proofs.LookLemmas.{kept_at, reads_once}
 use Rattle.deny_spans.specs.Look.{AreNumbered, IsReadAt, Look, ReadsAs, Reading, is_workspaces, kept_of, number_of}
-use Rattle.deny_spans.specs.Look.{tree_of, workspace_look}
+use Rattle.deny_spans.specs.Look.{home_in, tree_of, workspace_look}
 use Rattle.deny_spans.specs.Paths.{workspace_path}
-use Rattle.deny_spans.specs.private.Workspace.{AreSharedIf, AreSharedIn, AreSharedOf, home_file, home_in, is_home}
+use Rattle.deny_spans.specs.private.Workspace.{AreSharedIf, AreSharedIn, AreSharedOf, home_file, is_home}
 use Rattle.deny_spans.specs.private.Workspace.{text_at}
 use Rattle.deny_toml.specs.declared.value.Value.{Value}
 use Rattle.deny_workspace.specs.declared.registries.Registry.{Registry}

@@ -5,6 +5,7 @@ pub mod HomeLemmas
 pub mod IdLemmas
 pub mod KeepLemmas
 pub mod LookLemmas
+pub mod OnceLemmas
 pub mod OneViewLemmas
 mod PathRows
 pub mod RangeLemmas

@@ -1,6 +1,6 @@
 -- What was read of manifests: their texts and trees, and the files that they are kept as.
 use Rattle.std.specs.Prelude.{◌≡◌, ◌<◌, ⊤, ℕ, ◌+◌, ◌^◌, IfSome, List, [], ◌∷◌, None, Option, Some, length}
-use Rattle.std.specs.Prelude.{is_none, option_and_then, ◌&&◌, Bool, find, if◌then◌else◌}
+use Rattle.std.specs.Prelude.{is_none, option_and_then, position, ◌&&◌, Bool, find, if◌then◌else◌}
 use Rattle.std.specs.Option.{IsSomeAnd, option_map_or}
 use Rattle.std.specs.Str.{IsUtf8, is_utf8}
 use Rattle.deny_outside.specs.Disk.{Files, bytes_at}
@@ -76,7 +76,11 @@ AreNumbered number (l ∷ ls) = IfSome l.read (λ r. r.number ≡ number) × Are
 unfoldable pub is_workspaces : Graph → Crate → Bool
 is_workspaces g c = is_none c.source && same_text c.manifest_path (workspace_path g.root)
 
--- the first crate whose manifest it is
+-- the place of the first crate whose manifest it is
+abbrev pub home_in : Graph → Option ℕ
+home_in g = position (is_workspaces g) g.crates
+
+-- what was read of that crate
 abbrev pub workspace_look : Graph → List Look → Option Look
 workspace_look g looks = find (λ l. is_workspaces g l.crate) looks
 

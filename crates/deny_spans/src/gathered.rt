@@ -1,9 +1,12 @@
 //! The manifests of crates, as they are read one after another.
 ghost use Rattle.std.specs.Prelude.{◌≡◌, ◌<◌, ◌≤◌, ◌-◌, ◌^◌, ◌++◌, ◌∷◌, [], ◌&&◌, IfOk, IfSome, OnOk, Some, is_none, length, option_map, slice_get};
+ghost use Rattle.std.specs.List.{sum_by};
 ghost use Rattle.deny_outside.specs.Disk.{IsLater};
+ghost use Rattle.deny_outside.specs.Read.{GaveAtMost};
 ghost use Rattle.deny_krates.specs.Crates.{crate_view};
 ghost use Rattle.deny_manifests.specs.Manifest.{deps_in, ignored_by};
 ghost use Rattle.deny_spans.specs.private.Gathered.{IsGathered, IsKept, IsLookedAt, IsManifestRead, IsReadLocally, broken_if};
+ghost use Rattle.deny_spans.specs.Wanted.{bytes_of};
 ghost use Rattle.deny_unread.specs.Added.{added};
 ghost use Rattle.deny_unread.specs.Bound.{Folders};
 ghost use Rattle.deny_unread.specs.Causes.{AreCaused};
@@ -39,6 +42,8 @@ pub fn gather<'k, D: PackageFiles>(
         krates.entry.now.crates files.old files.new gathered) }
     ensures caused { IfOk result (λ gathered. (folder : Folders) →
         AreCaused folder (D.seen disk.old) (D.seen disk.new) gathered.missed.unread) }
+    ensures once { IfOk result (λ _. GaveAtMost (D.seen disk.old) (D.seen disk.new)
+        (λ files. sum_by (bytes_of files) krates.entry.now.crates)) }
     ensures few { OnOk result (length files.new < 2 ^ 32 - 1) }
     ensures later { IsLater (D.seen disk.old) (D.seen disk.new) }
 {
@@ -77,6 +82,8 @@ fn look_at<'k, D: PackageFiles>(
         files.old files.new gathered.old gathered.new) }
     ensures caused { OnOk result ((folder : Folders) → AreCaused folder (D.seen disk.old) (D.seen disk.new)
         (added gathered.old.missed.unread gathered.new.missed.unread)) }
+    ensures once { OnOk result (GaveAtMost (D.seen disk.old) (D.seen disk.new)
+        (λ files. bytes_of files (crate_view place krate.entry.now))) }
     ensures later { IsLater (D.seen disk.old) (D.seen disk.new) }
 {
     let read = read_local(alloc, krate, disk, &mut gathered.missed.unread)?;
@@ -96,6 +103,8 @@ fn read_local<D: PackageFiles>(
         unread.old unread.new (option_map (λ bytes. bytes.items) read)) }
     ensures caused { IfOk result (λ _. (folder : Folders) →
         AreCaused folder (D.seen disk.old) (D.seen disk.new) (added unread.old unread.new)) }
+    ensures once { OnOk result (GaveAtMost (D.seen disk.old) (D.seen disk.new)
+        (λ files. bytes_of files (crate_view 0 krate.now))) }
     ensures later { IsLater (D.seen disk.old) (D.seen disk.new) }
 {
     if krate.source.is_some() {

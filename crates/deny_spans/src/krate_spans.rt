@@ -3,6 +3,7 @@ ghost use Rattle.std.specs.Prelude.{◌≡◌, ◌++◌, ◌∷◌, [], ◌<◌,
 ghost use Rattle.std.specs.List.{AllZip};
 ghost use Rattle.std.specs.Option.{option_and_then, option_flatten};
 ghost use Rattle.deny_outside.specs.Disk.{IsLater};
+ghost use Rattle.deny_outside.specs.Read.{GaveAtMost};
 ghost use Rattle.deny_krates.specs.Ids.{crate_of};
 ghost use Rattle.deny_lock.specs.Text.{IsLineOf, lock_span_at, lock_text};
 ghost use Rattle.deny_model.specs.Graph.{Graph};
@@ -11,7 +12,7 @@ ghost use Rattle.deny_spans.specs.Ranges.{ViewLies};
 ghost use Rattle.deny_spans.specs.Seen.{IsSeen, lock_file};
 ghost use Rattle.deny_spans.specs.private.Found.{IsFound, IsPutTogether, StandsAt};
 ghost use Rattle.deny_spans.specs.SpansView.{AreSpansOf, IsManifestAt, IsSharedAt, manifest_view, spans_view};
-ghost use Rattle.deny_spans.specs.Wanted.{AreWanted};
+ghost use Rattle.deny_spans.specs.Wanted.{AreWanted, bytes_wanted};
 ghost use Rattle.deny_unread.specs.Bound.{Folders};
 ghost use Rattle.deny_unread.specs.Causes.{AreCaused};
 ghost use Rattle.deny_workspace.specs.Workspace.{span_view};
@@ -79,6 +80,8 @@ impl<'k> KrateSpans<'k> {
         ensures caused { IfOk result (λ s. (folder : Folders) →
             AreCaused folder (D.seen disk.old) (D.seen disk.new) s.unread) }
         ensures wanted { IfOk result (λ s. AreWanted krates.entry.now s.unread) }
+        ensures once { IfOk result (λ _. GaveAtMost (D.seen disk.old) (D.seen disk.new)
+            (λ files. bytes_wanted files krates.entry.now)) }
         ensures later { IsLater (D.seen disk.old) (D.seen disk.new) }
     {
         let _krates = krates.krates();
@@ -203,6 +206,8 @@ fn look_around<'k, D: PackageFiles>(
     ensures found { IfOk result (IsFound (D.seen disk.old).files krates.entry.now registries.now files.old files.new) }
     ensures caused { IfOk result (λ found. (folder : Folders) →
         AreCaused folder (D.seen disk.old) (D.seen disk.new) found.missed.unread) }
+    ensures once { IfOk result (λ _. GaveAtMost (D.seen disk.old) (D.seen disk.new)
+        (λ files. bytes_wanted files krates.entry.now)) }
     ensures later { IsLater (D.seen disk.old) (D.seen disk.new) }
 {
     let Gathered {

@@ -1,9 +1,12 @@
 //! The manifest of the workspace.
 ghost use Rattle.std.specs.Prelude.{◌≡◌, ◌<◌, ◌-◌, ◌^◌, ◌++◌, [], List, Option, IfOk, IfSome, is_none, length, option_map, position};
 ghost use Rattle.deny_outside.specs.Disk.{IsLater};
+ghost use Rattle.deny_outside.specs.Read.{GaveAtMost, GaveOnce};
+ghost use Rattle.deny_spans.specs.Look.{home_in};
 ghost use Rattle.deny_spans.specs.Paths.{workspace_path};
 ghost use Rattle.deny_spans.specs.private.Gathered.{broken_if};
-ghost use Rattle.deny_spans.specs.private.Workspace.{AreShared, AreSharedIf, AreSharedIn, AreSharedOf, IsKeptAlone, IsReadAlone, IsShortAt, IsWorkspaceIn, home_in, is_home, text_at};
+ghost use Rattle.deny_spans.specs.private.Workspace.{AreShared, AreSharedIf, AreSharedIn, AreSharedOf, IsKeptAlone, IsReadAlone, IsShortAt, IsWorkspaceIn, is_home, text_at};
+ghost use Rattle.deny_spans.specs.Wanted.{bytes_alone};
 ghost use Rattle.deny_toml.specs.declared.value.Value.{Value};
 ghost use Rattle.deny_unread.specs.Added.{added};
 ghost use Rattle.deny_unread.specs.Bound.{Folders};
@@ -49,6 +52,8 @@ pub fn workspace_of<'k, D: PackageFiles>(
         files.old files.new missed.old missed.new) }
     ensures caused { IfOk result (λ _. (folder : Folders) → AreCaused folder (D.seen disk.old) (D.seen disk.new)
         (added missed.old.unread missed.new.unread)) }
+    ensures once { IfOk result (λ _. GaveAtMost (D.seen disk.old) (D.seen disk.new)
+        (λ files. bytes_alone files krates.entry.now)) }
     ensures later { IsLater (D.seen disk.old) (D.seen disk.new) }
 {
     let path = workspace_path(alloc, krates.workspace_root())?;
@@ -137,6 +142,7 @@ fn alone<'k, D: PackageFiles>(
         files.old files.new missed.old missed.new) }
     ensures caused { IfOk result (λ _. (folder : Folders) → AreCaused folder (D.seen disk.old) (D.seen disk.new)
         (added missed.old.unread missed.new.unread)) }
+    ensures once { GaveOnce (D.seen disk.old) (D.seen disk.new) (workspace_path krates.entry.now.root) }
     ensures later { IsLater (D.seen disk.old) (D.seen disk.new) }
 {
     match read_manifest(alloc, disk, None, path.as_str(), &mut missed.unread)? {

@@ -2,6 +2,7 @@ ghost use Rattle.std.specs.Prelude.{◌≡◌, ◌++◌, ◌^◌, ◌<◌, [], �
 ghost use Rattle.std.specs.Prelude.{length, is_some, option_map, IfOk, IfSome, OnOk, OnErr};
 ghost use Rattle.std.specs.Option.{option_copied};
 ghost use Rattle.deny_outside.specs.Disk.{IsLater, bytes_at};
+ghost use Rattle.deny_outside.specs.Read.{GaveOnce};
 ghost use Rattle.deny_unread.specs.Added.{added};
 ghost use Rattle.deny_unread.specs.Bound.{Folders};
 ghost use Rattle.deny_unread.specs.Causes.{AreCaused};
@@ -38,6 +39,7 @@ pub fn read_manifest<D: PackageFiles>(
     ensures seen { IfOk result (λ read. IfSome (D.seen disk.old).files (λ files.
         option_map (λ bytes. bytes.items) read ≡
         (view_of files (added unread.old unread.new) (option_copied krate.entry)).text purpose.Manifest path.now)) }
+    ensures once { GaveOnce (D.seen disk.old) (D.seen disk.new) path.now }
     ensures later { IsLater (D.seen disk.old) (D.seen disk.new) }
     ensures no_memory { OnErr result (unread.new ≡ unread.old) }
 {

@@ -1,13 +1,13 @@
 -- What is made of the manifest of the workspace.
 use Rattle.std.specs.Prelude.{◌≡◌, ◌<◌, ℕ, ◌^◌, ◌++◌, ◌&&◌, Bool, IfSome, List, MatchOption, None, Option, Some}
-use Rattle.std.specs.Prelude.{is_none, is_some, length, map, option_map, position, slice_get}
+use Rattle.std.specs.Prelude.{is_none, is_some, length, map, option_map, slice_get}
 use Rattle.std.specs.Option.{option_and_then, option_flatten}
 use Rattle.deny_outside.specs.Disk.{Files}
 use Rattle.deny_base.specs.declared.files.File.{File}
 use Rattle.deny_krates.specs.declared.krate.Krate.{Krate}
 use Rattle.deny_model.specs.Graph.{Graph}
 use Rattle.deny_model.specs.Text.{same_text}
-use Rattle.deny_spans.specs.Look.{IsReadAt, ReadsAs, Reading, is_workspaces, kept_as, number_of, tree_of}
+use Rattle.deny_spans.specs.Look.{IsReadAt, ReadsAs, Reading, home_in, kept_as, number_of, tree_of}
 use Rattle.deny_spans.specs.Paths.{workspace_path}
 use Rattle.deny_spans.specs.Seen.{entries_by}
 use Rattle.deny_spans.specs.declared.missed.Missed.{Missed}
@@ -50,10 +50,6 @@ text_at files id = option_and_then (λ number. option_map (λ file. file.source)
 
 abbrev pub is_home : List ℕ → Krate → Bool
 is_home path k = is_none k.source && same_text k.manifest_path path
-
--- the place of the first crate whose manifest is the workspace's
-abbrev pub home_in : Graph → Option ℕ
-home_in g = position (is_workspaces g) g.crates
 
 -- the file of the first crate whose manifest is the workspace's
 abbrev pub home_file : Graph → List (Option ℕ) → Option ℕ

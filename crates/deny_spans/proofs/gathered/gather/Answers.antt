@@ -3,6 +3,7 @@ use Rattle.deny_krates.specs.Crates.{crate_view}
 use Rattle.deny_krates.proofs.PlaceLemmas.{krate_at}
 use Rattle.deny_spans.proofs.CountLemmas.{caused_more}
 use Rattle.deny_spans.proofs.GatherLemmas.{gathered_all, gathered_next, kept_few}
+use Rattle.deny_spans.proofs.OnceLemmas.{given_next}
 use Rattle.deny_spans.proofs.gathered.gather.Goals as goal
 use Rattle.deny_spans.specs.Look.{kept_as}
 use Rattle.deny_unread.proofs.Later.{later_later}
@@ -28,6 +29,8 @@ loop-place-preserved g c =
       caused = λ folder. caused_more folder (seen c.args.disk.now) (seen c.loop-place.disk) (seen c.look_at.new.disk)
           c.loop-place.gathered.missed.unread c.look_at.new.gathered.missed.unread _ step.looked.unread before.later
           c.look_at.ensures.later (before.caused folder) (step.caused folder);
+      once = given_next c.args.krates.now place krate (seen c.args.disk.now) (seen c.loop-place.disk)
+          (seen c.look_at.new.disk) at before.later.files before.once step.once;
       later = later_later (seen c.args.disk.now) (seen c.loop-place.disk) (seen c.look_at.new.disk) before.later
           c.look_at.ensures.later;
       few = omega (

@@ -29,6 +29,7 @@ returns-in_ok-put_entry-in-Err-Fault g c =
       caused = λ folder. caused_added folder old new c.args.unread.now c.put_entry.new.unread _ behind
           (caused_by_call folder old new (asked krate Manifest c.args.path.now) failed);
       seen = seen_unread old.files c.args.unread.now c.put_entry.new.unread krate Manifest c.args.path.now behind;
+      once = c.read_whole.ensures.once;
       later = c.read_whole.ensures.later;
       no_memory = tt;
     }
@@ -52,6 +53,7 @@ returns-in_ok-put_entry-in-Err-Long g c =
           (long folder));
       seen = seen_unread old.files c.args.unread.now c.put_entry-in-Err-Long.new.unread krate Manifest
           c.args.path.now behind;
+      once = c.read_whole.ensures.once;
       later = c.read_whole.ensures.later;
       no_memory = tt;
     }

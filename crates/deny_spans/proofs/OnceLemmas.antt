@@ -1,0 +1,33 @@
+-- Each manifest is given at most once.
+use Rattle.std.proofs.Common.{◌≡◌, ◌∙◌, ◌+◌, ◌≤◌, ◌++◌, ◌∷◌, [], ℕ, Option, Some, ap, arith, length, refl, sym, take}
+use Rattle.std.specs.Prelude.{slice_get}
+use Rattle.std.specs.List.{sum_by}
+use Rattle.std.proofs.lemmas.List.{take_more}
+use Rattle.std.proofs.lemmas.List.Sums.{sum_by-append}
+use Rattle.std.proofs.lemmas.Option.{get_or_from_slice_get, slice_get_within}
+use Rattle.deny_model.specs.Graph.{Crate, Graph}
+use Rattle.deny_outside.proofs.PieceLemmas.{gave_then, gave_within}
+use Rattle.deny_outside.specs.Disk.{Disk, Files}
+use Rattle.deny_outside.specs.Read.{GaveAtMost}
+use Rattle.deny_spans.specs.Wanted.{bytes_of}
+
+-- with that of one crate more
+pub given_next : (g : Graph) (place : ℕ) (c : Crate) (a b now : Disk) → slice_get g.crates place ≡ Some c
+    → b.files ≡ a.files → GaveAtMost a b (λ files. sum_by (bytes_of files) (take place g.crates))
+    → GaveAtMost b now (λ files. bytes_of files c)
+    → GaveAtMost a now (λ files. sum_by (bytes_of files) (take (place + 1) g.crates))
+given_next g place c a b now at same before behind =
+    gave_within a now (λ files. sum_by (bytes_of files) (take place g.crates) + bytes_of files c) _ next
+    (gave_then a b now _ _ same before behind)
+  where
+    more : take (place + 1) g.crates ≡ take place g.crates ++ c ∷ []
+    more = take_more g.crates place c (slice_get_within g.crates place c at)
+        ∙ ap (λ (d : Crate). take place g.crates ++ d ∷ []) (get_or_from_slice_get g.crates place c c at)
+
+    next : (files : Files) → sum_by (bytes_of files) (take place g.crates) + bytes_of files c
+        ≤ sum_by (bytes_of files) (take (place + 1) g.crates)
+    next files = omega (
+      arith,
+      ap (sum_by (bytes_of files)) more,
+      sum_by-append (bytes_of files) (take place g.crates) (c ∷ []),
+    )
