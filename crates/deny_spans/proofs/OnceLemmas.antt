@@ -1,10 +1,13 @@
 -- Each manifest is given at most once.
-use Rattle.std.proofs.Common.{◌≡◌, ◌∙◌, ◌+◌, ◌≤◌, ◌++◌, ◌∷◌, [], ℕ, Option, Some, ap, arith, length, refl, sym, take}
+use Rattle.std.proofs.Common.{◌≡◌, ◌∙◌, ◌+◌, ◌≤◌, ◌++◌, ◌∷◌, [], ℕ, List, Some, ap, arith, length, subst, take}
 use Rattle.std.specs.Prelude.{slice_get}
 use Rattle.std.specs.List.{sum_by}
-use Rattle.std.proofs.lemmas.List.{take_more}
+use Rattle.std.proofs.lemmas.List.{take_all, take_more}
 use Rattle.std.proofs.lemmas.List.Sums.{sum_by-append}
 use Rattle.std.proofs.lemmas.Option.{get_or_from_slice_get, slice_get_within}
+use Rattle.deny_krates.proofs.Runs.{length-crates_from}
+use Rattle.deny_krates.specs.Crates.{crates_from}
+use Rattle.deny_krates.specs.declared.krate.Krate.{Krate}
 use Rattle.deny_model.specs.Graph.{Crate, Graph}
 use Rattle.deny_outside.proofs.PieceLemmas.{gave_then, gave_within}
 use Rattle.deny_outside.specs.Disk.{Disk, Files}
@@ -31,3 +34,11 @@ given_next g place c a b now at same before behind =
       ap (sum_by (bytes_of files)) more,
       sum_by-append (bytes_of files) (take place g.crates) (c ∷ []),
     )
+
+-- those of all crates
+pub given_all : (g : Graph) (place : ℕ) (ks : List Krate) (a b : Disk) → crates_from 0 ks ≡ g.crates → length ks ≤ place
+    → GaveAtMost a b (λ files. sum_by (bytes_of files) (take place g.crates))
+    → GaveAtMost a b (λ files. sum_by (bytes_of files) g.crates)
+given_all g place ks a b crates past gave =
+    subst (λ (cs : List Crate). GaveAtMost a b (λ files. sum_by (bytes_of files) cs))
+    (take_all place g.crates (omega (arith, past, length-crates_from 0 ks, ap length crates))) gave

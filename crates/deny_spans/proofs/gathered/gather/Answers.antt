@@ -3,7 +3,7 @@ use Rattle.deny_krates.specs.Crates.{crate_view}
 use Rattle.deny_krates.proofs.PlaceLemmas.{krate_at}
 use Rattle.deny_spans.proofs.CountLemmas.{caused_more}
 use Rattle.deny_spans.proofs.GatherLemmas.{gathered_all, gathered_next, kept_few}
-use Rattle.deny_spans.proofs.OnceLemmas.{given_next}
+use Rattle.deny_spans.proofs.OnceLemmas.{given_all, given_next}
 use Rattle.deny_spans.proofs.gathered.gather.Goals as goal
 use Rattle.deny_spans.specs.Look.{kept_as}
 use Rattle.deny_unread.proofs.Later.{later_later}
@@ -47,3 +47,9 @@ returns-clause-gathered g c =
     gathered_all (g.D.PackageFiles.seen c.args.disk.now).files c.args.krates.now c.loop-place.place
     c.krates-krate-items.result.now c.args.files.now c.loop-place.files c.loop-place.gathered
     c.krates-krate-items.ensures.crates c.loop-place-test.false c.loop-place.invariant.gathered
+
+pub returns-clause-once : goal.returns-clause-once
+returns-clause-once g c =
+    given_all c.args.krates.now c.loop-place.place c.krates-krate-items.result.now (g.D.PackageFiles.seen c.args.disk.now)
+    (g.D.PackageFiles.seen c.loop-place.disk) c.krates-krate-items.ensures.crates c.loop-place-test.false
+    c.loop-place.invariant.once

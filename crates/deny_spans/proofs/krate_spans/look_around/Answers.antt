@@ -1,4 +1,5 @@
 use Rattle.std.proofs.Common.{List, Option, subst, sym, ℕ}
+use Rattle.deny_outside.proofs.PieceLemmas.{gave_then}
 use Rattle.deny_spans.proofs.CountLemmas.{caused_more}
 use Rattle.deny_spans.proofs.FoundLemmas.{found_by, home_short, unread_behind}
 use Rattle.deny_spans.proofs.krate_spans.look_around.Goals as goal
@@ -26,3 +27,9 @@ returns-clause-caused g c = λ folder.
     caused_more folder (seen c.args.disk.now) (seen c.gather.new.disk) (seen c.workspace_of.new.disk)
     c.in_ok-manifests.field-0.missed.unread c.workspace_of.new.missed.unread behind.0 behind.1 c.gather.ensures.later
     c.workspace_of.ensures.later (c.in_ok-manifests.ensures.caused folder) (c.in_ok-workspace.ensures.caused folder)
+
+pub returns-clause-once : goal.returns-clause-once
+returns-clause-once g c =
+    let seen = g.D.PackageFiles.seen in
+    gave_then (seen c.args.disk.now) (seen c.gather.new.disk) (seen c.workspace_of.new.disk) _ _
+    c.gather.ensures.later.files c.in_ok-manifests.ensures.once c.in_ok-workspace.ensures.once
