@@ -1,5 +1,6 @@
 -- The text of a plain value has no newline, so that lines of such texts are split into them.
-use Rattle.std.proofs.Common.{◌≡◌, ℕ, ◌<◌, ◌/◌, ◌%◌, ◌^◌, ◌+◌, inl, inr, Bool, true, false, List, [], ◌∷◌, ◌++◌, decimal, refl, arith, cond, nat_lt, ap, ◌∙◌, subst, sym, ◌==◌, ◌||◌, append_assoc}
+use Rattle.std.proofs.Common.{◌≡◌, ℕ, ◌<◌, ◌/◌, ◌%◌, ◌^◌, ◌+◌, inl, inr, Bool, true, false, List, [], ◌∷◌, ◌++◌}
+use Rattle.std.proofs.Common.{decimal, refl, arith, cond, nat_lt, ap, ◌∙◌, subst, sym, ◌==◌, ◌||◌, append_assoc}
 use Rattle.std.specs.Prelude.{All, codes, map}
 use Rattle.std.specs.List.{flat_map, slice_split}
 use Rattle.std.specs.Char.{digit_char}
@@ -7,10 +8,12 @@ use Rattle.std.proofs.lemmas.Bool.{ne_eqb, cases_Bool, eqb-true}
 use Rattle.std.proofs.lemmas.Fmt.{decimal_by_steps}
 use Rattle.std.proofs.lemmas.List.Concat.{flat_map-cons}
 use Rattle.std.proofs.lemmas.List.Splits.{slice_split_at}
-use Rattle.std.proofs.lemmas.List.Elements.{All-append, All-cons, All-from_recursion, All-head, All-nil, All-tail, All-weaker}
+use Rattle.std.proofs.lemmas.List.Elements.{All-append, All-cons, All-from_recursion, All-head, All-nil, All-tail}
+use Rattle.std.proofs.lemmas.List.Elements.{All-weaker}
 use Rattle.json.specs.Print.{escape, escape_byte, escape_letter, quoted, token_text}
 use Rattle.json.specs.Token.{Token}
-use Rattle.serde_json.specs.Data.{Data, null, boolean, number, string, array, object, unsigned, negative, float, Items, no_items, item, Members, no_members, member}
+use Rattle.serde_json.specs.Data.{Data, null, boolean, number, string, array, object, unsigned, negative, float, Items}
+use Rattle.serde_json.specs.Data.{no_items, item, Members, no_members, member}
 use Rattle.serde_json.specs.Written.{comma_if, compact_text, items_text, members_text}
 use Rattle.deny_base.specs.Files.{is_newline}
 use Rattle.deny_json.specs.Lines.{line}
@@ -96,7 +99,8 @@ escape_one_line (x ∷ s) = subst AreOneLine (sym (flat_map-cons escape_byte x s
     (then (escape_byte x) (escape s) (byte_one_line x) (escape_one_line s))
 
 quoted_one_line : (s : List ℕ) → AreOneLine (quoted s)
-quoted_one_line s = and 34 (escape s ++ 34 ∷ []) refl (then (escape s) (34 ∷ []) (escape_one_line s) (and 34 [] refl none))
+quoted_one_line s =
+    and 34 (escape s ++ 34 ∷ []) refl (then (escape s) (34 ∷ []) (escape_one_line s) (and 34 [] refl none))
 
 comma_one_line : (later : Bool) → AreOneLine (comma_if later)
 comma_one_line true = and 44 [] refl none

@@ -114,7 +114,8 @@ label_short files short label =
     let near : IfNear at = near_in (slice_get files label.file_id) label.span.start (short_at files label.file_id short)
     in label_told files label at refl (column_fits at near) (line_fits at near)
 
-pub each_told : {X : Type 0} (f : X → Data) (xs : List X) → All (λ x. IsPlain (f x)) xs → ItemsArePlain (items_of (map f xs))
+pub each_told : {X : Type 0} (f : X → Data) (xs : List X) → All (λ x. IsPlain (f x)) xs
+    → ItemsArePlain (items_of (map f xs))
 each_told f [] are = tt
 each_told f (x ∷ xs) are = (
   All-head (λ x. IsPlain (f x)) x xs are,
@@ -177,7 +178,8 @@ code_plain (Some code) others next are = (next, tt, are)
 diagnostic_told : (files : List File) (d : Diagnostic) → AreCounted files d.labels → IsPlain (diagnostic_value files d)
 unfolding diagnostic_value
 diagnostic_told files d counted = tells_plain (fields_of files d)
-    (code_plain d.code (fields_after_code files d) (after_code files d.labels d) (labels_plain files d.labels d counted))
+    (code_plain d.code (fields_after_code files d) (after_code files d.labels d)
+    (labels_plain files d.labels d counted))
 
 pub diagnostic_plain : (files : List File) (d : Diagnostic) → AreShort files → IsPlain (diagnostic_value files d)
 diagnostic_plain files d short = diagnostic_told files d (labels_counted files short d.labels)

@@ -8,10 +8,12 @@ use Rattle.std.proofs.lemmas.Bool.{cases_Bool}
 use Rattle.std.proofs.lemmas.List.Elements.{Contains-append_cases, Contains-append_left, Contains-append_right}
 use Rattle.std.proofs.lemmas.List.Sums.{count_by-le-length, length-filter}
 use Rattle.deny_base.specs.declared.edge.DepKind.{DepKind}
-use Rattle.deny_lists.proofs.Members.{Contains-cases, Contains-first, Contains-flat_map, Contains-from_flat_map, Contains-from_map}
+use Rattle.deny_lists.proofs.Members.{Contains-cases, Contains-first, Contains-flat_map, Contains-from_flat_map}
+use Rattle.deny_lists.proofs.Members.{Contains-from_map}
 use Rattle.deny_lists.proofs.Members.{Contains-rest, contains_map, filtered, from_there, no_member}
 use Rattle.deny_krates.specs.Nodes.{Incoming, Node, all_kinds, crate_node, feature_leads, feature_node, feature_nodes}
-use Rattle.deny_krates.specs.Nodes.{from_crate, from_feature, from_own, holds_plain, incoming_cmp, incoming_in, leads_by_asking}
+use Rattle.deny_krates.specs.Nodes.{from_crate, from_feature, from_own, holds_plain, incoming_cmp, incoming_in}
+use Rattle.deny_krates.specs.Nodes.{leads_by_asking}
 use Rattle.deny_krates.specs.Nodes.{leads_in_vain, leads_undeclared, nodes_of, of_parents, own_features, own_leading}
 use Rattle.deny_krates.specs.Nodes.{sources_at, sources_of_crate, sources_of_feature}
 use Rattle.deny_krates.proofs.InOrderLemmas.{lists_in_order}
@@ -56,7 +58,8 @@ module _ {X : Type 0} (p q : X → Bool) (so : (x : X) → p x ≡ true → q x 
   fewer [] y among out within = absurd (no_member y among)
   fewer (x ∷ xs) y among out within = elim (Contains-cases x xs y among)
       as (λ _. length (filter p (x ∷ xs)) < length (filter q (x ∷ xs))) [
-        | inl here ↦ fewer_here (p x) (q x) x (filter p xs) (filter q xs) (ap p here ∙ out) (ap q here ∙ within) (no_more xs)
+        | inl here ↦
+            fewer_here (p x) (q x) x (filter p xs) (filter q xs) (ap p here ∙ out) (ap q here ∙ within) (no_more xs)
         | inr later ↦ fewer_by (p x) (q x) x (filter p xs) (filter q xs) (so x) (fewer xs y later out within)
       ]
 
@@ -113,7 +116,8 @@ module _ (g : Graph) where
       → (i : Incoming) → Contains (of_parents g c sources) i → IsOf i
   unfolding of_parents
   of_some_parent c sources each i among =
-      let parent = Contains-from_flat_map (λ (p : Crate). flat_map (sources p) all_kinds) (dependents g c.place) i among in
+      let parent =
+      Contains-from_flat_map (λ (p : Crate). flat_map (sources p) all_kinds) (dependents g c.place) i among in
       let of = Contains-from_flat_map (sources parent.from) all_kinds i parent.of in
       each parent.from of.from i (dependent_of c.place parent.from parent.member) of.of
 

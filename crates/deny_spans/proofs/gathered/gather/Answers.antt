@@ -50,6 +50,6 @@ returns-clause-gathered g c =
 
 pub returns-clause-once : goal.returns-clause-once
 returns-clause-once g c =
-    given_all c.args.krates.now c.loop-place.place c.krates-krate-items.result.now (g.D.PackageFiles.seen c.args.disk.now)
-    (g.D.PackageFiles.seen c.loop-place.disk) c.krates-krate-items.ensures.crates c.loop-place-test.false
-    c.loop-place.invariant.once
+    let seen = g.D.PackageFiles.seen in
+    given_all c.args.krates.now c.loop-place.place c.krates-krate-items.result.now (seen c.args.disk.now)
+    (seen c.loop-place.disk) c.krates-krate-items.ensures.crates c.loop-place-test.false c.loop-place.invariant.once
