@@ -4,8 +4,6 @@
    tools/crowd.py compiles and loads it. */
 #define _GNU_SOURCE
 #include <errno.h>
-#include <fcntl.h>
-#include <stdarg.h>
 #include <stdint.h>
 #include <stdio.h>
 #include <stdlib.h>
@@ -13,6 +11,8 @@
 #include <sys/stat.h>
 #include <sys/syscall.h>
 #include <unistd.h>
+
+#include "opened.h"
 
 enum { FILE_NUMBER = 1 << 20 }; /* stands for each open file of the folder */
 
@@ -48,22 +48,6 @@ static int opened(int at, const char *path, int flags, int mode) {
         return folder_number = syscall(SYS_openat, AT_FDCWD, "/", O_RDONLY | O_DIRECTORY | O_CLOEXEC);
     }
     return syscall(SYS_openat, at, path, flags, mode);
-}
-
-int openat(int at, const char *path, int flags, ...) {
-    va_list more;
-    va_start(more, flags);
-    int mode = va_arg(more, int);
-    va_end(more);
-    return opened(at, path, flags, mode);
-}
-
-int open(const char *path, int flags, ...) {
-    va_list more;
-    va_start(more, flags);
-    int mode = va_arg(more, int);
-    va_end(more);
-    return opened(AT_FDCWD, path, flags, mode);
 }
 
 int close(int number) {

@@ -175,11 +175,13 @@ def piped(program):
         return got, stopped(17, '"file":"policy","stop":"read"')
 
 
+PIECE = 2**16 # bytes that are read at a time
 LONG = b"# a line of a text that comes in several pieces\n" * 4096
 
 
 def changed(program, library, file, **given):
-    """A run while which a file of several pieces grows, or vanishes; what is to come is known when it has ended."""
+    """A run while which a file of several pieces grows, is cut, or vanishes. What it was to come to is known when it has
+    ended; a file that vanishes is read to its end all the same, since it is open."""
     with tempfile.TemporaryDirectory() as folder:
         copy = copied(folder)
         path = os.path.join(copy, file)
@@ -190,12 +192,11 @@ def changed(program, library, file, **given):
         for one in copy, path:
             os.chmod(one, 0o777)
         named, size = file if file in WORDS else "./" + file, os.path.getsize(path) # as the run names it
+        before = reading(copy)
         got = ended([program, *WORDS], copy, given={"LD_PRELOAD": library, "CHANGING": named, **given})
         if os.path.exists(path) and os.path.getsize(path) == size:
             return "it did not change", got
-        if file in WORDS and not os.path.exists(path):
-            return got, stopped(17, '"file":"%s","stop":"read"' % file.partition(".")[0].replace("deny", "policy"))
-        return got, reading(copy)
+        return got, reading(copy) if given else before
 
 
 def changing(program):
@@ -209,6 +210,7 @@ def changing(program):
         subprocess.run(["cc", "-O2", "-shared", "-fPIC", "-o", library, source], check=True)
         for file in "deny.toml", "metadata.json", "Cargo.toml":
             yield "%s that vanishes" % file, changed(program, library, file)
+            yield "%s that is cut" % file, changed(program, library, file, CUT=str(PIECE))
         yield "a policy that grows", changed(program, library, "deny.toml", GROWN="\n[bans.workspace-dependencies]\n")
         yield "a policy that grows by a fault", changed(program, library, "deny.toml", GROWN="\nmore = 1\n")
         yield "metadata that grow", changed(program, library, "metadata.json", GROWN="{")
