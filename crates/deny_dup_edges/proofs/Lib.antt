@@ -1,3 +1,4 @@
 pub mod AboveLemmas
 pub mod EdgeLemmas
+mod EdgeRows
 pub mod DupSetLemmas
