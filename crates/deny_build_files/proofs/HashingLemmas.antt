@@ -79,6 +79,7 @@ hashing_none start path hasher holds = record {
       listed = omega arith;
     };
     given = omega arith;
+    once = omega arith;
     text = no_front start.files path;
   };
 }
