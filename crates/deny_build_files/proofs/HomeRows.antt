@@ -1,5 +1,5 @@
 -- Worked cases: how paths are shown, by computing.
-use Rattle.std.proofs.Common.{◌≡◌, ℕ, List, codes, Option, None, Some, refl}
+use Rattle.std.proofs.Common.{◌≡◌, ℕ, List, codes, None, Some, refl}
 use Rattle.deny_build_model.specs.Paths.{components}
 use Rattle.deny_build_files.specs.Home.{home_path, lies_in, rest_below}
 

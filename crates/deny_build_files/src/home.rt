@@ -1,11 +1,12 @@
 //! Paths as they are shown: below the home of cargo, below the folder of a crate, or as they are.
-ghost use Rattle.std.specs.Prelude.{◌≡◌, ◌≤◌, ◌++◌, ◌&&◌, codes, drop, filter, map, option_map, option_copied, length, IfOk};
-ghost use Rattle.std.specs.List.{join_by, starts_with};
-ghost use Rattle.deny_build_model.specs.Paths.{components, is_component, parts};
-ghost use Rattle.deny_build_files.specs.Home.{below_home, home_path, is_absolute, lies_in, parts_behind, rest_below, same_name, same_start};
+ghost use Rattle.std.specs.Prelude.{◌≡◌, ◌≤◌, ◌++◌, codes, drop, length, map, option_map, option_copied, IfOk, IfSome};
+ghost use Rattle.std.specs.List.{join_by};
+ghost use Rattle.deny_build_model.specs.Paths.{is_component, parts};
+ghost use Rattle.deny_build_files.specs.Home.{below_home, home_path, is_absolute, parts_behind, rest_below, same_name, same_start};
+ghost use Rattle.deny_build_files.specs.private.Home.{parts_after, parts_below, parts_past};
 
 use crate::parts::parts_of;
-use deny_lists::{List, NoMemory, Text};
+use deny_lists::{NoMemory, Text};
 use std::alloc::Global;
 
 /// A path as it is shown: `$CARGO_HOME/` and the rest below `home`, else `$crate/` and the rest
@@ -23,43 +24,52 @@ pub fn home_path(
 ) -> Result<Text, NoMemory>
     ensures { IfOk result (λ shown. shown ≡ home_path path.now root.now (option_copied home.entry)) }
 {
-    if let Some(rest) = below_home(alloc, path, home)? {
+    let own = parts_of(alloc, path, '/')?;
+    if let Some(rest) = below_home(alloc, path, own.as_slice(), home)? {
         return joined(alloc, "$CARGO_HOME/", rest.as_str());
     }
-    match rest_below(alloc, root, path)? {
+    match rest_below(alloc, root, path, own.as_slice())? {
         Some(rest) => joined(alloc, "$crate/", rest.as_str()),
         None => Ok(Text::from_str(alloc, path)?),
     }
 }
 
-fn below_home(alloc: Global, path: &str, home: Option<&str>) -> Result<Option<Text>, NoMemory>
+fn below_home(
+    alloc: Global,
+    path: &str,
+    own: &[&str],
+    home: Option<&str>,
+) -> Result<Option<Text>, NoMemory>
+    requires { map (λ part. part.now) own.now ≡ parts path.now }
     ensures { IfOk result (λ rest. rest ≡ below_home path.now (option_copied home.entry)) }
 {
     match home {
-        Some(home) => rest_below(alloc, home, path),
+        Some(home) => rest_below(alloc, home, path, own),
         None => Ok(None),
     }
 }
 
-// What is written of a path below a folder, where it lies in that.
-#[tactic(auto, unfolding(crate::specs::Home::rest_below, crate::specs::Home::lies_in))]
-fn rest_below(alloc: Global, folder: &str, path: &str) -> Result<Option<Text>, NoMemory>
+// What is written of a path of these parts below a folder, where it lies in that.
+fn rest_below(
+    alloc: Global,
+    folder: &str,
+    path: &str,
+    own: &[&str],
+) -> Result<Option<Text>, NoMemory>
+    requires { map (λ part. part.now) own.now ≡ parts path.now }
     ensures { IfOk result (λ rest. rest ≡ rest_below folder.now path.now) }
 {
-    let names = components(alloc, folder)?;
-    let own = components(alloc, path)?;
-    if !lies_in(folder, path, names.as_slice(), own.as_slice()) {
+    if !same_start(folder, path) {
         return Ok(None);
     }
-    let rest = text_behind(alloc, path, names.len())?;
-    Ok(Some(rest))
-}
-
-fn lies_in(folder: &str, path: &str, names: &[Text], own: &[Text]) -> bool
-    ensures { result ≡ (same_start (is_absolute folder.now) (is_absolute path.now)
-        && starts_with same_name own.now names.now) }
-{
-    same_start(folder, path) && own.starts_with(names)
+    let names = parts_of(alloc, folder, '/')?;
+    match parts_below(names.as_slice(), own) {
+        Some(rest) => {
+            let text = text_of(alloc, rest)?;
+            Ok(Some(text))
+        }
+        None => Ok(None),
+    }
 }
 
 fn same_start(folder: &str, path: &str) -> bool
@@ -72,59 +82,82 @@ fn same_start(folder: &str, path: &str) -> bool
     }
 }
 
-#[tactic(auto, unfolding(deny_build_model::specs::Paths::components))]
-fn components(alloc: Global, path: &str) -> Result<List<Text>, NoMemory>
-    ensures { IfOk result (λ names. names ≡ components path.now) }
-{
-    let parts = parts_of(alloc, path, '/')?;
-    components_among(alloc, parts.as_slice())
-}
-
-fn components_among(alloc: Global, parts: &[&str]) -> Result<List<Text>, NoMemory>
-    ensures { IfOk result (λ names. names ≡ filter is_component (map (λ part. part.now) parts.now)) }
-{
-    let mut names = List::new(alloc);
-    for part in parts {
-        if is_component(part) {
-            names.push(Text::from_str(alloc, part)?)?;
-        }
-    }
-    Ok(names)
-}
-
 fn is_component(part: &str) -> bool
     ensures { result ≡ is_component part.now }
 {
     !(part == "" || part == ".")
 }
 
-// The text from the component that follows so many others.
-fn text_behind(alloc: Global, path: &str, count: usize) -> Result<Text, NoMemory>
-    ensures { IfOk result (λ text.
-        text ≡ join_by (λ part. part) (codes "/") (parts_behind count (parts path.now))) }
+// The parts of a path from the component on that follows those of a folder of these parts, where the
+// path begins with them.
+fn parts_below<'o, 'p>(names: &[&str], own: &'o [&'p str]) -> Option<&'o [&'p str]>
+    ensures { option_map (λ rest. map (λ part. part.now) rest.now) result
+        ≡ parts_below (map (λ name. name.now) names.now) (map (λ part. part.now) own.now) }
 {
-    let parts = parts_of(alloc, path, '/')?;
-    let start = start_behind(parts.as_slice(), count);
-    let text = parts.as_slice()[start..].join(alloc, "/")?;
-    Ok(Text::from_string(text))
+    let mut place = 0;
+    for name in names {
+        place = place_past(name, own, place)?;
+    }
+    let start = component_from(own, place);
+    Some(&own[start..])
 }
 
-// Where the component stands that follows so many others, or else the end.
-fn start_behind(parts: &[&str], count: usize) -> usize
-    ensures within { result ≤ length parts.now }
-    ensures behind { parts_behind count (map (λ part. part.now) parts.now)
-        ≡ map (λ part. part.now) (drop result parts.now) }
+// The place behind a part of a folder: behind the first component from a place on, if that is this
+// name, and the place itself where the part of the folder is no component.
+fn place_past(name: &str, own: &[&str], place: usize) -> Option<usize>
+    requires { place ≤ length own.now }
+    ensures within { IfSome result (λ next. next ≤ length own.now) }
+    ensures past { option_map (λ next. map (λ part. part.now) (drop next own.now)) result
+        ≡ parts_past name.now (map (λ part. part.now) (drop place own.now)) }
 {
-    let mut left = count;
-    for start in 0..parts.len() {
-        if is_component(parts[start]) {
-            if left == 0 {
-                return start;
-            }
-            left -= 1;
+    if is_component(name) {
+        place_after(name, own, component_from(own, place))
+    } else {
+        Some(place)
+    }
+}
+
+// The place behind the part at a place, if that is this name.
+fn place_after(name: &str, own: &[&str], place: usize) -> Option<usize>
+    requires { place ≤ length own.now }
+    ensures within { IfSome result (λ next. next ≤ length own.now) }
+    ensures after { option_map (λ next. map (λ part. part.now) (drop next own.now)) result
+        ≡ parts_after name.now (map (λ part. part.now) (drop place own.now)) }
+{
+    if place < own.len() && is_same(name, own[place]) {
+        Some(place + 1)
+    } else {
+        None
+    }
+}
+
+fn is_same(name: &str, part: &str) -> bool
+    ensures { result ≡ same_name name.now part.now }
+{
+    name == part
+}
+
+// Where the first component from a place on stands, or else the end.
+fn component_from(own: &[&str], place: usize) -> usize
+    requires { place ≤ length own.now }
+    ensures within { result ≤ length own.now }
+    ensures from { map (λ part. part.now) (drop result own.now)
+        ≡ parts_behind 0 (map (λ part. part.now) (drop place own.now)) }
+{
+    for start in place..own.len() {
+        if is_component(own[start]) {
+            return start;
         }
     }
-    parts.len()
+    own.len()
+}
+
+fn text_of(alloc: Global, parts: &[&str]) -> Result<Text, NoMemory>
+    ensures { IfOk result (λ text.
+        text ≡ join_by (λ part. part) (codes "/") (map (λ part. part.now) parts.now)) }
+{
+    let text = parts.join(alloc, "/")?;
+    Ok(Text::from_string(text))
 }
 
 fn joined(alloc: Global, front: &str, rest: &str) -> Result<Text, NoMemory>

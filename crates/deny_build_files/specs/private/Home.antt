@@ -1,0 +1,19 @@
+-- The rest of a path below a folder, by the parts of both.
+use Rattle.std.specs.Prelude.{ℕ, List, [], ◌∷◌, Option, None, Some, if◌then◌else◌}
+use Rattle.std.specs.Option.{option_and_then}
+use Rattle.deny_build_model.specs.Paths.{is_component}
+use Rattle.deny_build_files.specs.Home.{parts_behind, same_name}
+
+-- the parts behind the first, if that is this name
+abbrev pub parts_after : List ℕ → List (List ℕ) → Option (List (List ℕ))
+parts_after name [] = None
+parts_after name (part ∷ own) = if same_name name part then Some own else None
+
+-- the parts behind the first component, if that is this name; all where the name is no component
+abbrev pub parts_past : List ℕ → List (List ℕ) → Option (List (List ℕ))
+parts_past name own = if is_component name then parts_after name (parts_behind 0 own) else Some own
+
+-- the parts of a path from the component on that follows those of a folder of these names, if the path begins with them
+abbrev pub parts_below : List (List ℕ) → List (List ℕ) → Option (List (List ℕ))
+parts_below [] own = Some (parts_behind 0 own)
+parts_below (name ∷ names) own = option_and_then (λ rest. parts_below names rest) (parts_past name own)
