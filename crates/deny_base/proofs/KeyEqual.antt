@@ -1,12 +1,10 @@
 -- Only equal keys tie.
 use Rattle.deny_lists.proofs.Orders.{text_cmp-exact, then_first, then_second}
 use Rattle.std.proofs.Common.{◌≡◌, ℕ, List, [], ◌∷◌, slice_index_or, refl, sym, ap, ◌∙◌}
-use Rattle.std.specs.Ordering.{nat_cmp, ordering_then}
+use Rattle.std.specs.Ordering.{nat_cmp}
 use Rattle.std.specs.Cmp.{IsTotalOrder, nat_cmp_total, on_total, then_total}
 use Rattle.std.specs.Cmp.Lexicographic.{slice_cmp, nat_list_cmp_total}
-use Rattle.std.specs.FinMap.{IsAntisymmetric, nat_cmp-IsAntisymmetric, slice_cmp-IsAntisymmetric}
-use Rattle.std.specs.declared.cmp.Ordering.{Ordering}
-use Rattle.std.specs.declared.cmp.Ordering.TheVariants.{Less, Equal, Greater}
+use Rattle.std.specs.FinMap.{IsAntisymmetric, nat_cmp-IsAntisymmetric}
 use Rattle.deny_base.proofs.CodeEqual.{diagnostic_code_cmp-total, diagnostic_code_cmp-exact}
 use Rattle.deny_base.specs.Code.{section_cmp, section_number, diagnostic_code_cmp}
 use Rattle.deny_base.specs.KeyOrder.{key_cmp, span_cmp}

@@ -1,5 +1,5 @@
 -- Worked cases: checksums, by computing.
-use Rattle.std.proofs.Common.{◌≡◌, ◌∙◌, Ok, codes, refl, sym, ap}
+use Rattle.std.proofs.Common.{◌≡◌, Ok, codes, sym, ap}
 use Rattle.sha2.specs.Sha256.{sha256}
 use Rattle.sha2.proofs.Facts256.{digest_of_abc_256}
 use Rattle.deny_tables.specs.Checksum.{checksum_in}

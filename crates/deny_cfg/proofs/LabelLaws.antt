@@ -16,7 +16,7 @@ use Rattle.deny_toml.specs.Apart.{starts_in}
 use Rattle.deny_toml.specs.Calls.{Layer, array_in, array_of, has_name, layer_in, table_in, table_of, value_at, without}
 use Rattle.deny_toml.specs.Deserialize.{ReadsArray, ReadsEach}
 use Rattle.deny_toml.specs.Ranges as ranges
-use Rattle.deny_toml.specs.Ranges.{AllOfContent, AllOfEntries, AllOfValue, AllOfValues, IsRange, KeyStands, StandsIn}
+use Rattle.deny_toml.specs.Ranges.{AllOfContent, AllOfEntries, AllOfValues, IsRange, KeyStands, StandsIn}
 use Rattle.deny_toml.specs.Ranges.{ValueStands}
 use Rattle.deny_toml.specs.Value.{entries_in}
 use Rattle.deny_toml.specs.declared.value.Table.{Table}

@@ -1,9 +1,8 @@
 -- A small case of what is shown of a duplicate: the edges above its crates, and the set of each.
-use Rattle.std.proofs.Common.{◌≡◌, ◌∙◌, ◌⊎◌, ◌<◌, ◌≤◌, ℕ, zero, suc, List, [], ◌∷◌, Some, inl, inr, refl, sym, ap}
+use Rattle.std.proofs.Common.{◌≡◌, ◌∙◌, ◌⊎◌, ◌≤◌, ℕ, zero, suc, List, [], ◌∷◌, Some, inl, inr, refl, sym, ap}
 use Rattle.std.proofs.Common.{arith, length, subst}
 use Rattle.std.specs.Prelude.{Contains, slice_get}
 use Rattle.std.specs.List.Sorted.{IsStrictlySortedBy}
-use Rattle.std.specs.Ordering.{nat_cmp}
 use Rattle.std.proofs.lemmas.Option.{same_Some}
 use Rattle.deny_lists.proofs.Members.{Contains-by_cases, Contains-first, Contains-rest, no_member}
 use Rattle.deny_lists.specs.Ascending.{Lists}

@@ -1,5 +1,5 @@
 -- Licences that are read with their places.
-use Rattle.std.proofs.Common.{◌≡◌, List, [], ◌∷◌, Option, None, Some, map, refl, sym, ap, subst, ◌∙◌}
+use Rattle.std.proofs.Common.{◌≡◌, List, [], ◌∷◌, Option, None, Some, map, sym, ap, subst}
 use Rattle.deny_base.specs.declared.span.Spanned.{Spanned}
 use Rattle.deny_spdx.specs.Meaning.{requirement_in}
 use Rattle.deny_spdx.specs.declared.requirement.Requirement.{Requirement}

@@ -1,5 +1,5 @@
 -- The direct dependents of a crate, as the graph keeps them and as the rules speak of them.
-use Rattle.std.proofs.Common.{◌≡◌, ◌<◌, ℕ, Bool, true, false, List, Contains, Option, Some, None, is_some, length, map}
+use Rattle.std.proofs.Common.{◌≡◌, ◌<◌, ℕ, Bool, false, List, Contains, Option, Some, None, is_some, length, map}
 use Rattle.std.proofs.Common.{slice_get, refl, sym, ap, ◌∙◌}
 use Rattle.std.specs.Prelude.{option_and_then, option_map}
 use Rattle.std.specs.FinMap as finite

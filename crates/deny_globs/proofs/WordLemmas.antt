@@ -1,5 +1,5 @@
 -- A tree of words, as nodes, edges and numbers come.
-use Rattle.std.proofs.Common.{◌≡◌, ◌≢◌, ℕ, zero, suc, ◌+◌, ◌-◌, ◌<◌, ◌≤◌, List, [], ◌∷◌, ◌++◌, length, drop, get_or}
+use Rattle.std.proofs.Common.{◌≡◌, ◌≢◌, ℕ, zero, suc, ◌+◌, ◌<◌, ◌≤◌, List, [], ◌∷◌, ◌++◌, length, drop, get_or}
 use Rattle.std.proofs.Common.{Bool, true, false, refl, sym, ap, subst, inl, inr, ◌∙◌, arith, append_assoc}
 use Rattle.std.proofs.Common.{length-append, length-set}
 use Rattle.std.specs.Prelude.{◌⊎◌, ◌↔◌, Option, Some, None, Contains, slice_get, slice_set}

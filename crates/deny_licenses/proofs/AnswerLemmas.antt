@@ -3,13 +3,10 @@ use Rattle.std.proofs.Common.{◌≡◌, List, Option, is_some, map, sym, ap, �
 use Rattle.std.specs.Prelude.{option_map}
 use Rattle.std.specs.List.{flat_map}
 use Rattle.std.specs.Option.{option_or}
-use Rattle.deny_lists.specs.First.{FindsFirst}
 use Rattle.deny_lists.proofs.Agreement.{flat_map_on, map_on}
 use Rattle.deny_spdx.specs.declared.requirement.Requirement.{Requirement}
 use Rattle.deny_krates.specs.Crates.{crate_view}
 use Rattle.deny_krates.specs.declared.krate.Krate.{Krate}
-use Rattle.deny_model.specs.Graph.{Crate}
-use Rattle.deny_model.specs.Licensing.{Licensing}
 use Rattle.deny_codes.specs.Licences.{asked_of, exception_of, is_granted}
 use Rattle.deny_cfg.specs.LicensingView.{licensing_view}
 use Rattle.deny_licenses.specs.declared.answers.Answers.{Answers}
@@ -17,8 +14,8 @@ use Rattle.deny_licenses.specs.declared.granter.Granter.{Granter}
 use Rattle.deny_licenses.specs.declared.granting.Granting.{Granting}
 use Rattle.deny_licenses.specs.declared.grants.Grants.{Grants}
 use Rattle.deny_licenses.specs.private.Answers.{AreAnswers, granter_for, granter_from, granters_by, notes_by}
-use Rattle.deny_licenses.specs.private.Granters.{allowance_granter, exception_granter, granter_of}
-use Rattle.deny_licenses.specs.private.Grants.{allowance_grant, granter_in, same_wanted, wanted_of}
+use Rattle.deny_licenses.specs.private.Granters.{exception_granter, granter_of}
+use Rattle.deny_licenses.specs.private.Grants.{granter_in, wanted_of}
 use Rattle.deny_licenses.proofs.GrantLemmas.{allowed-is}
 use Rattle.deny_licenses.proofs.GranterLemmas.{granted-by}
 

@@ -8,7 +8,6 @@ use Rattle.std.specs.Map.{lookup}
 use Rattle.std.specs.Option.{option_map_or}
 use Rattle.std.proofs.lemmas.Bool.{and_parts}
 use Rattle.std.proofs.lemmas.Slice.Eq.{bytes_eq-Decides}
-use Rattle.semver.specs.Identifiers.{parts_of}
 use Rattle.deny_lists.specs.First.{FindsFirst}
 use Rattle.deny_lists.proofs.Filters.{find-map}
 use Rattle.deny_base.specs.declared.span.Spanned.{Spanned}
@@ -17,7 +16,6 @@ use Rattle.deny_cfg.specs.LicensesConfig.{Config}
 use Rattle.deny_cfg.specs.LicensesException.{Exception}
 use Rattle.deny_krates.specs.Crates.{crate_view}
 use Rattle.deny_krates.specs.declared.krate.Krate.{Krate}
-use Rattle.deny_cfg.specs.SpecView.{spec_view}
 use Rattle.deny_model.specs.Graph.{Crate}
 use Rattle.deny_model.specs.Licensing as model
 use Rattle.deny_model.specs.Match.{matches}

@@ -1,6 +1,6 @@
 -- The entries that are hit, and those that grant nothing.
 use Rattle.std.proofs.Common.{◌≡◌, ◌++◌, Bool, true, false, List, [], ◌∷◌, Contains, Option, Some, None, cond, filter}
-use Rattle.std.proofs.Common.{find, map, not, refl, sym, ap, ◌∙◌, ℕ, subst}
+use Rattle.std.proofs.Common.{find, map, not, refl, sym, ap, ◌∙◌}
 use Rattle.std.specs.Prelude.{filter_map, is_none, option_and_then, option_map}
 use Rattle.std.specs.List.{cons_option, flat_map}
 use Rattle.std.specs.Option.{option_map_or}
@@ -24,7 +24,7 @@ use Rattle.deny_facts.specs.Placed.{ArePlaced}
 use Rattle.deny_krates.proofs.PlaceLemmas.{place_of}
 use Rattle.deny_licenses.specs.declared.granter.Granter.{Granter}
 use Rattle.deny_licenses.specs.declared.witnesses.Witnesses.{Witnesses}
-use Rattle.deny_licenses.specs.private.Found.{crate_granters, witnessed_at}
+use Rattle.deny_licenses.specs.private.Found.{witnessed_at}
 use Rattle.deny_licenses.specs.private.Granters.{allowance_granter, exception_granter, granter_kind, granter_of}
 use Rattle.deny_licenses.specs.private.Granters.{granter_range, policy_granters}
 use Rattle.deny_licenses.specs.private.Witnesses.{hit_at, is_unused, place_in, same_granter}

@@ -1,5 +1,5 @@
 -- What is found of a crate is what the rules say of it, code by code.
-use Rattle.std.proofs.Common.{◌≡◌, ◌&&◌, Bool, true, false, List, [], ◌∷◌, Option, Some, None, cond, not, refl, sym, ap}
+use Rattle.std.proofs.Common.{◌≡◌, ◌&&◌, Bool, true, false, List, Some, None, cond, not, refl, sym, ap}
 use Rattle.std.proofs.Common.{◌∙◌, ℕ, subst, Err}
 use Rattle.std.specs.Prelude.{is_none}
 use Rattle.std.specs.Option.{option_map_or}

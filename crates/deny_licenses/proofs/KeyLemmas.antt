@@ -1,8 +1,8 @@
 -- The keys of the crates that count, and then of the entries that grant nothing, are those of what stands.
-use Rattle.std.proofs.Common.{◌≡◌, ◌++◌, ◌⊎◌, ℕ, Bool, true, false, List, [], ◌∷◌, Contains, Option, Some, None, filter}
+use Rattle.std.proofs.Common.{◌≡◌, ◌++◌, ◌⊎◌, ℕ, Bool, true, List, [], ◌∷◌, Contains, Some, filter}
 use Rattle.std.proofs.Common.{inl, inr, length, map, not, refl, sym, ap, ◌∙◌, subst}
 use Rattle.std.specs.Prelude.{IsTrue}
-use Rattle.std.specs.List.{AllByRecursion, flat_map, list_any}
+use Rattle.std.specs.List.{AllByRecursion, flat_map}
 use Rattle.std.specs.List.Sorted.{IsStrictlySortedBy}
 use Rattle.std.specs.Ordering.{nat_cmp, on}
 use Rattle.std.specs.declared.cmp.Ordering.{Ordering}
@@ -12,13 +12,12 @@ use Rattle.std.proofs.lemmas.List.Kept.{IsStrictlySortedBy-filter}
 use Rattle.deny_lists.specs.Ascending.{Lists}
 use Rattle.deny_lists.specs.First.{FindsFirst}
 use Rattle.deny_lists.proofs.Agreement.{list_any_on, same_test}
-use Rattle.deny_lists.proofs.Filters.{filter-map}
 use Rattle.deny_lists.proofs.Members.{Contains-filter, Contains-from_filter, contains_map, from_contains_map}
 use Rattle.deny_lists.proofs.Members.{contains_map_within}
 use Rattle.deny_lists.proofs.Sorted.{ascends_map}
 use Rattle.deny_lists.proofs.Numbers.{range_with_len-ascends}
 use Rattle.deny_base.specs.Code.{code_number, diagnostic_code_number, section_number}
-use Rattle.deny_base.specs.KeyOrder.{key_cmp, span_cmp}
+use Rattle.deny_base.specs.KeyOrder.{key_cmp}
 use Rattle.deny_base.specs.LicenseCode.{license_code_number}
 use Rattle.deny_base.specs.declared.code.DiagnosticCode.{DiagnosticCode}
 use Rattle.deny_base.specs.declared.code.DiagnosticCode.TheVariants.{Deprecated, Bans, License}

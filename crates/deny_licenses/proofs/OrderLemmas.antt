@@ -1,5 +1,5 @@
 -- When licences, and entries, are the same.
-use Rattle.std.proofs.Common.{◌≡◌, ℕ, false, List, Option, Some, None, refl, sym, ap, ◌∙◌}
+use Rattle.std.proofs.Common.{◌≡◌, ℕ, List, Option, Some, None, refl, sym, ap, ◌∙◌}
 use Rattle.std.specs.Cmp.{IsTotalOrder, nat_cmp_total, on_total, then_total}
 use Rattle.std.specs.Cmp.Lexicographic.{nat_list_cmp_total, options_total, slice_cmp, texts_ties}
 use Rattle.std.specs.FinMap.{IsAntisymmetric}
@@ -9,7 +9,6 @@ use Rattle.deny_lists.proofs.Orders.{option_text_cmp-exact, text_cmp-exact, then
 use Rattle.deny_base.proofs.KeyEqual.{span_cmp-exact, span_cmp-total}
 use Rattle.deny_spdx.specs.declared.requirement.Requirement.{Requirement}
 use Rattle.deny_codes.specs.Licences.{same_exception, same_requirement}
-use Rattle.deny_licenses.specs.declared.granter.Granter.{Granter}
 use Rattle.deny_licenses.specs.declared.granter.Granter.TheVariants as granter
 use Rattle.deny_licenses.specs.declared.grants.Wanted.{Wanted}
 use Rattle.deny_licenses.specs.private.Granters.{granter_cmp, granter_number, granter_range}

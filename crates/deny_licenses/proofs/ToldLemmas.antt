@@ -1,6 +1,6 @@
 -- What is told of crates and entries is what is told of the keys that stand.
 use Rattle.std.proofs.Common.{◌≡◌, ◌++◌, ℕ, Bool, true, false, List, [], ◌∷◌, Contains, Option, Some, None, cond}
-use Rattle.std.proofs.Common.{filter, is_some, map, not, refl, sym, ap, ◌∙◌, append_assoc}
+use Rattle.std.proofs.Common.{filter, is_some, map, not, refl, sym, ap, ◌∙◌}
 use Rattle.std.specs.Prelude.{codes, filter_map, option_map}
 use Rattle.std.specs.Fmt.{decimal}
 use Rattle.std.specs.List.{flat_map}
@@ -13,7 +13,6 @@ use Rattle.deny_lists.proofs.Agreement.{map_on}
 use Rattle.deny_lists.proofs.Members.{Contains-from_filter}
 use Rattle.deny_base.specs.declared.entry.Hit.{Hit}
 use Rattle.deny_base.specs.declared.finding.Pack.{Pack}
-use Rattle.deny_base.specs.declared.key.Key.{Key}
 use Rattle.deny_base.specs.declared.level.Severity.TheVariants as severity
 use Rattle.deny_spdx.specs.Reads.{BadAt, Read, Reading, reading_in}
 use Rattle.deny_spdx.specs.declared.expression.Expression.{Expression}
@@ -24,7 +23,7 @@ use Rattle.deny_model.specs.Told.{crate_at}
 use Rattle.deny_codes.specs.Circumstances.{Circumstances}
 use Rattle.deny_codes.specs.Licences.{Asked, TellsCounting, accepted_told, asked_in, asked_of, bad_place}
 use Rattle.deny_codes.specs.Licences.{exception_not_encountered_told, expression_in, expression_of, holds, is_granted}
-use Rattle.deny_codes.specs.Licences.{is_licensed, is_passed_over, licence_hits, licence_text, licensed_key}
+use Rattle.deny_codes.specs.Licences.{is_licensed, is_passed_over, licence_text, licensed_key}
 use Rattle.deny_codes.specs.Licences.{not_encountered_told, parse_error_told, rejected_notes, rejected_told}
 use Rattle.deny_codes.specs.Licences.{skipped_private_told, unlicensed_told, with_text}
 use Rattle.deny_codes.specs.Telling.{plainly}

@@ -14,7 +14,7 @@ use Rattle.std.proofs.lemmas.List.Elements.{All-contains_itself, All-weaker, fil
 use Rattle.std.proofs.lemmas.List.Kept.{Any-dedup, Contains-from_dedup, IsStrictlySortedBy-dedup}
 use Rattle.std.proofs.lemmas.List.Sorted.{Contains-permutation, IsPermutation-sym}
 use Rattle.deny_lists.specs.Ascending.{AreFirst, Lists}
-use Rattle.deny_lists.proofs.Members.{Contains-cases, Contains-first, Contains-rest, at_member, contains_map}
+use Rattle.deny_lists.proofs.Members.{Contains-cases, at_member, contains_map}
 use Rattle.deny_lists.proofs.Members.{from_contains_map, no_member}
 
 -- ---- the first element that passes a test

@@ -11,7 +11,7 @@ use Rattle.deny_outside.specs.declared.read.ReadEnd.TheVariants.{Fault, Memory a
 abbrev pub GaveAtMost : Disk → Disk → (Files → ℕ) → Type 0
 GaveAtMost old new bytes = IfSome old.files (λ files. new.given ≤ old.given + bytes files)
 
--- the path's text was given at most once, and no other
+-- as many as the text at the path has
 abbrev pub GaveOnce : Disk → Disk → List ℕ → Type 0
 GaveOnce old new path = GaveAtMost old new (λ files. length (bytes_at files path))
 

@@ -90,8 +90,8 @@ fn read_piece<D: PackageFiles>(
 /// Reads the text at `path` to its end.
 ///
 /// `Fault` comes only where a read of this path failed, `Long` only where the text has 2^28 bytes
-/// or more; a text of that size is never given. However it ends, each byte is asked for at most once.
-/// The time grows with the text alone.
+/// or more; a text of that size is never given. However it ends, the disk gave at most as many bytes
+/// as the text has. The time grows with the text alone.
 pub fn read_whole<D: PackageFiles>(
     alloc: Global,
     disk: &mut D,

@@ -1,6 +1,5 @@
 //! What is seen of packages, and what stands of them, where a policy speaks of builds.
 ghost use Rattle.std.specs.Prelude.{◌≡◌, ◌++◌, ◌<◌, IfOk, None, OnOk, Some, option_copied};
-ghost use Rattle.deny_base.specs.KeyOrder.{key_cmp};
 ghost use Rattle.deny_build.specs.LookingOf.{looking_of};
 ghost use Rattle.deny_build_cfg.specs.Build.{IsReadBuild};
 ghost use Rattle.deny_build_cfg.specs.BuildingView.{building_view};

@@ -7,7 +7,7 @@ use Rattle.deny_spdx.specs.declared.token.Token.{Token}
 use Rattle.deny_spdx.specs.Reader.{run_by}
 use Rattle.deny_spdx.specs.Bad.{Spells, AreWhole, Begin, GoesWrong, ends, no_token, token, IsBadAt, IsAnswer}
 use Rattle.deny_spdx.specs.Reading as reading
-use Rattle.deny_spdx.specs.Reading.{IsRead, IsReadTo, IsStuck, StopsAt, Stops, NoBlankFirst}
+use Rattle.deny_spdx.specs.Reading.{IsRead, IsStuck, StopsAt, Stops, NoBlankFirst}
 use Rattle.deny_spdx.proofs.StepsLemmas.{LeadsTo, run_by-stuck}
 use Rattle.deny_spdx.proofs.BadLemmas.{IsClear}
 

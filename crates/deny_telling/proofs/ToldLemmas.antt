@@ -19,7 +19,6 @@ use Rattle.deny_facts.specs.Wrappers as wrappers
 use Rattle.deny_told.specs.ByRange.{first_of}
 use Rattle.deny_facts.specs.Marks.{mark_at}
 use Rattle.deny_telling.specs.private.WrapperRanges.{wrapper_range}
-use Rattle.deny_lists.proofs.Filters.{find-map}
 
 -- a skipped tree that was found, at some number
 abbrev name_range : PackageSpecOrExtended TreeSkipExtended → Span

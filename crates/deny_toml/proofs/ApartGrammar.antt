@@ -18,7 +18,7 @@ use Rattle.deny_toml_grammar.specs.Expression.{written_with, assignment_with, as
 use Rattle.deny_toml_grammar.specs.Expression.{depth_limit}
 use Rattle.deny_toml_grammar.specs.GrammarStrings.{IsText}
 use Rattle.deny_toml_grammar.specs.GrammarStrings as strings
-use Rattle.deny_toml_grammar.specs.Grammar.{IsKey, IsValue, IsElements, IsMembers, IsAssignment, IsExpression, IsLine}
+use Rattle.deny_toml_grammar.specs.Grammar.{IsValue, IsElements, IsMembers, IsAssignment, IsExpression, IsLine}
 use Rattle.deny_toml_grammar.specs.Grammar.{AreLines}
 use Rattle.deny_toml_grammar.specs.Grammar as grammar
 use Rattle.deny_toml.specs.Tree.{written_value, written_in, written_member, table_of_members, tree}

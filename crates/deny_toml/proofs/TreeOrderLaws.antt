@@ -1,6 +1,6 @@
 -- The names of every table of a tree ascend.
 use Rattle.deny_lists.proofs.Each.{all_append, all_filter, all_if}
-use Rattle.std.proofs.Common.{◌≡◌, ℕ, zero, suc, Bool, true, false, cond, List, [], ◌∷◌, ◌++◌, map, filter, refl, sym}
+use Rattle.std.proofs.Common.{◌≡◌, ℕ, zero, suc, Bool, true, false, cond, List, [], ◌∷◌, map, filter, refl, sym}
 use Rattle.std.proofs.Common.{ap, subst, rules}
 use Rattle.std.specs.Cmp.Lexicographic.{slice_cmp, pointwise}
 use Rattle.std.specs.Bool.{nat_eq}

@@ -15,7 +15,7 @@ use Rattle.deny_toml_grammar.specs.Lexical.{Read, first, is_space, is_bare, skip
 use Rattle.deny_toml_grammar.specs.private.Reading.{read_map}
 use Rattle.deny_toml_grammar.specs.Strings.{one_line, starts_string}
 use Rattle.deny_toml_grammar.specs.private.Keys.{simple_key, key_after, quoted_key, bare_with, bare_key}
-use Rattle.deny_toml_grammar.specs.GrammarStrings.{AreSpaces, IsOneLine, is_delimiter}
+use Rattle.deny_toml_grammar.specs.GrammarStrings.{AreSpaces, is_delimiter}
 use Rattle.deny_toml_grammar.specs.GrammarStrings as strings
 use Rattle.deny_toml_grammar.specs.Grammar.{IsPart, IsKey}
 use Rattle.deny_toml_grammar.specs.Grammar as grammar

@@ -18,7 +18,7 @@ use Rattle.deny_toml_grammar.specs.private.Lines.{header_path, array_header, hea
 use Rattle.deny_toml_grammar.specs.private.Lines.{line, lines, expressions}
 use Rattle.deny_toml_grammar.specs.GrammarStrings.{AreSpaces, IsNewline, IsBlank}
 use Rattle.deny_toml_grammar.specs.GrammarStrings as strings
-use Rattle.deny_toml_grammar.specs.Grammar.{IsKey, IsAssignment, IsExpression, IsComment, IsLine, AreLines, IsDocument}
+use Rattle.deny_toml_grammar.specs.Grammar.{IsKey, IsExpression, IsComment, AreLines, IsDocument}
 use Rattle.deny_toml_grammar.specs.Grammar as grammar
 use Rattle.deny_toml_grammar.proofs.Blanks.{skip_spaces-run, skip_from-blanks, skip_from-last, skip_from-spaces}
 use Rattle.deny_toml_grammar.proofs.Blanks.{IsBlank-spaces}

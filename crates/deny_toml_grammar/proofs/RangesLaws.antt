@@ -28,7 +28,7 @@ use Rattle.deny_toml_grammar.specs.GrammarStrings.{IsText}
 use Rattle.deny_toml_grammar.specs.GrammarStrings as strings
 use Rattle.deny_toml_grammar.specs.GrammarWords.{IsScalar}
 use Rattle.deny_toml_grammar.specs.GrammarWords as words
-use Rattle.deny_toml_grammar.specs.Grammar.{IsPart, IsValue, IsElements, IsMembers, IsDocument}
+use Rattle.deny_toml_grammar.specs.Grammar.{IsPart, IsElements, IsMembers, IsDocument}
 use Rattle.deny_toml_grammar.specs.Grammar as grammar
 use Rattle.deny_toml_grammar.specs.Ranges.{IsRange, bytes_in, no_backslash, IsWithoutEscapes, KeyStands, OneLineStands}
 use Rattle.deny_toml_grammar.specs.Ranges.{ScalarStands, Stands, WrittenLayer, written_layer, written_scalar}

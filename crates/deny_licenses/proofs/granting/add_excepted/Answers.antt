@@ -1,4 +1,4 @@
-use Rattle.std.proofs.Common.{◌++◌, Option, [], sym, subst}
+use Rattle.std.proofs.Common.{◌++◌, [], sym, subst}
 use Rattle.std.specs.Option.{option_map_or}
 use Rattle.std.proofs.lemmas.Option.{slice_get_past}
 use Rattle.deny_lists.specs.First.{FindsFirst}

@@ -1,4 +1,4 @@
-use Rattle.std.proofs.Common.{Result, Ok, Err, List, OnOk, subst, sym}
+use Rattle.std.proofs.Common.{Result, Ok, Err, List, OnOk, subst}
 use Rattle.std.specs.Prelude.{Contains}
 use Rattle.deny_base.specs.declared.key.Key.{Key}
 use Rattle.deny_build_cfg.specs.BuildingView.{building_view}
