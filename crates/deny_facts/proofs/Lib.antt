@@ -8,3 +8,4 @@ pub mod NeighbourLemmas
 pub mod FactLemmas
 pub mod GroupLemmas
 pub mod ExemptLemmas
+pub mod MatchLemmas

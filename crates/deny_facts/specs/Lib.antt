@@ -1,6 +1,7 @@
 pub mod Distances
 pub mod Groups
 pub mod Marks
+pub mod Matches
 pub mod Placed
 pub mod Steps
 pub mod Wrappers

@@ -1,12 +1,15 @@
 //! What the rules ask of chains, worked out for each crate.
-ghost use Rattle.std.specs.Prelude.{◌≡◌, IfOk, map, option_and_then};
+ghost use Rattle.std.specs.Prelude.{◌≡◌, ◌++◌, IfOk, OnOk, filter, map, option_and_then};
 ghost use Rattle.std.specs.List.{AllZip};
 ghost use Rattle.deny_cfg.specs.PolicyView.{policy_view};
+ghost use Rattle.deny_cfg.specs.SpecView.{spec_view};
 ghost use Rattle.deny_model.specs.Facts.{AreFacts};
+ghost use Rattle.deny_model.specs.Match.{matches};
 ghost use Rattle.deny_facts.specs.Marks.{facts_of, is_near, AreCounted, IsTreeOf};
+ghost use Rattle.deny_facts.specs.Matches.{root_match, spec_match};
 
 use crate::distances::distances_from;
-use crate::matching::matched;
+use crate::entry_match::{EntryMatch, spec_match};
 use crate::placed::are_placed;
 use deny_base::DepKind;
 use deny_cfg::bans::cfg::{ValidConfig, ValidTreeSkip};
@@ -24,12 +27,18 @@ pub struct Marks {
     pub trees: List<List<bool>>,
 }
 
-/// What is true of a configuration and a graph.
-pub fn marks_of(alloc: Global, cfg: &ValidConfig, krates: &Krates) -> Result<Marks, NoMemory>
-    ensures { IfOk result (λ marks. AreFacts (policy_view cfg.now) krates.now (facts_of marks)) }
+/// What is true of a configuration and a graph. Adds what each entry of `skip-tree` speaks of.
+pub fn marks_of(
+    alloc: Global,
+    cfg: &ValidConfig,
+    krates: &Krates,
+    roots: &mut List<EntryMatch>,
+) -> Result<Marks, NoMemory>
+    ensures facts { IfOk result (λ marks. AreFacts (policy_view cfg.now) krates.now (facts_of marks)) }
+    ensures roots { OnOk result (roots.new ≡ roots.old ++ map (root_match krates.now) (policy_view cfg.now).skip_tree) }
 {
     let counts = counts_of(alloc, cfg.multiple_versions_include_dev, krates)?;
-    let trees = trees_of(alloc, krates, cfg.tree_skipped.as_slice())?;
+    let trees = trees_of(alloc, krates, cfg.tree_skipped.as_slice(), roots)?;
     Ok(Marks { counts, trees })
 }
 
@@ -45,31 +54,42 @@ pub fn counts_of(alloc: Global, include_dev: bool, krates: &Krates) -> Result<Ve
     krates.krates_filtered(alloc, DepKind::Dev)
 }
 
-/// Marks for the crates of each entry's tree.
+/// Marks for the crates of each entry's tree. Adds what each entry speaks of.
 fn trees_of(
     alloc: Global,
     krates: &Krates,
     entries: &[ValidTreeSkip],
+    roots: &mut List<EntryMatch>,
 ) -> Result<List<List<bool>>, NoMemory>
-    ensures { IfOk result (AllZip (IsTreeOf krates.now) entries.now) }
+    ensures trees { IfOk result (AllZip (IsTreeOf krates.now) entries.now) }
+    ensures roots { OnOk result (roots.new
+        ≡ roots.old ++ map (λ e. spec_match krates.now (spec_view e.spec)) entries.now) }
 {
     let mut trees = List::new(alloc);
     for entry in entries {
-        trees.push(tree_of(alloc, krates, entry)?)?;
+        let root = spec_match(alloc, krates, &entry.spec)?;
+        trees.push(tree_of(alloc, krates, entry, root.places.as_slice())?)?;
+        roots.push(root)?;
     }
     Ok(trees)
 }
 
-/// Marks for the crates of an entry's tree; none, where the entry speaks of no crate.
-fn tree_of(alloc: Global, krates: &Krates, entry: &ValidTreeSkip) -> Result<List<bool>, NoMemory>
+/// Marks for the crates of an entry's tree, by the places of the crates that it speaks of; none, where
+/// it speaks of no crate.
+fn tree_of(
+    alloc: Global,
+    krates: &Krates,
+    entry: &ValidTreeSkip,
+    roots: &[u32],
+) -> Result<List<bool>, NoMemory>
+    requires { roots.now ≡ map (λ c. c.place) (filter (matches (spec_view entry.now.spec)) krates.now.crates) }
     ensures { IfOk result (IsTreeOf krates.now entry.now) }
 {
     are_placed(krates);
-    let roots = matched(alloc, krates, &entry.spec)?;
-    if roots.len() == 0 {
+    if roots.is_empty() {
         return Ok(List::new(alloc));
     }
-    let distances = distances_from(alloc, krates, roots.as_slice())?;
+    let distances = distances_from(alloc, krates, roots)?;
     near(alloc, depth_of(entry), distances.as_slice())
 }
 

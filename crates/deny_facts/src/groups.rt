@@ -3,14 +3,16 @@ ghost use Rattle.std.specs.Prelude.{◌≡◌, ◌++◌, ◌<◌, ◌≤◌, ◌
 ghost use Rattle.std.specs.List.{list_all, list_any, range_with_len};
 ghost use Rattle.deny_cfg.specs.PolicyView.{entry_view, policy_view};
 ghost use Rattle.deny_cfg.specs.SpecView.{spec_view};
-ghost use Rattle.deny_model.specs.Graph.{dependents};
+ghost use Rattle.deny_model.specs.Graph.{Graph, dependents};
 ghost use Rattle.deny_model.specs.Groups.{has_name};
 ghost use Rattle.deny_model.specs.Match.{matches};
 ghost use Rattle.deny_facts.specs.Groups.{AddsLeft, AreGroups, IsReducedLength, all_bear, bears, is_left, is_left_at, may_stand_at};
 ghost use Rattle.deny_facts.specs.Marks.{AddsMarks, HaveBesides, facts_of, mark_at, marked};
+ghost use Rattle.deny_facts.specs.Matches.{skip_match};
 
+use crate::entry_match::EntryMatch;
 use crate::facts::Marks;
-use crate::marking::{mark_at, mark_each, no_marks};
+use crate::marking::{mark_at, mark_each, marked, no_marks};
 use crate::matching::matched;
 use crate::placed::are_placed;
 use deny_cfg::PackageSpec;
@@ -31,17 +33,21 @@ pub struct Groups {
     pub reduced: List<bool>,
 }
 
-/// The crates that skips speak of, those of skipped trees, and those of reduced groups.
+/// The crates that skips speak of, those of skipped trees, and those of reduced groups. Adds which
+/// counting crates each skip speaks of.
 pub fn groups_of(
     alloc: Global,
     cfg: &ValidConfig,
     krates: &Krates,
     marks: &Marks,
+    skips: &mut List<EntryMatch>,
 ) -> Result<Groups, NoMemory>
-    ensures { IfOk result (AreGroups (policy_view cfg.now) krates.now (facts_of marks.now)) }
+    ensures groups { IfOk result (AreGroups (policy_view cfg.now) krates.now (facts_of marks.now)) }
+    ensures skips { OnOk result (skips.new
+        ≡ skips.old ++ map (skip_match krates.now (facts_of marks.now)) (policy_view cfg.now).skip) }
 {
     are_placed(krates);
-    let marked = skipped_of(alloc, krates, cfg.skipped.as_slice())?;
+    let marked = skipped_of(alloc, krates, marks, cfg.skipped.as_slice(), skips)?;
     let trees = first_trees(marks.trees.as_slice(), cfg.tree_skipped.len());
     let rooted = rooted_of(alloc, krates, trees)?;
     let standing = standing_of(
@@ -84,36 +90,61 @@ pub fn spoken_of(
     Ok(marks)
 }
 
-/// Marks for the crates that skips speak of.
+/// Marks for the crates that skips speak of. Adds which counting crates each speaks of.
 fn skipped_of(
     alloc: Global,
     krates: &Krates,
+    marks: &Marks,
     skips: &[SpecAndReason],
+    found: &mut List<EntryMatch>,
 ) -> Result<List<bool>, NoMemory>
-    ensures { IfOk result (λ marks. marks ≡ map (λ c. list_any (λ s. matches s.spec c)
+    ensures marks { IfOk result (λ marks. marks ≡ map (λ c. list_any (λ s. matches s.spec c)
         (map entry_view skips.now)) krates.now.crates) }
+    ensures found { OnOk result (found.new
+        ≡ found.old ++ map (λ s. skip_match krates.now (facts_of marks.now) (entry_view s)) skips.now) }
 {
-    let mut marks = no_marks(alloc, krates)?;
+    let mut skipped = no_marks(alloc, krates)?;
     for skip in skips {
-        mark_spec(alloc, krates, &skip.spec, &mut marks)?;
+        let places = mark_spec(alloc, krates, &skip.spec, &mut skipped)?;
+        found.push(counting(alloc, marks, skip, places.as_slice())?)?;
     }
-    Ok(marks)
+    Ok(skipped)
 }
 
-/// Marks the crates that a spec speaks of.
+/// A skip, with those of the crates that it speaks of which count.
+fn counting(
+    alloc: Global,
+    marks: &Marks,
+    skip: &SpecAndReason,
+    places: &[u32],
+) -> Result<EntryMatch, NoMemory>
+    ensures { (g : Graph) → places.now ≡ map (λ c. c.place) (filter (matches (entry_view skip.now).spec) g.crates)
+        → IfOk result (λ found. found ≡ skip_match g (facts_of marks.now) (entry_view skip.now)) }
+{
+    let counting = marked(alloc, places, marks.counts.as_slice())?;
+    Ok(EntryMatch {
+        name: skip.spec.name.value.clone()?,
+        range: skip.spec.name.span,
+        places: counting,
+    })
+}
+
+/// Marks the crates that a spec speaks of, and gives their places, ascending.
 fn mark_spec(
     alloc: Global,
     krates: &Krates,
     spec: &PackageSpec,
     marks: &mut List<bool>,
-) -> Result<(), NoMemory>
+) -> Result<List<u32>, NoMemory>
     requires { length marks.old ≡ length krates.now.crates }
-    ensures { OnOk result (AddsMarks krates.now.crates (matches (spec_view spec.now)) marks.old marks.new) }
+    ensures marks { OnOk result (AddsMarks krates.now.crates (matches (spec_view spec.now)) marks.old marks.new) }
+    ensures places { IfOk result (λ places. places ≡ map (λ c. c.place)
+        (filter (matches (spec_view spec.now)) krates.now.crates)) }
 {
     are_placed(krates);
     let places = matched(alloc, krates, spec)?;
     mark_each(marks, places.as_slice());
-    Ok(())
+    Ok(places)
 }
 
 /// The first trees, so many at most.

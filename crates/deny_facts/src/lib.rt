@@ -3,10 +3,12 @@
 #![tactic(auto)]
 
 mod distances;
+mod entry_match;
 mod exempt;
 mod facts;
 mod groups;
 mod marking;
+mod matches;
 mod matching;
 mod neighbours;
 mod placed;
@@ -14,10 +16,11 @@ mod shown;
 mod wrappers;
 
 pub use distances::distances_from;
-pub use exempt::exempt_marks;
-pub use facts::{Marks, counts_of, marks_of};
-pub use groups::{Groups, groups_of, reduced_len, spoken_of};
+pub use entry_match::EntryMatch;
+pub use facts::{Marks, counts_of};
+pub use groups::{Groups, reduced_len};
 pub use marking::{mark_at, mark_each, marked, no_marks, unmarked};
+pub use matches::{BanMatch, Matches};
 pub use matching::matched;
 pub use neighbours::{Dependencies, Dependents};
 pub use placed::are_placed;

@@ -6,26 +6,19 @@ ghost use Rattle.deny_codes.specs.Wildcards.{is_asked};
 ghost use Rattle.deny_facts.specs.Marks.{facts_of};
 ghost use Rattle.deny_manifest_rules.specs.private.Asked.{is_asked_at, is_git_at};
 
-use deny_cfg::bans::cfg::ValidConfig;
-use deny_facts::{Groups, Marks, are_placed, groups_of, krate_at, mark_at};
+use deny_facts::{Groups, Marks, Matches, are_placed, krate_at, mark_at};
 use deny_krates::Krates;
 use deny_lists::{List, NoMemory};
 use std::alloc::Global;
 
 /// Marks for the crates that are asked: those that count and come from no repository, of which no skip
 /// speaks, and which lie in no skipped tree.
-pub fn asked_of(
-    alloc: Global,
-    cfg: &ValidConfig,
-    krates: &Krates,
-    marks: &Marks,
-) -> Result<List<bool>, NoMemory>
+pub fn asked_of(alloc: Global, found: &Matches<'_>) -> Result<List<bool>, NoMemory>
     ensures { IfOk result (λ asked. asked
-        ≡ map (is_asked (policy_view cfg.now) (facts_of marks.now)) krates.now.crates) }
+        ≡ map (is_asked (policy_view found.now.cfg.now) (facts_of found.now.marks)) found.now.krates.now.crates) }
 {
-    are_placed(krates);
-    let groups = groups_of(alloc, cfg, krates, marks)?;
-    asked_by(alloc, krates, marks, &groups)
+    are_placed(found.krates);
+    asked_by(alloc, found.krates, &found.marks, &found.groups)
 }
 
 /// The same, by marks.

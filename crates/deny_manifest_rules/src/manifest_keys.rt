@@ -11,9 +11,7 @@ use crate::sharing::{add_duplicate_keys, add_unused_keys};
 use crate::uses::Uses;
 use crate::wildcard_keys::add_wildcard_keys;
 use deny_base::Key;
-use deny_cfg::bans::cfg::ValidConfig;
-use deny_facts::Marks;
-use deny_krates::Krates;
+use deny_facts::Matches;
 use deny_lists::{List, NoMemory};
 use deny_spans::KrateSpans;
 use std::alloc::Global;
@@ -24,19 +22,18 @@ use std::alloc::Global;
 /// handed in, as `uses_of` gives them for this policy and these spans.
 pub fn add_manifest_keys(
     alloc: Global,
-    cfg: &ValidConfig,
-    krates: &Krates,
+    found: &Matches<'_>,
     spans: &KrateSpans<'_>,
-    marks: &Marks,
     uses: &Uses<'_, '_>,
     keys: &mut List<Key>,
 ) -> Result<(), NoMemory>
-    requires spans { AreSpansOf krates.now spans.now }
-    requires uses { AreUses (policy_view cfg.now) krates.now (spans_view spans.now) uses.now }
-    ensures { OnOk result (Adds (IsOfManifests (policy_view cfg.now) krates.now (facts_of marks.now)
-        (spans_view spans.now)) keys.old keys.new) }
+    requires spans { AreSpansOf found.now.krates.now spans.now }
+    requires uses { AreUses (policy_view found.now.cfg.now) found.now.krates.now (spans_view spans.now) uses.now }
+    ensures { OnOk result (Adds (IsOfManifests (policy_view found.now.cfg.now) found.now.krates.now
+        (facts_of found.now.marks) (spans_view spans.now)) keys.old keys.new) }
 {
-    add_wildcard_keys(alloc, cfg, krates, spans, marks, keys)?;
-    add_duplicate_keys(alloc, cfg, krates, uses, keys)?;
+    let cfg = found.cfg;
+    add_wildcard_keys(alloc, found, spans, keys)?;
+    add_duplicate_keys(alloc, cfg, found.krates, uses, keys)?;
     add_unused_keys(alloc, cfg, spans, keys)
 }

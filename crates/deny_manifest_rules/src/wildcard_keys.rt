@@ -16,7 +16,7 @@ use crate::minded::is_minded;
 use crate::wildcards::{is_minded_in, is_shared};
 use deny_base::{Code, Key, Section};
 use deny_cfg::bans::cfg::ValidConfig;
-use deny_facts::{Marks, are_placed, krate_at, mark_at};
+use deny_facts::{Matches, are_placed, krate_at, mark_at};
 use deny_krates::{Krate, Krates};
 use deny_lists::{List, NoMemory};
 use deny_spans::{KrateSpans, Manifest, ManifestDep};
@@ -26,23 +26,23 @@ use std::alloc::Global;
 /// among these declarations that the workspace is to declare and does not.
 pub fn add_wildcard_keys(
     alloc: Global,
-    cfg: &ValidConfig,
-    krates: &Krates,
+    found: &Matches<'_>,
     spans: &KrateSpans<'_>,
-    marks: &Marks,
     keys: &mut List<Key>,
 ) -> Result<(), NoMemory>
     ensures { OnOk result (Adds (λ key.
-        Contains (wildcard_keys (policy_view cfg.now) krates.now (facts_of marks.now) (spans_view spans.now)) key
-        ⊎ Contains (unresolved_keys (policy_view cfg.now) krates.now (facts_of marks.now) (spans_view spans.now)) key)
-        keys.old keys.new) }
+        Contains (wildcard_keys (policy_view found.now.cfg.now) found.now.krates.now (facts_of found.now.marks)
+        (spans_view spans.now)) key
+        ⊎ Contains (unresolved_keys (policy_view found.now.cfg.now) found.now.krates.now (facts_of found.now.marks)
+        (spans_view spans.now)) key) keys.old keys.new) }
 {
+    let krates = found.krates;
     are_placed(krates);
-    if !is_minded(cfg.wildcards) {
+    if !is_minded(found.cfg.wildcards) {
         return Ok(());
     }
-    let asked = asked_of(alloc, cfg, krates, marks)?;
-    add_each(alloc, cfg, krates, spans, asked.as_slice(), keys)
+    let asked = asked_of(alloc, found)?;
+    add_each(alloc, found.cfg, krates, spans, asked.as_slice(), keys)
 }
 
 /// Adds the keys of all crates that are asked, one by one.

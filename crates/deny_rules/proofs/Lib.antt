@@ -1,15 +1,6 @@
-pub mod VersionLemmas
-pub mod FirstEdgeLemmas
-pub mod DependentKeyLemmas
-pub mod DuplicateLemmas
-pub mod SkipLemmas
-pub mod BannedLemmas
-pub mod AllowedLemmas
-pub mod BanKeysLemmas
 pub mod BuildSections
 pub mod StdLastLemmas
 pub mod OwnRuleLemmas
 pub mod OrderedLemmas
 pub mod StdLemmas
 pub mod CheckLemmas
-pub mod HitLemmas

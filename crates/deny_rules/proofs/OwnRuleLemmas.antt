@@ -33,7 +33,8 @@ use Rattle.deny_features.specs.FeatureKeys.{IsOfFeatures}
 use Rattle.deny_manifest_rules.specs.ManifestKeys.{IsOfManifests}
 use Rattle.deny_std.specs.Found.{IsOfStd}
 use Rattle.deny_rules.proofs.StdLastLemmas.{rules_first}
-use Rattle.deny_rules.specs.private.OwnRules.{IsByRule, IsOfBuilds, ban_rules, keys_of_rules, skip_rules}
+use Rattle.deny_crate_rules.specs.Rules.{ban_rules, keys_of_rules, skip_rules}
+use Rattle.deny_rules.specs.private.OwnRules.{IsByRule, IsOfBuilds}
 
 module _ (c : Circumstances) (facts : Facts) where
   abbrev IsOwn : Key → Type 0

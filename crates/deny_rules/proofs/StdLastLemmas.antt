@@ -48,7 +48,8 @@ use Rattle.deny_manifest_rules.specs.ManifestKeys.{IsOfManifests}
 use Rattle.deny_std.specs.Found.{IsOfStd}
 use Rattle.deny_telling.specs.Here.{is_told_here}
 use Rattle.deny_rules.proofs.BuildSections.{key_of_crates}
-use Rattle.deny_rules.specs.private.OwnRules.{IsByRule, IsOfBuilds, ban_rules, keys_of_rules, skip_rules}
+use Rattle.deny_crate_rules.specs.Rules.{ban_rules, keys_of_rules, skip_rules}
+use Rattle.deny_rules.specs.private.OwnRules.{IsByRule, IsOfBuilds}
 
 -- ---- keys of entries that come to nothing have no place
 

@@ -4,7 +4,9 @@ ghost use Rattle.deny_cfg.specs.PolicyView.{AreGlobsRead, building_of, policy_vi
 ghost use Rattle.deny_lists.specs.Ascending.{Lists};
 ghost use Rattle.deny_outside.specs.Disk.{IsLater};
 ghost use Rattle.deny_base.specs.KeyOrder.{key_cmp};
+ghost use Rattle.deny_facts.specs.Marks.{facts_of};
 ghost use Rattle.deny_manifest_rules.specs.Uses.{AreUses};
+ghost use Rattle.deny_model.specs.Facts.{AreFacts};
 ghost use Rattle.deny_spans.specs.SpansView.{AreSpansOf, spans_view};
 ghost use Rattle.deny_packages.specs.Why.{AreFoldersOf};
 ghost use Rattle.deny_told.specs.Told.{told_by};
@@ -14,16 +16,13 @@ ghost use Rattle.deny_rules.specs.Check.{IsCheckOf, IsTableThere, TellsPrefixOf}
 ghost use Rattle.deny_rules.specs.private.OfPackages.{facts_by};
 ghost use Rattle.deny_rules.specs.private.OwnRules.{IsByRule};
 
-use crate::ban_keys::add_ban_keys;
-use crate::duplicates::add_duplicate_keys;
-use crate::hits::hits_of;
 use crate::packages::{Looked, add_bypass_hits, add_package_keys, looked_at};
 use crate::replaced::{add_ignore_hits, replacements_in, tell_replaced};
-use crate::skips::add_skip_keys;
 use deny_base::{Hit, Key, Pack, key_order};
 use deny_cfg::bans::cfg::ValidConfig;
+use deny_crate_rules::{add_ban_keys, add_duplicate_keys, add_skip_keys, hits_of};
 use deny_dup_edges::{DupEdges, dup_edges_of};
-use deny_facts::{Marks, marks_of};
+use deny_facts::Matches;
 use deny_features::add_feature_keys;
 use deny_krates::Krates;
 use deny_lists::{List, NoMemory, put_in_order};
@@ -59,31 +58,30 @@ pub struct BansEnd {
 }
 
 /// The keys of what stands by the rules on crates, their features, what manifests write, and packages,
-/// and by these facts, ascending, each once.
+/// by what the policy's entries speak of, ascending, each once.
 fn keys_of(
     alloc: Global,
-    ctx: &CheckCtx<'_>,
-    marks: &Marks,
+    found: &Matches<'_>,
+    spans: &KrateSpans<'_>,
     uses: &Uses<'_, '_>,
     looked: &Looked,
 ) -> Result<List<Key>, NoMemory>
-    requires read { AreGlobsRead ctx.now.cfg.now }
-    requires spans { AreSpansOf ctx.now.krates.now ctx.now.krate_spans.now }
-    requires uses { AreUses (policy_view ctx.now.cfg.now) ctx.now.krates.now (spans_view ctx.now.krate_spans.now)
-        uses.now }
+    requires read { AreGlobsRead found.now.cfg.now }
+    requires spans { AreSpansOf found.now.krates.now spans.now }
+    requires uses { AreUses (policy_view found.now.cfg.now) found.now.krates.now (spans_view spans.now) uses.now }
     ensures { IfOk result (Lists key_cmp (IsByRule
-        (told_by ctx.now.cfg.now ctx.now.krates.now ctx.now.krate_spans.now looked.now.packages)
-        (facts_by marks.now looked.now.reached.items))) }
+        (told_by found.now.cfg.now found.now.krates.now spans.now looked.now.packages)
+        (facts_by found.now.marks looked.now.reached.items))) }
 {
-    let cfg = ctx.cfg;
-    let krates = ctx.krates;
+    let cfg = found.cfg;
+    let krates = found.krates;
     key_order();
     let mut keys = List::new(alloc);
-    add_ban_keys(alloc, cfg, krates, &mut keys)?;
-    add_skip_keys(alloc, cfg, krates, marks, &mut keys)?;
-    add_duplicate_keys(alloc, cfg, krates, marks, &mut keys)?;
+    add_ban_keys(alloc, found, &mut keys)?;
+    add_skip_keys(alloc, found, &mut keys)?;
+    add_duplicate_keys(alloc, found, &mut keys)?;
     add_feature_keys(alloc, cfg, krates, &mut keys)?;
-    add_manifest_keys(alloc, cfg, krates, ctx.krate_spans, marks, uses, &mut keys)?;
+    add_manifest_keys(alloc, found, spans, uses, &mut keys)?;
     add_package_keys(alloc, cfg, krates, looked, &mut keys)?;
     put_in_order(&mut keys)?;
     Ok(keys)
@@ -115,21 +113,55 @@ pub fn check<D: PackageFiles>(
     ensures untouched { building_of ctx.now.cfg.now ≡ None → disk.new ≡ disk.old }
     ensures later { IsLater (D.seen disk.old) (D.seen disk.new) }
 {
-    let cfg = ctx.cfg;
-    let spans = ctx.krate_spans;
-    let marks = marks_of(alloc, cfg, ctx.krates)?;
-    let looked = looked_at(alloc, cfg, ctx.krates, ctx.home, disk)?;
-    let uses = uses_of(alloc, cfg, ctx.krates, spans)?;
-    let keys = keys_of(alloc, ctx, &marks, &uses, &looked)?;
-    let replaced = replacements_in(alloc, cfg, ctx.krates, ctx.table)?;
-    let mut hits = hits_of(alloc, cfg, ctx.krates, &marks)?;
+    let found = Matches::new(alloc, ctx.cfg, ctx.krates)?;
+    check_found(
+        alloc,
+        &found,
+        ctx.krate_spans,
+        ctx.table,
+        ctx.home,
+        disk,
+        sink,
+    )
+}
+
+/// The same, by what the policy's entries speak of.
+fn check_found<D: PackageFiles>(
+    alloc: Global,
+    found: &Matches<'_>,
+    spans: &KrateSpans<'_>,
+    table: Option<&[u8]>,
+    home: Option<&str>,
+    disk: &mut D,
+    sink: &mut List<Pack>,
+) -> Result<BansEnd, NoMemory>
+    requires table { IsTableThere found.now.cfg.now (option_copied table) }
+    requires read { AreGlobsRead found.now.cfg.now }
+    requires spans { AreSpansOf found.now.krates.now spans.now }
+    requires facts { AreFacts (policy_view found.now.cfg.now) found.now.krates.now (facts_of found.now.marks) }
+    ensures checked { IfOk result (IsCheckOf (D.seen disk.old) (D.seen disk.new) found.now.cfg.now found.now.krates.now
+        (option_copied table.entry) (option_copied home.entry) spans.now sink.old sink.new) }
+    ensures prefix { OnErr result (TellsPrefixOf (D.seen disk.old).files found.now.cfg.now found.now.krates.now
+        (option_copied table.entry) (option_copied home.entry) spans.now sink.old sink.new) }
+    ensures caused { IfOk result (λ end. (folder : Folders) → AreFoldersOf found.now.krates.now folder
+        → AreCaused folder (D.seen disk.old) (D.seen disk.new) end.unread) }
+    ensures untouched { building_of found.now.cfg.now ≡ None → disk.new ≡ disk.old }
+    ensures later { IsLater (D.seen disk.old) (D.seen disk.new) }
+{
+    let cfg = found.cfg;
+    let krates = found.krates;
+    let looked = looked_at(alloc, cfg, krates, home, disk)?;
+    let uses = uses_of(alloc, cfg, krates, spans)?;
+    let keys = keys_of(alloc, found, spans, &uses, &looked)?;
+    let replaced = replacements_in(alloc, cfg, krates, table)?;
+    let mut hits = hits_of(alloc, found)?;
     add_ignore_hits(&replaced, &mut hits)?;
-    add_bypass_hits(alloc, cfg, ctx.krates, &looked, &mut hits)?;
+    add_bypass_hits(alloc, cfg, krates, &looked, &mut hits)?;
     let rules = keys.as_slice();
     let packages = looked.packages.as_slice();
-    let dup_edges = dup_edges_of(alloc, cfg, ctx.krates, rules)?;
-    tell_all(alloc, cfg, ctx.krates, spans, &uses, packages, rules, sink)?;
-    tell_replaced(alloc, ctx.krates, replaced, cfg.file_id, sink)?;
+    let dup_edges = dup_edges_of(alloc, cfg, krates, rules)?;
+    tell_all(alloc, found, spans, &uses, packages, rules, sink)?;
+    tell_replaced(alloc, krates, replaced, cfg.file_id, sink)?;
     Ok(BansEnd {
         hits,
         dup_edges,

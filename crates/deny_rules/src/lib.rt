@@ -2,17 +2,10 @@
 //! which entries are hit, and with them what the standard library replaces.
 #![tactic(auto)]
 
-mod allowed;
-mod ban_keys;
-mod banned;
 pub mod bans;
 mod check;
-mod crate_keys;
-mod duplicates;
-mod hits;
 mod packages;
 mod replaced;
-mod skips;
 
 pub use check::{BansEnd, CheckCtx};
 pub use deny_dup_edges::{DupEdge, DupEdges, DupSet};

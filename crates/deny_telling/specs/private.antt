@@ -1,3 +1,3 @@
 pub mod Features
 pub mod Teller
-pub mod WrapperRanges
+pub mod Wrappers

@@ -4,7 +4,7 @@ ghost use Rattle.deny_codes.specs.Bans.{allowed_by_wrapper_told, banned_told};
 ghost use Rattle.deny_codes.specs.Bans.{unmatched_wrapper_told, wrapper_labels_at};
 ghost use Rattle.deny_model.specs.Told.{crate_at, crate_text_at, of_crate};
 ghost use Rattle.deny_telling.specs.private.Teller.{told_from};
-ghost use Rattle.deny_telling.specs.private.WrapperRanges.{wrapper_range};
+ghost use Rattle.deny_telling.specs.private.Wrappers.{wrapper_range};
 
 use crate::entry_labels::ban_labels_at;
 use crate::teller::Teller;

@@ -14,7 +14,6 @@ mod skipped_trees;
 mod skips;
 mod teller;
 mod told;
-mod wrapper_ranges;
 mod wrappers;
 
 pub use told::tell_all;

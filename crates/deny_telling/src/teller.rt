@@ -9,18 +9,18 @@ ghost use Rattle.deny_model.specs.Duplicates.{is_denied_multiple};
 ghost use Rattle.deny_model.specs.Told.{allow_at, ban_at, crates_at, root_at, skip_at};
 ghost use Rattle.deny_model.specs.Wrappers.{same_span};
 ghost use Rattle.deny_facts.specs.Marks.{mark_at};
+ghost use Rattle.deny_facts.specs.Matches.{AreBanMatches};
 ghost use Rattle.deny_manifest_told.specs.Found.{AreUnusedOf, AreUsesOf};
-ghost use Rattle.deny_telling.specs.private.WrapperRanges.{FindsWrappers, wrapper_range};
+ghost use Rattle.deny_telling.specs.private.Wrappers.{wrapper_range};
 ghost use Rattle.deny_told.specs.ByRange.{IsByRange};
 
 use crate::features_by_range::{listed_by_range, required_by_range};
-use crate::wrapper_ranges::WrapperRanges;
 use deny_base::{FileId, Span, Spanned};
 use deny_build_told::script_sums;
 use deny_cfg::bans::cfg::{Checksum, KrateBan, TreeSkipExtended, ValidKrateFeatures};
 use deny_cfg::{PackageSpecOrExtended, Reason};
-use deny_facts::{mark_at, spoken_of};
-use deny_lists::{List, NoMemory, Text};
+use deny_facts::{BanMatch, Matches, mark_at};
+use deny_lists::{NoMemory, Text};
 use deny_manifest_rules::Uses;
 use deny_spans::UnusedWorkspaceDep;
 use deny_told::{ByRange, Told};
@@ -33,37 +33,40 @@ pub struct Teller<'c> {
     pub uses: &'c Uses<'c, 'c>,
     pub unused: ByRange<'c, UnusedWorkspaceDep>,
     pub sums: ByRange<'c, Spanned<Checksum>>,
-    banned: ByRange<'c, PackageSpecOrExtended<KrateBan>>,
+    found: &'c Matches<'c>,
+    banned: ByRange<'c, BanMatch<'c>>,
     allowed: ByRange<'c, PackageSpecOrExtended<Reason>>,
     skipped: ByRange<'c, PackageSpecOrExtended<Reason>>,
     roots: ByRange<'c, PackageSpecOrExtended<TreeSkipExtended>>,
     feature_entries: ByRange<'c, ValidKrateFeatures>,
     features: ByRange<'c, Spanned<Text>>,
     required: ByRange<'c, Spanned<Text>>,
-    wrappers: WrapperRanges,
-    several: List<bool>,
     ghost uses_fit: { AreUsesOf told uses.now },
     ghost unused_found: { AreUnusedOf told unused },
     ghost sums_found: { AreSumsOf told.cfg.now sums },
-    ghost banned_found: { IsByRange (λ e. e.spec.name.span) told.cfg.now.denied banned },
+    ghost bans_found: { AreBanMatches (policy_view told.cfg.now) told.krates.now (policy_view told.cfg.now).deny
+        found.now.bans },
+    ghost several_marked: { found.now.several ≡ map (is_denied_multiple (policy_view told.cfg.now))
+        told.krates.now.crates },
+    ghost banned_found: { IsByRange (λ m. m.ban.now.spec.name.span) found.now.bans banned },
     ghost allowed_found: { IsByRange (λ e. e.spec.name.span) told.cfg.now.allowed allowed },
     ghost skipped_found: { IsByRange (λ e. e.spec.name.span) told.cfg.now.skipped skipped },
     ghost roots_found: { IsByRange (λ e. e.spec.name.span) told.cfg.now.tree_skipped roots },
     ghost entries_found: { IsByRange (λ e. e.spec.name.span) told.cfg.now.features feature_entries },
     ghost features_found: { IsByRange (λ w. w.span) (flat_map features_of (map feature_view told.cfg.now.features)) features },
     ghost required_found: { IsByRange (λ w. w.span) (required_features (building_of told.cfg.now)) required },
-    ghost wrappers_found: { FindsWrappers (map ban_view told.cfg.now.denied) wrappers },
-    ghost several_marked: { several ≡ map (is_denied_multiple (policy_view told.cfg.now)) told.krates.now.crates },
 }
 
 impl<'c> Teller<'c> {
-    #[tactic(auto, unfolding(deny_model::specs::Duplicates::is_denied_multiple))]
     pub fn new(
         alloc: Global,
         told: Told<'c>,
+        found: &'c Matches<'c>,
         uses: &'c Uses<'c, 'c>,
     ) -> Result<Teller<'c>, NoMemory>
-        requires { AreUsesOf told uses.now }
+        requires uses { AreUsesOf told uses.now }
+        requires cfg { found.now.cfg.now ≡ told.cfg.now }
+        requires krates { found.now.krates.now ≡ told.krates.now }
         ensures { IfOk result (λ teller. teller.told ≡ told.entry) }
     {
         let cfg = told.cfg;
@@ -71,15 +74,14 @@ impl<'c> Teller<'c> {
             uses,
             unused: ByRange::new(alloc, told.spans.unused_workspace_deps.as_slice())?,
             sums: script_sums(alloc, cfg)?,
-            banned: ByRange::new(alloc, cfg.denied.as_slice())?,
+            found,
+            banned: ByRange::new(alloc, found.bans.as_slice())?,
             allowed: ByRange::new(alloc, cfg.allowed.as_slice())?,
             skipped: ByRange::new(alloc, cfg.skipped.as_slice())?,
             roots: ByRange::new(alloc, cfg.tree_skipped.as_slice())?,
             feature_entries: ByRange::new(alloc, cfg.features.as_slice())?,
             features: listed_by_range(alloc, cfg.features.as_slice())?,
             required: required_by_range(alloc, cfg)?,
-            wrappers: WrapperRanges::new(alloc, cfg.denied.as_slice())?,
-            several: spoken_of(alloc, told.krates, cfg.denied_multiple_versions.as_slice())?,
             told,
         })
     }
@@ -95,7 +97,10 @@ impl<'c> Teller<'c> {
     pub fn ban(&self, range: Span) -> Option<&'c PackageSpecOrExtended<KrateBan>>
         ensures { option_map (λ e. ban_view e.now) result ≡ ban_at (policy_view self.now.told.cfg.now) range }
     {
-        self.banned.at(range)
+        match self.banned.at(range) {
+            Some(found) => Some(found.ban),
+            None => None,
+        }
     }
 
     /// The entry of the allow list of a range.
@@ -151,7 +156,10 @@ impl<'c> Teller<'c> {
     pub fn wrapper(&self, range: Span, name: &str) -> Option<Span>
         ensures { result ≡ wrapper_range (policy_view self.now.told.cfg.now).deny range name.now }
     {
-        self.wrappers.at(range, name)
+        match self.banned.at(range) {
+            Some(found) => found.ranges.get(name).copied(),
+            None => None,
+        }
     }
 
     /// Whether several versions are denied of a crate at these places.
@@ -159,7 +167,7 @@ impl<'c> Teller<'c> {
         ensures { result ≡ list_any (is_denied_multiple (policy_view self.now.told.cfg.now))
             (crates_at self.now.told.krates.now places.now) }
     {
-        is_one_marked(self.several.as_slice(), places)
+        is_one_marked(self.found.several.as_slice(), places)
     }
 }
 

@@ -29,9 +29,8 @@ use deny_build_told::{
     path_bypassed_told, script_denied_told, script_told, unable_to_check_told,
     unmatched_bypass_told, unmatched_glob_told, unmatched_path_told,
 };
-use deny_cfg::bans::cfg::ValidConfig;
 use deny_codes::Words;
-use deny_krates::Krates;
+use deny_facts::Matches;
 use deny_lists::{List, NoMemory};
 use deny_manifest_rules::Uses;
 use deny_manifest_told::{
@@ -46,8 +45,7 @@ use std::alloc::Global;
 /// told of the first of them, or nothing.
 pub fn tell_all(
     alloc: Global,
-    cfg: &ValidConfig,
-    krates: &Krates,
+    found: &Matches<'_>,
     spans: &KrateSpans<'_>,
     uses: &Uses<'_, '_>,
     packages: &[Package],
@@ -55,20 +53,20 @@ pub fn tell_all(
     sink: &mut List<Pack>,
 ) -> Result<(), NoMemory>
     requires told_here { AreToldHere keys.now }
-    requires spans { AreSpansOf krates.now spans.now }
-    requires uses { AreUses (policy_view cfg.now) krates.now (spans_view spans.now) uses.now }
-    ensures ok { OnOk result (sink.new
-        ≡ sink.old ++ map (pack_told (told_by cfg.now krates.now spans.now packages.now)) keys.now) }
-    ensures prefix { OnErr result
-        (TellsPrefix (told_by cfg.now krates.now spans.now packages.now) keys.now sink.old sink.new) }
+    requires spans { AreSpansOf found.now.krates.now spans.now }
+    requires uses { AreUses (policy_view found.now.cfg.now) found.now.krates.now (spans_view spans.now) uses.now }
+    ensures ok { OnOk result (sink.new ≡ sink.old
+        ++ map (pack_told (told_by found.now.cfg.now found.now.krates.now spans.now packages.now)) keys.now) }
+    ensures prefix { OnErr result (TellsPrefix
+        (told_by found.now.cfg.now found.now.krates.now spans.now packages.now) keys.now sink.old sink.new) }
 {
     let told = Told {
-        cfg,
-        krates,
+        cfg: found.cfg,
+        krates: found.krates,
         spans,
         packages,
     };
-    let teller = Teller::new(alloc, told, uses)?;
+    let teller = Teller::new(alloc, told, found, uses)?;
     add_packs(alloc, &teller, keys, sink)
 }
 

@@ -7,6 +7,7 @@ ghost use Rattle.deny_told.specs.ByRange.{IsByRange, PutsBefore, found_at};
 use deny_base::{Span, Spanned};
 use deny_cfg::PackageSpecOrExtended;
 use deny_cfg::bans::cfg::ValidKrateFeatures;
+use deny_facts::BanMatch;
 use deny_lists::NoMemory;
 use deny_spans::UnusedWorkspaceDep;
 use std::alloc::Global;
@@ -29,6 +30,14 @@ impl<T> Ranged for PackageSpecOrExtended<T> {
 
     fn range(&self) -> Span {
         self.spec.name.span
+    }
+}
+
+impl<'c> Ranged for BanMatch<'c> {
+    ghost range = { λ m. m.ban.now.spec.name.span };
+
+    fn range(&self) -> Span {
+        self.ban.spec.name.span
     }
 }
 

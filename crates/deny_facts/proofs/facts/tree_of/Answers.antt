@@ -1,35 +1,32 @@
-use Rattle.std.proofs.Common.{◌≡◌, ◌<◌, ℕ, List, Bool, length, map, sym, ap, ◌∙◌, subst, arith}
-use Rattle.std.specs.Prelude.{All, option_and_then}
+use Rattle.std.proofs.Common.{◌≡◌, List, Bool, length, map, sym, ap, ◌∙◌, subst}
+use Rattle.std.specs.Prelude.{option_and_then}
+use Rattle.std.proofs.lemmas.Bool.{eqb-true}
 use Rattle.std.proofs.lemmas.Result.{IfOk-weaker}
-use Rattle.deny_facts.specs.Distances.{AreDistances}
 use Rattle.deny_facts.specs.Marks.{IsTreeOf, is_near}
 use Rattle.deny_facts.proofs.FactLemmas.{roots_within, tree_by_distances, tree_of_none}
 use Rattle.deny_facts.proofs.facts.tree_of.Goals as goal
 
-pub returns-then-len-eq0 : goal.returns-then-len-eq0
-returns-then-len-eq0 c =
+pub returns-then-is_empty : goal.returns-then-is_empty
+returns-then-is_empty c =
     let g = c.args.krates.now in
+    let roots = c.args.roots.now in
     subst (λ (marks : List Bool). IsTreeOf g c.args.entry.now marks) (sym c.new.ensures)
-    (tree_of_none g c.args.entry.now c.in_ok-roots.roots c.are_placed.ensures c.in_ok-roots.ensures
-    (omega (arith, c.len.ensures, c.if-len-eq0.true)))
+    (tree_of_none g c.args.entry.now roots c.are_placed.ensures c.requires
+    (eqb-true (length roots) 0 (sym c.is_empty.ensures ∙ c.if-is_empty.true)))
 
 pub distances_from-requires : goal.distances_from-requires
 distances_from-requires c =
-    let g = c.args.krates.now in
-    subst (λ (roots : List ℕ). All (λ root. root < length g.crates) roots) (sym c.as_slice.ensures)
-    (roots_within g c.args.entry.now c.in_ok-roots.roots c.are_placed.ensures c.in_ok-roots.ensures)
+    roots_within c.args.krates.now c.args.entry.now c.args.roots.now c.are_placed.ensures c.requires
 
 pub returns : goal.returns
 returns c =
     let g = c.args.krates.now in
     let entry = c.args.entry.now in
     let distances = c.in_ok-distances.distances in
-    let are : AreDistances g c.in_ok-roots.roots distances =
-    subst (λ (roots : List ℕ). AreDistances g roots distances) c.as_slice.ensures c.in_ok-distances.ensures in
-    IfOk-weaker c.near.result (λ marks. marks ≡ map (is_near c.depth_of.result) c.as_slice-2.result.now)
+    IfOk-weaker c.near.result (λ marks. marks ≡ map (is_near c.depth_of.result) c.as_slice.result.now)
     (IsTreeOf g entry)
     (λ marks is.
-    tree_by_distances g entry c.in_ok-roots.roots c.are_placed.ensures c.in_ok-roots.ensures distances marks are
-    (is ∙ (ap (λ depth. map (is_near depth) c.as_slice-2.result.now) c.depth_of.ensures
-    ∙ ap (map (is_near (option_and_then (λ skip. skip.depth) entry.inner))) c.as_slice-2.ensures)))
+    tree_by_distances g entry c.args.roots.now c.are_placed.ensures c.requires distances marks c.in_ok-distances.ensures
+    (is ∙ (ap (λ depth. map (is_near depth) c.as_slice.result.now) c.depth_of.ensures
+    ∙ ap (map (is_near (option_and_then (λ skip. skip.depth) entry.inner))) c.as_slice.ensures)))
     c.near.ensures

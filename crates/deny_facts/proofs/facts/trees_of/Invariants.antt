@@ -1,7 +1,13 @@
-use Rattle.std.proofs.Common.{take}
+use Rattle.std.proofs.Common.{◌≡◌, ◌++◌, drop, map, take}
 use Rattle.std.specs.List.{AllZip}
+use Rattle.deny_cfg.specs.SpecView.{spec_view}
 use Rattle.deny_facts.specs.Marks.{IsTreeOf}
+use Rattle.deny_facts.specs.Matches.{spec_match}
 use Rattle.deny_facts.proofs.facts.trees_of.Given as goal
 
 abbrev pub invariant-loop-entry : goal.invariant-loop-entry
-invariant-loop-entry l = AllZip (IsTreeOf l.krates) (take l.entry-index l.entries) l.trees
+invariant-loop-entry l = record {
+  trees : AllZip (IsTreeOf l.krates) (take l.entry-index l.entries) l.trees;
+  roots : l.roots ++ map (λ e. spec_match l.krates (spec_view e.spec)) (drop l.entry-index l.entries)
+      ≡ l.fn.roots ++ map (λ e. spec_match l.krates (spec_view e.spec)) l.entries;
+}

@@ -10,8 +10,8 @@ mark_each-requires c =
     (matches (spec_view c.args.spec.now)) c.as_slice.result.now (length c.args.marks.now)
     (c.as_slice.ensures ∙ c.in_ok-places.ensures) c.requires
 
-pub returns : goal.returns
-returns c =
+pub returns-clause-marks : goal.returns-clause-marks
+returns-clause-marks c =
     adds_matched c.args.krates.now.crates c.are_placed.ensures
     (matches (spec_view c.args.spec.now)) c.as_slice.result.now c.args.marks.now c.mark_each.new.marks
     (c.as_slice.ensures ∙ c.in_ok-places.ensures) c.mark_each.ensures

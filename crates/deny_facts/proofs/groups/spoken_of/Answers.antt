@@ -14,5 +14,5 @@ loop-spec-preserved c =
     more_marks crates (λ d. list_any (λ s. matches s d) (map spec_view (take i specs)))
     (λ d. list_any (λ s. matches s d) (map spec_view (take (i + 1) specs)))
     (matches (spec_view item)) c.loop-spec.marks c.mark_spec.new.marks c.loop-spec.invariant
-    c.in_ok-mark_spec.ensures
+    c.in_ok-mark_spec.ensures.marks
     (λ d. any_next_view spec_view (λ s. matches s d) specs i item c.loop-spec-test.true c.spec-item.is)

@@ -5,7 +5,8 @@ use Rattle.deny_manifest_rules.proofs.AskedLemmas.{asked_are}
 use Rattle.deny_manifest_rules.proofs.asked.asked_of.Goals as goal
 
 pub returns : goal.returns
-returns c = IfOk-weaker c.asked_by.result _ _
-    (λ (asked : List Bool) is. asked_are (policy_view c.args.cfg.now) c.args.krates.now c.args.marks.now
-    c.in_ok-groups.groups
-    c.are_placed.ensures c.in_ok-groups.ensures asked is) c.asked_by.ensures
+returns c =
+    let found = c.args.found.now in
+    IfOk-weaker c.asked_by.result _ _
+    (λ (asked : List Bool) is. asked_are (policy_view found.cfg.now) found.krates.now found.marks found.groups
+    c.are_placed.ensures found.grouped asked is) c.asked_by.ensures

@@ -13,9 +13,9 @@ use Rattle.deny_manifest_rules.proofs.manifest_keys.add_manifest_keys.Goals as g
 
 pub returns : goal.returns
 returns c =
-    let p = policy_view c.args.cfg.now in
-    let g = c.args.krates.now in
-    let facts = facts_of c.args.marks.now in
+    let p = policy_view c.args.found.now.cfg.now in
+    let g = c.args.found.now.krates.now in
+    let facts = facts_of c.args.found.now.marks in
     let view = spans_view c.args.spans.now in
     let at0 = c.args.keys.now in
     let at1 = c.add_wildcard_keys.new.keys in

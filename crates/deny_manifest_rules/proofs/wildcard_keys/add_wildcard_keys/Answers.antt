@@ -9,14 +9,15 @@ use Rattle.deny_manifest_rules.proofs.wildcard_keys.add_wildcard_keys.Goals as g
 
 pub returns-then-not-is_minded : goal.returns-then-not-is_minded
 returns-then-not-is_minded c =
-    none_stand (policy_view c.args.cfg.now) c.args.krates.now (facts_of c.args.marks.now) (spans_view c.args.spans.now)
+    let found = c.args.found.now in
+    none_stand (policy_view found.cfg.now) found.krates.now (facts_of found.marks) (spans_view c.args.spans.now)
     c.args.keys.now (sym c.is_minded.ensures ∙ c.if-not-is_minded.true)
 
 pub returns : goal.returns
 returns c =
-    let p = policy_view c.args.cfg.now in
-    let g = c.args.krates.now in
-    let facts = facts_of c.args.marks.now in
+    let p = policy_view c.args.found.now.cfg.now in
+    let g = c.args.found.now.krates.now in
+    let facts = facts_of c.args.found.now.marks in
     let view = spans_view c.args.spans.now in
     let are = found_are p g facts view c.are_placed.ensures c.as_slice.result.now
     (c.as_slice.ensures ∙ c.in_ok-asked.ensures) in

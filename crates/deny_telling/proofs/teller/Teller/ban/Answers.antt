@@ -1,10 +1,16 @@
-use Rattle.std.proofs.Common.{◌∙◌}
-use Rattle.deny_cfg.specs.PolicyView.{ban_view}
-use Rattle.deny_model.specs.Wrappers.{same_span}
-use Rattle.deny_told.proofs.ByRangeLemmas.{seen}
+use Rattle.std.proofs.Common.{None, Some, sym, ◌∙◌}
+use Rattle.deny_cfg.specs.PolicyView.{policy_view}
+use Rattle.deny_telling.proofs.ToldLemmas.{ban_found}
 use Rattle.deny_telling.proofs.teller.Teller.ban.Goals as goal
 
-pub returns : goal.returns
-returns c =
-    seen (λ e. same_span e.spec.range c.args.range) ban_view c.args.self.now.told.cfg.now.denied c.at.result
-    (c.at.ensures ∙ c.args.self.now.banned_found.at c.args.range)
+pub returns-in-Some : goal.returns-in-Some
+returns-in-Some c =
+    let self = c.args.self.now in
+    ban_found (policy_view self.told.cfg.now) self.told.krates.now self.found.now.bans c.args.range (Some c.in-Some.found)
+    self.bans_found (c.in-Some.ensures ∙ self.banned_found.at c.args.range)
+
+pub returns-in-None : goal.returns-in-None
+returns-in-None c =
+    let self = c.args.self.now in
+    ban_found (policy_view self.told.cfg.now) self.told.krates.now self.found.now.bans c.args.range None
+    self.bans_found (c.in-None.ensures ∙ self.banned_found.at c.args.range)

@@ -12,4 +12,4 @@ returns c =
     c.is_one_marked.ensures
     ∙ (ap (λ (marks : List _). list_any (mark_at marks) c.args.places.now) c.as_slice.ensures
     ∙ one_marked self.told.krates.now
-    (is_denied_multiple (policy_view self.told.cfg.now)) self.several c.args.places.now self.several_marked)
+    (is_denied_multiple (policy_view self.told.cfg.now)) self.found.now.several c.args.places.now self.several_marked)

@@ -1,0 +1,9 @@
+pub mod VersionLemmas
+pub mod FirstEdgeLemmas
+pub mod DependentKeyLemmas
+pub mod DuplicateLemmas
+pub mod SkipLemmas
+pub mod BannedLemmas
+pub mod AllowedLemmas
+pub mod BanKeysLemmas
+pub mod HitLemmas

@@ -1,0 +1,17 @@
+use Rattle.std.proofs.Common.{refl, arith}
+use Rattle.std.specs.Prelude.{filter_map}
+use Rattle.deny_krates.specs.declared.krate.DirectDependent.{DirectDependent}
+use Rattle.deny_facts.specs.Wrappers.{range_at}
+use Rattle.deny_lists.proofs.Loops.{pushed_all}
+use Rattle.deny_crate_rules.proofs.DependentKeyLemmas.{hits_are}
+use Rattle.deny_crate_rules.proofs.banned.add_hits_at.Goals as goal
+
+pub returns : goal.returns
+returns c =
+    let g = c.args.krates.now in
+    let ds = c.direct_dependents-dependents.result.now in
+    hits_are g c.args.place ds c.are_placed.ensures c.direct_dependents-dependents.ensures c.args.ranges.now
+    c.args.hits.now c.loop-dependent.hits
+    (pushed_all (filter_map
+    (λ (d : DirectDependent). range_at g c.args.ranges.now d.place)) ds c.loop-dependent.dependent-index
+    c.loop-dependent.hits _ refl (omega arith) c.loop-dependent.invariant)

@@ -1,0 +1,14 @@
+use Rattle.std.proofs.Common.{map, refl, arith}
+use Rattle.deny_krates.specs.declared.krate.DirectDependent.{DirectDependent}
+use Rattle.deny_lists.proofs.Loops.{pushed_all}
+use Rattle.deny_crate_rules.proofs.DependentKeyLemmas.{key_at, told_are}
+use Rattle.deny_crate_rules.proofs.banned.add_told_keys_at.Goals as goal
+
+pub returns : goal.returns
+returns c =
+    let g = c.args.krates.now in
+    let ds = c.direct_dependents-dependents.result.now in
+    told_are g c.args.place ds c.are_placed.ensures c.direct_dependents-dependents.ensures c.args.ranges.now
+    c.args.entry c.args.keys.now c.loop-dependent.keys
+    (pushed_all (map (λ (d : DirectDependent). key_at g c.args.ranges.now c.args.entry c.args.place d.place)) ds
+    c.loop-dependent.dependent-index c.loop-dependent.keys _ refl (omega arith) c.loop-dependent.invariant)

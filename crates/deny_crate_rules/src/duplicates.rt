@@ -1,0 +1,230 @@
+//! Crates of one name that stand side by side.
+ghost use Rattle.std.specs.Prelude.{◌≡◌, ◌++◌, ◌-◌, ◌<◌, ◌≤◌, filter, length, map, take, drop, Contains, IfOk, OnOk};
+ghost use Rattle.std.specs.List.{IsDistinct};
+ghost use Rattle.deny_lists.specs.Ascending.{Adds, Lists};
+ghost use Rattle.deny_cfg.specs.PolicyView.{policy_view};
+ghost use Rattle.deny_krates.specs.Crates.{crates_from};
+ghost use Rattle.deny_model.specs.Duplicates.{IsDuplicate};
+ghost use Rattle.deny_model.specs.Keys.{duplicate_key};
+ghost use Rattle.deny_model.specs.VersionOrder.{version_cmp};
+ghost use Rattle.deny_crate_rules.specs.private.Duplicates.{AddsKey, IsKeyOfCrates, IsDuplicatePolicy, is_unmarked, is_unmarked_at, key_of_group, level_at, same_id, placed_view};
+ghost use Rattle.deny_facts.specs.Marks.{facts_of};
+
+use deny_base::{Code, DiagnosticCode, Key, LintLevel, Section, Span};
+use deny_facts::{Groups, Matches, mark_at};
+use deny_krates::{Krate, Krates};
+use deny_lists::{List, NoMemory, Text};
+use std::alloc::Global;
+use std::cmp::Ordering;
+use std::ops::Range;
+
+/// A crate at its place.
+#[derive(Clone, Copy)]
+struct PlacedKrate<'k> {
+    place: u32,
+    krate: &'k Krate,
+}
+
+/// What the policy says of crates of one name that stand side by side.
+#[derive(Drop)]
+struct DuplicatePolicy<'f> {
+    groups: &'f Groups,
+    /// Which crates an entry denies in several versions.
+    denied: &'f [bool],
+    /// The level of the others.
+    level: LintLevel,
+}
+
+/// Adds the keys of the crates of one name that stand side by side, where the policy minds them.
+pub fn add_duplicate_keys(
+    alloc: Global,
+    found: &Matches<'_>,
+    keys: &mut List<Key>,
+) -> Result<(), NoMemory>
+    ensures { OnOk result (Adds (IsDuplicate (policy_view found.now.cfg.now) found.now.krates.now
+        (facts_of found.now.marks)) keys.old keys.new) }
+{
+    let krates = found.krates;
+    let size = krates.krates().len();
+    let policy = duplicate_policy_of(found);
+    let mut next = 0;
+    while next < size {
+        next = add_next(alloc, krates, &policy, next, keys)?;
+    }
+    Ok(())
+}
+
+/// What a policy says of crates that stand side by side.
+fn duplicate_policy_of<'f>(found: &'f Matches<'_>) -> DuplicatePolicy<'f>
+    ensures { IsDuplicatePolicy (policy_view found.now.cfg.now) found.now.krates.now (facts_of found.now.marks) result }
+{
+    DuplicatePolicy {
+        groups: &found.groups,
+        denied: found.several.as_slice(),
+        level: found.cfg.multiple_versions,
+    }
+}
+
+/// Adds the key of the crates that bear the name of the crate at `place`, where they have one, and
+/// says where the run of this name ends.
+fn add_next(
+    alloc: Global,
+    krates: &Krates,
+    policy: &DuplicatePolicy<'_>,
+    place: usize,
+    keys: &mut List<Key>,
+) -> Result<usize, NoMemory>
+    requires { place < length krates.now.crates }
+    ensures { IfOk result (λ next. AddsKey krates.now policy.now place next keys.old keys.new) }
+{
+    let name = krates.krates()[place].name.as_str();
+    let run = krates.places_by_name(name);
+    let next = run.end as usize;
+    if let Some(key) = key_of_run(alloc, krates, policy, run)? {
+        keys.push(key)?;
+    }
+    Ok(next)
+}
+
+/// The key of those of a run of crates that stand side by side, where they have one.
+fn key_of_run(
+    alloc: Global,
+    krates: &Krates,
+    policy: &DuplicatePolicy<'_>,
+    run: Range<u32>,
+) -> Result<Option<Key>, NoMemory>
+    requires upward { run.start ≤ run.end }
+    requires within { run.end ≤ length krates.now.crates }
+    ensures { IfOk result (IsKeyOfCrates policy.now (take (run.end - run.start) (drop run.start krates.now.crates))) }
+{
+    let mut standing = unmarked_of(alloc, krates.krates(), policy.groups, run)?;
+    put_by_version(&mut standing)?;
+    let level = level_of(policy, standing.as_slice());
+    key_of_group(alloc, level, standing.as_slice())
+}
+
+/// Those of a run of crates that no skip speaks of, and that are in the reduced group of their name.
+fn unmarked_of<'k>(
+    alloc: Global,
+    all: &'k [Krate],
+    groups: &Groups,
+    run: Range<u32>,
+) -> Result<Vec<PlacedKrate<'k>>, NoMemory>
+    requires upward { run.start ≤ run.end }
+    requires within { run.end ≤ length all.now }
+    ensures { IfOk result (λ standing. map placed_view standing.items
+        ≡ filter (is_unmarked groups.now) (take (run.end - run.start) (drop run.start (crates_from 0 all.now)))) }
+{
+    let mut standing = Vec::new(alloc);
+    for place in run.start..run.end {
+        keep(all, groups, place, &mut standing)?;
+    }
+    Ok(standing)
+}
+
+/// Adds the crate at a place, where it is unmarked.
+fn keep<'k>(
+    all: &'k [Krate],
+    groups: &Groups,
+    place: u32,
+    standing: &mut Vec<PlacedKrate<'k>>,
+) -> Result<(), NoMemory>
+    requires { place < length all.now }
+    ensures { OnOk result (map placed_view standing.new.items
+        ≡ map placed_view standing.old.items ++ filter (is_unmarked groups.now)
+        (take 1 (drop place (crates_from 0 all.now)))) }
+{
+    if !is_unmarked_at(groups, place) {
+        return Ok(());
+    }
+    standing.push(PlacedKrate {
+        place,
+        krate: &all[place as usize],
+    })?;
+    Ok(())
+}
+
+/// Whether the crate at a place is in the reduced group of its name and no skip speaks of it.
+#[tactic(auto, unfolding(crate::specs::private::Duplicates::is_unmarked_at))]
+fn is_unmarked_at(groups: &Groups, place: u32) -> bool
+    ensures { result ≡ is_unmarked_at groups.now place }
+{
+    mark_at(groups.reduced.as_slice(), place) && !mark_at(groups.marked.as_slice(), place)
+}
+
+/// Puts crates in the order of their versions, and of ids where they are one.
+fn put_by_version(standing: &mut Vec<PlacedKrate<'_>>) -> Result<(), NoMemory>
+    requires { IsDistinct same_id (map placed_view standing.old.items) }
+    ensures { OnOk result (Lists version_cmp (Contains (map placed_view standing.old.items))
+        (map placed_view standing.new.items)) }
+{
+    standing.sort_by(|a, b| by_version(a, b))?;
+    Ok(())
+}
+
+/// The order of versions, and of ids where they are one.
+fn by_version(a: &PlacedKrate<'_>, b: &PlacedKrate<'_>) -> Ordering
+    ensures { result ≡ version_cmp (placed_view a.now) (placed_view b.now) }
+{
+    a.krate
+        .version
+        .cmp_precedence(&b.krate.version)
+        .then(a.krate.id.cmp(&b.krate.id))
+}
+
+/// The level at which crates may not stand side by side.
+#[tactic(auto, unfolding(crate::specs::private::Duplicates::level_at))]
+fn level_of(policy: &DuplicatePolicy<'_>, standing: &[PlacedKrate<'_>]) -> LintLevel
+    ensures { result ≡ level_at policy.now (map placed_view standing.now) }
+{
+    for crate_at in standing {
+        if mark_at(policy.denied, crate_at.place) {
+            return LintLevel::Deny;
+        }
+    }
+    policy.level
+}
+
+/// The key of crates in the order of their versions. None where they are not several, or where the
+/// level does not mind them.
+#[tactic(auto, unfolding(crate::specs::private::Duplicates::key_of_group))]
+fn key_of_group(
+    alloc: Global,
+    level: LintLevel,
+    standing: &[PlacedKrate<'_>],
+) -> Result<Option<Key>, NoMemory>
+    ensures { IfOk result (λ key. key ≡ key_of_group level (map placed_view standing.now)) }
+{
+    if standing.len() < 2 || level == LintLevel::Allow {
+        return Ok(None);
+    }
+    Ok(Some(duplicate_key(alloc, places_of(alloc, standing)?)))
+}
+
+/// The places of crates, in their order.
+fn places_of(alloc: Global, standing: &[PlacedKrate<'_>]) -> Result<List<u32>, NoMemory>
+    ensures { IfOk result (λ places. places ≡ map (λ c. c.place) (map placed_view standing.now)) }
+{
+    let mut places = List::new(alloc);
+    for crate_at in standing {
+        places.push(crate_at.place)?;
+    }
+    Ok(places)
+}
+
+/// The key of crates that stand side by side, by their places.
+#[tactic(auto, unfolding(deny_model::specs::Keys::duplicate_key))]
+fn duplicate_key(alloc: Global, places: List<u32>) -> Key
+    ensures { result ≡ duplicate_key places }
+{
+    let place = places.as_slice().first().copied().unwrap_or(0);
+    Key {
+        section: Section::Groups,
+        place,
+        code: DiagnosticCode::Bans(Code::Duplicate),
+        entry: Span { start: 0, end: 0 },
+        text: Text::new(alloc),
+        other: 0,
+        places,
+    }
+}

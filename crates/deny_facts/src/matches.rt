@@ -1,0 +1,156 @@
+//! What the entries of a policy speak of, worked out once for a check.
+ghost use Rattle.std.specs.Prelude.{◌≡◌, ◌&&◌, IfOk, filter, map, not};
+ghost use Rattle.deny_cfg.specs.PolicyView.{policy_view};
+ghost use Rattle.deny_cfg.specs.SpecView.{spec_view};
+ghost use Rattle.deny_model.specs.Bans.{is_exempt};
+ghost use Rattle.deny_model.specs.Duplicates.{is_denied_multiple};
+ghost use Rattle.deny_model.specs.Facts.{AreFacts};
+ghost use Rattle.deny_model.specs.Match.{matches};
+ghost use Rattle.deny_model.specs.Policy.{Policy};
+ghost use Rattle.deny_facts.specs.Groups.{AreGroups};
+ghost use Rattle.deny_facts.specs.Marks.{facts_of, marked};
+ghost use Rattle.deny_facts.specs.Matches.{AreBanMatches, IsBanMatch, root_match, skip_match};
+
+use crate::entry_match::EntryMatch;
+use crate::exempt::exempt_marks;
+use crate::facts::{Marks, marks_of};
+use crate::groups::{Groups, groups_of, spoken_of};
+use crate::marking::unmarked;
+use crate::matching::matched;
+use crate::placed::are_placed;
+use crate::wrappers::{ranges_by_name, wrappers_of};
+use deny_base::Span;
+use deny_cfg::bans::cfg::{KrateBan, ValidConfig};
+use deny_cfg::{PackageSpec, PackageSpecOrExtended};
+use deny_krates::Krates;
+use deny_lists::{List, NoMemory, TextMap};
+use std::alloc::Global;
+
+/// An entry that bans crates, with what it speaks of.
+#[derive(Drop)]
+pub struct BanMatch<'c> {
+    pub ban: &'c PackageSpecOrExtended<KrateBan>,
+    /// The crates that it speaks of and that are not exempt, by their places, ascending.
+    pub places: List<u32>,
+    /// The range of the first of its wrappers of each name.
+    pub ranges: TextMap<Span>,
+}
+
+/// What the entries of a configuration speak of in a graph, with what else the rules ask of both.
+#[derive(Drop)]
+pub struct Matches<'c> {
+    pub cfg: &'c ValidConfig,
+    pub krates: &'c Krates,
+    pub marks: Marks,
+    pub groups: Groups,
+    /// Which crates no rule of bans concerns, by their places.
+    pub exempt: List<bool>,
+    /// Which crates an entry denies in several versions, by their places.
+    pub several: List<bool>,
+    /// Of each skip the crates that it speaks of and that count.
+    pub skips: List<EntryMatch>,
+    /// Of each entry of `skip-tree` the crates that it speaks of.
+    pub roots: List<EntryMatch>,
+    pub bans: List<BanMatch<'c>>,
+    ghost grouped: { AreGroups (policy_view cfg.now) krates.now (facts_of marks) groups },
+    ghost exempted: { exempt ≡ map (is_exempt (policy_view cfg.now) krates.now) krates.now.crates },
+    ghost several_marked: { several ≡ map (is_denied_multiple (policy_view cfg.now)) krates.now.crates },
+    ghost skips_found: { skips ≡ map (skip_match krates.now (facts_of marks)) (policy_view cfg.now).skip },
+    ghost roots_found: { roots ≡ map (root_match krates.now) (policy_view cfg.now).skip_tree },
+    ghost bans_found: { AreBanMatches (policy_view cfg.now) krates.now (policy_view cfg.now).deny bans },
+}
+
+impl<'c> Matches<'c> {
+    /// Finds what the entries of a configuration speak of in a graph.
+    pub fn new(
+        alloc: Global,
+        cfg: &'c ValidConfig,
+        krates: &'c Krates,
+    ) -> Result<Matches<'c>, NoMemory>
+        ensures cfg { IfOk result (λ found. found.cfg.now ≡ cfg.entry.now) }
+        ensures krates { IfOk result (λ found. found.krates.now ≡ krates.entry.now) }
+        ensures facts { IfOk result (λ found. AreFacts (policy_view found.cfg.now) found.krates.now
+            (facts_of found.marks)) }
+    {
+        let mut roots = List::new(alloc);
+        let mut skips = List::new(alloc);
+        let marks = marks_of(alloc, cfg, krates, &mut roots)?;
+        let groups = groups_of(alloc, cfg, krates, &marks, &mut skips)?;
+        let exempt = exempt_marks(alloc, cfg, krates)?;
+        let several = several_of(alloc, cfg, krates)?;
+        let bans = ban_matches(alloc, cfg, krates, exempt.as_slice())?;
+        Ok(Matches {
+            cfg,
+            krates,
+            marks,
+            groups,
+            exempt,
+            several,
+            skips,
+            roots,
+            bans,
+        })
+    }
+}
+
+/// Marks for the crates that an entry denies in several versions.
+#[tactic(auto, unfolding(deny_model::specs::Duplicates::is_denied_multiple))]
+fn several_of(alloc: Global, cfg: &ValidConfig, krates: &Krates) -> Result<List<bool>, NoMemory>
+    ensures { IfOk result (λ marks. marks ≡ map (is_denied_multiple (policy_view cfg.now)) krates.now.crates) }
+{
+    spoken_of(alloc, krates, cfg.denied_multiple_versions.as_slice())
+}
+
+/// What each entry that bans crates speaks of.
+fn ban_matches<'c>(
+    alloc: Global,
+    cfg: &'c ValidConfig,
+    krates: &Krates,
+    exempt: &[bool],
+) -> Result<List<BanMatch<'c>>, NoMemory>
+    requires { exempt.now ≡ map (is_exempt (policy_view cfg.now) krates.now) krates.now.crates }
+    ensures { IfOk result (AreBanMatches (policy_view cfg.now) krates.now (policy_view cfg.now).deny) }
+{
+    let denied = cfg.denied.as_slice();
+    let mut bans = List::new(alloc);
+    for ban in denied {
+        bans.push(ban_match(alloc, krates, exempt, ban)?)?;
+    }
+    Ok(bans)
+}
+
+/// What an entry that bans crates speaks of.
+fn ban_match<'c>(
+    alloc: Global,
+    krates: &Krates,
+    exempt: &[bool],
+    ban: &'c PackageSpecOrExtended<KrateBan>,
+) -> Result<BanMatch<'c>, NoMemory>
+    ensures of { IfOk result (λ found. found.ban.now ≡ ban.entry.now) }
+    ensures is { (p : Policy) → exempt.now ≡ map (is_exempt p krates.now) krates.now.crates
+        → IfOk result (IsBanMatch p krates.now) }
+{
+    are_placed(krates);
+    let places = concerned(alloc, krates, &ban.spec, exempt)?;
+    let ranges = ranges_by_name(alloc, wrappers_of(ban))?;
+    Ok(BanMatch {
+        ban,
+        places,
+        ranges,
+    })
+}
+
+/// The places of the crates that a spec speaks of and that are not exempt.
+fn concerned(
+    alloc: Global,
+    krates: &Krates,
+    spec: &PackageSpec,
+    exempt: &[bool],
+) -> Result<List<u32>, NoMemory>
+    ensures { IfOk result (λ places. places
+        ≡ map (λ c. c.place) (filter (λ c. matches (spec_view spec.now) c && not
+        (marked exempt.now c)) krates.now.crates)) }
+{
+    let places = matched(alloc, krates, spec)?;
+    unmarked(alloc, places.as_slice(), exempt)
+}
