@@ -4,7 +4,7 @@ use Rattle.std.specs.Prelude.{◌&&◌, All}
 use Rattle.std.proofs.Math.Bool.{and_comm}
 use Rattle.std.proofs.lemmas.List.{drop_more, map-append, map_more, take_all}
 use Rattle.std.proofs.lemmas.List.Elements.{All-nil, All-push, filter_agree}
-use Rattle.deny_cfg.specs.PolicyView.{ban_view, root_view, roots_from}
+use Rattle.deny_cfg.specs.PolicyView.{ban_view, roots_from}
 use Rattle.deny_cfg.specs.SpecView.{spec_view}
 use Rattle.deny_cfg.specs.TreeSkipExtended.{TreeSkipExtended}
 use Rattle.deny_cfg.specs.PackageSpecOrExtended.{PackageSpecOrExtended}
@@ -17,7 +17,7 @@ use Rattle.deny_lists.proofs.Agreement.{filter_on}
 use Rattle.deny_lists.proofs.Filters.{filter-filter, filter-map}
 use Rattle.deny_lists.proofs.Loops.{appended}
 use Rattle.deny_facts.specs.Marks.{mark_at, marked}
-use Rattle.deny_facts.specs.Matches.{AreBanMatches, IsBanMatch, ban_of, places_concerned, places_of, root_match, spec_match}
+use Rattle.deny_facts.specs.Matches.{AreBanMatches, IsBanMatch, ban_of, places_concerned, root_match, spec_match}
 use Rattle.deny_facts.specs.Placed.{ArePlaced}
 use Rattle.deny_facts.specs.Wrappers.{AreFirst}
 use Rattle.deny_facts.specs.declared.entry_match.EntryMatch.{EntryMatch}

@@ -1,4 +1,4 @@
-use Rattle.std.proofs.Common.{◌+◌, ◌++◌, ◌∷◌, [], List, Bool, take, refl, sym, ap, ◌∙◌, subst}
+use Rattle.std.proofs.Common.{◌+◌, ◌++◌, ◌∷◌, [], List, Bool, take, sym, ap, ◌∙◌, subst}
 use Rattle.std.specs.List.{AllZip}
 use Rattle.deny_cfg.specs.SpecView.{spec_view}
 use Rattle.deny_krates.proofs.GraphLemmas.{zip_more}
@@ -22,7 +22,7 @@ loop-entry-preserved c =
           (sym c.in_ok-push.ensures.ok)
           (zip_more (IsTreeOf g) entries c.loop-entry.trees i entry c.in_ok-tree_of.field-0 c.loop-entry-test.true
           c.entry-item.is c.loop-entry.invariant.trees c.in_ok-tree_of.ensures);
-      roots = map-step (λ e. spec_match g (spec_view e.spec)) entries entry i c.loop-entry.roots c.push-2.new.roots _
+      roots = map-step (λ e. spec_match g (spec_view e.spec)) entries entry i c.loop-entry.roots _ _
           c.loop-entry-test.true c.entry-item.is
           (c.in_ok-push-2.ensures.ok ∙ ap (λ (m : EntryMatch). c.loop-entry.roots ++ m ∷ []) c.in_ok-root.ensures)
           c.loop-entry.invariant.roots;

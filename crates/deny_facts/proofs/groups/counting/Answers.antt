@@ -4,6 +4,7 @@ use Rattle.deny_model.specs.Match.{matches}
 use Rattle.deny_model.specs.Skips.{is_skipped}
 use Rattle.deny_facts.specs.Marks.{facts_of, mark_at}
 use Rattle.deny_facts.specs.Matches.{places_of}
+use Rattle.deny_facts.specs.declared.entry_match.EntryMatch.{EntryMatch}
 use Rattle.deny_facts.proofs.MatchLemmas.{marked-places}
 use Rattle.deny_facts.proofs.groups.counting.Goals as goal
 
@@ -16,4 +17,10 @@ returns c = λ g are.
     c.in_ok-counting.ensures
     ∙ (ap (λ (marks : List Bool). filter (mark_at marks) c.args.places.now) c.as_slice.ensures.value
     ∙ (ap (filter (mark_at counts)) are ∙ marked-places counts (matches skip.spec) g.crates)) in
-    rw (kept, c.in_ok-clone.ensures) refl
+    let made : List ℕ → List ℕ → EntryMatch = λ name places. record {
+      name = name;
+      range = skip.spec.range;
+      places = places;
+    } in
+    ap (λ (name : List ℕ). made name c.in_ok-counting.counting) c.in_ok-clone.ensures.cases
+    ∙ ap (made skip.spec.name) kept

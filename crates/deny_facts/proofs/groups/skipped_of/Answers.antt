@@ -21,10 +21,10 @@ loop-skip-preserved c =
     record {
       marks = more_marks g.crates (λ d. list_any (λ s. matches s.spec d) (map entry_view (take i skips)))
           (λ d. list_any (λ s. matches s.spec d) (map entry_view (take (i + 1) skips)))
-          (matches (spec_view item.spec)) c.loop-skip.skipped c.mark_spec.new.skipped c.loop-skip.invariant.marks
+          (matches (spec_view item.spec)) c.loop-skip.skipped c.mark_spec.new.marks c.loop-skip.invariant.marks
           c.in_ok-places.ensures.marks
           (λ d. any_next_view entry_view (λ s. matches s.spec d) skips i item c.loop-skip-test.true c.skip-item.is);
-      found = map-step (λ s. skip_match g facts (entry_view s)) skips item i c.loop-skip.found c.push.new.found _
+      found = map-step (λ s. skip_match g facts (entry_view s)) skips item i c.loop-skip.found c.push.new.self _
           c.loop-skip-test.true c.skip-item.is
           (c.in_ok-push.ensures.ok ∙ ap (λ (m : EntryMatch). c.loop-skip.found ++ m ∷ []) (c.in_ok-counting.ensures g places))
           c.loop-skip.invariant.found;

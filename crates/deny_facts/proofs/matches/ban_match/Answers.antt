@@ -1,4 +1,4 @@
-use Rattle.std.proofs.Common.{List, ap, ◌∙◌, subst}
+use Rattle.std.proofs.Common.{List, ◌∙◌, subst}
 use Rattle.deny_cfg.specs.PolicyView.{ban_view}
 use Rattle.deny_model.specs.Policy.{Words}
 use Rattle.deny_facts.specs.Wrappers.{AreFirst}

@@ -1,4 +1,4 @@
-use Rattle.std.proofs.Common.{◌≡◌, List, IfOk, map, ap, subst}
+use Rattle.std.proofs.Common.{◌≡◌, List, IfOk, map, subst}
 use Rattle.std.specs.List.{list_any}
 use Rattle.deny_cfg.specs.SpecView.{spec_view}
 use Rattle.deny_model.specs.Duplicates.{is_denied_multiple}
