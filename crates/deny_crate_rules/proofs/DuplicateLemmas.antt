@@ -154,7 +154,8 @@ module _ (p : Policy) (g : Graph) (facts : Facts) (m : DuplicatePolicy) (placed 
       sym (filter-filter (marked m.groups.now.reduced) (λ c. not (marked m.groups.now.marked c)) run)
       ∙ (ap (filter (λ (c : Crate). not (marked m.groups.now.marked c)))
       (reduced_by_marks p g facts name m.groups.now.reduced placed minds.groups.reduced)
-      ∙ filter_on (λ (c : Crate). not (marked m.groups.now.marked c)) (λ c. not (is_marked p c)) (reduced p g facts name)
+      ∙ filter_on (λ (c : Crate). not (marked m.groups.now.marked c)) (λ c. not (is_marked p c))
+      (reduced p g facts name)
       (λ c is. ap (λ b. not b) (marked-is g.crates placed (is_marked p) m.groups.now.marked minds.groups.marked c
       (known name c is))))
     where

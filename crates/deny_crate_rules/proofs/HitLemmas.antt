@@ -201,7 +201,8 @@ module _ (p : Policy) (g : Graph) (placed : ArePlaced g.crates) where
 
   first-hit : (ban : Ban) (ranges : TextFinMap Span) (w : Words) → AreFirst ban.wrappers ranges
       → option_and_then (hit_by g)
-      (first_wrapped_edge (flat_map (wrapped_edges_at g ranges) (places_concerned p g ban)) w.span) ≡ wrapper_hit p g ban w
+      (first_wrapped_edge (flat_map (wrapped_edges_at g ranges) (places_concerned p g ban)) w.span)
+      ≡ wrapper_hit p g ban w
   unfolding places_concerned wrapper_hit
   first-hit ban ranges w first =
       let met_by = λ (c : Crate). wrapped_edges_at g ranges c.place in
@@ -239,7 +240,8 @@ module _ (p : Policy) (g : Graph) (placed : ArePlaced g.crates) where
       ap (filter_map (entry_hit g Skip)) are
       ∙ (filter_map-map (entry_hit g Skip) (skip_match g facts) p.skip
       ∙ filter_map_on (λ s. entry_hit g Skip (skip_match g facts s)) (skip_hit g facts) p.skip
-      (λ s _. ap (option_map (λ c. hit_of Skip s.spec.range (Krate (kid_of c)))) (first-of g (is_skipped facts s) placed)))
+      (λ s _. ap (option_map (λ c. hit_of Skip s.spec.range (Krate (kid_of c))))
+      (first-of g (is_skipped facts s) placed)))
 
   pub root_hits_are : (ms : List EntryMatch) → ms ≡ map (root_match g) p.skip_tree
       → filter_map (entry_hit g SkipRoot) ms ≡ filter_map (root_hit g) p.skip_tree
@@ -248,4 +250,5 @@ module _ (p : Policy) (g : Graph) (placed : ArePlaced g.crates) where
       ap (filter_map (entry_hit g SkipRoot)) are
       ∙ (filter_map-map (entry_hit g SkipRoot) (root_match g) p.skip_tree
       ∙ filter_map_on (λ t. entry_hit g SkipRoot (root_match g t)) (root_hit g) p.skip_tree
-      (λ t _. ap (option_map (λ c. hit_of SkipRoot t.spec.range (Krate (kid_of c)))) (first-of g (matches t.spec) placed)))
+      (λ t _. ap (option_map (λ c. hit_of SkipRoot t.spec.range (Krate (kid_of c))))
+      (first-of g (matches t.spec) placed)))

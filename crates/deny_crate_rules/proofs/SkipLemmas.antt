@@ -1,5 +1,6 @@
 -- Crates and their marks, as skips and skipped trees look at them.
-use Rattle.std.proofs.Common.{◌≡◌, ◌++◌, ◌∷◌, ℕ, List, [], Bool, true, false, not, filter, length, map, refl, sym, ap, ◌∙◌, append-nil, append_assoc}
+use Rattle.std.proofs.Common.{◌≡◌, ◌++◌, ◌∷◌, ℕ, List, [], Bool, true, false, not, filter, length, map, refl, sym, ap}
+use Rattle.std.proofs.Common.{◌∙◌, append-nil, append_assoc}
 use Rattle.std.specs.Prelude.{◌&&◌, nat_le, nat_lt, slice_index_or}
 use Rattle.std.specs.List.{flat_map, list_any, range_with_len}
 use Rattle.std.proofs.lemmas.List.{length-map}
@@ -15,10 +16,12 @@ use Rattle.deny_model.specs.Groups.{is_marked, reduced}
 use Rattle.deny_model.specs.Keys.{crate_key, unused_key}
 use Rattle.deny_model.specs.Match.{matches}
 use Rattle.deny_model.specs.Policy.{Entry, Policy, Root, Spec}
-use Rattle.deny_model.specs.Skips.{has_root, is_hit_skip, is_needless, is_skipped, is_skipped_by_root, skipped_by_root_keys_of, skipped_keys_of, unmatched_skip_keys, unmatched_skip_root_keys, unnecessary_skip_keys}
+use Rattle.deny_model.specs.Skips.{has_root, is_hit_skip, is_needless, is_skipped, is_skipped_by_root}
+use Rattle.deny_model.specs.Skips.{skipped_by_root_keys_of, skipped_keys_of, unmatched_skip_keys}
+use Rattle.deny_model.specs.Skips.{unmatched_skip_root_keys, unnecessary_skip_keys}
 use Rattle.deny_codes.specs.Skips.{skipped_keys}
 use Rattle.deny_lists.proofs.Agreement.{filter_on, flat_map_on, map_on}
-use Rattle.deny_facts.specs.Marks.{facts_of, mark_at, marked}
+use Rattle.deny_facts.specs.Marks.{facts_of, marked}
 use Rattle.deny_facts.specs.Matches.{match_by, places_of, root_match, skip_match}
 use Rattle.deny_facts.specs.Placed.{ArePlaced}
 use Rattle.deny_crate_rules.specs.private.Skipping.{is_left_out, is_needless_by, skipped_keys_by, speaks}
@@ -26,7 +29,7 @@ use Rattle.deny_facts.specs.declared.entry_match.EntryMatch.{EntryMatch}
 use Rattle.deny_facts.specs.declared.facts.Marks.{Marks}
 use Rattle.deny_lists.proofs.Filters.{filter-map, filter-none, some-filter}
 use Rattle.deny_facts.proofs.MarkLemmas.{marked-is}
-use Rattle.deny_facts.proofs.PlaceLemmas.{place_of}
+use Rattle.deny_krates.proofs.PlaceLemmas.{place_of}
 
 -- there are places of what passes where something passes
 pub some-places : (p : Crate → Bool) (crates : List Crate) (places : List ℕ) → places ≡ map place_of (filter p crates)
@@ -35,8 +38,8 @@ some-places p crates places is = ap (λ ps. nat_lt 0 (length ps)) is ∙ (ap (na
     (length-map (filter p crates) place_of) ∙ some-filter p crates)
 
 -- the keys of those entries that pass a test, by what they were found to speak of
-kept_keys : {X : Type 0} (of : X → EntryMatch) (range : X → Span) (made : Span → Key) (p : EntryMatch → Bool) (q : X → Bool)
-    (xs : List X) → ((x : X) → (of x).range ≡ range x) → ((x : X) → p (of x) ≡ q x)
+kept_keys : {X : Type 0} (of : X → EntryMatch) (range : X → Span) (made : Span → Key) (p : EntryMatch → Bool)
+    (q : X → Bool) (xs : List X) → ((x : X) → (of x).range ≡ range x) → ((x : X) → p (of x) ≡ q x)
     → map (λ m. made m.range) (filter p (map of xs)) ≡ map (λ x. made (range x)) (filter q xs)
 kept_keys of range made p q xs at same =
     ap (map (λ (m : EntryMatch). made m.range)) (filter-map p of xs)
@@ -69,10 +72,12 @@ module _ (p : Policy) (g : Graph) where
       (λ s. ap not (speaks_is g s.spec (is_skipped facts s)))
 
   pub needless_are : (facts : Facts) (ms : List EntryMatch) → ms ≡ map (skip_match g facts) p.skip
-      → map (λ m. unused_key UnnecessarySkip m.range) (filter (is_needless_by p g facts) ms) ≡ unnecessary_skip_keys p g facts
+      → map (λ m. unused_key UnnecessarySkip m.range) (filter (is_needless_by p g facts) ms)
+      ≡ unnecessary_skip_keys p g facts
   unfolding unnecessary_skip_keys is_needless is_needless_by is_hit_skip
   needless_are facts ms are =
-      ap (λ (all : List EntryMatch). map (λ m. unused_key UnnecessarySkip m.range) (filter (is_needless_by p g facts) all)) are
+      ap (λ (all : List EntryMatch). map (λ m. unused_key UnnecessarySkip m.range)
+      (filter (is_needless_by p g facts) all)) are
       ∙ kept_keys (skip_match g facts) (λ (s : Entry). s.spec.range) (unused_key UnnecessarySkip)
       (is_needless_by p g facts) (is_needless p g facts) p.skip (λ s. refl)
       (λ s. ap (λ b. b && nat_le (length (reduced p g facts s.spec.name)) 1) (speaks_is g s.spec (is_skipped facts s)))

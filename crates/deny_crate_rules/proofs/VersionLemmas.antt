@@ -37,8 +37,8 @@ version_cmp-total = then_total (on_total (λ (c : Crate). c.version) precedence-
     (on_total (λ (c : Crate). c.id) nat_list_cmp_total)
 
 -- crates that tie have one id
-is_eq-span_cmp : (a b : Crate) → version_cmp a b ≡ Equal → same_id a b ≡ true
-is_eq-span_cmp a b e =
+ties : (a b : Crate) → version_cmp a b ≡ Equal → same_id a b ≡ true
+ties a b e =
     (bytes_eq-Decides a.id b.id).1
     (slice_cmp-IsAntisymmetric nat_cmp-IsAntisymmetric a.id b.id
     (then_second (precedence a.version b.version) (slice_cmp nat_cmp a.id b.id) e))
@@ -63,7 +63,7 @@ module _ {X : Type 0} (view : X → Crate) where
       less_from_reverse (version_cmp (get_or ys k d) (get_or ys (k + 1) d))
       (version_cmp (get_or ys (k + 1) d) (get_or ys k d))
       (version_cmp-total.antisymm (get_or ys k d) (get_or ys (k + 1) d)) up_here
-      (λ e. false≢true (sym unlike ∙ is_eq-span_cmp (get_or ys k d) (get_or ys (k + 1) d) e)))
+      (λ e. false≢true (sym unlike ∙ ties (get_or ys k d) (get_or ys (k + 1) d) e)))
 
   -- a sort lists crates whose ids differ
   pub lists_by_version : (old new : List X) → IsPermutation old new

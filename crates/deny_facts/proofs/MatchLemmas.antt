@@ -1,5 +1,6 @@
 -- What entries speak of, by the places of crates.
-use Rattle.std.proofs.Common.{◌≡◌, ◌+◌, ◌<◌, ◌≤◌, ◌++◌, ◌∷◌, [], ℕ, Bool, List, drop, filter, get_or, length, map, not, take, refl, sym, ap, ◌∙◌, subst}
+use Rattle.std.proofs.Common.{◌≡◌, ◌+◌, ◌<◌, ◌≤◌, ◌++◌, ◌∷◌, [], ℕ, Bool, List, drop, filter, get_or, length, map, not}
+use Rattle.std.proofs.Common.{take, refl, sym, ap, ◌∙◌, subst}
 use Rattle.std.specs.Prelude.{◌&&◌, All}
 use Rattle.std.proofs.Math.Bool.{and_comm}
 use Rattle.std.proofs.lemmas.List.{drop_more, map-append, map_more, take_all}
@@ -23,7 +24,7 @@ use Rattle.deny_facts.specs.Wrappers.{AreFirst}
 use Rattle.deny_facts.specs.declared.entry_match.EntryMatch.{EntryMatch}
 use Rattle.deny_facts.specs.declared.matches.BanMatch.{BanMatch}
 use Rattle.deny_facts.proofs.MarkLemmas.{marked-is, places_within}
-use Rattle.deny_facts.proofs.PlaceLemmas.{place_of}
+use Rattle.deny_krates.proofs.PlaceLemmas.{place_of}
 
 -- the marked ones of some crates, by their places
 pub marked-places : (marks : List Bool) (p : Crate → Bool) (crates : List Crate)
@@ -95,7 +96,8 @@ module _ (p : Policy) (g : Graph) where
   pub ban_within : (m : BanMatch) → ArePlaced g.crates → IsBanMatch p g m
       → All (λ place. place < length g.crates) m.places
   unfolding places_concerned
-  ban_within m placed is = places_within g.crates placed (concerns p g (ban_of m)) m.places (length g.crates) is.places refl
+  ban_within m placed is =
+      places_within g.crates placed (concerns p g (ban_of m)) m.places (length g.crates) is.places refl
 
   -- its wrappers by their names
   pub ban_first : (m : BanMatch) → IsBanMatch p g m → AreFirst (ban_of m).wrappers m.ranges

@@ -1,11 +1,11 @@
 use Rattle.std.proofs.Common.{List, Contains, sym, ap, ◌∙◌, subst, arith}
 use Rattle.std.specs.List.{flat_map}
-use Rattle.std.specs.Prelude.{All, map}
+use Rattle.std.specs.Prelude.{map}
 use Rattle.std.proofs.lemmas.List.Folds.{flat_map-map}
 use Rattle.deny_lists.specs.Ascending.{Adds}
 use Rattle.deny_base.specs.declared.key.Key.{Key}
 use Rattle.deny_cfg.specs.PolicyView.{policy_view}
-use Rattle.deny_facts.specs.Matches.{IsBanMatch, ban_of}
+use Rattle.deny_facts.specs.Matches.{ban_of}
 use Rattle.deny_facts.specs.declared.matches.BanMatch.{BanMatch}
 use Rattle.deny_crate_rules.specs.private.Banned.{keys_of_ban}
 use Rattle.deny_lists.proofs.Adding.{adds_each_all, adds_each_more}

@@ -1,4 +1,4 @@
-use Rattle.std.proofs.Common.{◌++◌, List, filter, map, not, ap, ◌∙◌, subst}
+use Rattle.std.proofs.Common.{◌++◌, List, filter, map, not, ap, ◌∙◌}
 use Rattle.std.proofs.lemmas.Result.{on_ok_weaker}
 use Rattle.deny_base.specs.declared.code.Code.TheVariants.{Banned, UnusedWrapper}
 use Rattle.deny_base.specs.declared.span.Span.{Span}
@@ -19,9 +19,9 @@ returns c = λ p is.
     ∙ ap (λ ps. c.args.keys.now ++ map (λ place. crate_key Banned place ban.spec.range) ps)
     (c.as_slice.ensures ∙ c.in_ok-banned.ensures) in
     on_ok_weaker c.add_unused_keys.result
-    (λ unused. wrapped_ban p g ban c.requires.wrapped c.args.ban.now.ranges (ban_first p g c.args.ban.now is) c.as_slice-places.result.now hits
-    c.args.keys.now c.add_crate_keys.new.keys c.add_told_keys.new.keys c.add_unused_keys.new.keys
-    (c.as_slice-places.ensures ∙ is.places)
+    (λ unused. wrapped_ban p g ban c.requires.wrapped c.args.ban.now.ranges (ban_first p g c.args.ban.now is)
+    c.as_slice-places.result.now hits c.args.keys.now c.add_crate_keys.new.keys c.add_told_keys.new.keys
+    c.add_unused_keys.new.keys (c.as_slice-places.ensures ∙ is.places)
     banned c.in_ok-add_told_keys.ensures c.in_ok-hits.ensures
     (unused
     ∙ (ap (λ (ws : List Words). c.add_told_keys.new.keys ++ map (λ (w : Words). unused_key UnusedWrapper w.span)

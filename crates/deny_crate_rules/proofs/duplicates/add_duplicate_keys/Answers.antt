@@ -21,8 +21,9 @@ loop-next-preserved c = record {
     length_of c.krates-size.result.now c.args.found.now.krates.now.crates
         c.krates-size.ensures.crates,
   );
-  so_far = after_run c.args.found.now.krates.now c.duplicate_policy_of-policy.result c.loop-next.next c.in_ok-next.next c.args.keys.now
-      c.loop-next.keys c.add_next.new.keys c.loop-next.invariant.so_far c.in_ok-next.ensures;
+  so_far = after_run c.args.found.now.krates.now c.duplicate_policy_of-policy.result c.loop-next.next
+      c.in_ok-next.next c.args.keys.now c.loop-next.keys c.add_next.new.keys c.loop-next.invariant.so_far
+      c.in_ok-next.ensures;
 }
 
 pub returns : goal.returns
@@ -31,7 +32,8 @@ returns c =
     let g = c.args.found.now.krates.now in
     let m = c.duplicate_policy_of-policy.result in
     duplicates_added (policy_view c.args.found.now.cfg.now) g (facts_of c.args.found.now.marks) m
-    (are_placed ks g.crates c.krates-size.ensures.crates) c.duplicate_policy_of-policy.ensures c.args.keys.now c.loop-next.keys
+    (are_placed ks g.crates c.krates-size.ensures.crates) c.duplicate_policy_of-policy.ensures c.args.keys.now
+    c.loop-next.keys
     (all_names g m c.loop-next.next c.args.keys.now c.loop-next.keys
     (omega (arith, c.loop-next-test.false, length_of ks g.crates c.krates-size.ensures.crates))
     c.loop-next.invariant.so_far)

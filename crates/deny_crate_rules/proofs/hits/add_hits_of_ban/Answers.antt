@@ -23,5 +23,5 @@ returns c = λ p is.
     c.in_ok-add_first_hits.ensures
     ∙ (ap (λ (ws : List Words). old ++ filter_map (hit_at g firsts) ws) c.wrappers_of-wrappers.ensures
     ∙ ap (λ (hits : List Hit). old ++ hits)
-    (hits-made p g c.are_placed.ensures ban ranges c.as_slice.result.now firsts (c.as_slice.ensures ∙ is.places) (ban_first p g c.args.ban.now is)
-    leads))
+    (hits-made p g c.are_placed.ensures ban ranges c.as_slice.result.now firsts (c.as_slice.ensures ∙ is.places)
+    (ban_first p g c.args.ban.now is) leads))

@@ -1,4 +1,4 @@
-use Rattle.std.proofs.Common.{◌++◌, List, refl, sym, ap, ◌∙◌, arith}
+use Rattle.std.proofs.Common.{◌++◌, List, refl, ap, ◌∙◌, arith}
 use Rattle.std.specs.List.{flat_map}
 use Rattle.std.specs.Prelude.{map}
 use Rattle.deny_cfg.specs.PolicyView.{policy_view}

@@ -5,7 +5,8 @@ use Rattle.deny_crate_rules.specs.private.WrappedEdges.{LeadToFirsts}
 use Rattle.deny_crate_rules.specs.declared.hits.WrappedEdge.{WrappedEdge}
 use Rattle.deny_crate_rules.proofs.FirstEdgeLemmas.{firsts_kept, firsts_more}
 use Rattle.deny_crate_rules.proofs.hits.firsts_by_range.Goals as goal
-use Rattle.deny_crate_rules.proofs.hits.firsts_by_range.Goals.{then-not-contains_key+in_ok-insert, else-not-contains_key}
+use Rattle.deny_crate_rules.proofs.hits.firsts_by_range.Goals.{then-not-contains_key+in_ok-insert}
+use Rattle.deny_crate_rules.proofs.hits.firsts_by_range.Goals.{else-not-contains_key}
 
 abbrev none : WrappedEdge
 none = record { range = record { start = 0; end = 0 }; place = 0; parent = 0 }

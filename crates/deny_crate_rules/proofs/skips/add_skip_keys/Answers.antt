@@ -1,6 +1,5 @@
 use Rattle.std.proofs.Common.{◌++◌, List, ap, ◌∙◌}
 use Rattle.std.specs.List.{flat_map}
-use Rattle.deny_base.specs.declared.code.Code.TheVariants.{UnmatchedSkip, UnnecessarySkip, UnmatchedSkipRoot}
 use Rattle.deny_base.specs.declared.key.Key.{Key}
 use Rattle.deny_cfg.specs.PolicyView.{policy_view, roots_from}
 use Rattle.deny_model.specs.Skips.{skipped_by_root_keys_of}

@@ -26,6 +26,7 @@ loop-skip-preserved c =
           (λ d. any_next_view entry_view (λ s. matches s.spec d) skips i item c.loop-skip-test.true c.skip-item.is);
       found = map-step (λ s. skip_match g facts (entry_view s)) skips item i c.loop-skip.found c.push.new.self _
           c.loop-skip-test.true c.skip-item.is
-          (c.in_ok-push.ensures.ok ∙ ap (λ (m : EntryMatch). c.loop-skip.found ++ m ∷ []) (c.in_ok-counting.ensures g places))
+          (c.in_ok-push.ensures.ok
+          ∙ ap (λ (m : EntryMatch). c.loop-skip.found ++ m ∷ []) (c.in_ok-counting.ensures g places))
           c.loop-skip.invariant.found;
     }

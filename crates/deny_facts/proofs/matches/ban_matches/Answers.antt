@@ -16,8 +16,8 @@ loop-ban-preserved c =
     let denied = c.as_slice-denied.result.now in
     let i = c.loop-ban.ban-index in
     subst (AreBanMatches p g (map ban_view (take (i + 1) denied))) (sym c.in_ok-push.ensures.ok)
-    (more_bans p g denied i c.ban-item.result c.loop-ban.bans c.in_ok-ban_match.field-0 c.loop-ban-test.true c.ban-item.is
-    c.loop-ban.invariant c.in_ok-ban_match.ensures.of (c.in_ok-ban_match.ensures.is p c.requires))
+    (more_bans p g denied i c.ban-item.result c.loop-ban.bans c.in_ok-ban_match.field-0 c.loop-ban-test.true
+    c.ban-item.is c.loop-ban.invariant c.in_ok-ban_match.ensures.of (c.in_ok-ban_match.ensures.is p c.requires))
 
 pub returns : goal.returns
 returns c =

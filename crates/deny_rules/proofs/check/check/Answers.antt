@@ -1,4 +1,3 @@
-use Rattle.std.proofs.Common.{sym}
 use Rattle.deny_rules.proofs.check.check.Goals as goal
 
 pub check_found-requires : goal.check_found-requires

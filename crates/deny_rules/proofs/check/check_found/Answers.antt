@@ -112,8 +112,8 @@ returns-in_err-tell_replaced-clause-prefix g c =
     let facts : Facts = facts_by found.marks looked.reached.items in
     let rules = c.in_ok-keys.keys in
     let listed = c.in_ok-keys.ensures in
-    let std = c.in_err-tell_replaced.ensures.prefix d refl (found_of d found.cfg.now.file_id c.in_ok-replaced.replaced refl
-    c.in_ok-replaced.ensures) in
+    let std = c.in_err-tell_replaced.ensures.prefix d refl
+    (found_of d found.cfg.now.file_id c.in_ok-replaced.replaced refl c.in_ok-replaced.ensures) in
     on_err_always c.from_residual-in_err-tell_replaced.result (inr (record {
       unread = looked.unread;
       packages = looked.packages;

@@ -1,4 +1,4 @@
-use Rattle.std.proofs.Common.{None, Some, sym, ◌∙◌}
+use Rattle.std.proofs.Common.{None, Some, ◌∙◌}
 use Rattle.deny_cfg.specs.PolicyView.{policy_view}
 use Rattle.deny_telling.proofs.ToldLemmas.{ban_found}
 use Rattle.deny_telling.proofs.teller.Teller.ban.Goals as goal
@@ -6,8 +6,8 @@ use Rattle.deny_telling.proofs.teller.Teller.ban.Goals as goal
 pub returns-in-Some : goal.returns-in-Some
 returns-in-Some c =
     let self = c.args.self.now in
-    ban_found (policy_view self.told.cfg.now) self.told.krates.now self.found.now.bans c.args.range (Some c.in-Some.found)
-    self.bans_found (c.in-Some.ensures ∙ self.banned_found.at c.args.range)
+    ban_found (policy_view self.told.cfg.now) self.told.krates.now self.found.now.bans c.args.range
+    (Some c.in-Some.found) self.bans_found (c.in-Some.ensures ∙ self.banned_found.at c.args.range)
 
 pub returns-in-None : goal.returns-in-None
 returns-in-None c =

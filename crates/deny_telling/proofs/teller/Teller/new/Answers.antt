@@ -1,11 +1,7 @@
-use Rattle.std.proofs.Common.{List, map, sym, subst}
+use Rattle.std.proofs.Common.{List, map, subst}
 use Rattle.std.specs.List.{flat_map}
-use Rattle.deny_cfg.specs.PolicyView.{feature_view, policy_view}
-use Rattle.deny_cfg.specs.declared.bans.cfg.valid.ValidConfig.{ValidConfig}
+use Rattle.deny_cfg.specs.PolicyView.{feature_view}
 use Rattle.deny_codes.specs.Features.{features_of}
-use Rattle.deny_facts.specs.Matches.{AreBanMatches}
-use Rattle.deny_model.specs.Duplicates.{is_denied_multiple}
-use Rattle.deny_model.specs.Graph.{Graph}
 use Rattle.deny_model.specs.Policy.{Words}
 use Rattle.deny_told.specs.ByRange.{IsByRange}
 use Rattle.deny_telling.proofs.ToldLemmas.{bans_of_told, several_of_told}

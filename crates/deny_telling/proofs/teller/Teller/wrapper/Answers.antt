@@ -8,8 +8,8 @@ returns-in-Some c =
     let self = c.args.self.now in
     c.copied.ensures
     ∙ (c.get.ensures
-    ∙ wrapper_found (policy_view self.told.cfg.now) self.told.krates.now self.found.now.bans c.args.range c.args.name.now
-    (Some c.in-Some.found) self.bans_found (c.in-Some.ensures ∙ self.banned_found.at c.args.range))
+    ∙ wrapper_found (policy_view self.told.cfg.now) self.told.krates.now self.found.now.bans c.args.range
+    c.args.name.now (Some c.in-Some.found) self.bans_found (c.in-Some.ensures ∙ self.banned_found.at c.args.range))
 
 pub returns-in-None : goal.returns-in-None
 returns-in-None c =
