@@ -20,6 +20,7 @@ use Rattle.deny_lists.proofs.Members.{Contains-first, Contains-rest}
 use Rattle.deny_lists.proofs.Sorted.{ascends_map}
 use Rattle.deny_lists.proofs.Options.{is_none-option_map}
 use Rattle.deny_lists.proofs.Booleans.{and-true, and-false}
+use Rattle.deny_krates.specs.Placed.{ArePlaced}
 use Rattle.deny_base.specs.KeyOrder.{span_cmp}
 use Rattle.deny_base.specs.declared.entry.EntryKind.TheVariants.{ReplacementIgnore}
 use Rattle.deny_base.specs.declared.entry.Hit.{Hit}
@@ -44,9 +45,9 @@ use Rattle.deny_std.specs.declared.told.Unmatched.{Unmatched}
 use Rattle.deny_std.specs.private.FirstWitnesses.{place_in, same_range}
 use Rattle.deny_std.specs.private.Hits.{hit_at, is_unmatched, unmatched_in, unmatched_range}
 use Rattle.deny_std.specs.private.Kept.{AreKept, AreTold, AreUnmatched}
-use Rattle.deny_std.specs.private.Placed.{ArePlaced}
 use Rattle.deny_std.specs.private.Sorted.{passed_at, passed_of, range_at, told_at, told_of}
 use Rattle.deny_std.specs.private.Told.{unmatched_of}
+use Rattle.deny_std.proofs.PlaceLemmas.{places_ascend}
 
 abbrev place_of : Crate → ℕ
 place_of c = c.place
@@ -166,7 +167,8 @@ module _ (r : Replacing) (g : Graph) (said : Saying) where
           ascending = subst (IsStrictlySortedBy nat_cmp) (sym are)
               (ascends_map (on place_of nat_cmp) nat_cmp place_of (λ _. Unit {0})
               (filter (is_told_replaced r g said) g.crates) (λ a b _ _ less. less) (λ _ _. tt)
-              (IsStrictlySortedBy-filter (on place_of nat_cmp) (is_told_replaced r g said) g.crates placed.ascend));
+              (IsStrictlySortedBy-filter (on place_of nat_cmp) (is_told_replaced r g said) g.crates
+              (places_ascend g.crates placed)));
           are = are;
         }
 

@@ -1,8 +1,7 @@
 -- Crates stand at their places, and what follows.
 use Rattle.std.proofs.Common.{◌≡◌, ◌++◌, ◌+◌, ◌<◌, ℕ, Bool, true, false, List, [], ◌∷◌, Contains, Option, Some, cond}
-use Rattle.std.proofs.Common.{length, map, take, refl, sym, ap, ◌∙◌, subst, arith}
+use Rattle.std.proofs.Common.{length, map, take, refl, sym, ap, ◌∙◌, subst}
 use Rattle.std.specs.Prelude.{filter, slice_get}
-use Rattle.std.specs.Cmp.{nat_cmp_is}
 use Rattle.std.specs.List.{AllByRecursion, list_any}
 use Rattle.std.specs.List.Sorted.{IsStrictlySortedBy}
 use Rattle.std.specs.Option.{option_map_or}
@@ -12,36 +11,31 @@ use Rattle.std.proofs.lemmas.List.{map-append, take_more}
 use Rattle.std.proofs.lemmas.List.Elements.{All-contains, filter-append}
 use Rattle.std.proofs.lemmas.Option.{get_or_from_slice_get}
 use Rattle.deny_lists.proofs.Booleans.{tests_agree}
-use Rattle.deny_lists.proofs.Members.{Contains-from_map, any_from, any_passes, some_at, there}
-use Rattle.deny_krates.specs.Crates.{crate_view, crates_from}
+use Rattle.deny_lists.proofs.Members.{Contains-from_map, any_from, any_passes, some_at}
+use Rattle.deny_lists.proofs.Numbers.{range_with_len-ascends}
 use Rattle.deny_krates.specs.Dependents.{AreDirectDependents}
 use Rattle.deny_krates.specs.declared.krate.DirectDependent.{DirectDependent}
-use Rattle.deny_krates.specs.declared.krate.Krate.{Krate}
-use Rattle.deny_krates.proofs.PlaceLemmas.{place_in}
+use Rattle.deny_krates.specs.Placed.{ArePlaced}
 use Rattle.deny_krates.proofs.NeighbourLemmas.{dependent_stands}
 use Rattle.deny_model.specs.Graph.{Crate, Graph, dependents}
 use Rattle.deny_model.specs.Told.{crate_at}
-use Rattle.deny_std.specs.private.Placed.{ArePlaced}
 
--- those from a place on are all above what is below it
-above : (low place : ℕ) (k : Krate) (ks : List Krate) → low < place
-    → AllByRecursion (λ c. on (λ (c : Crate). c.place) nat_cmp (crate_view low k) c ≡ Less) (crates_from place ks)
-above low place k [] below = tt
-above low place k (l ∷ ks) below = (sym (nat_cmp_is low place Less below), above low (place + 1) k ks (omega arith))
+each_on : {A : Type 0} (f : A → ℕ) (P : ℕ → Type 0) (xs : List A) → AllByRecursion P (map f xs)
+    → AllByRecursion (λ x. P (f x)) xs
+each_on f P [] each = tt
+each_on f P (x ∷ xs) each = (each.0, each_on f P xs each.1)
 
-ascend : (place : ℕ) (ks : List Krate) → IsStrictlySortedBy (on (λ (c : Crate). c.place) nat_cmp) (crates_from place ks)
+ascends_on : {A : Type 0} (f : A → ℕ) (xs : List A) → IsStrictlySortedBy nat_cmp (map f xs)
+    → IsStrictlySortedBy (on f nat_cmp) xs
 unfolding IsStrictlySortedBy
-ascend place [] = tt
-ascend place (k ∷ ks) = (above place (place + 1) k ks (omega arith), ascend (place + 1) ks)
+ascends_on f [] ascending = tt
+ascends_on f (x ∷ xs) ascending =
+    (each_on f (λ n. nat_cmp (f x) n ≡ Less) xs ascending.0, ascends_on f xs ascending.1)
 
-pub are_placed : (ks : List Krate) (crates : List Crate) → crates_from 0 ks ≡ crates → ArePlaced crates
-are_placed ks crates e = subst ArePlaced e (record {
-  at = λ c is.
-      let stands = there (crates_from 0 ks) c is in
-      ap (slice_get (crates_from 0 ks)) (place_in ks stands.0 c stands.1) ∙ stands.1;
-  place = place_in ks;
-  ascend = ascend 0 ks;
-})
+-- crates ascend by their places
+pub places_ascend : (crates : List Crate) → ArePlaced crates → IsStrictlySortedBy (on (λ c. c.place) nat_cmp) crates
+places_ascend crates placed = ascends_on (λ c. c.place) crates
+    (subst (IsStrictlySortedBy nat_cmp) (sym placed.places) (range_with_len-ascends 0 (length crates)))
 
 -- a place more of those that pass a test
 pub places-more : (test : Crate → Bool) (crates : List Crate) (i : ℕ) (old new : List ℕ) → ArePlaced crates

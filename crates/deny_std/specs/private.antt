@@ -5,7 +5,6 @@ pub mod Ignored
 pub mod Kept
 pub mod Members
 pub mod Note
-pub mod Placed
 pub mod Replaced
 pub mod Said
 pub mod Sorted

@@ -1,8 +1,8 @@
 //! The crate at a place.
 ghost use Rattle.std.specs.Prelude.{◌≡◌, option_map};
 ghost use Rattle.deny_krates.specs.Crates.{crate_view};
+ghost use Rattle.deny_krates.specs.Placed.{ArePlaced};
 ghost use Rattle.deny_model.specs.Told.{crate_at};
-ghost use Rattle.deny_std.specs.private.Placed.{ArePlaced};
 
 use deny_krates::{Krate, Krates};
 

@@ -1,4 +1,4 @@
-use Rattle.deny_std.proofs.PlaceLemmas.{are_placed}
+use Rattle.deny_krates.proofs.PlaceLemmas.{are_placed}
 use Rattle.deny_std.proofs.places.are_placed.Goals as goal
 
 pub returns : goal.returns
