@@ -1,0 +1,5 @@
+pub mod Clean
+pub mod Values
+pub mod WrittenLemmas
+pub mod ReadingLemmas
+pub mod Utf8Lemmas

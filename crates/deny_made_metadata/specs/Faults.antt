@@ -1,0 +1,8 @@
+-- When metadata has no fault.
+use Rattle.std.specs.Prelude.{◌≡◌, ℕ, List, Ok}
+use Rattle.deny_metadata.specs.Checked.{Resolved, checked}
+
+-- the bytes are metadata without fault, and so have a graph
+pub record HasNoFault (metadata : List ℕ) : Type 0 where
+  pub read : Resolved
+  pub is_read : checked metadata ≡ Ok read
