@@ -3,3 +3,5 @@ pub mod Values
 pub mod WrittenLemmas
 pub mod ReadingLemmas
 pub mod Utf8Lemmas
+pub mod Documents
+pub mod DocumentLemmas
