@@ -5,3 +5,4 @@ pub mod ReadingLemmas
 pub mod Utf8Lemmas
 pub mod Documents
 pub mod DocumentLemmas
+pub mod IdLemmas
