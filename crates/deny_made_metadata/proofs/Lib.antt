@@ -6,3 +6,5 @@ pub mod Utf8Lemmas
 pub mod Documents
 pub mod DocumentLemmas
 pub mod IdLemmas
+pub mod ResolvedLemmas
+pub mod FaultLemmas

@@ -1,0 +1,27 @@
+-- The metadata that is made has no fault.
+use Rattle.std.proofs.Common.{◌≡◌, ◌<◌, ◌^◌, ◌∙◌, ℕ, Ok, ap, refl}
+use Rattle.serde_json.specs.Data.{Data}
+use Rattle.deny_generator.specs.Made.{below}
+use Rattle.deny_generator.specs.MetadataText.{metadata_text}
+use Rattle.deny_metadata.specs.Checked.{checked, resolved}
+use Rattle.deny_metadata.specs.Document.{document_of, json_at, json_of, value_at, whole}
+use Rattle.deny_metadata.specs.Reading.{◌>>=◌}
+use Rattle.deny_made_metadata.specs.Faults.{HasNoFault}
+use Rattle.deny_made_metadata.proofs.DocumentLemmas.{value-found}
+use Rattle.deny_made_metadata.proofs.ReadingLemmas.{metadata-read, value-whole}
+use Rattle.deny_made_metadata.proofs.ResolvedLemmas.{outcome, resolved-document}
+use Rattle.deny_made_metadata.proofs.Utf8Lemmas.{metadata-utf8}
+use Rattle.deny_made_metadata.proofs.Values.{value}
+
+module _ (crates : ℕ) (few : crates < 2 ^ 64) where
+  value_at-metadata : value_at (metadata_text crates) ≡ Ok (value (below crates))
+  unfolding value_at json_at json_of whole
+  value_at-metadata =
+      rw (metadata-utf8 crates few, metadata-read crates few, value-whole (below crates))
+
+  checked-metadata : checked (metadata_text crates) ≡ Ok (outcome crates)
+  unfolding checked
+  checked-metadata = rw (value_at-metadata, value-found (below crates)) (resolved-document crates few)
+
+  pub metadata-no_fault : HasNoFault (metadata_text crates)
+  metadata-no_fault = record { read = outcome crates; is_read = checked-metadata }
