@@ -1,6 +1,6 @@
 -- Texts that a string of JSON holds as they are: no byte of them is escaped.
-use Rattle.std.proofs.Common.{◌≡◌, ◌≢◌, ◌≤◌, ◌<◌, ◌+◌, ◌/◌, ◌%◌, ◌^◌, ◌==◌, ◌∙◌, ◌++◌, ℕ, Bool, true, false, List, [], ◌∷◌}
-use Rattle.std.proofs.Common.{ap, ap₂, arith, codes, get_or, if◌then◌else◌, length, refl, sym}
+use Rattle.std.proofs.Common.{◌≡◌, ◌≤◌, ◌<◌, ◌/◌, ◌%◌, ◌^◌, ◌==◌, ◌∙◌, ◌++◌, ℕ, Bool, true, false, List, ap₂, arith}
+use Rattle.std.proofs.Common.{codes, get_or, if◌then◌else◌, refl}
 use Rattle.std.proofs.lemmas.Bool.{le-ltb, ne_eqb}
 use Rattle.std.proofs.lemmas.Fmt.{decimal_is_IsNumeral}
 use Rattle.std.proofs.lemmas.Grind.{flat_map-append}
@@ -29,7 +29,7 @@ decimal_clean n small = escape_on_plain true (decimal n) (λ k from less.
     let digit = digit_at (decimal n) k (decimal_is_IsNumeral n small).0.1 less in
     plain_digit (get_or (decimal n) k 0) digit.0 digit.1)
 
--- a number of crates is small
+-- a number of 64 bits: its digits tell it
 abbrev pub IsFew : ℕ → Type 0
 IsFew number = number < 2 ^ 64
 

@@ -1,22 +1,20 @@
 -- The value is read as the document.
-use Rattle.std.proofs.Common.{◌≡◌, ◌+◌, ◌∙◌, ℕ, List, [], ◌∷◌, Result, Ok, ap, codes, map, refl}
+use Rattle.std.proofs.Common.{◌≡◌, ◌+◌, ℕ, List, [], ◌∷◌, Result, Ok, map, refl}
 use Rattle.std.specs.Fmt.{decimal}
 use Rattle.serde_json.specs.Data.{Data, Items, item}
 use Rattle.deny_metadata.specs.Document.{declaration_at, document_of, features_given, features_member, kind_given}
 use Rattle.deny_metadata.specs.Document.{kind_member, kinds_of, node_at, node_dependency_at, package_at, resolve_given}
-use Rattle.deny_metadata.specs.Elements.{array_member, each_member, each_optional, elements_from, flag_given, flag_member}
-use Rattle.deny_metadata.specs.Elements.{given, object_at, object_itself, object_member, optional_items, optional_text}
-use Rattle.deny_metadata.specs.Elements.{optional_text_of, optional_texts, part_of, path_to, required, text_at, text_member}
-use Rattle.deny_metadata.specs.Elements.{texts_given}
+use Rattle.deny_metadata.specs.Elements.{array_member, each_member, each_optional, elements_from, flag_given}
+use Rattle.deny_metadata.specs.Elements.{flag_member, given, object_at, object_itself, object_member, optional_items}
+use Rattle.deny_metadata.specs.Elements.{optional_text, optional_text_of, optional_texts, part_of, path_to, required}
+use Rattle.deny_metadata.specs.Elements.{text_at, text_member, texts_given}
 use Rattle.deny_metadata.specs.Member.{name_of}
-use Rattle.deny_metadata.specs.declared.document.Declaration.{Declaration}
-use Rattle.deny_metadata.specs.declared.document.NodeDependency.{NodeDependency}
 use Rattle.deny_metadata.specs.declared.fault.MetadataFault.{MetadataFault}
 use Rattle.deny_metadata.specs.declared.member.Member.TheVariants.{Dependencies, Deps, Nodes, Packages, Resolve}
 use Rattle.deny_made_metadata.proofs.Documents.{all_nodes, app, app_node, crate_node, declared, document, needed}
 use Rattle.deny_made_metadata.proofs.Documents.{crate_package, packages}
 use Rattle.deny_made_metadata.proofs.Values.{declaration, dep, each, node, nodes, package_read, read_app, read_app_node}
-use Rattle.deny_made_metadata.proofs.Values.{read_whole, value}
+use Rattle.deny_made_metadata.proofs.Values.{value}
 
 -- what each number's element is read as, wherever it stands
 elements_from-each : {A : Type 0} (read : List ℕ → Data → Result A MetadataFault) (element : ℕ → Data) (found : ℕ → A)
@@ -36,12 +34,12 @@ elements_from-first read path place d ds x xs first others = rw (first, others)
 
 declaration-found : (path : List ℕ) (n : ℕ) → declaration_at path (declaration n) ≡ Ok (declared n)
 unfolding declaration declaration_at object_at text_member kind_member kind_given optional_text optional_text_of
-  each_optional optional_items elements_from flag_member flag_given given required name_of
+    each_optional optional_items elements_from flag_member flag_given given required name_of
 declaration-found path n = refl
 
 dep-found : (path : List ℕ) (n : ℕ) → node_dependency_at path (dep n) ≡ Ok (needed n)
 unfolding dep node_dependency_at object_at text_member each_optional optional_items elements_from given required
-  kinds_of name_of
+    kinds_of name_of
 dep-found path n = refl
 
 node-found : (path : List ℕ) (n : ℕ) → node_at path (node n) ≡ Ok (crate_node n)
@@ -50,7 +48,7 @@ node-found path n = refl
 
 package-found : (path : List ℕ) (n : ℕ) → package_at path (package_read n) ≡ Ok (crate_package n)
 unfolding package_read package_at object_at text_member optional_text optional_text_of text_at optional_texts
-  texts_given features_member features_given each_optional optional_items elements_from given required name_of
+    texts_given features_member features_given each_optional optional_items elements_from given required name_of
 package-found path n = refl
 
 -- ---- of `app`
@@ -58,7 +56,7 @@ package-found path n = refl
 app-found : (path : List ℕ) (numbers : List ℕ)
     → package_at path (read_app (each declaration numbers)) ≡ Ok (app (map declared numbers))
 unfolding package_at object_at text_member optional_text optional_text_of text_at optional_texts texts_given
-  features_member features_given each_optional optional_items given required name_of elements_from
+    features_member features_given each_optional optional_items given required name_of elements_from
 app-found path numbers =
     rw (elements_from-each declaration_at declaration declared declaration-found (path_to path Dependencies) 0 numbers)
 
@@ -87,6 +85,6 @@ nodes-found path numbers =
 
 pub value-found : (numbers : List ℕ) → document_of (value numbers) ≡ Ok (document numbers)
 unfolding value document_of object_at resolve_given given array_member each_member text_member object_member
-  object_itself required name_of elements_from text_at
+    object_itself required name_of elements_from text_at
 value-found numbers =
     rw (packages-found (path_to [] Packages) numbers, nodes-found (path_to (path_to [] Resolve) Nodes) numbers)

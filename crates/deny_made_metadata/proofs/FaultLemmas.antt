@@ -1,11 +1,9 @@
 -- The metadata that is made has no fault.
-use Rattle.std.proofs.Common.{◌≡◌, ◌<◌, ◌^◌, ◌∙◌, ℕ, Ok, ap, refl}
-use Rattle.serde_json.specs.Data.{Data}
+use Rattle.std.proofs.Common.{◌≡◌, ◌<◌, ◌^◌, ℕ, Ok}
 use Rattle.deny_generator.specs.Made.{below}
 use Rattle.deny_generator.specs.MetadataText.{metadata_text}
-use Rattle.deny_metadata.specs.Checked.{checked, resolved}
-use Rattle.deny_metadata.specs.Document.{document_of, json_at, json_of, value_at, whole}
-use Rattle.deny_metadata.specs.Reading.{◌>>=◌}
+use Rattle.deny_metadata.specs.Checked.{checked}
+use Rattle.deny_metadata.specs.Document.{json_at, json_of, value_at, whole}
 use Rattle.deny_made_metadata.specs.Faults.{HasNoFault}
 use Rattle.deny_made_metadata.proofs.DocumentLemmas.{value-found}
 use Rattle.deny_made_metadata.proofs.ReadingLemmas.{metadata-read, value-whole}
@@ -19,7 +17,7 @@ module _ (crates : ℕ) (few : crates < 2 ^ 64) where
   value_at-metadata =
       rw (metadata-utf8 crates few, metadata-read crates few, value-whole (below crates))
 
-  checked-metadata : checked (metadata_text crates) ≡ Ok (outcome crates)
+  pub checked-metadata : checked (metadata_text crates) ≡ Ok (outcome crates)
   unfolding checked
   checked-metadata = rw (value_at-metadata, value-found (below crates)) (resolved-document crates few)
 

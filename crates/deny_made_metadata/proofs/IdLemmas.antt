@@ -1,6 +1,6 @@
 -- The ids of packages differ.
-use Rattle.std.proofs.Common.{◌≡◌, ◌≢◌, ◌≤◌, ◌<◌, ◌+◌, ◌/◌, ◌%◌, ◌^◌, ◌==◌, ◌∙◌, ◌++◌, ℕ, zero, suc, Bool, true, false}
-use Rattle.std.proofs.Common.{List, [], ◌∷◌, ap, arith, codes, get_or, if◌then◌else◌, inl, inr, length, refl, sym}
+use Rattle.std.proofs.Common.{◌≡◌, ◌≢◌, ◌<◌, ◌/◌, ◌%◌, ◌^◌, ◌==◌, ◌++◌, ℕ, zero, suc, Bool, true, false, List, [], ◌∷◌}
+use Rattle.std.proofs.Common.{ap, arith, codes, get_or, if◌then◌else◌, inl, inr, length, refl, sym}
 use Rattle.std.proofs.lemmas.Bool.{cases_Bool, eqb-true}
 use Rattle.std.proofs.lemmas.Fmt.{decimal_injective, decimal_is_IsNumeral}
 use Rattle.std.proofs.lemmas.List.{append_cancel_left}
@@ -85,10 +85,6 @@ module _ (m n : ℕ) (few : IsFew m) (also : IsFew n) where
     | inl same ↦ absurd (differ (id_at_injective ((bytes_decides (id_at m) (id_at n)).0 same)))
     | inr other ↦ other
   ]
-
-pub app_id : (n : ℕ) → same_text (codes "app") (id_at n) ≡ false
-unfolding id_at registry
-app_id n = refl
 
 pub id_app : (n : ℕ) → same_text (id_at n) (codes "app") ≡ false
 unfolding id_at registry

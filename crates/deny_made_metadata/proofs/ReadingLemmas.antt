@@ -1,9 +1,6 @@
 -- The metadata that is made is read as the value.
-use Rattle.std.proofs.Common.{◌≡◌, ◌≤◌, ◌<◌, ◌+◌, ◌^◌, ◌∙◌, ◌++◌, ◌||◌, ℕ, zero, suc, Bool, true, false, List, [], ◌∷◌, Option}
-use Rattle.std.proofs.Common.{Some, ap, ap₂, append-nil, append_assoc, arith, codes, if◌then◌else◌, map, option_and_then}
-use Rattle.std.proofs.Common.{option_map, refl, sym}
-use Rattle.std.specs.Prelude.{max}
-use Rattle.std.specs.List.{flat_map, range_with_len}
+use Rattle.std.proofs.Common.{◌≡◌, ◌≤◌, ◌<◌, ◌^◌, ◌∙◌, ◌||◌, ℕ, Bool, false, List, [], ◌∷◌, Option, Some, ap, ap₂}
+use Rattle.std.proofs.Common.{append-nil, arith, option_and_then, option_map, refl, sym}
 use Rattle.json.proofs.Printed.Tokens.{tokens-print}
 use Rattle.json.proofs.Printed.Trees.{ArePrintable-json_tokens, value-json_tokens}
 use Rattle.json.specs.Json as json
@@ -11,13 +8,13 @@ use Rattle.json.specs.Lex.{tokens}
 use Rattle.json.specs.Token.{Token}
 use Rattle.json.specs.Tree as tree
 use Rattle.serde_json.proofs.Texts.{print-outline}
-use Rattle.serde_json.specs.Data.{Data, array, object, item, Items}
+use Rattle.serde_json.specs.Data.{Data, item, Items}
 use Rattle.serde_json.specs.Read.{max_depth, of_items, of_json, read}
 use Rattle.serde_json.specs.Written.{compact_text, has_float, items_have_float, items_outline, outline}
 use Rattle.deny_generator.specs.Made.{below}
 use Rattle.deny_generator.specs.MetadataText.{metadata_text}
 use Rattle.deny_made_metadata.proofs.Values.{declaration, dep, each, node, nodes, package_read, package_written}
-use Rattle.deny_made_metadata.proofs.Values.{read_app, read_app_node, read_whole, resolve_of, value, written, written_app}
+use Rattle.deny_made_metadata.proofs.Values.{read_app, read_app_node, read_whole, value, written, written_app}
 use Rattle.deny_made_metadata.proofs.Values.{written_app_node, written_whole}
 use Rattle.deny_made_metadata.proofs.WrittenLemmas.{written-text}
 
@@ -82,9 +79,10 @@ written-numbers numbers =
     let declarations = each declaration numbers in
     let deps = each dep numbers in
     whole-numbers (item (written_app declarations) (each package_written numbers))
-    (item (written_app_node deps) (each node numbers))
-    (app-numbers declarations (each-numbers declaration declaration-numbers numbers),
-    each-numbers package_written package-numbers numbers)
+    (item (written_app_node deps) (each node numbers)) (
+      app-numbers declarations (each-numbers declaration declaration-numbers numbers),
+      each-numbers package_written package-numbers numbers,
+    )
     (app_node-numbers deps (each-numbers dep dep-numbers numbers), each-numbers node node-numbers numbers)
 
 -- ---- it nests six deep
@@ -141,8 +139,8 @@ app_node-read : (deps : Items) → of_items (items_outline deps) ≡ Some deps
     → of_json (outline (written_app_node deps)) ≡ Some (read_app_node deps)
 app_node-read deps is = rw is
 
-item-read : (d made : Data) (ds mades : Items) → of_json (outline d) ≡ Some made → of_items (items_outline ds) ≡ Some mades
-    → of_items (items_outline (item d ds)) ≡ Some (item made mades)
+item-read : (d made : Data) (ds mades : Items) → of_json (outline d) ≡ Some made
+    → of_items (items_outline ds) ≡ Some mades → of_items (items_outline (item d ds)) ≡ Some (item made mades)
 item-read d made ds mades first others = rw (first, others)
 
 whole-read : (packages read_packages nodes read_nodes : Items)
@@ -199,7 +197,8 @@ value-whole numbers = rw (
 abbrev whole : Option (json.Json × List Token) → Option Data
 whole found = option_and_then of_json (option_and_then (λ p. json.if_last p.0 p.1) found)
 
-written-tokens : (numbers : List ℕ) → tokens (compact_text (written numbers)) ≡ tree.json_tokens (outline (written numbers))
+written-tokens : (numbers : List ℕ)
+    → tokens (compact_text (written numbers)) ≡ tree.json_tokens (outline (written numbers))
 written-tokens numbers =
     ap tokens (sym (print-outline (written numbers)))
     ∙ tokens-print (tree.json_tokens (outline (written numbers)))

@@ -1,6 +1,6 @@
 -- The document resolves: each id is known, and what the packages write reads.
-use Rattle.std.proofs.Common.{◌≡◌, ◌≢◌, ◌≤◌, ◌<◌, ◌+◌, ◌/◌, ◌%◌, ◌^◌, ◌==◌, ◌||◌, ◌∙◌, ◌++◌, ℕ, zero, suc, Bool, true, false}
-use Rattle.std.proofs.Common.{List, [], ◌∷◌, None, Ok, Option, Result, Some, ap, ap₂, arith, codes, cond, if◌then◌else◌, inl, inr, map}
+use Rattle.std.proofs.Common.{◌≡◌, ◌≢◌, ◌≤◌, ◌<◌, ◌+◌, ◌%◌, ◌^◌, ◌==◌, ◌∙◌, ◌++◌, ℕ, zero, suc, Bool, true, false, List}
+use Rattle.std.proofs.Common.{[], ◌∷◌, None, Ok, Result, Some, ap, ap₂, arith, codes, if◌then◌else◌, inl, inr, map}
 use Rattle.std.proofs.Common.{refl, sym}
 use Rattle.std.proofs.lemmas.Bool.{cases_eq}
 use Rattle.std.proofs.lemmas.List.Folds.{list_any-append}
@@ -15,15 +15,14 @@ use Rattle.deny_generator.specs.Made.{below, version_at}
 use Rattle.deny_generator.specs.MetadataText.{id_at, path_text, registry}
 use Rattle.deny_model.specs.Text.{same_text}
 use Rattle.deny_metadata.proofs.IndexLemmas.{is_new, no_more_ids}
-use Rattle.deny_metadata.specs.Checked.{Numbering, Resolved, distinct, distinct_after, keeps, known, links_of, links_to}
-use Rattle.deny_metadata.specs.Checked.{manifest_path_reads, node_ids, number_in, number_or, optional_reads, package_ids}
-use Rattle.deny_metadata.specs.Checked.{packages_read, read_or, requirement_reads, requirements_read, resolved}
-use Rattle.deny_metadata.specs.Checked.{resolved_by, resolved_node, source_reads, version_reads}
+use Rattle.deny_metadata.specs.Checked.{Numbering, Resolved, distinct, distinct_after, keeps, known, links_of}
+use Rattle.deny_metadata.specs.Checked.{manifest_path_reads, node_ids, number_in, number_or, optional_reads}
+use Rattle.deny_metadata.specs.Checked.{package_ids, packages_read, read_or, requirement_reads, requirements_read}
+use Rattle.deny_metadata.specs.Checked.{resolved, resolved_by, resolved_node, source_reads, version_reads}
 use Rattle.deny_metadata.specs.Reading.{◌>>=◌, each, each_passes}
 use Rattle.deny_metadata.specs.Source.{crates_io_of, known_or, source_of}
 use Rattle.deny_metadata.specs.declared.checked.Link.{Link}
 use Rattle.deny_metadata.specs.declared.checked.ResolvedNode.{ResolvedNode}
-use Rattle.deny_metadata.specs.declared.checked.Rule.TheVariants.{ManifestPaths, Requirements, Sources, Versions}
 use Rattle.deny_metadata.specs.declared.document.Declaration.{Declaration}
 use Rattle.deny_metadata.specs.declared.document.Document.{Document}
 use Rattle.deny_metadata.specs.declared.document.Node.{Node}
@@ -33,7 +32,7 @@ use Rattle.deny_metadata.specs.declared.fault.MetadataFault.TheVariants.{Require
 use Rattle.deny_made_metadata.proofs.Clean.{IsFew}
 use Rattle.deny_made_metadata.proofs.Documents.{all_nodes, app, app_node, crate_node, crate_package, declared, document}
 use Rattle.deny_made_metadata.proofs.Documents.{needed, packages}
-use Rattle.deny_made_metadata.proofs.IdLemmas.{app_id, id_app, other_id}
+use Rattle.deny_made_metadata.proofs.IdLemmas.{id_app, other_id}
 
 -- ---- ids: those of packages are those of nodes
 
@@ -71,7 +70,7 @@ ids-distinct crates few =
     is_new [] (map id_at (below crates)) (codes "app") refl
     ∙ later-distinct (codes "app" ∷ []) 0 crates (omega (arith, few)) (λ m least less. rw (id_app m))
 
--- ---- each id is known, by the number behind the crate's: that of `app` is 0
+-- ---- each id is known: that of `app` by 0, that of a crate by the number behind its own
 
 place_of_id : (m from count : ℕ) → from + count < 2 ^ 64 → from ≤ m → m < from + count
     → position_from (same_text (id_at m)) (from + 1) (map id_at (range_with_len from count)) ≡ Some (m + 1)
@@ -84,17 +83,18 @@ place_of_id m from (suc count) few least less = elim (cases_eq m from) [
       (place_of_id m (from + 1) count (omega (arith, few)) (omega arith) (omega (arith, less)))
 ]
 
-module _ (crates : ℕ) (few : crates < 2 ^ 64) where
-  abbrev numbering : Numbering
-  numbering = number_in (ids (below crates))
+abbrev by_id : ℕ → Numbering
+by_id crates = number_in (ids (below crates))
 
-  known-app : known numbering numbering (codes "app") ≡ Ok 0
-  unfolding known number_or
-  known-app = refl
+known-app : (crates : ℕ) → known (by_id crates) (by_id crates) (codes "app") ≡ Ok 0
+unfolding known number_or
+known-app crates = refl
 
-  known-crate : (m : ℕ) → m < crates → known numbering numbering (id_at m) ≡ Ok (m + 1)
-  unfolding known number_or
-  known-crate m less = rw (id_app m, place_of_id m 0 crates (omega (arith, few)) (omega arith) (omega (arith, less)))
+known-crate : (crates m : ℕ) → crates < 2 ^ 64 → m < crates
+    → known (by_id crates) (by_id crates) (id_at m) ≡ Ok (m + 1)
+unfolding known number_or
+known-crate crates m few less =
+    rw (id_app m, place_of_id m 0 crates (omega (arith, few)) (omega arith) (omega (arith, less)))
 
 -- ---- what each node resolves to
 
@@ -108,33 +108,32 @@ abbrev app_row : List ℕ → ResolvedNode
 app_row numbers = record { owner = 0; links = map link numbers }
 
 module _ (crates : ℕ) (few : crates < 2 ^ 64) where
-  abbrev by_id : Numbering
-  by_id = numbering crates few
-
   links-crates : (from count : ℕ) → from + count ≤ crates
-      → links_of by_id by_id (map needed (range_with_len from count)) ≡ Ok (map link (range_with_len from count))
+      → links_of (by_id crates) (by_id crates) (map needed (range_with_len from count))
+      ≡ Ok (map link (range_with_len from count))
   unfolding links_of
   links-crates from zero within = refl
   links-crates from (suc count) within =
-      rw (known-crate crates few from (omega arith), links-crates (from + 1) count (omega (arith, within)))
+      rw (known-crate crates from few (omega arith), links-crates (from + 1) count (omega (arith, within)))
 
-  row-app : resolved_node by_id by_id (app_node (map needed (below crates))) ≡ Ok (app_row (below crates))
+  row-app : resolved_node (by_id crates) (by_id crates) (app_node (map needed (below crates)))
+      ≡ Ok (app_row (below crates))
   unfolding resolved_node number_or
   row-app = rw (links-crates 0 crates (omega arith))
 
-  row-crate : (m : ℕ) → m < crates → resolved_node by_id by_id (crate_node m) ≡ Ok (row m)
+  row-crate : (m : ℕ) → m < crates → resolved_node (by_id crates) (by_id crates) (crate_node m) ≡ Ok (row m)
   unfolding resolved_node number_or links_of
   row-crate m less = rw (id_app m, place_of_id m 0 crates (omega (arith, few)) (omega arith) (omega (arith, less)))
 
   rows-crates : (from count : ℕ) → from + count ≤ crates
-      → each (resolved_node by_id by_id) (map crate_node (range_with_len from count))
+      → each (resolved_node (by_id crates) (by_id crates)) (map crate_node (range_with_len from count))
       ≡ Ok (map row (range_with_len from count))
   unfolding each
   rows-crates from zero within = refl
   rows-crates from (suc count) within =
       rw (row-crate from (omega arith), rows-crates (from + 1) count (omega (arith, within)))
 
-  rows-all : each (resolved_node by_id by_id) (all_nodes (below crates))
+  rows-all : each (resolved_node (by_id crates) (by_id crates)) (all_nodes (below crates))
       ≡ Ok (app_row (below crates) ∷ map row (below crates))
   unfolding each
   rows-all = rw (row-app, rows-crates 0 crates (omega arith))
@@ -162,7 +161,8 @@ either_requirement fault false = refl
 version-crate : (n : ℕ) → version_reads (crate_package n) ≡ Ok tt
 unfolding version_reads optional_reads version_at
 version-crate n =
-    ap (λ (read : Result (Unit {0}) MetadataFault). read >>= λ _. Ok tt) (either_version (Version (id_at n)) (n % 2 == 0))
+    ap (λ (read : Result (Unit {0}) MetadataFault). read >>= λ _. Ok tt)
+    (either_version (Version (id_at n)) (n % 2 == 0))
 
 requirement-declared : (id : List ℕ) (n : ℕ) → requirement_reads id (declared n) ≡ Ok tt
 unfolding requirement_reads version_at
@@ -233,14 +233,15 @@ outcome crates = record {
   rows = app_row (below crates) ∷ map row (below crates);
 }
 
-module _ (crates : ℕ) (few : crates < 2 ^ 64) where
-  starts-members : each (known (by_id crates few) (by_id crates few)) (codes "app" ∷ []) ≡ Ok (0 ∷ [])
-  unfolding each
-  starts-members = rw (known-app crates few)
+starts-members : (crates : ℕ)
+    → each (known (by_id crates) (by_id crates)) (codes "app" ∷ []) ≡ Ok (0 ∷ [])
+unfolding each
+starts-members crates = rw (known-app crates)
 
-  resolved_by-document : resolved_by (by_id crates few) (by_id crates few) (document (below crates)) ≡ Ok (outcome crates)
+module _ (crates : ℕ) (few : crates < 2 ^ 64) where
+  resolved_by-document : resolved_by (by_id crates) (by_id crates) (document (below crates)) ≡ Ok (outcome crates)
   unfolding resolved_by
-  resolved_by-document = rw (starts-members, rows-all crates few, packages_read-packages (below crates))
+  resolved_by-document = rw (starts-members crates, rows-all crates few, packages_read-packages (below crates))
 
   pub resolved-document : resolved (document (below crates)) ≡ Ok (outcome crates)
   resolved-document =

@@ -1,5 +1,5 @@
 -- The metadata that is made is text in UTF-8: all of it is ASCII.
-use Rattle.std.proofs.Common.{◌≡◌, ◌≤◌, ◌<◌, ◌+◌, ◌/◌, ◌%◌, ◌^◌, ◌==◌, ◌++◌, ℕ, zero, suc, Bool, true, false, List, [], ◌∷◌}
+use Rattle.std.proofs.Common.{◌≡◌, ◌<◌, ◌+◌, ◌/◌, ◌%◌, ◌^◌, ◌==◌, ◌++◌, ℕ, zero, suc, Bool, true, false, List, []}
 use Rattle.std.proofs.Common.{arith, codes, if◌then◌else◌, IsUtf8, refl}
 use Rattle.std.proofs.lemmas.Fmt.{IsAscii-decimal}
 use Rattle.std.proofs.lemmas.Str.{IsUtf8-append, IsUtf8-from_ascii, IsUtf8-nil, is_utf8-from_IsUtf8}
@@ -76,7 +76,8 @@ module _ (number : ℕ) (few : IsFew number) where
 
   id_at-utf8 : IsUtf8 (id_at number)
   unfolding id_at
-  id_at-utf8 = (before source (before (just (codes "#") refl) (before name (before (just (codes "@") refl) version)))).is
+  id_at-utf8 =
+      (before source (before (just (codes "#") refl) (before name (before (just (codes "@") refl) version)))).is
 
   abbrev id : Written
   id = record { text = id_at number; is = id_at-utf8 }

@@ -1,5 +1,5 @@
 -- The value that the metadata says: as its text is written, and as it is read, with the members of each object by name.
-use Rattle.std.proofs.Common.{ℕ, List, [], ◌∷◌, codes, map}
+use Rattle.std.proofs.Common.{ℕ, List, codes, map}
 use Rattle.serde_json.specs.Data.{Data, array, string, object, member, no_members, item, no_items, Items, Members}
 use Rattle.serde_json.specs.View.{items_of}
 use Rattle.deny_generator.specs.Made.{name_at, version_at}

@@ -1,16 +1,15 @@
 -- The text of the value is the metadata that is made.
-use Rattle.std.proofs.Common.{◌≡◌, ◌≢◌, ◌≤◌, ◌<◌, ◌+◌, ◌/◌, ◌%◌, ◌^◌, ◌==◌, ◌∙◌, ◌++◌, ℕ, zero, suc, Bool, true, false}
-use Rattle.std.proofs.Common.{List, [], ◌∷◌, ap, ap₂, append_assoc, arith, codes, if◌then◌else◌, refl, sym, map}
+use Rattle.std.proofs.Common.{◌≡◌, ◌≤◌, ◌<◌, ◌+◌, ◌^◌, ◌∙◌, ◌++◌, ℕ, zero, suc, true, false, List, [], ◌∷◌, ap, ap₂}
+use Rattle.std.proofs.Common.{append_assoc, arith, codes, refl, sym}
 use Rattle.std.proofs.lemmas.Bool.{ne_eqb}
 use Rattle.std.specs.List.{flat_map, range_with_len}
-use Rattle.json.specs.Print.{escape, escape_byte, quoted}
-use Rattle.serde_json.specs.Data.{Data, string, array, object, item, Items}
+use Rattle.json.specs.Print.{escape, escape_byte}
+use Rattle.serde_json.specs.Data.{Data, item, Items}
 use Rattle.serde_json.specs.Written.{compact_text, items_text}
 use Rattle.deny_generator.specs.Made.{below, name_at, version_at}
 use Rattle.deny_generator.specs.MetadataText.{declaration_text, dep_text, id_at, member_text, metadata_text}
 use Rattle.deny_generator.specs.MetadataText.{naming_text, node_text, nodes_text, package_text, packages_text}
 use Rattle.deny_generator.specs.MetadataText.{path_text, placing_text, registry, workspace_text}
-use Rattle.deny_generator.specs.PolicyText.{divided}
 use Rattle.deny_made_metadata.proofs.Clean.{IsFew, id_at-clean, name_at-clean, path_text-clean, registry-clean}
 use Rattle.deny_made_metadata.proofs.Clean.{version_at-clean}
 use Rattle.deny_made_metadata.proofs.Values.{declaration, declaration_of, dep, dep_of, each, node, node_of, nodes}
