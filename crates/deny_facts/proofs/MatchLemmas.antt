@@ -18,7 +18,8 @@ use Rattle.deny_lists.proofs.Agreement.{filter_on}
 use Rattle.deny_lists.proofs.Filters.{filter-filter, filter-map}
 use Rattle.deny_lists.proofs.Loops.{appended}
 use Rattle.deny_facts.specs.Marks.{mark_at, marked}
-use Rattle.deny_facts.specs.Matches.{AreBanMatches, IsBanMatch, ban_of, places_concerned, root_match, spec_match}
+use Rattle.deny_facts.specs.Matches.{AreBanMatches, IsBanMatch, StandFor, ban_of}
+use Rattle.deny_facts.specs.Matches.{places_concerned, root_match, spec_match}
 use Rattle.deny_facts.specs.Placed.{ArePlaced}
 use Rattle.deny_facts.specs.Wrappers.{AreFirst}
 use Rattle.deny_facts.specs.declared.entry_match.EntryMatch.{EntryMatch}
@@ -64,33 +65,38 @@ concerned_are p g ban exempt placed marks =
 
 -- entry by entry
 
-module _ (p : Policy) (g : Graph) where
-  pub no_bans : AreBanMatches p g [] []
-  no_bans = record { of = refl; each = All-nil (IsBanMatch p g) }
+module _ {M E : Type 0} (entry_of : M → E) (Is : M → Type 0) where
+  pub none_stand : StandFor entry_of Is [] []
+  none_stand = record { of = refl; each = All-nil Is }
 
-  pub more_bans : (bans : List (PackageSpecOrExtended KrateBan)) (i : ℕ) (ban : PackageSpecOrExtended KrateBan)
-      (ms : List BanMatch) (m : BanMatch) → i < length bans → ban ≡ get_or bans i ban
-      → AreBanMatches p g (map ban_view (take i bans)) ms → m.ban.now ≡ ban → IsBanMatch p g m
-      → AreBanMatches p g (map ban_view (take (i + 1) bans)) (ms ++ m ∷ [])
-  more_bans bans i ban ms m inside at so_far of is = record {
-    of = map-append ban_of ms (m ∷ [])
-        ∙ (ap (λ (before : List Ban). before ++ ban_of m ∷ []) so_far.of
-        ∙ (ap (λ (b : PackageSpecOrExtended KrateBan). map ban_view (take i bans) ++ ban_view b ∷ []) (of ∙ at)
-        ∙ sym (map_more ban_view bans i ban inside)));
-    each = All-push (IsBanMatch p g) ms m so_far.each is;
+  -- one more, of entries that are seen in a list
+  pub more_stand : {S : Type 0} (seen : S → E) (xs : List S) (i : ℕ) (x : S) (ms : List M) (m : M) → i < length xs
+      → x ≡ get_or xs i x → StandFor entry_of Is (map seen (take i xs)) ms → entry_of m ≡ seen x → Is m
+      → StandFor entry_of Is (map seen (take (i + 1) xs)) (ms ++ m ∷ [])
+  more_stand seen xs i x ms m inside at so_far of is = record {
+    of = map-append entry_of ms (m ∷ [])
+        ∙ (ap (λ (before : List E). before ++ entry_of m ∷ []) so_far.of
+        ∙ (ap (λ (e : E). map seen (take i xs) ++ e ∷ []) (of ∙ ap seen at)
+        ∙ sym (map_more seen xs i x inside)));
+    each = All-push Is ms m so_far.each is;
   }
 
-  pub all_bans : (bans : List (PackageSpecOrExtended KrateBan)) (i : ℕ) (ms : List BanMatch) → length bans ≤ i
-      → AreBanMatches p g (map ban_view (take i bans)) ms → AreBanMatches p g (map ban_view bans) ms
-  all_bans bans i ms over are =
-      subst (λ (bs : List (PackageSpecOrExtended KrateBan)). AreBanMatches p g (map ban_view bs) ms)
-      (take_all i bans over) are
+  pub all_stand : {S : Type 0} (seen : S → E) (xs : List S) (i : ℕ) (ms : List M) → length xs ≤ i
+      → StandFor entry_of Is (map seen (take i xs)) ms → StandFor entry_of Is (map seen xs) ms
+  all_stand seen xs i ms over stand =
+      subst (λ (ys : List _). StandFor entry_of Is (map seen ys) ms) (take_all i xs over) stand
 
   -- one of them
+  pub one_stands : (entries : List E) (ms shown : List M) (i : ℕ) (m : M) → StandFor entry_of Is entries ms
+      → shown ≡ ms → i < length shown → m ≡ get_or shown i m → Is m
+  one_stands entries ms shown i m stand same inside at =
+      subst Is (sym at) (subst (All Is) (sym same) stand.each i m inside)
+
+module _ (p : Policy) (g : Graph) where
+  -- one of the entries that ban crates
   pub ban_item : (bans : List Ban) (ms shown : List BanMatch) (i : ℕ) (m : BanMatch) → AreBanMatches p g bans ms
       → shown ≡ ms → i < length shown → m ≡ get_or shown i m → IsBanMatch p g m
-  ban_item bans ms shown i m are same inside at =
-      subst (IsBanMatch p g) (sym at) (subst (All (IsBanMatch p g)) (sym same) are.each i m inside)
+  ban_item = one_stands ban_of (IsBanMatch p g)
 
   -- the places of what it concerns stand in the graph
   pub ban_within : (m : BanMatch) → ArePlaced g.crates → IsBanMatch p g m

@@ -43,7 +43,11 @@ pub record IsBanMatch (p : Policy) (g : Graph) (m : BanMatch) : Type 0 where
   pub places : m.places ≡ places_concerned p g (ban_of m)
   pub first : (name : List ℕ) → finite.get m.ranges name ≡ option_map (λ w. w.span) (first_of (ban_of m).wrappers name)
 
+-- each of these stands for one of those, in their order, and is as it has to be
+pub record StandFor {M E : Type 0} (entry_of : M → E) (Is : M → Type 0) (entries : List E) (ms : List M) : Type 0 where
+  pub of : map entry_of ms ≡ entries
+  pub each : All Is ms
+
 -- the same of each entry
-pub record AreBanMatches (p : Policy) (g : Graph) (bans : List Ban) (ms : List BanMatch) : Type 0 where
-  pub of : map ban_of ms ≡ bans
-  pub each : All (IsBanMatch p g) ms
+abbrev pub AreBanMatches : Policy → Graph → List Ban → List BanMatch → Type 0
+AreBanMatches p g = StandFor ban_of (IsBanMatch p g)
