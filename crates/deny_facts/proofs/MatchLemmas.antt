@@ -5,11 +5,10 @@ use Rattle.std.specs.Prelude.{◌&&◌, All}
 use Rattle.std.proofs.Math.Bool.{and_comm}
 use Rattle.std.proofs.lemmas.List.{drop_more, map-append, map_more, take_all}
 use Rattle.std.proofs.lemmas.List.Elements.{All-nil, All-push, filter_agree}
-use Rattle.deny_cfg.specs.PolicyView.{ban_view, roots_from}
+use Rattle.deny_cfg.specs.PolicyView.{roots_from}
 use Rattle.deny_cfg.specs.SpecView.{spec_view}
 use Rattle.deny_cfg.specs.TreeSkipExtended.{TreeSkipExtended}
 use Rattle.deny_cfg.specs.PackageSpecOrExtended.{PackageSpecOrExtended}
-use Rattle.deny_cfg.specs.declared.bans.cfg.valid.KrateBan.{KrateBan}
 use Rattle.deny_model.specs.Bans.{concerns, is_exempt}
 use Rattle.deny_model.specs.Graph.{Crate, Graph}
 use Rattle.deny_model.specs.Match.{matches}
