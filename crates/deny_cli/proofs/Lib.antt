@@ -1,6 +1,7 @@
 pub mod CausesLemmas
 pub mod CountLemmas
 pub mod FloatLemmas
+pub mod MadeLemmas
 pub mod OptionLemmas
 pub mod ReadingLemmas
 pub mod ReportLemmas

@@ -337,6 +337,10 @@ pub fn run<D: PackageFiles, W: Out, E: Out>(
         → IsReadable (D.seen disk.old) (D.seen disk.new) (texts words.now)
         → (¬ Rose (W.faults out.old) (W.faults out.new))
         → IsDoneOrMemory result.outcome }
+    // as those do that are made of a number, whatever the disk is,
+    ensures generates { (crates : ℕ) → Asks (texts words.now) (generate crates)
+        → (¬ Rose (W.faults out.old) (W.faults out.new))
+        → IsDoneOrMemory result.outcome }
     // and those that are too long, or that the gate refuses, with their stop.
     ensures refuses { (stop : Outcome)
         → IsRefusedRun (D.seen disk.old) (texts words.now) stop
@@ -376,6 +380,8 @@ pub fn run<D: PackageFiles, W: Out, E: Out>(
     deny_gate::headline();
     deny_gate::dead_can_go();
     deny_gate::one_answer();
+    deny_made_policy::made_policies();
+    deny_made_metadata::made_metadata();
     let ending = ending_of(alloc, words, disk, out);
     tell(alloc, &ending.outcome, ending.policy.as_slice(), err);
     Ended {

@@ -3,6 +3,7 @@ use Rattle.deny_cli.specs.Outputs.{LeavesErr}
 use Rattle.deny_cli.specs.Words.{asked_by, texts}
 use Rattle.deny_cli.proofs.CausesLemmas.{AnswerLaws, completes, dead_on, fails_by, headline_on, is_refused, is_text}
 use Rattle.deny_cli.proofs.CausesLemmas.{not_written, refused_words, status_by}
+use Rattle.deny_cli.proofs.MadeLemmas.{MadeLaws, made_readable, made_valid}
 use Rattle.deny_cli.proofs.ToldLemmas.{json_reported}
 use Rattle.deny_cli.proofs.program.run.Goals as goal
 
@@ -26,6 +27,15 @@ returns-clause-completes g c valid readable quiet =
     completes laws _ _ _ c.ending_of-ending.result.outcome valid readable
     (not_written g.W.Out.written g.W.Out.faults c.args.out.now c.ending_of-ending.new.out _
     c.ending_of-ending.result.outcome made.out quiet) made.cause
+
+pub returns-clause-generates : goal.returns-clause-generates
+returns-clause-generates g c crates asks quiet =
+    let laws : MadeLaws = record {
+      policy = c.made_policies.ensures.policy;
+      no_table = c.made_policies.ensures.no_table;
+      metadata = c.made_metadata.ensures;
+    } in
+    returns-clause-completes g c (made_valid laws _ _ crates asks) (made_readable _ _ _ crates asks) quiet
 
 pub returns-clause-refuses : goal.returns-clause-refuses
 returns-clause-refuses g c stop refused readable =
