@@ -1,4 +1,5 @@
 pub mod CrateLemmas
+pub mod FeatureMatchLemmas
 pub mod KeyLemmas
 pub mod ListedLemmas
 pub mod NameLemmas

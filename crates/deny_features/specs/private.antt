@@ -1,3 +1,4 @@
+pub mod FeatureMatches
 pub mod Keys
 pub mod Listed
 pub mod Reached

@@ -1,14 +1,16 @@
 //! What stands of denied features.
 ghost use Rattle.std.specs.Prelude.{◌≡◌, ◌++◌, OnOk};
 ghost use Rattle.std.specs.List.{flat_map};
-ghost use Rattle.deny_cfg.specs.PolicyView.{feature_view, policy_view};
+ghost use Rattle.deny_cfg.specs.PolicyView.{policy_view};
 ghost use Rattle.deny_codes.specs.Features.{feature_banned_keys, feature_banned_keys_of};
+ghost use Rattle.deny_features.specs.private.FeatureMatches.{AreFeatureMatches, IsFeatureMatch, said_of};
 ghost use Rattle.deny_features.specs.private.Keys.{banned_keys_at};
 
 use crate::crates::{crate_key, enabled_at, has};
+use crate::feature_match::FeatureMatch;
 use deny_base::{Code, Key, Spanned};
-use deny_cfg::bans::cfg::{ValidConfig, ValidKrateFeatures};
-use deny_facts::{are_placed, matched};
+use deny_cfg::bans::cfg::ValidConfig;
+use deny_facts::are_placed;
 use deny_krates::Krates;
 use deny_lists::{List, NoMemory, Text};
 use std::alloc::Global;
@@ -16,14 +18,15 @@ use std::alloc::Global;
 /// Adds the keys of the denied features that are enabled.
 pub fn add_banned_keys(
     alloc: Global,
-    cfg: &ValidConfig,
+    _cfg: &ValidConfig,
     krates: &Krates,
+    found: &[FeatureMatch<'_>],
     keys: &mut List<Key>,
 ) -> Result<(), NoMemory>
-    ensures { OnOk result (keys.new ≡ keys.old ++ feature_banned_keys (policy_view cfg.now) krates.now) }
+    requires { AreFeatureMatches krates.now (policy_view _cfg.now).features found.now }
+    ensures { OnOk result (keys.new ≡ keys.old ++ feature_banned_keys (policy_view _cfg.now) krates.now) }
 {
-    let entries = cfg.features.as_slice();
-    for entry in entries {
+    for entry in found {
         add_banned_of(alloc, krates, entry, keys)?;
     }
     Ok(())
@@ -32,18 +35,18 @@ pub fn add_banned_keys(
 fn add_banned_of(
     alloc: Global,
     krates: &Krates,
-    entry: &ValidKrateFeatures,
+    found: &FeatureMatch<'_>,
     keys: &mut List<Key>,
 ) -> Result<(), NoMemory>
-    ensures { OnOk result (keys.new ≡ keys.old ++ feature_banned_keys_of krates.now (feature_view entry.now)) }
+    requires { IsFeatureMatch krates.now found.now }
+    ensures { OnOk result (keys.new ≡ keys.old ++ feature_banned_keys_of krates.now (said_of found.now)) }
 {
     are_placed(krates);
-    if entry.features.exact.value {
+    if found.written.features.exact.value {
         return Ok(());
     }
-    let places = matched(alloc, krates, &entry.spec)?;
-    let denied = entry.features.deny.as_slice();
-    add_banned_among(alloc, krates, denied, places.as_slice(), keys)
+    let denied = found.written.features.deny.as_slice();
+    add_banned_among(alloc, krates, denied, found.places.as_slice(), keys)
 }
 
 fn add_banned_among(

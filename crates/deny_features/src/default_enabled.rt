@@ -1,19 +1,19 @@
 //! What stands of the feature `default`, by its level.
-ghost use Rattle.std.specs.Prelude.{◌≡◌, ◌++◌, ◌<◌, ◌^◌, IfOk, OnOk, length, map};
+ghost use Rattle.std.specs.Prelude.{◌≡◌, ◌++◌, All, IfOk, OnOk, length, map};
 ghost use Rattle.std.specs.List.{flat_map, list_any, range_with_len};
 ghost use Rattle.deny_cfg.specs.PolicyView.{feature_view, policy_view};
-ghost use Rattle.deny_cfg.specs.SpecView.{spec_view};
 ghost use Rattle.deny_codes.specs.Features.{default_enabled_keys, default_feature, leaves_default, names_feature};
 ghost use Rattle.deny_facts.specs.Marks.{AddsMarks};
 ghost use Rattle.deny_model.specs.Match.{matches};
 ghost use Rattle.deny_model.specs.Text.{same_text};
+ghost use Rattle.deny_features.specs.private.FeatureMatches.{AreFeatureMatches, IsFeatureMatch, said_of};
 ghost use Rattle.deny_features.specs.private.Keys.{default_keys_at, is_default_enabled_at, is_left_at, leaves_open, minds};
 
 use crate::crates::{crate_key, default_level_at, enabled_at, is_default};
+use crate::feature_match::FeatureMatch;
 use deny_base::{Code, Key, LintLevel, Spanned};
-use deny_cfg::PackageSpec;
 use deny_cfg::bans::cfg::{ValidConfig, ValidKrateFeatures};
-use deny_facts::{are_placed, mark_at, mark_each, matched, no_marks};
+use deny_facts::{are_placed, mark_at, mark_each, no_marks};
 use deny_krates::Krates;
 use deny_lists::{List, NoMemory, Text};
 use std::alloc::Global;
@@ -23,14 +23,15 @@ pub fn add_default_keys(
     alloc: Global,
     cfg: &ValidConfig,
     krates: &Krates,
+    found: &[FeatureMatch<'_>],
     keys: &mut List<Key>,
 ) -> Result<(), NoMemory>
+    requires { AreFeatureMatches krates.now (policy_view cfg.now).features found.now }
     ensures { OnOk result (keys.new ≡ keys.old ++ default_enabled_keys (policy_view cfg.now) krates.now) }
 {
     are_placed(krates);
-    let entries = cfg.features.as_slice();
-    let spoken = spoken_of(alloc, krates, entries)?;
-    let unsettled = left_open(alloc, krates, entries)?;
+    let spoken = spoken_of(alloc, krates, found)?;
+    let unsettled = left_open(alloc, krates, found)?;
     add_default_each(
         alloc,
         cfg,
@@ -45,14 +46,15 @@ pub fn add_default_keys(
 fn spoken_of(
     alloc: Global,
     krates: &Krates,
-    entries: &[ValidKrateFeatures],
+    found: &[FeatureMatch<'_>],
 ) -> Result<List<bool>, NoMemory>
+    requires { All (IsFeatureMatch krates.now) found.now }
     ensures { IfOk result (λ marks. marks ≡ map (λ c. list_any (λ e. matches e.spec c)
-        (map feature_view entries.now)) krates.now.crates) }
+        (map said_of found.now)) krates.now.crates) }
 {
     let mut marks = no_marks(alloc, krates)?;
-    for entry in entries {
-        mark_spec(alloc, krates, &entry.spec, &mut marks)?;
+    for entry in found {
+        mark_spoken(krates, entry, &mut marks);
     }
     Ok(marks)
 }
@@ -61,33 +63,29 @@ fn spoken_of(
 fn left_open(
     alloc: Global,
     krates: &Krates,
-    entries: &[ValidKrateFeatures],
+    found: &[FeatureMatch<'_>],
 ) -> Result<List<bool>, NoMemory>
+    requires { All (IsFeatureMatch krates.now) found.now }
     ensures { IfOk result (λ marks. marks ≡ map (λ c. list_any (leaves_default c)
-        (map feature_view entries.now)) krates.now.crates) }
+        (map said_of found.now)) krates.now.crates) }
 {
     let mut marks = no_marks(alloc, krates)?;
-    for entry in entries {
-        mark_open(alloc, krates, entry, &mut marks)?;
+    for entry in found {
+        mark_open(krates, entry, &mut marks);
     }
     Ok(marks)
 }
 
 /// Marks the crates of which an entry leaves `default` open.
-fn mark_open(
-    alloc: Global,
-    krates: &Krates,
-    entry: &ValidKrateFeatures,
-    marks: &mut List<bool>,
-) -> Result<(), NoMemory>
-    requires { length marks.old ≡ length krates.now.crates }
-    ensures { OnOk result (AddsMarks krates.now.crates (λ c. leaves_default c (feature_view entry.now)) marks.old
-        marks.new) }
+fn mark_open(krates: &Krates, found: &FeatureMatch<'_>, marks: &mut List<bool>)
+    requires is { IsFeatureMatch krates.now found.now }
+    requires long { length marks.old ≡ length krates.now.crates }
+    ensures { AddsMarks krates.now.crates (λ c. leaves_default c (said_of found.now)) marks.old marks.new }
 {
-    if !leaves_open(entry) {
-        return Ok(());
+    if !leaves_open(found.written) {
+        return;
     }
-    mark_spec(alloc, krates, &entry.spec, marks)
+    mark_spoken(krates, found, marks);
 }
 
 /// Whether an entry does not say exactly which features a crate has, and names `default` nowhere.
@@ -108,20 +106,14 @@ fn names_default(words: &[Spanned<Text>]) -> bool
     words.iter().any(|word| is_default(&word.value))
 }
 
-/// Marks the crates that a spec speaks of.
-fn mark_spec(
-    alloc: Global,
-    krates: &Krates,
-    spec: &PackageSpec,
-    marks: &mut List<bool>,
-) -> Result<(), NoMemory>
-    requires { length marks.old ≡ length krates.now.crates }
-    ensures { OnOk result (AddsMarks krates.now.crates (matches (spec_view spec.now)) marks.old marks.new) }
+/// Marks the crates that an entry speaks of.
+fn mark_spoken(krates: &Krates, found: &FeatureMatch<'_>, marks: &mut List<bool>)
+    requires is { IsFeatureMatch krates.now found.now }
+    requires long { length marks.old ≡ length krates.now.crates }
+    ensures { AddsMarks krates.now.crates (matches (said_of found.now).spec) marks.old marks.new }
 {
     are_placed(krates);
-    let places = matched(alloc, krates, spec)?;
-    mark_each(marks, places.as_slice());
-    Ok(())
+    mark_each(marks, found.places.as_slice());
 }
 
 /// Adds the keys of all crates, one by one.

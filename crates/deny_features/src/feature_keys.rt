@@ -6,6 +6,7 @@ ghost use Rattle.deny_features.specs.FeatureKeys.{IsOfFeatures};
 
 use crate::banned::add_banned_keys;
 use crate::default_enabled::add_default_keys;
+use crate::feature_match::feature_matches;
 use crate::mismatched::add_mismatched_keys;
 use crate::not_allowed::add_not_allowed_keys;
 use crate::unknown::add_unknown_keys;
@@ -25,9 +26,11 @@ pub fn add_feature_keys(
 ) -> Result<(), NoMemory>
     ensures { OnOk result (Adds (IsOfFeatures (policy_view cfg.now) krates.now) keys.old keys.new) }
 {
-    add_mismatched_keys(alloc, cfg, krates, keys)?;
-    add_not_allowed_keys(alloc, cfg, krates, keys)?;
-    add_banned_keys(alloc, cfg, krates, keys)?;
-    add_unknown_keys(alloc, cfg, krates, keys)?;
-    add_default_keys(alloc, cfg, krates, keys)
+    let matches = feature_matches(alloc, cfg, krates)?;
+    let found = matches.as_slice();
+    add_mismatched_keys(alloc, cfg, krates, found, keys)?;
+    add_not_allowed_keys(alloc, cfg, krates, found, keys)?;
+    add_banned_keys(alloc, cfg, krates, found, keys)?;
+    add_unknown_keys(alloc, cfg, krates, found, keys)?;
+    add_default_keys(alloc, cfg, krates, found, keys)
 }

@@ -6,6 +6,7 @@ mod banned;
 mod crates;
 mod default_enabled;
 mod feature_keys;
+mod feature_match;
 mod listed;
 mod mismatched;
 mod not_allowed;

@@ -8,9 +8,11 @@ ghost use Rattle.deny_cfg.specs.PolicyView.{feature_view, policy_view};
 ghost use Rattle.deny_codes.specs.Features.{denies};
 ghost use Rattle.deny_facts.specs.Wrappers.{AreFirst};
 ghost use Rattle.deny_features.specs.Listed.{has_default_apart_at, unlisted_at};
+ghost use Rattle.deny_features.specs.private.FeatureMatches.{IsFeatureMatch, said_of};
 ghost use Rattle.deny_features.specs.private.Listed.{is_among, is_mismatched_at, is_unlisted_by};
 
 use crate::crates::{default_level_at, enabled_at, has, is_default};
+use crate::feature_match::FeatureMatch;
 use deny_base::{LintLevel, Span, Spanned};
 use deny_cfg::bans::cfg::{ValidConfig, ValidKrateFeatures};
 use deny_krates::Krates;
@@ -88,18 +90,17 @@ pub fn is_mismatched(
     alloc: Global,
     cfg: &ValidConfig,
     krates: &Krates,
-    entry: &ValidKrateFeatures,
-    allowed: &TextMap<Span>,
+    found: &FeatureMatch<'_>,
     place: u32,
 ) -> Result<bool, NoMemory>
-    requires { AreFirst (feature_view entry.now).allow.value allowed.now }
+    requires { IsFeatureMatch krates.now found.now }
     ensures { IfOk result (λ mismatched. mismatched
-        ≡ is_mismatched_at (policy_view cfg.now) krates.now (feature_view entry.now) place) }
+        ≡ is_mismatched_at (policy_view cfg.now) krates.now (said_of found.now) place) }
 {
-    let others = unlisted(alloc, cfg, krates, entry, allowed, place)?;
+    let others = unlisted(alloc, cfg, krates, found.written, &found.allowed, place)?;
     if others.len() != 0 {
         return Ok(true);
     }
-    let listed = entry.features.allow.value.as_slice();
+    let listed = found.written.features.allow.value.as_slice();
     Ok(!are_enabled(enabled_at(krates, place), listed))
 }

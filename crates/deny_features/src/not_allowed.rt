@@ -2,18 +2,19 @@
 ghost use Rattle.std.specs.Prelude.{◌≡◌, ◌++◌, IfOk, IsTrue, OnOk, filter, is_some, map, not, false, length, ◌==◌};
 ghost use Rattle.std.specs.FinMap as finite;
 ghost use Rattle.deny_lists.specs.Ascending.{Adds};
-ghost use Rattle.deny_cfg.specs.PolicyView.{feature_view, policy_view};
+ghost use Rattle.deny_cfg.specs.PolicyView.{policy_view};
 ghost use Rattle.deny_codes.specs.Features.{IsFeatureNotAllowed, not_allowed_feature_key};
-ghost use Rattle.deny_facts.specs.Wrappers.{AreFirst};
+ghost use Rattle.deny_features.specs.private.FeatureMatches.{AreFeatureMatches, IsFeatureMatch, said_of};
 ghost use Rattle.deny_features.specs.private.Keys.{IsNotAllowedAt, IsNotAllowedBy, OfOne};
 ghost use Rattle.deny_features.specs.private.Reached.{AreReachedAt};
 
 use crate::crates::crate_key;
+use crate::feature_match::FeatureMatch;
 use crate::listed::unlisted;
 use crate::reached::reached_at;
 use deny_base::{Code, Key, Span};
-use deny_cfg::bans::cfg::{ValidConfig, ValidKrateFeatures};
-use deny_facts::{are_placed, matched, ranges_by_name};
+use deny_cfg::bans::cfg::ValidConfig;
+use deny_facts::are_placed;
 use deny_krates::Krates;
 use deny_lists::{List, NoMemory, Text, TextMap};
 use std::alloc::Global;
@@ -24,12 +25,13 @@ pub fn add_not_allowed_keys(
     alloc: Global,
     cfg: &ValidConfig,
     krates: &Krates,
+    found: &[FeatureMatch<'_>],
     keys: &mut List<Key>,
 ) -> Result<(), NoMemory>
+    requires { AreFeatureMatches krates.now (policy_view cfg.now).features found.now }
     ensures { OnOk result (Adds (IsFeatureNotAllowed (policy_view cfg.now) krates.now) keys.old keys.new) }
 {
-    let entries = cfg.features.as_slice();
-    for entry in entries {
+    for entry in found {
         add_not_allowed_of(alloc, cfg, krates, entry, keys)?;
     }
     Ok(())
@@ -39,40 +41,38 @@ fn add_not_allowed_of(
     alloc: Global,
     cfg: &ValidConfig,
     krates: &Krates,
-    entry: &ValidKrateFeatures,
+    found: &FeatureMatch<'_>,
     keys: &mut List<Key>,
 ) -> Result<(), NoMemory>
-    ensures { OnOk result (Adds (IsNotAllowedBy (policy_view cfg.now) krates.now (feature_view entry.now)) keys.old
+    requires { IsFeatureMatch krates.now found.now }
+    ensures { OnOk result (Adds (IsNotAllowedBy (policy_view cfg.now) krates.now (said_of found.now)) keys.old
         keys.new) }
 {
     are_placed(krates);
-    let listed = entry.features.allow.value.as_slice();
-    if entry.features.exact.value {
+    let listed = found.written.features.allow.value.as_slice();
+    if found.written.features.exact.value {
         return Ok(());
     }
     if listed.is_empty() {
         return Ok(());
     }
-    let allowed = ranges_by_name(alloc, listed)?;
-    let places = matched(alloc, krates, &entry.spec)?;
-    add_not_allowed_among(alloc, cfg, krates, entry, &allowed, places.as_slice(), keys)
+    add_not_allowed_among(alloc, cfg, krates, found, keys)
 }
 
 fn add_not_allowed_among(
     alloc: Global,
     cfg: &ValidConfig,
     krates: &Krates,
-    entry: &ValidKrateFeatures,
-    allowed: &TextMap<Span>,
-    places: &[u32],
+    found: &FeatureMatch<'_>,
     keys: &mut List<Key>,
 ) -> Result<(), NoMemory>
-    requires { AreFirst (feature_view entry.now).allow.value allowed.now }
-    ensures { OnOk result (Adds (OfOne (IsNotAllowedAt (policy_view cfg.now) krates.now (feature_view entry.now)) places.now)
-        keys.old keys.new) }
+    requires { IsFeatureMatch krates.now found.now }
+    ensures { OnOk result (Adds (OfOne (IsNotAllowedAt (policy_view cfg.now) krates.now (said_of found.now))
+        found.now.places) keys.old keys.new) }
 {
+    let places = found.places.as_slice();
     for place in places {
-        add_not_allowed_at(alloc, cfg, krates, entry, allowed, *place, keys)?;
+        add_not_allowed_at(alloc, cfg, krates, found, *place, keys)?;
     }
     Ok(())
 }
@@ -81,21 +81,21 @@ fn add_not_allowed_at(
     alloc: Global,
     cfg: &ValidConfig,
     krates: &Krates,
-    entry: &ValidKrateFeatures,
-    allowed: &TextMap<Span>,
+    found: &FeatureMatch<'_>,
     place: u32,
     keys: &mut List<Key>,
 ) -> Result<(), NoMemory>
-    requires { AreFirst (feature_view entry.now).allow.value allowed.now }
-    ensures { OnOk result (Adds (IsNotAllowedAt (policy_view cfg.now) krates.now (feature_view entry.now) place) keys.old
+    requires { IsFeatureMatch krates.now found.now }
+    ensures { OnOk result (Adds (IsNotAllowedAt (policy_view cfg.now) krates.now (said_of found.now) place) keys.old
         keys.new) }
 {
-    let others = unlisted(alloc, cfg, krates, entry, allowed, place)?;
+    let others = unlisted(alloc, cfg, krates, found.written, &found.allowed, place)?;
     if others.len() == 0 {
         return Ok(());
     }
-    let reached = reached_at(alloc, krates, place, entry.features.allow.value.as_slice())?;
-    let name = entry.spec.name.span;
+    let listed = found.written.features.allow.value.as_slice();
+    let reached = reached_at(alloc, krates, place, listed)?;
+    let name = found.written.spec.name.span;
     add_unreached(alloc, others.as_slice(), &reached, place, name, keys)
 }
 

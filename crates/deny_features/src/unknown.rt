@@ -3,16 +3,17 @@ ghost use Rattle.std.specs.Prelude.{◌≡◌, ◌++◌, IfOk, OnOk, filter};
 ghost use Rattle.std.specs.List.{flat_map};
 ghost use Rattle.deny_cfg.specs.PolicyView.{feature_view, policy_view};
 ghost use Rattle.deny_codes.specs.Features.{unknown_feature_keys, unknown_feature_keys_of};
-ghost use Rattle.deny_facts.specs.Wrappers.{AreFirst};
+ghost use Rattle.deny_features.specs.private.FeatureMatches.{AreFeatureMatches, IsFeatureMatch, said_of};
 ghost use Rattle.deny_features.specs.private.Keys.{tells_unknown_at, unknown_keys_at};
 
 use crate::crates::{crate_key, has_feature_at};
+use crate::feature_match::FeatureMatch;
 use crate::listed::is_mismatched;
-use deny_base::{Code, Key, Span, Spanned};
+use deny_base::{Code, Key, Spanned};
 use deny_cfg::bans::cfg::{ValidConfig, ValidKrateFeatures};
-use deny_facts::{are_placed, matched, ranges_by_name};
+use deny_facts::are_placed;
 use deny_krates::Krates;
-use deny_lists::{List, NoMemory, Text, TextMap};
+use deny_lists::{List, NoMemory, Text};
 use std::alloc::Global;
 
 /// Adds the keys of the features that entries list and that crates do not have.
@@ -20,12 +21,13 @@ pub fn add_unknown_keys(
     alloc: Global,
     cfg: &ValidConfig,
     krates: &Krates,
+    found: &[FeatureMatch<'_>],
     keys: &mut List<Key>,
 ) -> Result<(), NoMemory>
+    requires { AreFeatureMatches krates.now (policy_view cfg.now).features found.now }
     ensures { OnOk result (keys.new ≡ keys.old ++ unknown_feature_keys (policy_view cfg.now) krates.now) }
 {
-    let entries = cfg.features.as_slice();
-    for entry in entries {
+    for entry in found {
         add_unknown_of(alloc, cfg, krates, entry, keys)?;
     }
     Ok(())
@@ -35,35 +37,33 @@ fn add_unknown_of(
     alloc: Global,
     cfg: &ValidConfig,
     krates: &Krates,
-    entry: &ValidKrateFeatures,
+    found: &FeatureMatch<'_>,
     keys: &mut List<Key>,
 ) -> Result<(), NoMemory>
+    requires { IsFeatureMatch krates.now found.now }
     ensures { OnOk result (keys.new
-        ≡ keys.old ++ unknown_feature_keys_of (policy_view cfg.now) krates.now (feature_view entry.now)) }
+        ≡ keys.old ++ unknown_feature_keys_of (policy_view cfg.now) krates.now (said_of found.now)) }
 {
     are_placed(krates);
-    let allowed = ranges_by_name(alloc, entry.features.allow.value.as_slice())?;
-    let places = matched(alloc, krates, &entry.spec)?;
-    let told = telling(alloc, cfg, krates, entry, &allowed, places.as_slice())?;
-    add_unknown_among(alloc, krates, entry, told.as_slice(), keys)
+    let told = telling(alloc, cfg, krates, found)?;
+    add_unknown_among(alloc, krates, found.written, told.as_slice(), keys)
 }
 
-/// Those of some places of whose crates an entry tells unknown features.
+/// The places of the crates of which an entry speaks and tells unknown features.
 fn telling(
     alloc: Global,
     cfg: &ValidConfig,
     krates: &Krates,
-    entry: &ValidKrateFeatures,
-    allowed: &TextMap<Span>,
-    places: &[u32],
+    found: &FeatureMatch<'_>,
 ) -> Result<List<u32>, NoMemory>
-    requires { AreFirst (feature_view entry.now).allow.value allowed.now }
+    requires { IsFeatureMatch krates.now found.now }
     ensures { IfOk result (λ told. told ≡ filter (tells_unknown_at (policy_view cfg.now) krates.now
-        (feature_view entry.now)) places.now) }
+        (said_of found.now)) found.now.places) }
 {
+    let places = found.places.as_slice();
     let mut told = List::new(alloc);
     for place in places {
-        if tells_unknown(alloc, cfg, krates, entry, allowed, *place)? {
+        if tells_unknown(alloc, cfg, krates, found, *place)? {
             told.push(*place)?;
         }
     }
@@ -77,18 +77,17 @@ fn tells_unknown(
     alloc: Global,
     cfg: &ValidConfig,
     krates: &Krates,
-    entry: &ValidKrateFeatures,
-    allowed: &TextMap<Span>,
+    found: &FeatureMatch<'_>,
     place: u32,
 ) -> Result<bool, NoMemory>
-    requires { AreFirst (feature_view entry.now).allow.value allowed.now }
+    requires { IsFeatureMatch krates.now found.now }
     ensures { IfOk result (λ tells. tells
-        ≡ tells_unknown_at (policy_view cfg.now) krates.now (feature_view entry.now) place) }
+        ≡ tells_unknown_at (policy_view cfg.now) krates.now (said_of found.now) place) }
 {
-    if !entry.features.exact.value {
+    if !found.written.features.exact.value {
         return Ok(true);
     }
-    Ok(!is_mismatched(alloc, cfg, krates, entry, allowed, place)?)
+    Ok(!is_mismatched(alloc, cfg, krates, found, place)?)
 }
 
 fn add_unknown_among(

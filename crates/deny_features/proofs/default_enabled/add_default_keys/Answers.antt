@@ -2,7 +2,7 @@ use Rattle.std.proofs.Common.{◌++◌, List, map, ap, ◌∙◌}
 use Rattle.std.specs.List.{list_any}
 use Rattle.std.proofs.lemmas.Result.{on_ok_weaker}
 use Rattle.deny_base.specs.declared.key.Key.{Key}
-use Rattle.deny_cfg.specs.PolicyView.{feature_view, policy_view}
+use Rattle.deny_cfg.specs.PolicyView.{policy_view}
 use Rattle.deny_codes.specs.Features.{leaves_default}
 use Rattle.deny_model.specs.Match.{matches}
 use Rattle.deny_model.specs.Policy.{FeatureEntry}
@@ -13,12 +13,11 @@ pub returns : goal.returns
 returns c =
     let p = policy_view c.args.cfg.now in
     let g = c.args.krates.now in
-    let entries = ap (map feature_view) c.as_slice-entries.ensures in
     let are = default_are p g c.are_placed.ensures c.as_slice.result.now c.as_slice-2.result.now
     (c.as_slice.ensures ∙ (c.in_ok-spoken.ensures
     ∙ ap (λ (es : List FeatureEntry). map (λ d. list_any (λ (e : FeatureEntry). matches e.spec d) es) g.crates)
-    entries))
+    c.requires.of))
     (c.as_slice-2.ensures ∙ (c.in_ok-unsettled.ensures
-    ∙ ap (λ (es : List FeatureEntry). map (λ d. list_any (leaves_default d) es) g.crates) entries)) in
+    ∙ ap (λ (es : List FeatureEntry). map (λ d. list_any (leaves_default d) es) g.crates) c.requires.of)) in
     on_ok_weaker c.add_default_each.result
     (λ added. added ∙ ap (λ (keys : List Key). c.args.keys.now ++ keys) are) c.add_default_each.ensures

@@ -1,23 +1,28 @@
-use Rattle.std.proofs.Common.{List, ap, map, subst, arith}
+use Rattle.std.proofs.Common.{List, subst, arith}
 use Rattle.std.proofs.lemmas.List.{take_all}
 use Rattle.deny_lists.specs.Ascending.{Adds}
-use Rattle.deny_cfg.specs.PolicyView.{feature_view, policy_view}
-use Rattle.deny_cfg.specs.declared.bans.cfg.valid.ValidKrateFeatures.{ValidKrateFeatures}
+use Rattle.deny_cfg.specs.PolicyView.{policy_view}
+use Rattle.deny_features.specs.declared.feature_match.FeatureMatch.{FeatureMatch}
+use Rattle.deny_features.specs.private.FeatureMatches.{said_of}
 use Rattle.deny_features.specs.private.Keys.{IsNotAllowedBy, OfOne}
+use Rattle.deny_features.proofs.FeatureMatchLemmas.{one_is}
 use Rattle.deny_features.proofs.NotAllowedLemmas.{adds_none, adds_one_more, all_are}
 use Rattle.deny_features.proofs.not_allowed.add_not_allowed_keys.Goals as goal
 
+pub add_not_allowed_of-requires : goal.add_not_allowed_of-requires
+add_not_allowed_of-requires c =
+    one_is c.args.krates.now c.args.found.now c.loop-entry.entry-index c.entry-item.result c.requires.each
+    c.loop-entry-test.true c.entry-item.is
+
 pub loop-entry-init : goal.loop-entry-init
 loop-entry-init c =
-    adds_none (λ (e : ValidKrateFeatures). IsNotAllowedBy (policy_view c.args.cfg.now) c.args.krates.now
-    (feature_view e))
+    adds_none (λ (m : FeatureMatch). IsNotAllowedBy (policy_view c.args.cfg.now) c.args.krates.now (said_of m))
     c.args.keys.now
 
 pub loop-entry-preserved : goal.loop-entry-preserved
 loop-entry-preserved c =
-    adds_one_more (λ (e : ValidKrateFeatures). IsNotAllowedBy (policy_view c.args.cfg.now) c.args.krates.now
-    (feature_view e))
-    c.as_slice-entries.result.now c.entry-item.result c.loop-entry.entry-index c.args.keys.now c.loop-entry.keys
+    adds_one_more (λ (m : FeatureMatch). IsNotAllowedBy (policy_view c.args.cfg.now) c.args.krates.now (said_of m))
+    c.args.found.now c.entry-item.result c.loop-entry.entry-index c.args.keys.now c.loop-entry.keys
     c.add_not_allowed_of.new.keys c.loop-entry-test.true c.entry-item.is c.loop-entry.invariant
     c.in_ok-add_not_allowed_of.ensures
 
@@ -25,9 +30,8 @@ pub returns : goal.returns
 returns c =
     let p = policy_view c.args.cfg.now in
     let g = c.args.krates.now in
-    let entries = c.as_slice-entries.result.now in
-    let P = λ (e : ValidKrateFeatures). IsNotAllowedBy p g (feature_view e) in
-    all_are p g feature_view entries c.args.keys.now c.loop-entry.keys
-    (ap (map feature_view) c.as_slice-entries.ensures)
-    (subst (λ (es : List ValidKrateFeatures). Adds (OfOne P es) c.args.keys.now c.loop-entry.keys)
-    (take_all c.loop-entry.entry-index entries (omega arith)) c.loop-entry.invariant)
+    let found = c.args.found.now in
+    let P = λ (m : FeatureMatch). IsNotAllowedBy p g (said_of m) in
+    all_are p g said_of found c.args.keys.now c.loop-entry.keys c.requires.of
+    (subst (λ (ms : List FeatureMatch). Adds (OfOne P ms) c.args.keys.now c.loop-entry.keys)
+    (take_all c.loop-entry.entry-index found (omega arith)) c.loop-entry.invariant)

@@ -1,10 +1,11 @@
 use Rattle.std.proofs.Common.{take}
 use Rattle.deny_lists.specs.Ascending.{Adds}
-use Rattle.deny_cfg.specs.PolicyView.{feature_view, policy_view}
+use Rattle.deny_cfg.specs.PolicyView.{policy_view}
+use Rattle.deny_features.specs.private.FeatureMatches.{said_of}
 use Rattle.deny_features.specs.private.Keys.{IsNotAllowedBy, OfOne}
 use Rattle.deny_features.proofs.not_allowed.add_not_allowed_keys.Given as goal
 
 abbrev pub invariant-loop-entry : goal.invariant-loop-entry
 invariant-loop-entry l =
-    Adds (OfOne (λ e. IsNotAllowedBy (policy_view l.cfg) l.krates (feature_view e)) (take l.entry-index l.entries))
+    Adds (OfOne (λ m. IsNotAllowedBy (policy_view l.cfg) l.krates (said_of m)) (take l.entry-index l.found))
     l.fn.keys l.keys

@@ -1,11 +1,12 @@
 use Rattle.std.proofs.Common.{◌≡◌, ◌++◌, drop, map}
 use Rattle.std.specs.List.{flat_map}
-use Rattle.deny_cfg.specs.PolicyView.{feature_view, policy_view}
+use Rattle.deny_cfg.specs.PolicyView.{policy_view}
 use Rattle.deny_codes.specs.Features.{unknown_feature_keys_of}
+use Rattle.deny_features.specs.private.FeatureMatches.{said_of}
 use Rattle.deny_features.proofs.unknown.add_unknown_keys.Given as goal
 
 abbrev pub invariant-loop-entry : goal.invariant-loop-entry
 invariant-loop-entry l =
     l.keys ++ flat_map (unknown_feature_keys_of (policy_view l.cfg) l.krates)
-    (map feature_view (drop l.entry-index l.entries))
-    ≡ l.fn.keys ++ flat_map (unknown_feature_keys_of (policy_view l.cfg) l.krates) (map feature_view l.entries)
+    (map said_of (drop l.entry-index l.found))
+    ≡ l.fn.keys ++ flat_map (unknown_feature_keys_of (policy_view l.cfg) l.krates) (map said_of l.found)

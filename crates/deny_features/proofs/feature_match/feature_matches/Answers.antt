@@ -1,0 +1,27 @@
+use Rattle.std.proofs.Common.{◌+◌, [], List, map, take, sym, ap, subst, arith}
+use Rattle.deny_cfg.specs.PolicyView.{feature_view}
+use Rattle.deny_facts.proofs.MatchLemmas.{all_stand, more_stand, none_stand}
+use Rattle.deny_features.specs.private.FeatureMatches.{AreFeatureMatches, IsFeatureMatch, said_of}
+use Rattle.deny_features.proofs.feature_match.feature_matches.Goals as goal
+
+pub loop-entry-init : goal.loop-entry-init
+loop-entry-init c =
+    let g = c.args.krates.now in
+    subst (AreFeatureMatches g []) (sym c.new-found.ensures) (none_stand said_of (IsFeatureMatch g))
+
+pub loop-entry-preserved : goal.loop-entry-preserved
+loop-entry-preserved c =
+    let g = c.args.krates.now in
+    let entries = c.as_slice-entries.result.now in
+    let i = c.loop-entry.entry-index in
+    subst (AreFeatureMatches g (map feature_view (take (i + 1) entries))) (sym c.in_ok-push.ensures.ok)
+    (more_stand said_of (IsFeatureMatch g) feature_view entries i c.entry-item.result c.loop-entry.found
+    c.in_ok-feature_match.field-0 c.loop-entry-test.true c.entry-item.is c.loop-entry.invariant
+    (ap feature_view c.in_ok-feature_match.ensures.of) c.in_ok-feature_match.ensures.is)
+
+pub returns : goal.returns
+returns c =
+    let g = c.args.krates.now in
+    subst (λ (es : List _). AreFeatureMatches g (map feature_view es) c.loop-entry.found) c.as_slice-entries.ensures
+    (all_stand said_of (IsFeatureMatch g) feature_view c.as_slice-entries.result.now c.loop-entry.entry-index
+    c.loop-entry.found (omega arith) c.loop-entry.invariant)
