@@ -1,13 +1,8 @@
 use Rattle.std.proofs.Common.{arith}
 use Rattle.deny_cfg.specs.PolicyView.{policy_view}
 use Rattle.deny_codes.specs.Features.{feature_banned_keys_of}
-use Rattle.deny_features.proofs.FeatureMatchLemmas.{all_said, one_is}
+use Rattle.deny_features.proofs.FeatureMatchLemmas.{all_said}
 use Rattle.deny_features.proofs.banned.add_banned_keys.Goals as goal
-
-pub add_banned_of-requires : goal.add_banned_of-requires
-add_banned_of-requires c =
-    one_is c.args.krates.now c.args.found.now c.loop-entry.entry-index c.entry-item.result c.requires.each
-    c.loop-entry-test.true c.entry-item.is
 
 pub returns : goal.returns
 returns c =

@@ -3,13 +3,7 @@ use Rattle.std.specs.List.{list_any}
 use Rattle.deny_model.specs.Match.{matches}
 use Rattle.deny_facts.proofs.MarkLemmas.{any_next_view, more_marks}
 use Rattle.deny_features.specs.private.FeatureMatches.{said_of}
-use Rattle.deny_features.proofs.FeatureMatchLemmas.{one_is}
 use Rattle.deny_features.proofs.default_enabled.spoken_of.Goals as goal
-
-pub mark_spoken-requires-clause-is : goal.mark_spoken-requires-clause-is
-mark_spoken-requires-clause-is c =
-    one_is c.args.krates.now c.args.found.now c.loop-entry.entry-index c.entry-item.result c.requires
-    c.loop-entry-test.true c.entry-item.is
 
 pub loop-entry-preserved : goal.loop-entry-preserved
 loop-entry-preserved c =

@@ -1,45 +1,11 @@
-use Rattle.std.proofs.Common.{◌≡◌, ◌⊎◌, List, sym, subst}
+use Rattle.std.proofs.Common.{◌⊎◌}
 use Rattle.std.specs.Prelude.{Contains}
 use Rattle.std.proofs.lemmas.Result.{on_ok_weaker}
 use Rattle.deny_cfg.specs.PolicyView.{policy_view}
 use Rattle.deny_codes.specs.Features.{IsFeatureNotAllowed, default_enabled_keys, feature_banned_keys, mismatched_keys}
 use Rattle.deny_codes.specs.Features.{unknown_feature_keys}
-use Rattle.deny_model.specs.Graph.{Graph}
-use Rattle.deny_model.specs.Policy.{Policy}
 use Rattle.deny_lists.proofs.Adding.{adds_list, adds_then}
-use Rattle.deny_features.specs.declared.feature_match.FeatureMatch.{FeatureMatch}
-use Rattle.deny_features.specs.private.FeatureMatches.{AreFeatureMatches}
 use Rattle.deny_features.proofs.feature_keys.add_feature_keys.Goals as goal
-
--- what was found, as the rules are given it
-shown_are : (p : Policy) (g : Graph) (found shown : List FeatureMatch) → shown ≡ found
-    → AreFeatureMatches g p.features found → AreFeatureMatches g p.features shown
-shown_are p g found shown same are = subst (AreFeatureMatches g p.features) (sym same) are
-
-pub add_mismatched_keys-requires : goal.add_mismatched_keys-requires
-add_mismatched_keys-requires c =
-    shown_are (policy_view c.args.cfg.now) c.args.krates.now c.in_ok-matches.matches c.as_slice-found.result.now
-    c.as_slice-found.ensures c.in_ok-matches.ensures
-
-pub add_not_allowed_keys-requires : goal.add_not_allowed_keys-requires
-add_not_allowed_keys-requires c =
-    shown_are (policy_view c.args.cfg.now) c.args.krates.now c.in_ok-matches.matches c.as_slice-found.result.now
-    c.as_slice-found.ensures c.in_ok-matches.ensures
-
-pub add_banned_keys-requires : goal.add_banned_keys-requires
-add_banned_keys-requires c =
-    shown_are (policy_view c.args.cfg.now) c.args.krates.now c.in_ok-matches.matches c.as_slice-found.result.now
-    c.as_slice-found.ensures c.in_ok-matches.ensures
-
-pub add_unknown_keys-requires : goal.add_unknown_keys-requires
-add_unknown_keys-requires c =
-    shown_are (policy_view c.args.cfg.now) c.args.krates.now c.in_ok-matches.matches c.as_slice-found.result.now
-    c.as_slice-found.ensures c.in_ok-matches.ensures
-
-pub add_default_keys-requires : goal.add_default_keys-requires
-add_default_keys-requires c =
-    shown_are (policy_view c.args.cfg.now) c.args.krates.now c.in_ok-matches.matches c.as_slice-found.result.now
-    c.as_slice-found.ensures c.in_ok-matches.ensures
 
 pub returns : goal.returns
 returns c =

@@ -1,13 +1,8 @@
 use Rattle.std.proofs.Common.{arith}
 use Rattle.deny_cfg.specs.PolicyView.{policy_view}
 use Rattle.deny_codes.specs.Features.{mismatched_keys_of}
-use Rattle.deny_features.proofs.FeatureMatchLemmas.{all_said, one_is}
+use Rattle.deny_features.proofs.FeatureMatchLemmas.{all_said}
 use Rattle.deny_features.proofs.mismatched.add_mismatched_keys.Goals as goal
-
-pub add_mismatched_of-requires : goal.add_mismatched_of-requires
-add_mismatched_of-requires c =
-    one_is c.args.krates.now c.args.found.now c.loop-entry.entry-index c.entry-item.result c.requires.each
-    c.loop-entry-test.true c.entry-item.is
 
 pub returns : goal.returns
 returns c =

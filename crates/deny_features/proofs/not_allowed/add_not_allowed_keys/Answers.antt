@@ -5,14 +5,8 @@ use Rattle.deny_cfg.specs.PolicyView.{policy_view}
 use Rattle.deny_features.specs.declared.feature_match.FeatureMatch.{FeatureMatch}
 use Rattle.deny_features.specs.private.FeatureMatches.{said_of}
 use Rattle.deny_features.specs.private.Keys.{IsNotAllowedBy, OfOne}
-use Rattle.deny_features.proofs.FeatureMatchLemmas.{one_is}
 use Rattle.deny_features.proofs.NotAllowedLemmas.{adds_none, adds_one_more, all_are}
 use Rattle.deny_features.proofs.not_allowed.add_not_allowed_keys.Goals as goal
-
-pub add_not_allowed_of-requires : goal.add_not_allowed_of-requires
-add_not_allowed_of-requires c =
-    one_is c.args.krates.now c.args.found.now c.loop-entry.entry-index c.entry-item.result c.requires.each
-    c.loop-entry-test.true c.entry-item.is
 
 pub loop-entry-init : goal.loop-entry-init
 loop-entry-init c =
