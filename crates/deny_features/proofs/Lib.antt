@@ -1,5 +1,4 @@
 pub mod CrateLemmas
-pub mod FeatureMatchLemmas
 pub mod KeyLemmas
 pub mod ListedLemmas
 pub mod NameLemmas

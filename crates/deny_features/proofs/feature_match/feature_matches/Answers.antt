@@ -1,13 +1,8 @@
-use Rattle.std.proofs.Common.{◌+◌, [], List, map, take, sym, ap, subst, arith}
+use Rattle.std.proofs.Common.{◌+◌, List, map, take, sym, ap, subst, arith}
 use Rattle.deny_cfg.specs.PolicyView.{feature_view}
-use Rattle.deny_facts.proofs.MatchLemmas.{all_stand, more_stand, none_stand}
+use Rattle.deny_facts.proofs.MatchLemmas.{all_stand, more_stand}
 use Rattle.deny_features.specs.private.FeatureMatches.{AreFeatureMatches, IsFeatureMatch, said_of}
 use Rattle.deny_features.proofs.feature_match.feature_matches.Goals as goal
-
-pub loop-entry-init : goal.loop-entry-init
-loop-entry-init c =
-    let g = c.args.krates.now in
-    subst (AreFeatureMatches g []) (sym c.new-found.ensures) (none_stand said_of (IsFeatureMatch g))
 
 pub loop-entry-preserved : goal.loop-entry-preserved
 loop-entry-preserved c =
