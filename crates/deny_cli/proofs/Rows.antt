@@ -1,5 +1,5 @@
 -- Lines as they are read: the definitions of the lines, computed. Those of findings stand with their own definitions.
-use Rattle.std.proofs.Common.{◌≡◌, false, [], ◌∷◌, None, codes, refl}
+use Rattle.std.proofs.Common.{◌≡◌, ◌++◌, false, [], ◌∷◌, None, codes, refl}
 use Rattle.std.specs.Fmt.{digits}
 use Rattle.serde_json.proofs.OnLiterals.{serde_json_on_literals}
 use Rattle.deny_base.specs.declared.check.Which.TheVariants as which
@@ -75,8 +75,8 @@ pub is_unknown : stop_line []
     (Gate (gate.Config (record
     { span = record { start = 7; end = 14 }; kind = kind.Unknown; key = codes "bans.clarify"; is_nameless = false }
     ∷ [])))
-    ≡ codes
-    "{\"fields\":{\"faults\":[{\"end\":14,\"key\":\"bans.clarify\",\"kind\":\"unknown\",\"start\":7}],\"stop\":\"config\"},\"type\":\"stop\"}\n"
+    ≡ codes "{\"fields\":{\"faults\":[{\"end\":14,\"key\":\"bans.clarify\",\"kind\":\"unknown\",\"start\":7}],"
+    ++ codes "\"stop\":\"config\"},\"type\":\"stop\"}\n"
 unfolding serde_json_on_literals digits stop_line fault_value
 is_unknown = refl
 

@@ -34,7 +34,8 @@ pub ascends : (extensions : List Extension) → Ascend extensions → (i j : ℕ
     → slice_get extensions i ≡ Some a → slice_get extensions j ≡ Some b → slice_cmp nat_cmp a.name b.name ≡ Less
 ascends extensions up i j a b p e f =
     ascends_at (slice_cmp nat_cmp) (map name_of extensions) i j a.name b.name up p (named i e) (named j f) where
-      named : (k : ℕ) {z : Extension} → slice_get extensions k ≡ Some z → slice_get (map name_of extensions) k ≡ Some z.name
+      named : (k : ℕ) {z : Extension} → slice_get extensions k ≡ Some z
+          → slice_get (map name_of extensions) k ≡ Some z.name
       named k {z} at = slice_get-map name_of extensions k ∙ ap (option_map name_of) at
 
 pub extension_at : (extensions : List Extension) {place : ℕ} {extension : Extension} → place < length extensions

@@ -239,8 +239,8 @@ indexed_numbered globs glob old new name place is named x at n =
 
       place_of : (i : ℕ) (wanted : List ℕ)
           → AsksFor globs i wanted ⊎
-          ((i ≡ length globs) × (is_simple (characters_of glob) ≡ true) × (extension_of (characters_of glob) ≡ wanted)) →
-          (p : ℕ) × IsNamedAt (slice_set old place own) wanted p
+          ((i ≡ length globs) × (is_simple (characters_of glob) ≡ true) ×
+          (extension_of (characters_of glob) ≡ wanted)) → (p : ℕ) × IsNamedAt (slice_set old place own) wanted p
       place_of i wanted (inr h) = (
         place,
         record {

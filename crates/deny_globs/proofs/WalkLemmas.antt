@@ -494,7 +494,8 @@ notes_listed globs {k} {n} less is first second = notes_on (λ glob h. apart glo
       apart glob (inr e) = inr (sym e)
 
       joined : (glob : ℕ) → Contains (take k globs) glob ⊎ (glob ≡ n) → Contains (take (k + 1) globs) glob
-      joined glob (inl h) = subst (λ l. Contains l glob) (sym more) (Contains-append_left (take k globs) (n ∷ []) glob h)
+      joined glob (inl h) = subst (λ l. Contains l glob) (sym more)
+          (Contains-append_left (take k globs) (n ∷ []) glob h)
       joined glob (inr e) = subst (λ l. Contains l glob) (sym more)
           (subst (λ g. Contains (take k globs ++ n ∷ []) g) (sym e) (Contains-push (take k globs) n))
 

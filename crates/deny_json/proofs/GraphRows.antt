@@ -1,5 +1,5 @@
 -- Trees as JSON, computed: the definitions, read against texts.
-use Rattle.std.proofs.Common.{◌≡◌, ◌∙◌, true, false, [], ◌∷◌, codes, Some, None, ap, refl}
+use Rattle.std.proofs.Common.{◌≡◌, ◌∙◌, ◌++◌, true, false, [], ◌∷◌, codes, Some, None, ap, refl}
 use Rattle.serde_json.proofs.OnLiterals.{serde_json_on_literals}
 use Rattle.serde_json.specs.Data.{Data}
 use Rattle.serde_json.specs.Written.{compact_text}
@@ -32,8 +32,8 @@ x_value = value_of_node x_inner false (app ∷ [])
     ∙ ap (λ (d : Data). node_value x_inner (d ∷ []) false) (value_of_node app_inner false [])
 
 pub has_a_parent : compact_text (graph_value x)
-    ≡ codes
-    "{\"Krate\":{\"name\":\"x\",\"version\":\"1.0.0\"},\"parents\":[{\"Krate\":{\"name\":\"app\",\"version\":\"0.1.0\"}}]}"
+    ≡ codes "{\"Krate\":{\"name\":\"x\",\"version\":\"1.0.0\"},\"parents\":["
+    ++ codes "{\"Krate\":{\"name\":\"app\",\"version\":\"0.1.0\"}}]}"
 unfolding serde_json_on_literals
 has_a_parent = ap compact_text x_value
 
@@ -55,8 +55,8 @@ is_normal = refl
 
 -- a feature with a crate that asks for it; quotes in a name are escaped
 pub is_a_feature : compact_text (graph_value (node_with (Feature (codes "x") (codes "\"std\"")) false (app ∷ [])))
-    ≡ codes
-    "{\"Feature\":{\"crate_name\":\"x\",\"name\":\"\\\"std\\\"\"},\"parents\":[{\"Krate\":{\"name\":\"app\",\"version\":\"0.1.0\"}}]}"
+    ≡ codes "{\"Feature\":{\"crate_name\":\"x\",\"name\":\"\\\"std\\\"\"},\"parents\":["
+    ++ codes "{\"Krate\":{\"name\":\"app\",\"version\":\"0.1.0\"}}]}"
 unfolding serde_json_on_literals
 is_a_feature =
     ap compact_text (value_of_node (Feature (codes "x") (codes "\"std\"")) false (app ∷ [])

@@ -1,5 +1,5 @@
 -- The lines of findings, computed: the definitions, read against texts.
-use Rattle.std.proofs.Common.{◌≡◌, ◌∙◌, ℕ, List, [], ◌∷◌, codes, Option, Some, None, ap, refl}
+use Rattle.std.proofs.Common.{◌≡◌, ◌∙◌, ◌++◌, ℕ, List, [], ◌∷◌, codes, Option, Some, None, ap, refl}
 use Rattle.std.specs.Fmt.{digits}
 use Rattle.std.specs.Str.{chars}
 use Rattle.serde_json.proofs.OnLiterals.{serde_json_on_literals}
@@ -70,8 +70,12 @@ finding_told label graph = tells (codes "diagnostic")
 
 -- a ban, with the tree of its crate
 pub is_banned : line_with the_files a_diagnostic (x ∷ [])
-    ≡ codes
-    "{\"fields\":{\"code\":\"banned\",\"graphs\":[{\"Krate\":{\"name\":\"x\",\"version\":\"1.0.0\"},\"parents\":[{\"Krate\":{\"name\":\"app\",\"version\":\"0.1.0\"}}]}],\"labels\":[{\"column\":10,\"line\":2,\"message\":\"banned here\",\"span\":\"x\"}],\"message\":\"crate 'x = 1.0.0' is explicitly banned\",\"severity\":\"error\"},\"type\":\"diagnostic\"}\n"
+    ≡ codes "{\"fields\":{\"code\":\"banned\",\"graphs\":["
+    ++ (codes "{\"Krate\":{\"name\":\"x\",\"version\":\"1.0.0\"},\"parents\":["
+    ++ (codes "{\"Krate\":{\"name\":\"app\",\"version\":\"0.1.0\"}}]}],"
+    ++ (codes "\"labels\":[{\"column\":10,\"line\":2,\"message\":\"banned here\",\"span\":\"x\"}],"
+    ++ (codes "\"message\":\"crate 'x = 1.0.0' is explicitly banned\","
+    ++ codes "\"severity\":\"error\"},\"type\":\"diagnostic\"}\n"))))
 unfolding serde_json_on_literals digits line_with finding_value code_name
 is_banned =
     ap (λ (label : Data). line (finding_told label (graph_value x))) is_labelled
@@ -89,8 +93,8 @@ a_note = record {
 
 -- the trees stand there also where there are none; labels and notes do not
 pub has_no_tree : line_with [] a_note []
-    ≡ codes
-    "{\"fields\":{\"code\":\"allowed\",\"graphs\":[],\"message\":\"m\",\"notes\":[\"a\",\"\"],\"severity\":\"note\"},\"type\":\"diagnostic\"}\n"
+    ≡ codes "{\"fields\":{\"code\":\"allowed\",\"graphs\":[],\"message\":\"m\",\"notes\":[\"a\",\"\"],"
+    ++ codes "\"severity\":\"note\"},\"type\":\"diagnostic\"}\n"
 unfolding serde_json_on_literals line_with finding_value code_name
 has_no_tree = refl
 

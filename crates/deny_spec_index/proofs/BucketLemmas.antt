@@ -199,7 +199,11 @@ bucket_numbered names name old new place x at n = subst (IsBucket (names ++ name
             )
         | inr other ↦ (
           f.0,
-          record { named = f.1.named; at = slice_get-set_other old place own f.0 other ∙ f.1.at; is_name = f.1.is_name },
+          record {
+            named = f.1.named;
+            at = slice_get-set_other old place own f.0 other ∙ f.1.at;
+            is_name = f.1.is_name;
+          },
         )
       ]
 
