@@ -1,4 +1,4 @@
-use Rattle.std.proofs.Common.{ℕ, List, sym, append-nil}
+use Rattle.std.proofs.Common.{sym, append-nil}
 use Rattle.deny_lists.proofs.Results.{on_err_always}
 use Rattle.deny_telling.proofs.told.tell_all.Goals as goal
 
