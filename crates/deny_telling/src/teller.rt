@@ -58,6 +58,8 @@ pub struct Teller<'c> {
 }
 
 impl<'c> Teller<'c> {
+    /// Finds the policy's entries and the workspace's by their ranges; those that ban crates as they were
+    /// found for the check.
     pub fn new(
         alloc: Global,
         told: Told<'c>,
