@@ -4,5 +4,11 @@ use Rattle.deny_telling.proofs.features.feature_not_allowed_told.Goals as goal
 pub returns : goal.returns
 unfolding feature_not_allowed_told
 returns c = rw (
-    c.with_features.ensures, c.new.ensures, c.plainly-words.ensures, c.in_ok-message.ensures, c.in_ok-labels.ensures,
-    c.in_ok-krate.ensures, c.as_str.ensures)
+  c.with_features.ensures,
+  c.new.ensures,
+  c.plainly-words.ensures,
+  c.in_ok-message.ensures,
+  c.in_ok-labels.ensures,
+  c.in_ok-krate.ensures,
+  c.as_str.ensures,
+)
