@@ -1,14 +1,17 @@
 -- What is made of a number is a valid run, and reading it fails nowhere.
-use Rattle.std.proofs.Common.{◌≡◌, ◌≤◌, ◌<◌, ◌^◌, ℕ, false, List, None, Some, IsTrue, refl, sym, ap, ◌∙◌}
-use Rattle.std.proofs.Common.{subst, arith}
+use Rattle.std.proofs.Common.{◌≡◌, ◌≤◌, ◌<◌, ◌^◌, ℕ, false, List, Option, None, Some, not, refl, sym, ap, ◌∙◌}
+use Rattle.std.proofs.Common.{arith}
 use Rattle.std.specs.Option.{option_map_or}
 use Rattle.deny_base.specs.declared.check.Which.{Which}
+use Rattle.deny_cfg.specs.PolicyView.{policy_view}
+use Rattle.deny_codes.specs.StdReplacements.{asks_for_table, looks_at_none}
 use Rattle.deny_gate.specs.Gating.{AsksForTable}
 use Rattle.deny_gate.specs.Report.{policy_id}
 use Rattle.deny_generator.specs.MetadataText.{metadata_text}
 use Rattle.deny_generator.specs.PolicyText.{policy_text}
 use Rattle.deny_made_metadata.specs.Faults.{HasNoFault}
 use Rattle.deny_made_policy.specs.Policies.{IsPolicy, MindsNoReplacements}
+use Rattle.deny_model.specs.Policy.{Replacing}
 use Rattle.deny_outside.specs.Disk.{Disk}
 use Rattle.deny_cli.specs.Causes.{IsReadable, IsValidRun, made_texts}
 use Rattle.deny_cli.specs.Words.{Asks, Command, generate, most_crates, path_of}
@@ -24,7 +27,9 @@ pub record MadeLaws : Type 0 where
 asks_for_none : MadeLaws → (crates : ℕ) → AsksForTable (policy_text crates) → ⊥
 asks_for_none laws crates asked =
     let none = laws.no_table crates policy_id asked.said asked.is_said in
-    subst (λ minded. IsTrue (option_map_or (λ r. _) minded false)) none asked.asks
+    let not_asked : asks_for_table (policy_view asked.said.bans) ≡ false =
+    ap (λ (minded : Option Replacing). option_map_or (λ r. not (looks_at_none r.scope)) minded false) none in
+    absurd (cc (not_asked, asked.asks))
 
 pub made_valid : MadeLaws → (old : Disk) (words : List (List ℕ)) (crates : ℕ) → Asks words (generate crates)
     → IsValidRun old words

@@ -35,7 +35,10 @@ returns-clause-generates g c crates asks quiet =
       no_table = c.made_policies.ensures.no_table;
       metadata = c.made_metadata.ensures;
     } in
-    returns-clause-completes g c (made_valid laws _ _ crates asks) (made_readable _ _ _ crates asks) quiet
+    let old = g.D.PackageFiles.seen c.args.disk.now in
+    let new = g.D.PackageFiles.seen c.ending_of-ending.new.disk in
+    let words = texts c.args.words.now in
+    returns-clause-completes g c (made_valid laws old words crates asks) (made_readable old new words crates asks) quiet
 
 pub returns-clause-refuses : goal.returns-clause-refuses
 returns-clause-refuses g c stop refused readable =
