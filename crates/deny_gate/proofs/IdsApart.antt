@@ -14,7 +14,6 @@ use Rattle.deny_krates.specs.Read.{IsGraphOf}
 use Rattle.deny_krates.specs.document.Document.{Document}
 use Rattle.deny_krates.specs.document.Package.{Package}
 use Rattle.deny_krates.specs.fault.MetadataFault.{MetadataFault}
-use Rattle.deny_krates.proofs.BuildLemmas.{document_reads, no_document, no_value}
 use Rattle.deny_krates.proofs.OrderLemmas.{rank_cmp-total}
 use Rattle.deny_krates.proofs.OrderlyLemmas.{crate_of}
 use Rattle.deny_krates.proofs.ResolvedLemmas.{apart, resolved_is}
@@ -24,6 +23,20 @@ use Rattle.deny_model.specs.Graph.{Graph}
 record IsRead (read : Resolved) : Type 0 where
   document : Document
   is : resolved document ≡ Ok read
+
+no_value : (bytes : List ℕ) (e : MetadataFault) → value_at bytes ≡ Err e → checked bytes ≡ Err e
+unfolding checked
+no_value bytes e is = rw is refl
+
+no_document : (bytes : List ℕ) (value : Data) (e : MetadataFault) → value_at bytes ≡ Ok value
+    → document_of value ≡ Err e → checked bytes ≡ Err e
+unfolding checked
+no_document bytes value e is fails = rw (is, fails) refl
+
+document_reads : (bytes : List ℕ) (value : Data) (doc : Document) → value_at bytes ≡ Ok value
+    → document_of value ≡ Ok doc → checked bytes ≡ resolved doc
+unfolding checked
+document_reads bytes value doc is reads = rw (is, reads) refl
 
 module _ (bytes : List ℕ) (read : Resolved) (is_read : checked bytes ≡ Ok read) where
   of_document : (value : Data) → value_at bytes ≡ Ok value → (d : Result Document MetadataFault) → document_of value ≡ d

@@ -1,41 +1,47 @@
 -- Steps of the whole reading.
 use Rattle.std.proofs.Common.{◌≡◌, ◌∙◌, sym, ℕ, List, Result, Ok, Err, refl, subst}
 use Rattle.std.specs.Prelude.{IfErr, IfOk}
-use Rattle.serde_json.specs.Data.{Data}
 use Rattle.deny_model.specs.Graph.{Graph}
 use Rattle.deny_metadata.specs.Checked.{Resolved, checked, resolved}
-use Rattle.deny_metadata.specs.Document.{document_of, value_at}
-use Rattle.deny_metadata.specs.Reading.{Fails, Gives}
+use Rattle.deny_metadata.specs.Document.{document_at, document_of, value_at}
+use Rattle.deny_metadata.specs.Reading.{◌>>=◌, Fails, Gives}
 use Rattle.deny_krates.specs.Read.{IsGraph, IsGraphOf}
 use Rattle.deny_metadata.specs.declared.document.Document.{Document}
 use Rattle.deny_metadata.specs.declared.fault.MetadataFault.{MetadataFault}
-use Rattle.deny_metadata.proofs.ReadingLemmas.{fails_through}
+use Rattle.deny_metadata.proofs.ReadingLemmas.{err-ok, fails_through}
 use Rattle.deny_krates.proofs.ResolvedLemmas.{resolved_is}
 
-pub no_value : (bytes : List ℕ) (e : MetadataFault) → value_at bytes ≡ Err e → checked bytes ≡ Err e
-unfolding checked
-no_value bytes e is = rw is refl
+-- a step after two others
+then_ok : {A B C : Type 0} (m : Result A MetadataFault) (f : A → Result B MetadataFault)
+    (g : B → Result C MetadataFault) (y : B)
+    → m >>= f ≡ Ok y → m >>= (λ x. f x >>= g) ≡ g y
+then_ok (Ok x) f g y is = rw is refl
+then_ok (Err e) f g y is = absurd (err-ok e y is)
 
-pub no_document : (bytes : List ℕ) (value : Data) (e : MetadataFault) → value_at bytes ≡ Ok value
-    → document_of value ≡ Err e → checked bytes ≡ Err e
-unfolding checked
-no_document bytes value e is fails = rw (is, fails) refl
+then_err : {A B C : Type 0} (m : Result A MetadataFault) (f : A → Result B MetadataFault)
+    (g : B → Result C MetadataFault) (e : MetadataFault)
+    → m >>= f ≡ Err e → m >>= (λ x. f x >>= g) ≡ Err e
+then_err (Ok x) f g e is = rw is refl
+then_err (Err d) f g e is = cc
 
-pub document_reads : (bytes : List ℕ) (value : Data) (doc : Document) → value_at bytes ≡ Ok value
-    → document_of value ≡ Ok doc → checked bytes ≡ resolved doc
-unfolding checked
-document_reads bytes value doc is reads = rw (is, reads) refl
+document_reads : (bytes : List ℕ) (doc : Document) → document_at bytes ≡ Ok doc → checked bytes ≡ resolved doc
+unfolding checked document_at
+document_reads bytes doc is = then_ok (value_at bytes) document_of resolved doc is
 
-pub document_stands : (bytes : List ℕ) (value : Data) (r : Result Document MetadataFault) → value_at bytes ≡ Ok value
-    → Gives r (document_of value) → IfOk r (λ d. checked bytes ≡ resolved d)
-document_stands bytes value (Ok d) is gives = document_reads bytes value d is gives
-document_stands bytes value (Err e) is gives = tt
+no_document : (bytes : List ℕ) (e : MetadataFault) → document_at bytes ≡ Err e → checked bytes ≡ Err e
+unfolding checked document_at
+no_document bytes e is = then_err (value_at bytes) document_of resolved e is
 
-pub document_fails : (bytes : List ℕ) (value : Data) (r : Result Document MetadataFault) → value_at bytes ≡ Ok value
-    → Gives r (document_of value) → IfErr r (λ e. Fails e (checked bytes))
-document_fails bytes value (Ok d) is gives = tt
-document_fails bytes value (Err e) is gives = fails_through e (document_of value) (checked bytes)
-    (λ f fails. no_document bytes value f is fails) gives
+pub document_stands : (bytes : List ℕ) (r : Result Document MetadataFault) → Gives r (document_at bytes)
+    → IfOk r (λ d. checked bytes ≡ resolved d)
+document_stands bytes (Ok d) gives = document_reads bytes d gives
+document_stands bytes (Err e) gives = tt
+
+pub document_fails : (bytes : List ℕ) (r : Result Document MetadataFault) → Gives r (document_at bytes)
+    → IfErr r (λ e. Fails e (checked bytes))
+document_fails bytes (Ok d) gives = tt
+document_fails bytes (Err e) gives = fails_through e (document_at bytes) (checked bytes)
+    (λ f is. no_document bytes f is) gives
 
 pub graph_is : (bytes : List ℕ) (doc : Document) (g : Graph) → checked bytes ≡ resolved doc
     → (r : Resolved) × (resolved doc ≡ Ok r) × IsGraph doc g → IsGraphOf bytes g

@@ -34,7 +34,7 @@ use crate::resolution::{declared, resolution};
 use crate::resolved::{ResolvedAt, resolved_between, resolved_of};
 use deny_base::{DepKind, Edge, Kid, edge_order};
 use deny_lists::{List, NoMemory, Text};
-use deny_metadata::{Document, MetadataFault, ResolvedNode, document_in, resolve, value_of};
+use deny_metadata::{Document, MetadataFault, ResolvedNode, resolve};
 use deny_model::TargetEdge;
 use std::alloc::Global;
 use std::marker::Model;
@@ -244,13 +244,12 @@ impl Krates {
 // More packages or nodes than any text of fewer bytes holds.
 const MANY: usize = 1 << 28;
 
-// The metadata of a text; the value that it was read from is let go, before the graph is made.
+// The metadata of a text.
 fn document_at(alloc: Global, bytes: &[u8]) -> Result<Document, MetadataFault>
     ensures ok { IfOk result (λ d. checked bytes.now ≡ resolved d) }
     ensures err { IfErr result (λ e. Fails e (checked bytes.now)) }
 {
-    let value = value_of(alloc, bytes)?;
-    document_in(alloc, &value)
+    deny_metadata::document_at(alloc, bytes)
 }
 
 // The graph of a document, or its first fault.

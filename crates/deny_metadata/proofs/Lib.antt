@@ -1,3 +1,4 @@
+pub mod BorrowedLemmas
 pub mod CheckedLemmas
 pub mod ElementsLemmas
 pub mod FeaturesLemmas
@@ -5,3 +6,4 @@ pub mod IndexLemmas
 pub mod ReadingLemmas
 pub mod SourceLemmas
 pub mod VersionsLemmas
+pub mod WholeLemmas

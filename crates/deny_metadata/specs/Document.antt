@@ -186,3 +186,9 @@ document_of d = do
   read_packages ← elements_from package_at (path_to [] Packages) 0 packages
   nodes ← each_member node_at (path_to [] Resolve) Nodes resolve
   Ok (record { packages = read_packages; members = members; workspace_root = workspace_root; nodes = nodes })
+
+-- the metadata that a text in UTF-8 is, or its first fault
+unfoldable pub document_at : List ℕ → Result Document MetadataFault
+document_at bytes = do
+  d ← value_at bytes
+  document_of d

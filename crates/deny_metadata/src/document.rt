@@ -1,22 +1,24 @@
 ghost use Rattle.std.proofs.Common.{rules};
-ghost use Rattle.std.specs.Prelude.{◌≡◌, ◌⊎◌, Some, None, Ok, IfOk, IfErr, MatchResult};
-ghost use Rattle.serde_json.specs.Read.{read};
-ghost use Rattle.serde_json.specs.View.{view, members_view};
-ghost use Rattle.deny_metadata.specs.Document.{json_at, value_at, target_at, declaration_at, feature_at, features_from, features_member, package_at, kind_named, kind_member, needed_as_at, kinds_of, node_dependency_at, node_at, resolve_given, document_of};
-ghost use Rattle.deny_metadata.specs.Reading.{Fails, Gives};
+ghost use Rattle.std.specs.Prelude.{◌≡◌, IfOk, true};
+ghost use Rattle.std.specs.Str.{is_utf8};
+ghost use Rattle.deny_metadata.specs.private.Borrowed.{members_view, sorted_view, view};
+ghost use Rattle.deny_metadata.specs.Document.{document_at, target_at, declaration_at, feature_at, features_from, features_member, package_at, kind_named, kind_member, needed_as_at, kinds_of, node_dependency_at, node_at, resolve_given, document_of};
+ghost use Rattle.deny_metadata.specs.Reading.{Gives};
 
+use crate::borrowed::{items_in, members_in, text_in};
 use crate::elements::{
-    Element, array_of, each_given, each_of, each_text_given, each_text_of, elements, flag_in,
-    given_member, object, object_of, optional_text_in, optional_texts_in, path_of, refuse_member,
+    Element, array_in, each_given, each_of, each_text_given, each_text_of, elements, flag_in,
+    given_member, object, object_in, optional_text_in, optional_texts_in, path_of, refuse_member,
     text_of, texts,
 };
 use crate::fault::MetadataFault;
-use crate::floats::is_fractional;
 use crate::member::Member;
+use crate::text::value_in;
 use deny_base::DepKind;
 use deny_lists::{List, NoMemory, Plain, Text};
-use serde_json::{Map, Value};
+use json::{Scratch, Value};
 use std::alloc::Global;
+use std::collections::BTreeMap;
 
 /// A feature of a package, and what it enables.
 #[derive(Debug, Clone, PartialEq, Eq, Drop)]
@@ -44,7 +46,7 @@ impl Element for Target {
     ghost read_at = { target_at };
 
     #[tactic(auto, unfolding(crate::specs::Document::target_at))]
-    fn from_value(alloc: Global, path: &str, value: &Value) -> Result<Target, MetadataFault> {
+    fn from_value(alloc: Global, path: &str, value: &Value<'_>) -> Result<Target, MetadataFault> {
         object(alloc, path, value)?;
         let kind = each_text_of(alloc, path, value, Member::Kind)?;
         let src_path = text_of(alloc, path, value, Member::SrcPath)?;
@@ -69,7 +71,11 @@ impl Element for Declaration {
     ghost read_at = { declaration_at };
 
     #[tactic(auto, unfolding(crate::specs::Document::declaration_at))]
-    fn from_value(alloc: Global, path: &str, value: &Value) -> Result<Declaration, MetadataFault> {
+    fn from_value(
+        alloc: Global,
+        path: &str,
+        value: &Value<'_>,
+    ) -> Result<Declaration, MetadataFault> {
         object(alloc, path, value)?;
         Ok(Declaration {
             name: text_of(alloc, path, value, Member::Name)?,
@@ -105,7 +111,7 @@ impl Element for Package {
     ghost read_at = { package_at };
 
     #[tactic(auto, unfolding(crate::specs::Document::package_at))]
-    fn from_value(alloc: Global, path: &str, value: &Value) -> Result<Package, MetadataFault> {
+    fn from_value(alloc: Global, path: &str, value: &Value<'_>) -> Result<Package, MetadataFault> {
         object(alloc, path, value)?;
         Ok(Package {
             name: text_of(alloc, path, value, Member::Name)?,
@@ -125,12 +131,12 @@ impl Element for Package {
 
 // The features of a package that may write none.
 #[tactic(auto, unfolding(crate::specs::Document::features_member, crate::specs::Document::features_given, crate::specs::Document::features_at, crate::specs::Elements::required))]
-fn features_in(alloc: Global, path: &str, value: &Value) -> Result<List<Feature>, MetadataFault>
+fn features_in(alloc: Global, path: &str, value: &Value<'_>) -> Result<List<Feature>, MetadataFault>
     ensures { Gives result (features_member path.now (view value.now)) }
 {
     match given_member(value, Member::Features) {
         None => Ok(List::new(alloc)),
-        Some(features) => match features.as_object() {
+        Some(features) => match members_in(features) {
             None => refuse_member(alloc, path, Member::Features),
             Some(members) => {
                 let at = path_of(alloc, path, Member::Features.name())?;
@@ -141,16 +147,42 @@ fn features_in(alloc: Global, path: &str, value: &Value) -> Result<List<Feature>
 }
 
 // The features that the members of an object are.
-fn features_of(
+fn features_of<'t>(
     alloc: Global,
     path: &str,
-    members: &Map<String, Value>,
+    members: &[(&'t str, Value<'t>)],
 ) -> Result<List<Feature>, MetadataFault>
-    ensures { Gives result (features_from path.now (members_view members.now.entries)) }
+    ensures { Gives result (features_from path.now (members_view members.now)) }
+{
+    let sorted = by_name(alloc, members)?;
+    features_by(alloc, path, &sorted)
+}
+
+// The members of an object by their names, and of a name the last.
+fn by_name<'v, 't>(
+    alloc: Global,
+    members: &'v [(&'t str, Value<'t>)],
+) -> Result<BTreeMap<&'t str, &'v Value<'t>>, NoMemory>
+    ensures { IfOk result (λ sorted. sorted_view sorted.entries ≡ members_view members.now) }
+{
+    let mut sorted = BTreeMap::new(alloc);
+    for member in members {
+        sorted.insert(member.0, &member.1)?;
+    }
+    Ok(sorted)
+}
+
+// The features that members by their names are.
+fn features_by<'v, 't>(
+    alloc: Global,
+    path: &str,
+    sorted: &BTreeMap<&'t str, &'v Value<'t>>,
+) -> Result<List<Feature>, MetadataFault>
+    ensures { Gives result (features_from path.now (sorted_view sorted.now.entries)) }
 {
     let mut features = List::new(alloc);
-    for (name, value) in members.iter() {
-        features.push(feature_of(alloc, path, name.as_str(), value)?)?;
+    for (name, value) in sorted.iter() {
+        features.push(feature_of(alloc, path, name, value)?)?;
     }
     Ok(features)
 }
@@ -161,7 +193,7 @@ fn feature_of(
     alloc: Global,
     path: &str,
     name: &str,
-    value: &Value,
+    value: &Value<'_>,
 ) -> Result<Feature, MetadataFault>
     ensures { Gives result (feature_at path.now name.now (view value.now)) }
 {
@@ -188,12 +220,12 @@ fn kind_of(name: &str) -> Option<DepKind>
 
 // The kind of a dependency, normal where it writes none.
 #[tactic(auto, unfolding(crate::specs::Document::kind_member, crate::specs::Document::kind_given, crate::specs::Elements::required))]
-fn kind_in(alloc: Global, path: &str, dependency: &Value) -> Result<DepKind, MetadataFault>
+fn kind_in(alloc: Global, path: &str, dependency: &Value<'_>) -> Result<DepKind, MetadataFault>
     ensures { Gives result (kind_member path.now (view dependency.now)) }
 {
     match given_member(dependency, Member::Kind) {
         None => Ok(DepKind::Normal),
-        Some(value) => match value.as_str().and_then(kind_of) {
+        Some(value) => match text_in(value).and_then(kind_of) {
             Some(kind) => Ok(kind),
             None => refuse_member(alloc, path, Member::Kind),
         },
@@ -215,7 +247,7 @@ impl Element for NeededAs {
     ghost read_at = { needed_as_at };
 
     #[tactic(auto, unfolding(crate::specs::Document::needed_as_at))]
-    fn from_value(alloc: Global, path: &str, value: &Value) -> Result<NeededAs, MetadataFault> {
+    fn from_value(alloc: Global, path: &str, value: &Value<'_>) -> Result<NeededAs, MetadataFault> {
         object(alloc, path, value)?;
         let kind = kind_in(alloc, path, value)?;
         let target = optional_text_in(alloc, path, value, Member::Target)?;
@@ -238,7 +270,7 @@ impl Element for NodeDependency {
     fn from_value(
         alloc: Global,
         path: &str,
-        value: &Value,
+        value: &Value<'_>,
     ) -> Result<NodeDependency, MetadataFault> {
         object(alloc, path, value)?;
         let pkg = text_of(alloc, path, value, Member::Pkg)?;
@@ -274,7 +306,7 @@ impl Element for Node {
     ghost read_at = { node_at };
 
     #[tactic(auto, unfolding(crate::specs::Document::node_at))]
-    fn from_value(alloc: Global, path: &str, value: &Value) -> Result<Node, MetadataFault> {
+    fn from_value(alloc: Global, path: &str, value: &Value<'_>) -> Result<Node, MetadataFault> {
         object(alloc, path, value)?;
         let id = text_of(alloc, path, value, Member::Id)?;
         let features = each_text_given(alloc, path, value, Member::Features)?;
@@ -292,47 +324,8 @@ pub struct Document {
     pub nodes: List<Node>,
 }
 
-/// The value of a text in UTF-8 whose numbers are whole and within 64 bits.
-#[tactic(auto, unfolding(crate::specs::Document::value_at, crate::specs::Document::whole))]
-pub fn value_of(alloc: Global, bytes: &[u8]) -> Result<Value, MetadataFault>
-    ensures { MatchResult result (λ v. value_at bytes.now ≡ Ok (view v)) (λ e. Fails e (value_at bytes.now)) }
-{
-    let value = json_in(alloc, bytes)?;
-    if is_fractional(&value) {
-        return Err(MetadataFault::Float);
-    }
-    Ok(value)
-}
-
-// The value of a text in UTF-8.
-#[tactic(auto, unfolding(crate::specs::Document::json_at, crate::specs::Document::json_of))]
-fn json_in(alloc: Global, bytes: &[u8]) -> Result<Value, MetadataFault>
-    ensures { MatchResult result (λ v. json_at bytes.now ≡ Ok (view v)) (λ e. Fails e (json_at bytes.now)) }
-{
-    match simdutf8::compat::from_utf8(bytes) {
-        Ok(text) => value_of_text(alloc, text),
-        Err(_) => Err(MetadataFault::Json),
-    }
-}
-
-fn value_of_text(alloc: Global, text: &str) -> Result<Value, MetadataFault>
-    ensures ok { IfOk result (λ v. read text.now ≡ Some (view v)) }
-    ensures err { IfErr result (λ e. (e ≡ MetadataFault.Memory) ⊎ ((e ≡ MetadataFault.Json) × (read text.now ≡ None))) }
-{
-    match Value::from_str(alloc, text) {
-        Ok(value) => Ok(value),
-        Err(error) => {
-            if error.is_memory() {
-                Err(MetadataFault::Memory)
-            } else {
-                Err(MetadataFault::Json)
-            }
-        }
-    }
-}
-
 #[tactic(auto, unfolding(crate::specs::Document::resolve_given))]
-fn resolve_stands(root: &Value) -> Result<(), MetadataFault>
+fn resolve_stands(root: &Value<'_>) -> Result<(), MetadataFault>
     ensures { Gives result (resolve_given (view root.now)) }
 {
     if given_member(root, Member::Resolve).is_none() {
@@ -341,21 +334,54 @@ fn resolve_stands(root: &Value) -> Result<(), MetadataFault>
     Ok(())
 }
 
-/// The metadata that a value is, or its first fault.
-#[tactic(auto, unfolding(crate::specs::Document::document_of, crate::specs::Elements::part_of))]
-pub fn document_in(alloc: Global, root: &Value) -> Result<Document, MetadataFault>
+// The metadata that a value is, or its first fault.
+#[tactic(auto, unfolding(crate::specs::Document::document_of, crate::specs::Elements::array_member, crate::specs::Elements::object_member, crate::specs::Elements::required, crate::specs::Elements::part_of))]
+fn document_in(alloc: Global, root: &Value<'_>) -> Result<Document, MetadataFault>
     ensures { Gives result (document_of (view root.now)) }
 {
     object(alloc, "", root)?;
     resolve_stands(root)?;
-    let packages = array_of(alloc, "", root, Member::Packages)?;
+    let Some(packages) = array_in(root, Member::Packages) else {
+        return refuse_member(alloc, "", Member::Packages);
+    };
     let members = each_text_of(alloc, "", root, Member::WorkspaceMembers)?;
     let workspace_root = text_of(alloc, "", root, Member::WorkspaceRoot)?;
-    let resolve = object_of(alloc, "", root, Member::Resolve)?;
+    let Some(resolve) = object_in(root, Member::Resolve) else {
+        return refuse_member(alloc, "", Member::Resolve);
+    };
     Ok(Document {
         packages: elements(alloc, Member::Packages.name(), packages)?,
         members,
         workspace_root,
         nodes: each_of(alloc, Member::Resolve.name(), resolve, Member::Nodes)?,
     })
+}
+
+/// The metadata that a text in UTF-8 is, or its first fault.
+pub fn document_at(alloc: Global, bytes: &[u8]) -> Result<Document, MetadataFault>
+    ensures { Gives result (document_at bytes.now) }
+{
+    match simdutf8::compat::from_utf8(bytes) {
+        Ok(text) => {
+            let mut scratch = Scratch::new(alloc);
+            document_of_text(alloc, bytes, text, &mut scratch)
+        }
+        Err(_) => Err(MetadataFault::Json),
+    }
+}
+
+// The same, of bytes that are this text. The value of the text is let go.
+#[tactic(auto, unfolding(crate::specs::Document::document_at))]
+fn document_of_text<'t>(
+    alloc: Global,
+    bytes: &[u8],
+    text: &'t str,
+    scratch: &'t mut Scratch,
+) -> Result<Document, MetadataFault>
+    requires text { is_utf8 bytes.now ≡ true }
+    requires same { text.now ≡ bytes.now }
+    ensures { Gives result (document_at bytes.now) }
+{
+    let value = value_in(alloc, bytes, text, scratch)?;
+    document_in(alloc, &value)
 }

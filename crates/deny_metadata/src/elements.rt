@@ -1,17 +1,18 @@
-ghost use Rattle.std.specs.Prelude.{◌≡◌, List, ℕ, Result, Ok, Err, IfOk, OnOk, MatchResult, option_map, map};
+ghost use Rattle.std.specs.Prelude.{◌≡◌, List, ℕ, Result, Ok, Err, IfOk, OnOk, option_and_then, option_map, map};
 ghost use Rattle.std.specs.Fmt.{decimal};
 ghost use Rattle.serde_json.specs.Data.{Data};
-ghost use Rattle.serde_json.specs.Find.{get};
-ghost use Rattle.serde_json.specs.View.{view, items_view};
-ghost use Rattle.deny_metadata.specs.Elements.{part_of, path_to, given, object_at, text_at, text_member, optional_text, optional_text_of, optional_texts, texts_at, flag_member, array_member, object_member, elements_from, each_member, each_optional, required};
+ghost use Rattle.serde_json.specs.Find.{as_array, get};
+ghost use Rattle.deny_metadata.specs.private.Borrowed.{view, items_view};
+ghost use Rattle.deny_metadata.specs.Elements.{part_of, path_to, given, object_at, text_at, text_member, optional_text, optional_text_of, optional_texts, texts_at, flag_member, object_itself, elements_from, each_member, each_optional, required};
 ghost use Rattle.deny_metadata.specs.Member.{name_of};
 ghost use Rattle.deny_metadata.specs.Reading.{Fails, Gives};
 ghost use Rattle.deny_metadata.specs.declared.fault.MetadataFault.{MetadataFault};
 
+use crate::borrowed::{flag_of, is_null, items_in, member_of, members_in, text_in};
 use crate::fault::MetadataFault;
 use crate::member::Member;
 use deny_lists::{List, NoMemory, Text};
-use serde_json::Value;
+use json::Value;
 use std::alloc::Global;
 
 /// A type that is read from a value, which stands at a path.
@@ -19,7 +20,7 @@ pub trait Element: Sized + Drop {
     ghost read_at: { List ℕ → Data → Result Self MetadataFault };
 
     /// The value at `path` as this type, or the first fault in it.
-    fn from_value(alloc: Global, path: &str, value: &Value) -> Result<Self, MetadataFault>
+    fn from_value(alloc: Global, path: &str, value: &Value<'_>) -> Result<Self, MetadataFault>
         ensures { Gives result (read_at path.now (view value.now)) };
 }
 
@@ -97,21 +98,21 @@ fn refuse_element<T>(
 
 /// The value of a member that stands and is not null.
 #[tactic(auto, unfolding(crate::specs::Elements::given))]
-pub fn given_member(object: &Value, member: Member) -> Option<&Value>
+pub fn given_member<'v, 't>(object: &'v Value<'t>, member: Member) -> Option<&'v Value<'t>>
     ensures { option_map (λ v. view v.now) result ≡ given (get (name_of member) (view object.now)) }
 {
-    match object.get(member.name()) {
-        Some(value) => { if value.is_null() { None } else { Some(value) } }
+    match member_of(object, member.name()) {
+        Some(value) => { if is_null(value) { None } else { Some(value) } }
         None => None,
     }
 }
 
 /// That the value is an object.
 #[tactic(auto, unfolding(crate::specs::Elements::object_at))]
-pub fn object(alloc: Global, path: &str, value: &Value) -> Result<(), MetadataFault>
+pub fn object(alloc: Global, path: &str, value: &Value<'_>) -> Result<(), MetadataFault>
     ensures { Gives result (object_at path.now (view value.now)) }
 {
-    if value.is_object() {
+    if members_in(value).is_some() {
         Ok(())
     } else {
         refuse(alloc, path)
@@ -123,12 +124,12 @@ pub fn object(alloc: Global, path: &str, value: &Value) -> Result<(), MetadataFa
 pub fn text_of(
     alloc: Global,
     path: &str,
-    object: &Value,
+    object: &Value<'_>,
     member: Member,
 ) -> Result<Text, MetadataFault>
     ensures { Gives result (text_member path.now member (view object.now)) }
 {
-    match object.get(member.name()).and_then(Value::as_str) {
+    match member_of(object, member.name()).and_then(text_in) {
         Some(text) => Ok(Text::from_str(alloc, text)?),
         None => refuse_member(alloc, path, member),
     }
@@ -139,13 +140,13 @@ pub fn text_of(
 pub fn optional_text_in(
     alloc: Global,
     path: &str,
-    object: &Value,
+    object: &Value<'_>,
     member: Member,
 ) -> Result<Option<Text>, MetadataFault>
     ensures { Gives result (optional_text path.now member (view object.now)) }
 {
     match given_member(object, member) {
-        Some(value) => match value.as_str() {
+        Some(value) => match text_in(value) {
             Some(text) => Ok(Some(Text::from_str(alloc, text)?)),
             None => refuse_member(alloc, path, member),
         },
@@ -158,14 +159,14 @@ pub fn optional_text_in(
 pub fn flag_in(
     alloc: Global,
     path: &str,
-    object: &Value,
+    object: &Value<'_>,
     member: Member,
     default: bool,
 ) -> Result<bool, MetadataFault>
     ensures { Gives result (flag_member path.now member default (view object.now)) }
 {
     match given_member(object, member) {
-        Some(value) => match value.as_bool() {
+        Some(value) => match flag_of(value) {
             Some(flag) => Ok(flag),
             None => refuse_member(alloc, path, member),
         },
@@ -173,43 +174,31 @@ pub fn flag_in(
     }
 }
 
-/// The elements of an array that must stand.
-#[tactic(auto, unfolding(crate::specs::Elements::array_member, crate::specs::Elements::required))]
-pub fn array_of<'v>(
-    alloc: Global,
-    path: &str,
-    object: &'v Value,
-    member: Member,
-) -> Result<&'v [Value], MetadataFault>
-    ensures { MatchResult result (λ items. array_member path.now member (view object.now) ≡ Ok (items_view items.now))
-        (λ e. Fails e (array_member path.now member (view object.now))) }
+/// The elements of an array that must stand; none where it does not.
+pub fn array_in<'v, 't: 'v>(object: &'v Value<'t>, member: Member) -> Option<&'v [Value<'t>]>
+    ensures { option_map (λ items. items_view items.now) result
+        ≡ option_and_then as_array (get (name_of member) (view object.now)) }
 {
-    match object.get(member.name()).and_then(Value::as_array) {
-        Some(items) => Ok(items.as_slice()),
-        None => refuse_member(alloc, path, member),
-    }
+    member_of(object, member.name()).and_then(items_in)
 }
 
-/// An object that must stand.
-#[tactic(auto, unfolding(crate::specs::Elements::object_member, crate::specs::Elements::object_itself, crate::specs::Elements::required))]
-pub fn object_of<'v>(
-    alloc: Global,
-    path: &str,
-    object: &'v Value,
-    member: Member,
-) -> Result<&'v Value, MetadataFault>
-    ensures { MatchResult result (λ value. object_member path.now member (view object.now) ≡ Ok (view value.now))
-        (λ e. Fails e (object_member path.now member (view object.now))) }
+/// An object that must stand; none where it does not.
+pub fn object_in<'v, 't: 'v>(object: &'v Value<'t>, member: Member) -> Option<&'v Value<'t>>
+    ensures { option_map (λ v. view v.now) result
+        ≡ option_and_then object_itself (get (name_of member) (view object.now)) }
 {
-    match object.get(member.name()) {
-        Some(value) => {
-            if value.is_object() {
-                Ok(value)
-            } else {
-                refuse_member(alloc, path, member)
-            }
-        }
-        None => refuse_member(alloc, path, member),
+    member_of(object, member.name()).and_then(itself)
+}
+
+// A value that is an object.
+#[tactic(auto, unfolding(crate::specs::Elements::object_itself))]
+fn itself<'v, 't>(value: &'v Value<'t>) -> Option<&'v Value<'t>>
+    ensures { option_map (λ v. view v.now) result ≡ object_itself (view value.now) }
+{
+    if members_in(value).is_some() {
+        Some(value)
+    } else {
+        None
     }
 }
 
@@ -217,7 +206,7 @@ pub fn object_of<'v>(
 pub fn elements<T: Element>(
     alloc: Global,
     path: &str,
-    items: &[Value],
+    items: &[Value<'_>],
 ) -> Result<List<T>, MetadataFault>
     ensures { Gives result (elements_from T.read_at path.now 0 (items_view items.now)) }
 {
@@ -231,18 +220,22 @@ pub fn elements<T: Element>(
 }
 
 /// The elements of an array that must stand, or the first fault in them.
-#[tactic(auto, unfolding(crate::specs::Elements::each_member))]
+#[tactic(auto, unfolding(crate::specs::Elements::each_member, crate::specs::Elements::array_member, crate::specs::Elements::required))]
 pub fn each_of<T: Element>(
     alloc: Global,
     path: &str,
-    object: &Value,
+    object: &Value<'_>,
     member: Member,
 ) -> Result<List<T>, MetadataFault>
     ensures { Gives result (each_member T.read_at path.now member (view object.now)) }
 {
-    let items = array_of(alloc, path, object, member)?;
-    let at = path_of(alloc, path, member.name())?;
-    elements(alloc, at.as_str(), items)
+    match array_in(object, member) {
+        None => refuse_member(alloc, path, member),
+        Some(items) => {
+            let at = path_of(alloc, path, member.name())?;
+            elements(alloc, at.as_str(), items)
+        }
+    }
 }
 
 /// The elements of an array that may be missing or null, or the first fault in them.
@@ -250,18 +243,18 @@ pub fn each_of<T: Element>(
 pub fn each_given<T: Element>(
     alloc: Global,
     path: &str,
-    object: &Value,
+    object: &Value<'_>,
     member: Member,
 ) -> Result<List<T>, MetadataFault>
     ensures { Gives result (each_optional T.read_at path.now member (view object.now)) }
 {
     match given_member(object, member) {
         None => Ok(List::new(alloc)),
-        Some(value) => match value.as_array() {
+        Some(value) => match items_in(value) {
             None => refuse_member(alloc, path, member),
             Some(items) => {
                 let at = path_of(alloc, path, member.name())?;
-                elements(alloc, at.as_str(), items.as_slice())
+                elements(alloc, at.as_str(), items)
             }
         },
     }
@@ -274,11 +267,11 @@ fn element_text(
     path: &str,
     name: &str,
     index: usize,
-    value: &Value,
+    value: &Value<'_>,
 ) -> Result<Text, MetadataFault>
     ensures { Gives result (text_at (part_of (part_of path.now name.now) (decimal index)) (view value.now)) }
 {
-    match value.as_str() {
+    match text_in(value) {
         Some(text) => Ok(Text::from_str(alloc, text)?),
         None => refuse_element(alloc, path, name, index),
     }
@@ -290,7 +283,7 @@ fn each_text(
     alloc: Global,
     path: &str,
     name: &str,
-    items: &[Value],
+    items: &[Value<'_>],
 ) -> Result<List<Text>, MetadataFault>
     ensures { Gives result (elements_from text_at (part_of path.now name.now) 0 (items_view items.now)) }
 {
@@ -302,17 +295,19 @@ fn each_text(
 }
 
 /// The texts of an array that must stand, or the first fault in them.
-#[tactic(auto, unfolding(crate::specs::Elements::each_member))]
+#[tactic(auto, unfolding(crate::specs::Elements::each_member, crate::specs::Elements::array_member, crate::specs::Elements::required))]
 pub fn each_text_of(
     alloc: Global,
     path: &str,
-    object: &Value,
+    object: &Value<'_>,
     member: Member,
 ) -> Result<List<Text>, MetadataFault>
     ensures { Gives result (each_member text_at path.now member (view object.now)) }
 {
-    let items = array_of(alloc, path, object, member)?;
-    each_text(alloc, path, member.name(), items)
+    match array_in(object, member) {
+        None => refuse_member(alloc, path, member),
+        Some(items) => each_text(alloc, path, member.name(), items),
+    }
 }
 
 /// The texts of an array that may be missing or null, or the first fault in them.
@@ -320,16 +315,16 @@ pub fn each_text_of(
 pub fn each_text_given(
     alloc: Global,
     path: &str,
-    object: &Value,
+    object: &Value<'_>,
     member: Member,
 ) -> Result<List<Text>, MetadataFault>
     ensures { Gives result (each_optional text_at path.now member (view object.now)) }
 {
     match given_member(object, member) {
         None => Ok(List::new(alloc)),
-        Some(value) => match value.as_array() {
+        Some(value) => match items_in(value) {
             None => refuse_member(alloc, path, member),
-            Some(items) => each_text(alloc, path, member.name(), items.as_slice()),
+            Some(items) => each_text(alloc, path, member.name(), items),
         },
     }
 }
@@ -340,12 +335,12 @@ pub fn texts(
     alloc: Global,
     path: &str,
     name: &str,
-    value: &Value,
+    value: &Value<'_>,
 ) -> Result<List<Text>, MetadataFault>
     ensures { Gives result (texts_at (part_of path.now name.now) (view value.now)) }
 {
-    match value.as_array() {
-        Some(items) => each_text(alloc, path, name, items.as_slice()),
+    match items_in(value) {
+        Some(items) => each_text(alloc, path, name, items),
         None => refuse_part(alloc, path, name),
     }
 }
@@ -355,7 +350,7 @@ pub fn texts(
 pub fn optional_texts_in(
     alloc: Global,
     path: &str,
-    object: &Value,
+    object: &Value<'_>,
     member: Member,
 ) -> Result<Option<List<Text>>, MetadataFault>
     ensures { Gives result (optional_texts path.now member (view object.now)) }

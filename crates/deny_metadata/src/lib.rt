@@ -2,6 +2,7 @@
 //! requirements and sources say, and its ids as numbers, or the first fault.
 #![tactic(auto)]
 
+mod borrowed;
 mod checked;
 mod document;
 mod elements;
@@ -9,14 +10,17 @@ mod fault;
 mod floats;
 mod index;
 mod member;
+mod owned;
 mod source;
+mod text;
 mod versions;
+mod whole;
 
 pub use checked::{Link, Resolution, ResolvedNode, resolve};
 pub use document::{
-    Declaration, Document, Feature, NeededAs, Node, NodeDependency, Package, Target, document_in,
-    value_of,
+    Declaration, Document, Feature, NeededAs, Node, NodeDependency, Package, Target, document_at,
 };
 pub use fault::MetadataFault;
+pub use owned::value_of;
 pub use source::{GitSpec, Source, source_in};
 pub use versions::{requirement_in, rust_version_in, version_in};

@@ -1,6 +1,6 @@
 use Rattle.std.proofs.Common.{◌∙◌, ap, arith, Ok, append-nil}
 use Rattle.std.specs.Fmt.{decimal}
-use Rattle.serde_json.specs.View.{view}
+use Rattle.deny_metadata.specs.private.Borrowed.{view}
 use Rattle.deny_metadata.specs.Elements.{part_of, text_at}
 use Rattle.deny_metadata.proofs.ElementsLemmas.{next_element, no_more_elements}
 use Rattle.deny_metadata.proofs.ReadingLemmas.{with_prefix, goes_on, fails_here, handed_on}

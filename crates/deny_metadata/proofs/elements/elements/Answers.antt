@@ -1,6 +1,6 @@
 use Rattle.std.proofs.Common.{◌≡◌, ◌∙◌, ap, arith, List, ℕ, Ok, subst, append-nil}
 use Rattle.std.specs.Fmt.{decimal}
-use Rattle.serde_json.specs.View.{view}
+use Rattle.deny_metadata.specs.private.Borrowed.{view}
 use Rattle.deny_metadata.specs.Elements.{part_of}
 use Rattle.deny_metadata.specs.Reading.{Fails}
 use Rattle.deny_metadata.proofs.ElementsLemmas.{next_element, no_more_elements}

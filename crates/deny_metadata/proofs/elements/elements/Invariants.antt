@@ -1,5 +1,5 @@
 use Rattle.std.proofs.Common.{◌≡◌, drop}
-use Rattle.serde_json.specs.View.{items_view}
+use Rattle.deny_metadata.specs.private.Borrowed.{items_view}
 use Rattle.deny_metadata.specs.Elements.{elements_from}
 use Rattle.deny_metadata.proofs.ReadingLemmas.{with_prefix}
 use Rattle.deny_metadata.proofs.elements.elements.Given as goal

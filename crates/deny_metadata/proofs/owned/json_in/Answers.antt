@@ -1,8 +1,8 @@
 use Rattle.std.proofs.Common.{◌≡◌, ◌⊎◌, inl, inr, ◌∙◌, ap, sym, Ok, Err, Some, None, Result, List, ℕ, true, false}
 use Rattle.std.proofs.Common.{MatchResult, refl, subst}
 use Rattle.std.specs.Prelude.{IfOk, IfErr}
-use Rattle.std.specs.Str.{is_utf8, IsUtf8}
-use Rattle.std.proofs.lemmas.Str.{is_utf8-from_IsUtf8, IsUtf8-from_is_utf8}
+use Rattle.std.specs.Str.{is_utf8}
+use Rattle.std.proofs.lemmas.Str.{is_utf8-from_IsUtf8}
 use Rattle.serde_json.specs.Read.{read}
 use Rattle.serde_json.specs.View.{view}
 use Rattle.serde_json.specs.declared.value.Value.{Value}
@@ -10,11 +10,8 @@ use Rattle.deny_metadata.specs.Document.{json_at, json_of}
 use Rattle.deny_metadata.specs.Reading.{Fails}
 use Rattle.deny_metadata.specs.declared.fault.MetadataFault.{MetadataFault}
 use Rattle.deny_metadata.specs.declared.fault.MetadataFault.TheVariants.{Json, Memory}
-use Rattle.deny_metadata.proofs.document.json_in.Goals as goal
-
-not_utf8 : (bytes : List ℕ) → (IsUtf8 bytes → ⊥) → is_utf8 bytes ≡ false
-not_utf8 bytes isnt = elim (is_utf8 bytes) as (λ b. is_utf8 bytes ≡ b → is_utf8 bytes ≡ false)
-    [ true ↦ λ e. absurd (isnt (IsUtf8-from_is_utf8 bytes e)) | false ↦ λ e. e ] refl
+use Rattle.deny_metadata.proofs.WholeLemmas.{not_utf8}
+use Rattle.deny_metadata.proofs.owned.json_in.Goals as goal
 
 no_text : (bytes : List ℕ) → is_utf8 bytes ≡ false → json_at bytes ≡ Err Json
 unfolding json_at

@@ -1,0 +1,75 @@
+ghost use Rattle.std.specs.Prelude.{◌≡◌, ◌⊎◌, None, Ok, Some, true, MatchResult};
+ghost use Rattle.std.specs.Str.{is_utf8};
+ghost use Rattle.json.specs.Value.{value_view};
+ghost use Rattle.deny_metadata.specs.Document.{value_at};
+ghost use Rattle.deny_metadata.specs.private.Borrowed.{parsed, view};
+ghost use Rattle.deny_metadata.specs.Reading.{Fails};
+
+use crate::fault::MetadataFault;
+use crate::owned::value_of;
+use crate::whole::is_whole;
+use json::{Error, Reader, Scratch, Value};
+use std::alloc::Global;
+
+// How deep arrays and objects may nest.
+const MAX_DEPTH: usize = 127;
+
+/// The value of bytes that are this text, whose numbers are whole and within 64 bits. It borrows the
+/// text.
+pub fn value_in<'t>(
+    alloc: Global,
+    bytes: &[u8],
+    text: &'t str,
+    scratch: &'t mut Scratch,
+) -> Result<Value<'t>, MetadataFault>
+    requires text { is_utf8 bytes.now ≡ true }
+    requires same { text.now ≡ bytes.now }
+    ensures { MatchResult result (λ v. value_at bytes.now ≡ Ok (view v)) (λ e. Fails e (value_at bytes.now)) }
+{
+    match parse(alloc, text, scratch) {
+        Ok(value) => {
+            check_numbers(alloc, bytes, &value)?;
+            Ok(value)
+        }
+        Err(fault) => Err(fault),
+    }
+}
+
+// The value of a text.
+fn parse<'t>(
+    alloc: Global,
+    text: &'t str,
+    scratch: &'t mut Scratch,
+) -> Result<Value<'t>, MetadataFault>
+    ensures { MatchResult result (λ v. parsed text.now ≡ Some (value_view v))
+        (λ e. (e ≡ MetadataFault.Memory) ⊎ ((e ≡ MetadataFault.Json) × (parsed text.now ≡ None))) }
+{
+    let mut reader = Reader::new(text, scratch)?;
+    match Value::read(alloc, &mut reader, MAX_DEPTH) {
+        Ok(value) => {
+            if reader.next().is_some() {
+                Err(MetadataFault::Json)
+            } else {
+                Ok(value)
+            }
+        }
+        Err(Error::Invalid) => Err(MetadataFault::Json),
+        Err(_) => Err(MetadataFault::Memory),
+    }
+}
+
+// That the numbers of the value of bytes are whole and within 64 bits. Where one is not, what stays
+// of its object decides, so the bytes are read again.
+fn check_numbers(alloc: Global, bytes: &[u8], value: &Value<'_>) -> Result<(), MetadataFault>
+    requires text { is_utf8 bytes.now ≡ true }
+    requires parsed { parsed bytes.now ≡ Some (value_view value.now) }
+    ensures { MatchResult result (λ _. value_at bytes.now ≡ Ok (view value.now)) (λ e. Fails e (value_at bytes.now)) }
+{
+    if is_whole(value) {
+        return Ok(());
+    }
+    match value_of(alloc, bytes) {
+        Ok(_) => Ok(()),
+        Err(fault) => Err(fault),
+    }
+}
