@@ -1,16 +1,14 @@
 -- The tree of the policy.
 use Rattle.std.specs.Prelude.{◌+◌, ◌∷◌, [], ℕ, List, codes, length}
 use Rattle.deny_base.specs.declared.span.Span.{Span}
-use Rattle.deny_toml.specs.Value.{span_of, table_with, value_with}
+use Rattle.deny_toml.specs.Value.{span_of, value_with}
 use Rattle.deny_toml.specs.declared.value.Content.TheVariants as content
 use Rattle.deny_toml.specs.declared.value.Value.{Value}
 use Rattle.deny_toml_grammar.specs.declared.parts.Key.{Key}
 use Rattle.deny_toml_grammar.specs.declared.parts.Scalar.TheVariants.{Text}
+use Rattle.deny_toml.proofs.TreeCases.{table_value}
 use Rattle.deny_made_policy.proofs.Document.{key_at}
 use Rattle.deny_made_policy.proofs.Elements.{elements_text, in_quotes}
-
-abbrev pub table_value : Span → List (Key × Value) → Value
-table_value span entries = value_with span (content.Table (table_with entries))
 
 abbrev pub array_value : Span → List Value → Value
 array_value span values = value_with span (content.Array values)

@@ -7,7 +7,8 @@ use Rattle.deny_toml.specs.declared.value.Content.{the_lemmas}
 use Rattle.deny_toml.specs.declared.value.Value.{Value}
 use Rattle.deny_toml_grammar.specs.declared.parts.Key.{Key}
 use Rattle.deny_toml.proofs.TreeOrderLaws.{entries_are}
-use Rattle.deny_made_policy.proofs.Values.{array_value, table_value, text_value}
+use Rattle.deny_toml.proofs.TreeCases.{table_value}
+use Rattle.deny_made_policy.proofs.Values.{array_value, text_value}
 
 pub array-in : (span : Span) (values : List Value) → array_in (array_value span values) ≡ Some values
 array-in span values = search (rules, the_lemmas)
