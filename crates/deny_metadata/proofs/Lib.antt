@@ -3,7 +3,9 @@ pub mod CheckedLemmas
 pub mod ElementsLemmas
 pub mod FeaturesLemmas
 pub mod IndexLemmas
+pub mod PrunedLemmas
 pub mod ReadingLemmas
 pub mod SourceLemmas
 pub mod VersionsLemmas
+pub mod WantedLemmas
 pub mod WholeLemmas

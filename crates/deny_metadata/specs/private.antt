@@ -1,2 +1,3 @@
 pub mod Borrowed
 pub mod Index
+pub mod Wanted

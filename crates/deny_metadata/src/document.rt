@@ -13,7 +13,7 @@ use crate::elements::{
 };
 use crate::fault::MetadataFault;
 use crate::member::Member;
-use crate::text::value_in;
+use crate::text::{pruned_in, value_in};
 use deny_base::DepKind;
 use deny_lists::{List, NoMemory, Plain, Text};
 use json::{Scratch, Value};
@@ -362,26 +362,33 @@ pub fn document_at(alloc: Global, bytes: &[u8]) -> Result<Document, MetadataFaul
     ensures { Gives result (document_at bytes.now) }
 {
     match simdutf8::compat::from_utf8(bytes) {
-        Ok(text) => {
-            let mut scratch = Scratch::new(alloc);
-            document_of_text(alloc, bytes, text, &mut scratch)
-        }
+        Ok(text) => document_of_text(alloc, bytes, text),
         Err(_) => Err(MetadataFault::Json),
     }
 }
 
-// The same, of bytes that are this text. The value of the text is let go.
-#[tactic(auto, unfolding(crate::specs::Document::document_at))]
-fn document_of_text<'t>(
-    alloc: Global,
-    bytes: &[u8],
-    text: &'t str,
-    scratch: &'t mut Scratch,
-) -> Result<Document, MetadataFault>
+// The same, of bytes that are this text. What is never read of it gets no value; where that way does
+// not lead through the text, all of it is read, which says why. The value of the text is let go.
+fn document_of_text(alloc: Global, bytes: &[u8], text: &str) -> Result<Document, MetadataFault>
     requires text { is_utf8 bytes.now ≡ true }
     requires same { text.now ≡ bytes.now }
     ensures { Gives result (document_at bytes.now) }
 {
-    let value = value_in(alloc, bytes, text, scratch)?;
+    let mut scratch = Scratch::new(alloc);
+    match pruned_in(alloc, text, &mut scratch) {
+        Some(value) => document_in(alloc, &value),
+        None => document_of_all(alloc, bytes, text),
+    }
+}
+
+// The same, by the value of the whole text.
+#[tactic(auto, unfolding(crate::specs::Document::document_at))]
+fn document_of_all(alloc: Global, bytes: &[u8], text: &str) -> Result<Document, MetadataFault>
+    requires text { is_utf8 bytes.now ≡ true }
+    requires same { text.now ≡ bytes.now }
+    ensures { Gives result (document_at bytes.now) }
+{
+    let mut scratch = Scratch::new(alloc);
+    let value = value_in(alloc, bytes, text, &mut scratch)?;
     document_in(alloc, &value)
 }

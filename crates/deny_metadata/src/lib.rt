@@ -11,9 +11,11 @@ mod floats;
 mod index;
 mod member;
 mod owned;
+mod pruned;
 mod source;
 mod text;
 mod versions;
+mod wanted;
 mod whole;
 
 pub use checked::{Link, Resolution, ResolvedNode, resolve};

@@ -1,12 +1,17 @@
-ghost use Rattle.std.specs.Prelude.{◌≡◌, ◌⊎◌, None, Ok, Some, true, MatchResult};
+ghost use Rattle.std.specs.Prelude.{◌≡◌, ◌⊎◌, None, Ok, Some, true, IfSome, MatchResult};
 ghost use Rattle.std.specs.Str.{is_utf8};
+ghost use Rattle.json.specs.Json.{Json};
 ghost use Rattle.json.specs.Value.{value_view};
 ghost use Rattle.deny_metadata.specs.Document.{value_at};
-ghost use Rattle.deny_metadata.specs.private.Borrowed.{parsed, view};
+ghost use Rattle.deny_metadata.specs.private.Borrowed.{is_whole, parsed, view};
+ghost use Rattle.deny_metadata.specs.private.Wanted.{pruned};
+ghost use Rattle.deny_metadata.specs.declared.wanted.Wanted.TheVariants.{Metadata};
 ghost use Rattle.deny_metadata.specs.Reading.{Fails};
 
 use crate::fault::MetadataFault;
 use crate::owned::value_of;
+use crate::pruned::read;
+use crate::wanted::Wanted;
 use crate::whole::is_whole;
 use json::{Error, Reader, Scratch, Value};
 use std::alloc::Global;
@@ -32,6 +37,21 @@ pub fn value_in<'t>(
             Ok(value)
         }
         Err(fault) => Err(fault),
+    }
+}
+
+/// The value of a text without what is not read of metadata; none where the text is no JSON or has a
+/// number that is not whole or not within 64 bits, and without memory. It borrows the text.
+pub fn pruned_in<'t>(alloc: Global, text: &'t str, scratch: &'t mut Scratch) -> Option<Value<'t>>
+    ensures { IfSome result (λ v. (j : Json) × (parsed text.now ≡ Some j) × (is_whole j ≡ true)
+        × (value_view v ≡ pruned Metadata j)) }
+{
+    let mut reader = Reader::new(text, scratch).ok()?;
+    let value = read(alloc, &mut reader, Wanted::Metadata, MAX_DEPTH)?;
+    if reader.next().is_some() {
+        None
+    } else {
+        Some(value)
     }
 }
 

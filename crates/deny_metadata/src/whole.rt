@@ -46,8 +46,8 @@ fn are_members_whole<'t>(members: &Vec<(&'t str, Value<'t>)>) -> bool
     true
 }
 
-// Whether a number is whole and within 64 bits.
-fn is_whole_number(text: &str) -> bool
+/// Whether a number is whole and within 64 bits.
+pub fn is_whole_number(text: &str) -> bool
     ensures { result ≡ is_whole_number text.now }
 {
     let bytes = text.as_bytes();

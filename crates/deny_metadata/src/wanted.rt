@@ -1,0 +1,144 @@
+ghost use Rattle.std.specs.Prelude.{◌≡◌};
+ghost use Rattle.deny_metadata.specs.private.Wanted.{all_if, is_nothing, member_wanted};
+ghost use Rattle.deny_metadata.specs.private.Wanted.{metadata_member, package_member, target_member};
+ghost use Rattle.deny_metadata.specs.private.Wanted.{declaration_member, resolve_member, node_member, dependency_member};
+
+use crate::member::Member;
+
+/// What is read of a value. Of an array it is said of each of its elements.
+#[derive(Debug, Clone, Copy, PartialEq, Eq)]
+pub enum Wanted {
+    All,
+    Nothing,
+    Metadata,
+    Package,
+    Target,
+    Declaration,
+    Resolve,
+    Node,
+    NodeDependency,
+}
+
+impl Wanted {
+    /// Whether nothing is read.
+    pub fn is_nothing(self) -> bool
+        ensures { result ≡ is_nothing self }
+    {
+        matches!(self, Wanted::Nothing)
+    }
+
+    /// What is read of the member of this name, of an object of which this is read.
+    pub fn of_member(self, name: &str) -> Wanted
+        ensures { result ≡ member_wanted self name.now }
+    {
+        match self {
+            Wanted::All => Wanted::All,
+            Wanted::Nothing => Wanted::Nothing,
+            Wanted::Metadata => metadata_member(name),
+            Wanted::Package => package_member(name),
+            Wanted::Target => target_member(name),
+            Wanted::Declaration => declaration_member(name),
+            Wanted::Resolve => resolve_member(name),
+            Wanted::Node => node_member(name),
+            Wanted::NodeDependency => dependency_member(name),
+        }
+    }
+}
+
+fn all_if(is_read: bool) -> Wanted
+    ensures { result ≡ all_if is_read }
+{
+    if is_read {
+        Wanted::All
+    } else {
+        Wanted::Nothing
+    }
+}
+
+#[tactic(auto, unfolding(crate::specs::private::Wanted::metadata_member))]
+fn metadata_member(name: &str) -> Wanted
+    ensures { result ≡ metadata_member name.now }
+{
+    if name == Member::Packages.name() {
+        Wanted::Package
+    } else if name == Member::Resolve.name() {
+        Wanted::Resolve
+    } else {
+        all_if(name == Member::WorkspaceMembers.name() || name == Member::WorkspaceRoot.name())
+    }
+}
+
+#[tactic(auto, unfolding(crate::specs::private::Wanted::package_member))]
+fn package_member(name: &str) -> Wanted
+    ensures { result ≡ package_member name.now }
+{
+    if name == Member::Targets.name() {
+        Wanted::Target
+    } else if name == Member::Dependencies.name() {
+        Wanted::Declaration
+    } else {
+        all_if(
+            name == Member::Name.name()
+                || name == Member::Version.name()
+                || name == Member::Id.name()
+                || name == Member::ManifestPath.name()
+                || name == Member::Source.name()
+                || name == Member::License.name()
+                || name == Member::RustVersion.name()
+                || name == Member::Publish.name()
+                || name == Member::Features.name(),
+        )
+    }
+}
+
+#[tactic(auto, unfolding(crate::specs::private::Wanted::target_member))]
+fn target_member(name: &str) -> Wanted
+    ensures { result ≡ target_member name.now }
+{
+    all_if(name == Member::Kind.name() || name == Member::SrcPath.name())
+}
+
+#[tactic(auto, unfolding(crate::specs::private::Wanted::declaration_member))]
+fn declaration_member(name: &str) -> Wanted
+    ensures { result ≡ declaration_member name.now }
+{
+    all_if(
+        name == Member::Name.name()
+            || name == Member::Req.name()
+            || name == Member::Kind.name()
+            || name == Member::Rename.name()
+            || name == Member::Target.name()
+            || name == Member::Path.name()
+            || name == Member::Features.name()
+            || name == Member::UsesDefaultFeatures.name(),
+    )
+}
+
+#[tactic(auto, unfolding(crate::specs::private::Wanted::resolve_member))]
+fn resolve_member(name: &str) -> Wanted
+    ensures { result ≡ resolve_member name.now }
+{
+    if name == Member::Nodes.name() {
+        Wanted::Node
+    } else {
+        Wanted::Nothing
+    }
+}
+
+#[tactic(auto, unfolding(crate::specs::private::Wanted::node_member))]
+fn node_member(name: &str) -> Wanted
+    ensures { result ≡ node_member name.now }
+{
+    if name == Member::Deps.name() {
+        Wanted::NodeDependency
+    } else {
+        all_if(name == Member::Id.name() || name == Member::Features.name())
+    }
+}
+
+#[tactic(auto, unfolding(crate::specs::private::Wanted::dependency_member))]
+fn dependency_member(name: &str) -> Wanted
+    ensures { result ≡ dependency_member name.now }
+{
+    all_if(name == Member::Pkg.name() || name == Member::DepKinds.name())
+}
