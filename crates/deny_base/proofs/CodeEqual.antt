@@ -1,71 +1,84 @@
 -- Only equal codes tie, and no two codes have the same word.
-use Rattle.std.proofs.Common.{◌≡◌, ◌+◌, ℕ, List, [], ◌∷◌, map, slice_index_or, refl, sym, ap, ◌∙◌}
-use Rattle.std.specs.List.{position_or_len}
+use Rattle.std.proofs.Common.{◌≡◌, ◌+◌, ◌==◌, ◌++◌, ℕ, Bool, List, [], ◌∷◌, map, slice_index_or, refl, sym, ap, subst}
+use Rattle.std.proofs.Common.{◌∙◌, suc, zero}
+use Rattle.std.specs.List.{list_all, position_or_len}
+use Rattle.std.specs.Prelude.{IsTrue}
 use Rattle.std.specs.Str.{bytes_eq}
 use Rattle.std.specs.Cmp.{IsTotalOrder, nat_cmp_total, on_total}
+use Rattle.std.proofs.lemmas.Bool.{and_parts, eqb-true}
 use Rattle.std.specs.FinMap.{IsAntisymmetric, nat_cmp-IsAntisymmetric}
 use Rattle.deny_base.specs.Code.{first_license, code_name, code_number, code_cmp, diagnostic_code_name}
 use Rattle.deny_base.specs.Code.{diagnostic_code_number, diagnostic_code_cmp}
 use Rattle.deny_base.specs.LicenseCode.{license_code_name, license_code_number, license_code_cmp}
+use Rattle.deny_base.specs.declared.code.Code.{Code}
 use Rattle.deny_base.specs.declared.code.Code.TheVariants as bans
 use Rattle.deny_base.specs.declared.code.DiagnosticCode.{DiagnosticCode}
 use Rattle.deny_base.specs.declared.code.DiagnosticCode.TheVariants.{Deprecated, Bans, License}
+use Rattle.deny_base.specs.declared.license_code.LicenseCode.{LicenseCode}
 use Rattle.deny_base.specs.declared.license_code.LicenseCode.TheVariants as license
 
--- every code, in the order of declaration
-all_codes : List DiagnosticCode
-all_codes =
-    Deprecated
-    ∷ Bans bans.Banned
-    ∷ Bans bans.Allowed
-    ∷ Bans bans.NotAllowed
-    ∷ Bans bans.Duplicate
-    ∷ Bans bans.Skipped
-    ∷ Bans bans.Wildcard
-    ∷ Bans bans.UnmatchedSkip
-    ∷ Bans bans.UnnecessarySkip
-    ∷ Bans bans.AllowedByWrapper
-    ∷ Bans bans.UnmatchedWrapper
-    ∷ Bans bans.SkippedByRoot
-    ∷ Bans bans.UnmatchedSkipRoot
-    ∷ Bans bans.BuildScriptNotAllowed
-    ∷ Bans bans.ExactFeaturesMismatch
-    ∷ Bans bans.FeatureNotExplicitlyAllowed
-    ∷ Bans bans.FeatureBanned
-    ∷ Bans bans.UnknownFeature
-    ∷ Bans bans.DefaultFeatureEnabled
-    ∷ Bans bans.PathBypassed
-    ∷ Bans bans.PathBypassedByGlob
-    ∷ Bans bans.ChecksumMatch
-    ∷ Bans bans.ChecksumMismatch
-    ∷ Bans bans.DeniedByExtension
-    ∷ Bans bans.DetectedExecutable
-    ∷ Bans bans.DetectedExecutableScript
-    ∷ Bans bans.UnableToCheckPath
-    ∷ Bans bans.FeaturesEnabled
-    ∷ Bans bans.UnmatchedBypass
-    ∷ Bans bans.UnmatchedPathBypass
-    ∷ Bans bans.UnmatchedGlob
-    ∷ Bans bans.UnusedWrapper
-    ∷ Bans bans.WorkspaceDuplicate
-    ∷ Bans bans.UnresolvedWorkspaceDependency
-    ∷ Bans bans.UnusedWorkspaceDependency
-    ∷ Bans bans.ReplacedInStd
-    ∷ Bans bans.UnmatchedReplacementIgnore
-    ∷ License license.Accepted
-    ∷ License license.Rejected
-    ∷ License license.Unlicensed
-    ∷ License license.ParseError
-    ∷ License license.SkippedPrivateWorkspaceCrate
-    ∷ License license.LicenseNotEncountered
-    ∷ License license.LicenseExceptionNotEncountered
+-- the codes of bans, in the order of declaration
+abbrev pub bans_codes : List Code
+bans_codes =
+    bans.Banned
+    ∷ bans.Allowed
+    ∷ bans.NotAllowed
+    ∷ bans.Duplicate
+    ∷ bans.Skipped
+    ∷ bans.Wildcard
+    ∷ bans.UnmatchedSkip
+    ∷ bans.UnnecessarySkip
+    ∷ bans.AllowedByWrapper
+    ∷ bans.UnmatchedWrapper
+    ∷ bans.SkippedByRoot
+    ∷ bans.UnmatchedSkipRoot
+    ∷ bans.BuildScriptNotAllowed
+    ∷ bans.ExactFeaturesMismatch
+    ∷ bans.FeatureNotExplicitlyAllowed
+    ∷ bans.FeatureBanned
+    ∷ bans.UnknownFeature
+    ∷ bans.DefaultFeatureEnabled
+    ∷ bans.PathBypassed
+    ∷ bans.PathBypassedByGlob
+    ∷ bans.ChecksumMatch
+    ∷ bans.ChecksumMismatch
+    ∷ bans.DeniedByExtension
+    ∷ bans.DetectedExecutable
+    ∷ bans.DetectedExecutableScript
+    ∷ bans.UnableToCheckPath
+    ∷ bans.FeaturesEnabled
+    ∷ bans.UnmatchedBypass
+    ∷ bans.UnmatchedPathBypass
+    ∷ bans.UnmatchedGlob
+    ∷ bans.UnusedWrapper
+    ∷ bans.WorkspaceDuplicate
+    ∷ bans.UnresolvedWorkspaceDependency
+    ∷ bans.UnusedWorkspaceDependency
+    ∷ bans.ReplacedInStd
+    ∷ bans.UnmatchedReplacementIgnore
     ∷ []
+
+-- those of licences
+abbrev pub license_codes : List LicenseCode
+license_codes =
+    license.Accepted
+    ∷ license.Rejected
+    ∷ license.Unlicensed
+    ∷ license.ParseError
+    ∷ license.SkippedPrivateWorkspaceCrate
+    ∷ license.LicenseNotEncountered
+    ∷ license.LicenseExceptionNotEncountered
+    ∷ []
+
+-- every code, in the order of declaration
+abbrev pub all_codes : List DiagnosticCode
+all_codes = Deprecated ∷ (map Bans bans_codes ++ map License license_codes)
 
 code_at : ℕ → DiagnosticCode
 code_at n = slice_index_or all_codes n Deprecated
 
 code_at-number : (code : DiagnosticCode) → code_at (diagnostic_code_number code) ≡ code
-unfolding code_at all_codes diagnostic_code_number code_number license_code_number
+unfolding code_at diagnostic_code_number code_number license_code_number
 code_at-number Deprecated = refl
 code_at-number (Bans bans.Banned) = refl
 code_at-number (Bans bans.Allowed) = refl
@@ -111,6 +124,19 @@ code_at-number (License license.SkippedPrivateWorkspaceCrate) = refl
 code_at-number (License license.LicenseNotEncountered) = refl
 code_at-number (License license.LicenseExceptionNotEncountered) = refl
 
+-- what a test says of every code in the list, it says of every code
+pub each_code : (test : DiagnosticCode → Bool) → IsTrue (list_all test all_codes) → (code : DiagnosticCode)
+    → IsTrue (test code)
+unfolding code_at
+each_code test all code = subst (λ (d : DiagnosticCode). IsTrue (test d)) (code_at-number code)
+    (at_place all_codes (diagnostic_code_number code) all (and_parts (test Deprecated) _ all).0)
+  where
+    at_place : (codes : List DiagnosticCode) (n : ℕ) → IsTrue (list_all test codes) → IsTrue (test Deprecated)
+        → IsTrue (test (slice_index_or codes n Deprecated))
+    at_place [] n all other = other
+    at_place (d ∷ ds) zero all other = (and_parts (test d) (list_all test ds) all).0
+    at_place (d ∷ ds) (suc n) all other = at_place ds n ((and_parts (test d) (list_all test ds) all).1) other
+
 same_number : (a b : DiagnosticCode) → diagnostic_code_number a ≡ diagnostic_code_number b → a ≡ b
 same_number a b e = sym (code_at-number a) ∙ (ap code_at e ∙ code_at-number b)
 
@@ -139,52 +165,17 @@ license_code_cmp-exact a b e =
 place_of : List ℕ → ℕ
 place_of word = position_or_len (λ other. bytes_eq other word) (map diagnostic_code_name all_codes)
 
+-- a word stands at the number of its code
+is_placed : DiagnosticCode → Bool
+is_placed code = place_of (diagnostic_code_name code) == diagnostic_code_number code
+
+all_placed : (code : DiagnosticCode) → IsTrue (is_placed code)
+unfolding is_placed place_of code_name license_code_name diagnostic_code_number code_number license_code_number
+all_placed code = each_code is_placed refl code
+
 place_of-name : (code : DiagnosticCode) → place_of (diagnostic_code_name code) ≡ diagnostic_code_number code
-unfolding place_of all_codes code_name license_code_name diagnostic_code_number code_number license_code_number
-place_of-name Deprecated = refl
-place_of-name (Bans bans.Banned) = refl
-place_of-name (Bans bans.Allowed) = refl
-place_of-name (Bans bans.NotAllowed) = refl
-place_of-name (Bans bans.Duplicate) = refl
-place_of-name (Bans bans.Skipped) = refl
-place_of-name (Bans bans.Wildcard) = refl
-place_of-name (Bans bans.UnmatchedSkip) = refl
-place_of-name (Bans bans.UnnecessarySkip) = refl
-place_of-name (Bans bans.AllowedByWrapper) = refl
-place_of-name (Bans bans.UnmatchedWrapper) = refl
-place_of-name (Bans bans.SkippedByRoot) = refl
-place_of-name (Bans bans.UnmatchedSkipRoot) = refl
-place_of-name (Bans bans.BuildScriptNotAllowed) = refl
-place_of-name (Bans bans.ExactFeaturesMismatch) = refl
-place_of-name (Bans bans.FeatureNotExplicitlyAllowed) = refl
-place_of-name (Bans bans.FeatureBanned) = refl
-place_of-name (Bans bans.UnknownFeature) = refl
-place_of-name (Bans bans.DefaultFeatureEnabled) = refl
-place_of-name (Bans bans.PathBypassed) = refl
-place_of-name (Bans bans.PathBypassedByGlob) = refl
-place_of-name (Bans bans.ChecksumMatch) = refl
-place_of-name (Bans bans.ChecksumMismatch) = refl
-place_of-name (Bans bans.DeniedByExtension) = refl
-place_of-name (Bans bans.DetectedExecutable) = refl
-place_of-name (Bans bans.DetectedExecutableScript) = refl
-place_of-name (Bans bans.UnableToCheckPath) = refl
-place_of-name (Bans bans.FeaturesEnabled) = refl
-place_of-name (Bans bans.UnmatchedBypass) = refl
-place_of-name (Bans bans.UnmatchedPathBypass) = refl
-place_of-name (Bans bans.UnmatchedGlob) = refl
-place_of-name (Bans bans.UnusedWrapper) = refl
-place_of-name (Bans bans.WorkspaceDuplicate) = refl
-place_of-name (Bans bans.UnresolvedWorkspaceDependency) = refl
-place_of-name (Bans bans.UnusedWorkspaceDependency) = refl
-place_of-name (Bans bans.ReplacedInStd) = refl
-place_of-name (Bans bans.UnmatchedReplacementIgnore) = refl
-place_of-name (License license.Accepted) = refl
-place_of-name (License license.Rejected) = refl
-place_of-name (License license.Unlicensed) = refl
-place_of-name (License license.ParseError) = refl
-place_of-name (License license.SkippedPrivateWorkspaceCrate) = refl
-place_of-name (License license.LicenseNotEncountered) = refl
-place_of-name (License license.LicenseExceptionNotEncountered) = refl
+unfolding is_placed
+place_of-name code = eqb-true _ _ (all_placed code)
 
 pub same_word : (a b : DiagnosticCode) → diagnostic_code_name a ≡ diagnostic_code_name b → a ≡ b
 same_word a b e = same_number a b (sym (place_of-name a) ∙ (ap place_of e ∙ place_of-name b))

@@ -6,3 +6,4 @@ pub mod KeyOrder
 pub mod Level
 pub mod LicenseCode
 pub mod Marks
+pub mod Rule

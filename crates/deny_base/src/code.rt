@@ -4,11 +4,13 @@ ghost use Rattle.std.specs.Cmp.{IsTotalOrder, nat_cmp_total, on_total, on_per, o
 ghost use Rattle.std.proofs.Common.{rules};
 ghost use Rattle.std.specs.FinMap.{IsAntisymmetric};
 ghost use Rattle.deny_base.specs.Code.{code_name, code_number, code_cmp, diagnostic_code_name, diagnostic_code_number, diagnostic_code_cmp};
+ghost use Rattle.deny_base.specs.Code.{bans_unused_kind, bans_is_of_path, unused_kind, is_of_path};
 ghost use Rattle.deny_base.specs.LicenseCode.{license_code_cmp};
 ghost use Rattle.deny_base.specs.declared.code.Code.{Code};
 ghost use Rattle.deny_base.specs.declared.code.DiagnosticCode.{DiagnosticCode};
 ghost use Rattle.deny_base.specs.declared.license_code.LicenseCode.{LicenseCode};
 
+use crate::entry::EntryKind;
 use crate::license_code::LicenseCode;
 use deny_lists::Plain;
 use std::cmp::Ordering;
@@ -112,6 +114,94 @@ impl Code {
     {
         self as u8
     }
+
+    /// The kind of entry that a finding of this code says came to nothing, if it says so of one.
+    pub fn unused_kind(self) -> Option<EntryKind>
+        ensures { result ≡ bans_unused_kind self }
+    {
+        match self {
+            Code::UnmatchedSkip => Some(EntryKind::Skip),
+            Code::UnmatchedSkipRoot => Some(EntryKind::SkipRoot),
+            Code::UnusedWrapper => Some(EntryKind::Wrapper),
+            Code::UnmatchedBypass => Some(EntryKind::Bypass),
+            Code::UnmatchedPathBypass => Some(EntryKind::BypassPath),
+            Code::UnmatchedGlob => Some(EntryKind::BypassGlob),
+            Code::UnmatchedReplacementIgnore => Some(EntryKind::ReplacementIgnore),
+            Code::Banned
+            | Code::Allowed
+            | Code::NotAllowed
+            | Code::Duplicate
+            | Code::Skipped
+            | Code::Wildcard
+            | Code::UnnecessarySkip
+            | Code::AllowedByWrapper
+            | Code::UnmatchedWrapper
+            | Code::SkippedByRoot
+            | Code::BuildScriptNotAllowed
+            | Code::ExactFeaturesMismatch
+            | Code::FeatureNotExplicitlyAllowed
+            | Code::FeatureBanned
+            | Code::UnknownFeature
+            | Code::DefaultFeatureEnabled
+            | Code::PathBypassed
+            | Code::PathBypassedByGlob
+            | Code::ChecksumMatch
+            | Code::ChecksumMismatch
+            | Code::DeniedByExtension
+            | Code::DetectedExecutable
+            | Code::DetectedExecutableScript
+            | Code::UnableToCheckPath
+            | Code::FeaturesEnabled
+            | Code::WorkspaceDuplicate
+            | Code::UnresolvedWorkspaceDependency
+            | Code::UnusedWorkspaceDependency
+            | Code::ReplacedInStd => None,
+        }
+    }
+
+    /// Whether a finding of this code is about a file of a package, or about an entry for one.
+    pub fn is_of_path(self) -> bool
+        ensures { result ≡ bans_is_of_path self }
+    {
+        match self {
+            Code::PathBypassed
+            | Code::PathBypassedByGlob
+            | Code::ChecksumMatch
+            | Code::ChecksumMismatch
+            | Code::DeniedByExtension
+            | Code::DetectedExecutable
+            | Code::DetectedExecutableScript
+            | Code::UnableToCheckPath
+            | Code::FeaturesEnabled
+            | Code::UnmatchedBypass
+            | Code::UnmatchedPathBypass
+            | Code::UnmatchedGlob => true,
+            Code::Banned
+            | Code::Allowed
+            | Code::NotAllowed
+            | Code::Duplicate
+            | Code::Skipped
+            | Code::Wildcard
+            | Code::UnmatchedSkip
+            | Code::UnnecessarySkip
+            | Code::AllowedByWrapper
+            | Code::UnmatchedWrapper
+            | Code::SkippedByRoot
+            | Code::UnmatchedSkipRoot
+            | Code::BuildScriptNotAllowed
+            | Code::ExactFeaturesMismatch
+            | Code::FeatureNotExplicitlyAllowed
+            | Code::FeatureBanned
+            | Code::UnknownFeature
+            | Code::DefaultFeatureEnabled
+            | Code::UnusedWrapper
+            | Code::WorkspaceDuplicate
+            | Code::UnresolvedWorkspaceDependency
+            | Code::UnusedWorkspaceDependency
+            | Code::ReplacedInStd
+            | Code::UnmatchedReplacementIgnore => false,
+        }
+    }
 }
 
 impl fmt::Display for Code {
@@ -197,6 +287,28 @@ impl DiagnosticCode {
                 let last = Code::UnmatchedReplacementIgnore.number();
                 2 + u32::from(last) + u32::from(code.number())
             },
+        }
+    }
+
+    /// The kind of entry that a finding of this code says came to nothing, if it says so of one.
+    pub fn unused_kind(self) -> Option<EntryKind>
+        ensures { result ≡ unused_kind self }
+    {
+        match self {
+            DiagnosticCode::Deprecated => None,
+            DiagnosticCode::Bans(code) => code.unused_kind(),
+            DiagnosticCode::License(code) => code.unused_kind(),
+        }
+    }
+
+    /// Whether a finding of this code is about a file of a package, or about an entry for one.
+    #[tactic(auto, unfolding(crate::specs::Code::is_of_path))]
+    pub fn is_of_path(self) -> bool
+        ensures { result ≡ is_of_path self }
+    {
+        match self {
+            DiagnosticCode::Deprecated | DiagnosticCode::License(_) => false,
+            DiagnosticCode::Bans(code) => code.is_of_path(),
         }
     }
 }

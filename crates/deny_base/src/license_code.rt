@@ -2,8 +2,9 @@ ghost use Rattle.std.specs.Prelude.{◌≡◌, ◌==◌, Some, refl};
 ghost use Rattle.std.specs.Ordering.{nat_cmp, on};
 ghost use Rattle.std.specs.Cmp.{nat_cmp_total, on_total, on_per, on_equiv, nat_eq_equiv, partial_equiv_from_equiv, partial_order_from_own_ties, partial_order_from_total, unsigned_ties};
 ghost use Rattle.std.proofs.Common.{rules};
-ghost use Rattle.deny_base.specs.LicenseCode.{license_code_name, license_code_number, license_code_cmp};
+ghost use Rattle.deny_base.specs.LicenseCode.{license_code_name, license_code_number, license_code_cmp, license_unused_kind};
 
+use crate::entry::EntryKind;
 use deny_lists::Plain;
 use std::cmp::Ordering;
 use std::fmt;
@@ -47,6 +48,21 @@ impl LicenseCode {
         ensures { result ≡ license_code_number self }
     {
         self as u8
+    }
+
+    /// The kind of entry that a finding of this code says came to nothing, if it says so of one.
+    pub fn unused_kind(self) -> Option<EntryKind>
+        ensures { result ≡ license_unused_kind self }
+    {
+        match self {
+            LicenseCode::LicenseNotEncountered => Some(EntryKind::LicenseAllow),
+            LicenseCode::LicenseExceptionNotEncountered => Some(EntryKind::LicenseException),
+            LicenseCode::Accepted
+            | LicenseCode::Rejected
+            | LicenseCode::Unlicensed
+            | LicenseCode::ParseError
+            | LicenseCode::SkippedPrivateWorkspaceCrate => None,
+        }
     }
 }
 
