@@ -3,6 +3,7 @@ use Rattle.std.proofs.Common.{◌≡◌, ◌++◌, ◌∷◌, ◌⊎◌, ℕ, Bo
 use Rattle.std.specs.List.{AllByRecursion, flat_map}
 use Rattle.std.specs.Option.{option_map_or}
 use Rattle.std.specs.Prelude.{Contains, IsTrue, map, if◌then◌else◌}
+use Rattle.deny_base.specs.Code.{is_of_builds}
 use Rattle.deny_base.specs.declared.code.Code.{Code}
 use Rattle.deny_base.specs.declared.code.Code.TheVariants as code
 use Rattle.deny_base.specs.declared.code.DiagnosticCode.TheVariants.{Deprecated}
@@ -24,6 +25,7 @@ use Rattle.deny_codes.specs.BuildScripts.{bypass_range, is_script_denied, is_scr
 use Rattle.deny_codes.specs.BuildScripts.{required_unknown, used, wanted_sum}
 use Rattle.deny_codes.specs.Circumstances.{Circumstances}
 use Rattle.deny_codes.specs.Codes.{is_of_bans}
+use Rattle.deny_codes.specs.EachCode.{StandsAs}
 use Rattle.deny_codes.specs.Facts.{Facts}
 use Rattle.deny_codes.specs.PackageFiles.{ChecksumMatch, ChecksumMismatch, Class, DeniedByExtension, DetectedExecutable}
 use Rattle.deny_codes.specs.PackageFiles.{DetectedExecutableScript, Harmless, PathBypassed, PathBypassedByGlob}
@@ -33,47 +35,7 @@ use Rattle.deny_codes.specs.Packages.{deprecated_key, deprecated_keys, deprecate
 use Rattle.deny_codes.specs.Packages.{file_keys, folder_key, looking, package_keys, package_of, path_key}
 use Rattle.deny_codes.specs.Packages.{right_script_keys, script_keys, script_shown, sum_keys, unmatched_bypass_keys}
 use Rattle.deny_codes.specs.Packages.{unmatched_glob_keys, unmatched_keys, unmatched_path_keys, walked_keys, walks}
-use Rattle.deny_codes.specs.Standing.{StandsAs}
 use Rattle.deny_codes.proofs.Made.{Made}
-
--- the codes that keys of builds bear
-abbrev pub is_of_builds : Code → Bool
-is_of_builds code.Banned = false
-is_of_builds code.Allowed = false
-is_of_builds code.NotAllowed = false
-is_of_builds code.Duplicate = false
-is_of_builds code.Skipped = false
-is_of_builds code.Wildcard = false
-is_of_builds code.UnmatchedSkip = false
-is_of_builds code.UnnecessarySkip = false
-is_of_builds code.AllowedByWrapper = false
-is_of_builds code.UnmatchedWrapper = false
-is_of_builds code.SkippedByRoot = false
-is_of_builds code.UnmatchedSkipRoot = false
-is_of_builds code.BuildScriptNotAllowed = true
-is_of_builds code.ExactFeaturesMismatch = false
-is_of_builds code.FeatureNotExplicitlyAllowed = false
-is_of_builds code.FeatureBanned = false
-is_of_builds code.UnknownFeature = true
-is_of_builds code.DefaultFeatureEnabled = false
-is_of_builds code.PathBypassed = true
-is_of_builds code.PathBypassedByGlob = true
-is_of_builds code.ChecksumMatch = true
-is_of_builds code.ChecksumMismatch = true
-is_of_builds code.DeniedByExtension = true
-is_of_builds code.DetectedExecutable = true
-is_of_builds code.DetectedExecutableScript = true
-is_of_builds code.UnableToCheckPath = true
-is_of_builds code.FeaturesEnabled = true
-is_of_builds code.UnmatchedBypass = true
-is_of_builds code.UnmatchedPathBypass = true
-is_of_builds code.UnmatchedGlob = true
-is_of_builds code.UnusedWrapper = false
-is_of_builds code.WorkspaceDuplicate = false
-is_of_builds code.UnresolvedWorkspaceDependency = false
-is_of_builds code.UnusedWorkspaceDependency = false
-is_of_builds code.ReplacedInStd = false
-is_of_builds code.UnmatchedReplacementIgnore = false
 
 -- of a crate, or of a bypass that comes to nothing
 abbrev pub ArePlaced : Section → Code → Type 0

@@ -22,7 +22,7 @@ use Rattle.deny_model.specs.VersionOrder.{version_cmp}
 use Rattle.deny_model.specs.View.{nothing_seen}
 use Rattle.deny_codes.specs.Circumstances.{seen_by, unseen_by}
 use Rattle.deny_codes.specs.Duplicates.{duplicate_told, lock_label, lock_labels, lock_lines}
-use Rattle.deny_codes.specs.Told.{words_as}
+use Rattle.deny_codes.specs.EachCode.{words_as}
 use Rattle.deny_codes.proofs.Cases.{skips_on_cases, all_count, app, crate, crate_of, edge, graph, one_x, plain, range}
 use Rattle.deny_codes.proofs.Cases.{spec_at, two_x}
 

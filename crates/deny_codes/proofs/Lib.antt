@@ -7,6 +7,7 @@ pub mod BuildScriptRows
 pub mod Cases
 pub mod CountingRows
 pub mod DuplicateRows
+pub mod EachCode
 pub mod FeatureRows
 pub mod Joined
 pub mod Kept

@@ -35,6 +35,7 @@ use Rattle.deny_model.specs.Licensing.{Exception, Licensing}
 use Rattle.deny_model.specs.Match.{matches}
 use Rattle.deny_model.specs.Told.{primary}
 use Rattle.deny_codes.specs.Circumstances.{Circumstances, licensed, unseen_by}
+use Rattle.deny_codes.specs.EachCode.{words_licensed}
 use Rattle.deny_codes.specs.Licences.{IsOfLicences, accepted_keys, allowance_hit, allows, asked_in, asked_of, bad_place}
 use Rattle.deny_codes.specs.Licences.{exception_hit, exception_not_encountered_keys, exception_of, excepts}
 use Rattle.deny_codes.specs.Licences.{expression_of, first_hit, grants_by_allowance, grants_by_exception, hits_by}
@@ -46,7 +47,7 @@ use Rattle.deny_codes.specs.Licences.{not_encountered_told, parse_error_told, re
 use Rattle.deny_codes.specs.Licences.{requirement_text, same_requirement, skipped_private_keys, skipped_private_told}
 use Rattle.deny_codes.specs.Licences.{unlicensed_keys, unlicensed_told}
 use Rattle.deny_codes.specs.Telling.{plainly}
-use Rattle.deny_codes.specs.Told.{diag_of, pack_of, pack_told, words_licensed}
+use Rattle.deny_codes.specs.Told.{diag_of, pack_of, pack_told}
 use Rattle.deny_codes.specs.declared.words.Words.{Words}
 use Rattle.deny_codes.proofs.Cases.{app, crate, edge, exactly, graph, on_cases, plain, range, spec_at}
 use Rattle.deny_codes.proofs.CountingRows.{tested, x_does_not, x_kept, y_kept}

@@ -9,13 +9,14 @@ use Rattle.deny_base.specs.declared.key.Key.{Key}
 use Rattle.deny_model.specs.Licensing.{Licensing}
 use Rattle.deny_codes.specs.Circumstances.{Circumstances, licensed}
 use Rattle.deny_codes.specs.Codes.{is_of_bans}
+use Rattle.deny_codes.specs.EachCode.{StandsAs, words_as}
 use Rattle.deny_codes.specs.Facts.{Facts}
 use Rattle.deny_codes.specs.PackagesTold.{bypassed_by_glob_told, checksum_match_told, checksum_mismatch_told}
 use Rattle.deny_codes.specs.PackagesTold.{denied_by_extension_told, detected_told, features_enabled_told, mismatch_note}
 use Rattle.deny_codes.specs.PackagesTold.{path_bypassed_told, script_denied_told, unable_to_check_told}
 use Rattle.deny_codes.specs.PackagesTold.{unmatched_glob_told, unmatched_path_told}
-use Rattle.deny_codes.specs.Standing.{StandsAs, StandsBy, StandsIn}
-use Rattle.deny_codes.specs.Told.{pack_of, pack_told, words_as, words_by}
+use Rattle.deny_codes.specs.Standing.{StandsBy, StandsIn}
+use Rattle.deny_codes.specs.Told.{pack_of, pack_told, words_by}
 use Rattle.deny_codes.proofs.Sections.{not_licensed}
 
 -- these hold at each code by itself: a code that reads what is said of licences is refused here

@@ -22,6 +22,7 @@ use Rattle.deny_model.specs.Graph.{Crate}
 use Rattle.deny_model.specs.Keys.{crate_key, no_span, unused_key}
 use Rattle.deny_model.specs.Told.{primary, secondary}
 use Rattle.deny_codes.specs.Circumstances.{Circumstances, built, unseen_by, with_packages}
+use Rattle.deny_codes.specs.EachCode.{words_as}
 use Rattle.deny_codes.specs.Features.{named_at, unknown_feature_told}
 use Rattle.deny_codes.specs.Packages.{deprecated_key, path_key}
 use Rattle.deny_codes.specs.PackagesTold.{bypassed_by_glob_told, checksum_match_told, checksum_mismatch_told}
@@ -31,7 +32,7 @@ use Rattle.deny_codes.specs.PackagesTold.{mismatch_severity, path_bypassed_told,
 use Rattle.deny_codes.specs.PackagesTold.{unable_to_check_told, unmatched_bypass_told, unmatched_glob_told}
 use Rattle.deny_codes.specs.PackagesTold.{unmatched_path_told}
 use Rattle.deny_codes.specs.Telling.{plainly}
-use Rattle.deny_codes.specs.Told.{words_as, words_told}
+use Rattle.deny_codes.specs.Told.{words_told}
 use Rattle.deny_codes.specs.declared.words.Words.{Words}
 use Rattle.deny_codes.proofs.Cases.{plain, range, words_at}
 use Rattle.deny_codes.proofs.BuildCases.{beside, builds_on_cases, bypass_of, featured, file_of, minding, one_sum}

@@ -11,9 +11,9 @@ use Rattle.deny_std_table.specs.Reading.{many, number}
 use Rattle.deny_std_table.specs.Region.{api, byte, counted_items, counts, group, group_head, items, replacement, text}
 use Rattle.deny_std_table.specs.Table.{table}
 use Rattle.deny_codes.specs.Circumstances.{Circumstances, tabled, unseen_by}
+use Rattle.deny_codes.specs.EachCode.{words_as}
 use Rattle.deny_codes.specs.Saying.{said_by, said_in}
 use Rattle.deny_codes.specs.StdReplacements.{replaced_key, replaced_keys_in}
-use Rattle.deny_codes.specs.Told.{words_as}
 use Rattle.deny_codes.proofs.Cases.{plain}
 use Rattle.deny_codes.proofs.StdReplacementRows.{f_by_g, one, plainly_replacing, replacing_on_cases, since}
 

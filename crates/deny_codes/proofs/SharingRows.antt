@@ -15,6 +15,7 @@ use Rattle.deny_model.specs.Policy.{Policy, Sharing}
 use Rattle.deny_model.specs.Told.{primary, secondary}
 use Rattle.deny_model.specs.View.{Declared, Manifest, View, WorkspaceEntry, nothing_seen}
 use Rattle.deny_codes.specs.Circumstances.{Circumstances, policy_alone, seen_in}
+use Rattle.deny_codes.specs.EachCode.{words_as}
 use Rattle.deny_codes.specs.Sharing.{all_uses, counts_here, entry_labels, entry_labels_in, is_duplicated, is_left_out}
 use Rattle.deny_codes.specs.Sharing.{is_unshared, is_use_of, none_shared, not_all_shared, patched_note}
 use Rattle.deny_codes.specs.Sharing.{renamed_entry_note, renamed_note, unshared_labels, unused_entry_key}
@@ -24,7 +25,6 @@ use Rattle.deny_codes.specs.Sharing.{uses_in, workspace_duplicate_keys, workspac
 use Rattle.deny_codes.specs.Sharing.{workspace_duplicate_keys_of, workspace_duplicate_labels}
 use Rattle.deny_codes.specs.Sharing.{workspace_duplicate_message, workspace_duplicate_told, workspace_duplicate_told_by}
 use Rattle.deny_codes.specs.Telling.{plainly}
-use Rattle.deny_codes.specs.Told.{words_as}
 use Rattle.deny_codes.proofs.Cases.{app, plain, range}
 use Rattle.deny_codes.proofs.ManifestCases.{any_version, behind, entry_from, entry_patched, entry_with_rename}
 use Rattle.deny_codes.proofs.ManifestCases.{manifest_in, manifests_on_cases, not_sharing_it, of_kind, one_version}

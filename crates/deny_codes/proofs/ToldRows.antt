@@ -26,10 +26,11 @@ use Rattle.deny_codes.specs.AllowList.{allowed_told, not_allowed_told}
 use Rattle.deny_codes.specs.Bans.{allowed_by_wrapper_told, banned_told, unmatched_wrapper_told}
 use Rattle.deny_codes.specs.Circumstances.{Circumstances, seen_by, unseen_by}
 use Rattle.deny_codes.specs.Duplicates.{duplicate_told}
+use Rattle.deny_codes.specs.EachCode.{words_as}
 use Rattle.deny_codes.specs.SkippedTrees.{skipped_by_root_told, unmatched_skip_root_told}
 use Rattle.deny_codes.specs.Skips.{skipped_told, unmatched_skip_told, unnecessary_skip_told}
 use Rattle.deny_codes.specs.Telling.{plainly}
-use Rattle.deny_codes.specs.Told.{diag_of, pack_of, pack_told, words_as}
+use Rattle.deny_codes.specs.Told.{diag_of, pack_of, pack_told}
 use Rattle.deny_codes.specs.Wrappers.{unused_wrapper_told}
 use Rattle.deny_codes.proofs.Cases.{on_cases, all_count, ban_at, by_two, crate, edge, entry_at, exactly, graph}
 use Rattle.deny_codes.proofs.Cases.{not_the_first, plain, range, root_of, spec_at, two_x, with_id, words_at, x_1_x_2}

@@ -15,8 +15,8 @@ use Rattle.deny_model.specs.Policy.{Policy}
 use Rattle.deny_model.specs.Told.{primary, secondary}
 use Rattle.deny_model.specs.View.{Declared, View, nothing_seen}
 use Rattle.deny_codes.specs.Circumstances.{Circumstances, policy_alone, seen_in}
+use Rattle.deny_codes.specs.EachCode.{words_as}
 use Rattle.deny_codes.specs.Telling.{plainly}
-use Rattle.deny_codes.specs.Told.{words_as}
 use Rattle.deny_codes.specs.Wildcards.{is_allowed_path, is_asked, is_minded_in, is_shared, is_unresolved, is_wildcard}
 use Rattle.deny_codes.specs.Wildcards.{labels_of_wildcard, paths_sentence, shared_labels, unresolved_key}
 use Rattle.deny_codes.specs.Wildcards.{unresolved_keys, unresolved_keys_of, unresolved_labels, unresolved_labels_in}

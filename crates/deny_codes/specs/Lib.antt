@@ -4,6 +4,7 @@ pub mod BuildScripts
 pub mod Circumstances
 pub mod Codes
 pub mod Duplicates
+pub mod EachCode
 pub mod Facts
 pub mod Features
 pub mod FirstMatch

@@ -1,5 +1,6 @@
 ghost use Rattle.std.specs.Prelude.{◌≡◌, ◌++◌, Bool, IsTrue, List, Option};
 ghost use Rattle.deny_lists.specs.Ascending.{Lists};
+ghost use Rattle.deny_base.specs.Code.{asks_no_file};
 ghost use Rattle.deny_base.specs.KeyOrder.{key_cmp};
 ghost use Rattle.deny_base.specs.declared.key.Key.{Key};
 ghost use Rattle.deny_base.specs.declared.key.Section.{Section};
@@ -12,7 +13,7 @@ ghost use Rattle.deny_model.specs.View.{View};
 ghost use Rattle.deny_model.specs.Wrappers.{wraps};
 ghost use Rattle.deny_codes.specs.Bans.{bears_name};
 ghost use Rattle.deny_codes.specs.Circumstances.{Circumstances, licensed, seen_anew};
-ghost use Rattle.deny_codes.specs.Codes.{asks_no_file, is_of_bans, is_of_licenses, unseeing};
+ghost use Rattle.deny_codes.specs.Codes.{is_of_bans, is_of_licenses, unseeing};
 ghost use Rattle.deny_codes.specs.Facts.{Facts};
 ghost use Rattle.deny_codes.specs.FirstMatch.{first_of, is_first};
 ghost use Rattle.deny_codes.specs.Standing.{AreKeys, AreOwnKeys, ListsOwn, Stands, StandsIn};

@@ -9,6 +9,7 @@ use Rattle.std.proofs.lemmas.List.Elements.{Contains-append_cases, Contains-appe
 use Rattle.deny_lists.proofs.Each.{all_append, all_flat, all_mapped, all_from_members}
 use Rattle.deny_lists.proofs.Members.{Contains-first, Contains-flat_map, Contains-from_flat_map, Contains-rest}
 use Rattle.deny_lists.proofs.Members.{at_member, contains_map, filtered, no_member}
+use Rattle.deny_base.specs.Code.{bans_have_entry}
 use Rattle.deny_base.specs.declared.code.Code.{Code}
 use Rattle.deny_base.specs.declared.code.Code.TheVariants as code
 use Rattle.deny_base.specs.declared.code.DiagnosticCode.TheVariants.{Bans}
@@ -27,7 +28,6 @@ use Rattle.deny_model.specs.Policy as policy
 use Rattle.deny_codes.specs.BuildScripts.{bypass_range, has_sum, is_script_denied, is_script_right, required_enabled}
 use Rattle.deny_codes.specs.BuildScripts.{required_of, required_unknown, script_of, used, wanted_sum}
 use Rattle.deny_codes.specs.Circumstances.{Circumstances}
-use Rattle.deny_codes.specs.Codes.{bans_have_entry}
 use Rattle.deny_codes.specs.Facts.{Facts}
 use Rattle.deny_codes.specs.Features.{has_feature}
 use Rattle.deny_codes.specs.PackageFiles.{ByExtension, ByGlob, ByHeader, ByPath, BySum, ChecksumMatch, ChecksumMismatch}

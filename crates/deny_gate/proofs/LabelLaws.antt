@@ -45,6 +45,7 @@ use Rattle.deny_codes.specs.Bans.{allowed_by_wrapper_told, banned_told, unmatche
 use Rattle.deny_codes.specs.BuildScripts.{required_enabled, required_of, used}
 use Rattle.deny_codes.specs.Circumstances.{Circumstances}
 use Rattle.deny_codes.specs.Duplicates.{duplicate_told}
+use Rattle.deny_codes.specs.EachCode.{StandsAs, StandsLicensed, words_as, words_licensed}
 use Rattle.deny_codes.specs.Facts.{Facts}
 use Rattle.deny_codes.specs.Features.{banned_features, default_enabled_keys, default_enabled_keys_at}
 use Rattle.deny_codes.specs.Features.{default_enabled_keys_of, default_enabled_told, default_level, feature_banned_keys}
@@ -69,10 +70,10 @@ use Rattle.deny_codes.specs.PackagesTold.{unmatched_glob_told, unmatched_path_to
 use Rattle.deny_codes.specs.Saying.{Saying, said_by}
 use Rattle.deny_codes.specs.SkippedTrees.{skipped_by_root_told, unmatched_skip_root_told}
 use Rattle.deny_codes.specs.Skips.{skipped_told, unmatched_skip_told, unnecessary_skip_told}
-use Rattle.deny_codes.specs.Standing.{Stands, StandsAs, StandsBy, StandsLicensed}
+use Rattle.deny_codes.specs.Standing.{Stands, StandsBy}
 use Rattle.deny_codes.specs.StdReplacements.{ignore_labels, ignore_range, replaced_told, unmatched_ignore_told}
 use Rattle.deny_codes.specs.Telling.{not_built}
-use Rattle.deny_codes.specs.Told.{diag_of, words_as, words_by, words_licensed, words_told}
+use Rattle.deny_codes.specs.Told.{diag_of, words_by, words_told}
 use Rattle.deny_codes.specs.Wrappers.{unused_wrapper_keys, unused_wrapper_told}
 use Rattle.deny_codes.specs.declared.words.Words as finding
 use Rattle.deny_laws.proofs.Asking.{used_member}

@@ -6,6 +6,7 @@ use Rattle.std.specs.Prelude.{Contains, IsTrue, filter, is_some}
 use Rattle.std.specs.Cmp.{nat_cmp_total, on_total}
 use Rattle.std.specs.List.{AllZip}
 use Rattle.std.proofs.lemmas.List.Kept.{IsStrictlySortedBy-filter}
+use Rattle.deny_base.specs.Code.{asks_no_file}
 use Rattle.deny_base.specs.declared.edge.Edge.{Edge}
 use Rattle.deny_base.specs.declared.entry.Hit.{Hit}
 use Rattle.deny_base.specs.declared.files.File.{File}
@@ -30,7 +31,7 @@ use Rattle.deny_dup_edges.specs.DupEdges.{AreEdgesOf, IsSetOf, IsSimplest, Shows
 use Rattle.deny_dup_edges.specs.declared.dup_edges.DupEdges.{DupEdges}
 use Rattle.deny_dup_edges.specs.declared.dup_edges.DupSet.{DupSet}
 use Rattle.deny_codes.specs.Circumstances.{Circumstances, seen_anew}
-use Rattle.deny_codes.specs.Codes.{asks_no_file, unseeing}
+use Rattle.deny_codes.specs.Codes.{unseeing}
 use Rattle.deny_codes.specs.Hits.{both_hits}
 use Rattle.deny_codes.specs.Standing.{AreKeys}
 use Rattle.deny_codes.specs.Told.{check_told, diag_of, words_told}

@@ -23,11 +23,11 @@ use Rattle.deny_model.proofs.SpanLemmas.{same_span-true}
 use Rattle.deny_codes.specs.BuildScripts.{is_checked, is_minded, is_script_denied, is_script_ok, is_walked}
 use Rattle.deny_codes.specs.BuildScripts.{may_have_script, passes_by_script, script_of, used, wanted_sum}
 use Rattle.deny_codes.specs.Circumstances.{Circumstances}
+use Rattle.deny_codes.specs.EachCode.{words_as}
 use Rattle.deny_codes.specs.Facts.{Facts}
 use Rattle.deny_codes.specs.Packages.{Looking, build_keys_in, looking, package_of, walks}
 use Rattle.deny_codes.specs.PackagesTold.{checksum_mismatch_told, is_script_sum, is_sum_of_script, mismatch_severity}
 use Rattle.deny_codes.specs.Telling.{not_built}
-use Rattle.deny_codes.specs.Told.{words_as}
 use Rattle.deny_codes.specs.declared.words.Words.{Words}
 use Rattle.deny_laws.proofs.Asking.{used_member}
 use Rattle.deny_gate.specs.Report.{is_error}

@@ -65,6 +65,7 @@ use Rattle.deny_codes.specs.AllowList.{allowed_told}
 use Rattle.deny_codes.specs.Bans.{allowed_by_wrapper_told, unmatched_wrapper_told}
 use Rattle.deny_codes.specs.BuildScripts.{is_minded}
 use Rattle.deny_codes.specs.Circumstances.{Circumstances}
+use Rattle.deny_codes.specs.EachCode.{StandsAs, StandsLicensed, words_as, words_licensed}
 use Rattle.deny_codes.specs.Facts.{Facts}
 use Rattle.deny_codes.specs.Features.{default_enabled_told, default_level, default_severity, feature_banned_keys_of}
 use Rattle.deny_codes.specs.Features.{mismatched_keys_of, unknown_feature_told}
@@ -77,10 +78,10 @@ use Rattle.deny_codes.specs.Saying.{said_by}
 use Rattle.deny_codes.specs.Sharing.{unused_entry_keys_by, workspace_duplicate_keys_by}
 use Rattle.deny_codes.specs.SkippedTrees.{skipped_by_root_told, unmatched_skip_root_told}
 use Rattle.deny_codes.specs.Skips.{skipped_told, unmatched_skip_told, unnecessary_skip_told}
-use Rattle.deny_codes.specs.Standing.{StandsAs, StandsBy, StandsLicensed}
+use Rattle.deny_codes.specs.Standing.{StandsBy}
 use Rattle.deny_codes.specs.StdReplacements.{replaced_keys, unmatched_ignore_told}
 use Rattle.deny_codes.specs.Telling.{not_built}
-use Rattle.deny_codes.specs.Told.{words_as, words_by, words_licensed}
+use Rattle.deny_codes.specs.Told.{words_by}
 use Rattle.deny_codes.specs.Wildcards.{unresolved_told, wildcard_told}
 use Rattle.deny_codes.specs.Wrappers.{unused_wrapper_told}
 use Rattle.deny_codes.specs.declared.words.Words.{Words}

@@ -19,6 +19,7 @@ use Rattle.deny_codes.specs.AllowList.{allowed_told}
 use Rattle.deny_codes.specs.Bans.{allowed_by_wrapper_told, banned_told, unmatched_wrapper_told}
 use Rattle.deny_codes.specs.Circumstances.{Circumstances}
 use Rattle.deny_codes.specs.Duplicates.{duplicate_told}
+use Rattle.deny_codes.specs.EachCode.{words_as, words_licensed}
 use Rattle.deny_codes.specs.Features.{default_enabled_told, default_level, default_severity, feature_banned_told}
 use Rattle.deny_codes.specs.Features.{feature_not_allowed_told, mismatched_told, unknown_feature_told}
 use Rattle.deny_codes.specs.Licences.{not_encountered_told, not_encountered_told_in, rejected_told, rejected_told_in}
@@ -33,7 +34,7 @@ use Rattle.deny_codes.specs.SkippedTrees.{skipped_by_root_told}
 use Rattle.deny_codes.specs.Skips.{skipped_told, unmatched_skip_told, unnecessary_skip_told}
 use Rattle.deny_codes.specs.StdReplacements.{replaced_told, unmatched_ignore_told}
 use Rattle.deny_codes.specs.Telling.{not_built}
-use Rattle.deny_codes.specs.Told.{words_as, words_by, words_licensed, words_told}
+use Rattle.deny_codes.specs.Told.{words_by, words_told}
 use Rattle.deny_codes.specs.Wildcards.{wildcard_told}
 use Rattle.deny_codes.specs.declared.words.Words.{Words}
 use Rattle.deny_laws.specs.Removal.{cut_building, cut_licensing, cut_replacing, without_in}

@@ -4,6 +4,7 @@ use Rattle.std.proofs.Common.{◌≡◌, ◌∙◌, Bool, false, List, Option, N
 use Rattle.std.specs.Prelude.{◌&&◌, IsTrue, filter}
 use Rattle.deny_lists.proofs.Agreement.{filter_on}
 use Rattle.deny_lists.proofs.Filters.{filter-filter}
+use Rattle.deny_base.specs.Code.{asks_no_file, is_free}
 use Rattle.deny_base.specs.declared.code.Code.{Code}
 use Rattle.deny_base.specs.declared.code.Code.TheVariants as code
 use Rattle.deny_base.specs.declared.code.DiagnosticCode.{DiagnosticCode}
@@ -15,10 +16,12 @@ use Rattle.deny_base.specs.declared.license_code.LicenseCode.TheVariants as lice
 use Rattle.deny_model.specs.Graph.{Graph}
 use Rattle.deny_model.specs.Licensing.{Licensing}
 use Rattle.deny_codes.specs.Circumstances.{Circumstances}
-use Rattle.deny_codes.specs.Codes.{asks_no_file, is_free, is_of_licenses, unseeing}
+use Rattle.deny_codes.specs.Codes.{is_of_licenses, unseeing}
+use Rattle.deny_codes.specs.EachCode.{StandsLicensed}
 use Rattle.deny_codes.specs.Facts.{Facts}
-use Rattle.deny_codes.specs.Standing.{StandsBy, StandsIn, StandsLicensed}
-use Rattle.deny_codes.proofs.Sections.{as_code, as_deprecated, two_checks}
+use Rattle.deny_codes.specs.Standing.{StandsBy, StandsIn}
+use Rattle.deny_codes.proofs.EachCode.{as_code}
+use Rattle.deny_codes.proofs.Sections.{as_deprecated, two_checks}
 use Rattle.deny_dup_edges.specs.DupEdges.{is_duplicate, is_of_duplicate}
 
 -- ---- what asks nothing of files

@@ -8,6 +8,7 @@ use Rattle.std.proofs.lemmas.List.Kept.{IsStrictlySortedBy-filter}
 use Rattle.std.proofs.lemmas.Option.{none-some, same_Some}
 use Rattle.deny_lists.proofs.Members.{Contains-filter, Contains-filter_map, from_filter_map, filtered, passes_filter}
 use Rattle.deny_lists.proofs.Sorted.{one_ascending}
+use Rattle.deny_base.specs.Code.{asks_no_file, bans_unused_kind, is_free, unused_kind}
 use Rattle.deny_base.proofs.EntryEqual.{entry_cmp-total}
 use Rattle.deny_base.specs.declared.code.Code.{Code}
 use Rattle.deny_base.specs.declared.code.Code.TheVariants as code
@@ -17,7 +18,7 @@ use Rattle.deny_base.specs.declared.entry.EntryId.{EntryId}
 use Rattle.deny_base.specs.declared.entry.EntryKind.{EntryKind}
 use Rattle.deny_base.specs.declared.entry.Hit.{Hit}
 use Rattle.deny_base.specs.declared.key.Key.{Key}
-use Rattle.deny_codes.specs.Codes.{asks_no_file, bans_unused_kind, is_free, unseeing, unused_kind}
+use Rattle.deny_codes.specs.Codes.{unseeing}
 use Rattle.deny_laws.specs.Dead.{AreDead, IsDead, unused_entry}
 use Rattle.deny_gate.specs.Unseeing.{is_free_kind, unseeing_entries, unseeing_hits}
 

@@ -31,9 +31,10 @@ use Rattle.deny_codes.specs.Bans.{banned_keys, banned_told}
 use Rattle.deny_codes.specs.AllowList.{not_allowed_told}
 use Rattle.deny_codes.specs.Circumstances.{Circumstances}
 use Rattle.deny_codes.specs.Duplicates.{duplicate_told}
+use Rattle.deny_codes.specs.EachCode.{words_as}
 use Rattle.deny_codes.specs.Facts.{Facts}
 use Rattle.deny_codes.specs.Standing.{Stands, StandsBy}
-use Rattle.deny_codes.specs.Told.{diag_of, words_as, words_by}
+use Rattle.deny_codes.specs.Told.{diag_of, words_by}
 use Rattle.deny_codes.proofs.Made.{banned_made, duplicate_made, not_allowed_made}
 use Rattle.deny_gate.specs.Report.{finding_told, has_error, is_error}
 use Rattle.deny_gate.proofs.Beside.{listed_from, listed_to}

@@ -1,10 +1,10 @@
 -- What of a report asks nothing of files, so that it is the same whatever was seen of them.
 use Rattle.std.specs.Prelude.{Bool, true, false, List, filter}
+use Rattle.deny_base.specs.Code.{asks_no_file}
 use Rattle.deny_base.specs.declared.entry.EntryId.{EntryId}
 use Rattle.deny_base.specs.declared.entry.EntryKind.{EntryKind}
 use Rattle.deny_base.specs.declared.entry.EntryKind.TheVariants as kind
 use Rattle.deny_base.specs.declared.entry.Hit.{Hit}
-use Rattle.deny_codes.specs.Codes.{asks_no_file}
 use Rattle.deny_gate.specs.declared.report.Finding.{Finding}
 
 -- findings, by their codes

@@ -2,92 +2,22 @@
 ghost use Rattle.std.specs.Prelude.{◌≡◌, IfOk, filter_map, map};
 ghost use Rattle.std.specs.List.Sorted.{IsStrictlySortedBy};
 ghost use Rattle.deny_base.specs.Entry.{entry_cmp};
-ghost use Rattle.deny_codes.specs.Codes.{bans_unused_kind, license_unused_kind, unused_kind};
 ghost use Rattle.deny_laws.specs.Dead.{AreDead, unused_entry};
 ghost use Rattle.deny_gate.specs.Dead.{dead_entry, is_among};
 ghost use Rattle.deny_gate.specs.Hits.{entry_of, hit_cmp};
 ghost use Rattle.deny_gate.specs.Report.{keys_in};
 
 use crate::report::Finding;
-use deny_base::{Code, DiagnosticCode, EntryId, EntryKind, Hit, Key, LicenseCode, entry_order};
+use deny_base::{EntryId, Hit, Key, entry_order};
 use deny_lists::{List, NoMemory, put_in_order};
 use std::alloc::Global;
-
-/// The kind of entry that a finding of the bans check says came to nothing.
-fn bans_unused_kind(code: Code) -> Option<EntryKind>
-    ensures { result ≡ bans_unused_kind code }
-{
-    match code {
-        Code::UnmatchedSkip => Some(EntryKind::Skip),
-        Code::UnmatchedSkipRoot => Some(EntryKind::SkipRoot),
-        Code::UnusedWrapper => Some(EntryKind::Wrapper),
-        Code::UnmatchedBypass => Some(EntryKind::Bypass),
-        Code::UnmatchedPathBypass => Some(EntryKind::BypassPath),
-        Code::UnmatchedGlob => Some(EntryKind::BypassGlob),
-        Code::UnmatchedReplacementIgnore => Some(EntryKind::ReplacementIgnore),
-        Code::Banned
-        | Code::Allowed
-        | Code::NotAllowed
-        | Code::Duplicate
-        | Code::Skipped
-        | Code::Wildcard
-        | Code::UnnecessarySkip
-        | Code::AllowedByWrapper
-        | Code::UnmatchedWrapper
-        | Code::SkippedByRoot
-        | Code::BuildScriptNotAllowed
-        | Code::ExactFeaturesMismatch
-        | Code::FeatureNotExplicitlyAllowed
-        | Code::FeatureBanned
-        | Code::UnknownFeature
-        | Code::DefaultFeatureEnabled
-        | Code::PathBypassed
-        | Code::PathBypassedByGlob
-        | Code::ChecksumMatch
-        | Code::ChecksumMismatch
-        | Code::DeniedByExtension
-        | Code::DetectedExecutable
-        | Code::DetectedExecutableScript
-        | Code::UnableToCheckPath
-        | Code::FeaturesEnabled
-        | Code::WorkspaceDuplicate
-        | Code::UnresolvedWorkspaceDependency
-        | Code::UnusedWorkspaceDependency
-        | Code::ReplacedInStd => None,
-    }
-}
-
-/// The same of a finding of the licence check.
-fn license_unused_kind(code: LicenseCode) -> Option<EntryKind>
-    ensures { result ≡ license_unused_kind code }
-{
-    match code {
-        LicenseCode::LicenseNotEncountered => Some(EntryKind::LicenseAllow),
-        LicenseCode::LicenseExceptionNotEncountered => Some(EntryKind::LicenseException),
-        LicenseCode::Accepted
-        | LicenseCode::Rejected
-        | LicenseCode::Unlicensed
-        | LicenseCode::ParseError
-        | LicenseCode::SkippedPrivateWorkspaceCrate => None,
-    }
-}
-
-fn unused_kind(code: DiagnosticCode) -> Option<EntryKind>
-    ensures { result ≡ unused_kind code }
-{
-    match code {
-        DiagnosticCode::Deprecated => None,
-        DiagnosticCode::Bans(code) => bans_unused_kind(code),
-        DiagnosticCode::License(code) => license_unused_kind(code),
-    }
-}
 
 /// The entry that a key names as unused.
 #[tactic(auto, unfolding(deny_laws::specs::Dead::unused_entry))]
 fn unused_entry(key: &Key) -> Option<EntryId>
     ensures { result ≡ unused_entry key.now }
 {
-    let kind = unused_kind(key.code)?;
+    let kind = key.code.unused_kind()?;
     Some(EntryId {
         kind,
         range: key.entry,

@@ -17,11 +17,12 @@ use Rattle.deny_base.specs.declared.key.Key.{Key}
 use Rattle.deny_build_model.specs.Building.{Building}
 use Rattle.deny_model.specs.Hits.{all_hits}
 use Rattle.deny_codes.specs.Circumstances.{Circumstances}
+use Rattle.deny_codes.specs.EachCode.{StandsAs}
 use Rattle.deny_codes.specs.Facts.{Facts, AreFacts}
 use Rattle.deny_codes.specs.Hits.{hits_in}
 use Rattle.deny_codes.specs.Packages.{build_keys, build_keys_in, bypass_hits, bypass_hits_in, deprecated_keys}
 use Rattle.deny_codes.specs.Packages.{deprecated_keys_in, looking}
-use Rattle.deny_codes.specs.Standing.{StandsAs, StandsBy, Stands}
+use Rattle.deny_codes.specs.Standing.{StandsBy, Stands}
 use Rattle.deny_codes.specs.StdReplacements.{ignore_hits_in}
 use Rattle.deny_laws.specs.BypassRemoval.{AreUnhitBypasses, BypassesStay, without_bypasses_in}
 use Rattle.deny_laws.specs.Removal.{AreGone, cut_building, names, names_as, unnaming}

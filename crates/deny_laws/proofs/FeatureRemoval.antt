@@ -5,12 +5,12 @@ use Rattle.deny_base.specs.declared.code.Code.TheVariants as code
 use Rattle.deny_base.specs.declared.key.Key.{Key}
 use Rattle.deny_model.specs.Policy.{Ban, Entry, Policy, Replacing, Root}
 use Rattle.deny_codes.specs.Circumstances.{Circumstances}
+use Rattle.deny_codes.specs.EachCode.{StandsAs}
 use Rattle.deny_codes.specs.Facts.{Facts}
 use Rattle.deny_codes.specs.Features.{default_enabled_keys_at, default_enabled_keys_of, default_level}
 use Rattle.deny_codes.specs.Features.{has_default_apart, is_default_told, is_mismatch_told, is_mismatched, is_unlisted}
 use Rattle.deny_codes.specs.Features.{mismatched_keys_of, minds_default, tells_unknown, unknown_feature_keys_at}
 use Rattle.deny_codes.specs.Features.{unknown_feature_keys_of, unknown_features, unlisted}
-use Rattle.deny_codes.specs.Standing.{StandsAs}
 
 -- the codes of the rules on features
 abbrev pub is_of_features : Code → Bool

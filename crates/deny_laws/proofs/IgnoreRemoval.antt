@@ -33,13 +33,14 @@ use Rattle.deny_model.specs.Wrappers.{hits_wrapper, is_hit_wrapper, same_span, u
 use Rattle.deny_model.proofs.SpanLemmas.{same_span-itself}
 use Rattle.deny_codes.specs.Bans.{allowed_by_wrapper_keys, banned_keys, unmatched_wrapper_keys}
 use Rattle.deny_codes.specs.Circumstances.{Circumstances}
+use Rattle.deny_codes.specs.EachCode.{StandsAs}
 use Rattle.deny_codes.specs.Facts.{Facts, AreFacts}
 use Rattle.deny_codes.specs.FirstMatch.{first_of, is_first}
 use Rattle.deny_codes.specs.Hits.{hits_in}
 use Rattle.deny_codes.specs.Packages.{bypass_hits_in}
 use Rattle.deny_codes.specs.Saying.{Saying, said_by}
 use Rattle.deny_codes.specs.SkippedTrees.{skipped_by_root_keys}
-use Rattle.deny_codes.specs.Standing.{StandsAs, StandsBy, Stands}
+use Rattle.deny_codes.specs.Standing.{StandsBy, Stands}
 use Rattle.deny_codes.specs.StdReplacements.{counting_version, hits_ignore, ignore_hit, ignore_hits, ignore_hits_in}
 use Rattle.deny_codes.specs.StdReplacements.{ignore_of, ignore_range, ignores, is_hit_ignore, is_replaced}
 use Rattle.deny_codes.specs.StdReplacements.{is_told_replaced, is_unmatched_ignore, looks_at_none, may_replace}

@@ -34,6 +34,7 @@ use Rattle.deny_model.specs.Licensing.{Exception, Licensing}
 use Rattle.deny_model.specs.Wrappers.{same_span}
 use Rattle.deny_model.proofs.SpanLemmas.{same_span-itself}
 use Rattle.deny_codes.specs.Circumstances.{Circumstances}
+use Rattle.deny_codes.specs.EachCode.{StandsAs, StandsLicensed}
 use Rattle.deny_codes.specs.Facts.{Facts, AreFacts}
 use Rattle.deny_codes.specs.FirstMatch.{first_of, is_first}
 use Rattle.deny_codes.specs.Hits.{TellsLicensed}
@@ -45,7 +46,7 @@ use Rattle.deny_codes.specs.Licences.{is_looked_at, is_passed_over, is_rejected,
 use Rattle.deny_codes.specs.Licences.{is_unreadable, keys_where, licence_hits, license_key, licensed_key}
 use Rattle.deny_codes.specs.Licences.{not_encountered_keys, parse_error_keys, rejected_keys, skipped_private_keys}
 use Rattle.deny_codes.specs.Licences.{unlicensed_keys}
-use Rattle.deny_codes.specs.Standing.{StandsAs, StandsBy, StandsLicensed, Stands}
+use Rattle.deny_codes.specs.Standing.{StandsBy, Stands}
 use Rattle.deny_codes.proofs.Kept.{fails_if_gone, filter_map_kept, find_none_on, guarded, told_kept}
 use Rattle.deny_codes.proofs.Licensed.{code_back, code_there}
 use Rattle.deny_laws.specs.LicenceRemoval.{AreUnhitLicences, LicencesStay, without_licences_in}

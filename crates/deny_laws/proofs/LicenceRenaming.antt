@@ -24,6 +24,7 @@ use Rattle.deny_model.specs.Graph.{Crate, Graph, kid_of}
 use Rattle.deny_model.specs.Hits.{hit_of}
 use Rattle.deny_model.specs.Licensing.{Exception, Licensing}
 use Rattle.deny_model.specs.Match.{matches}
+use Rattle.deny_codes.specs.EachCode.{StandsLicensed}
 use Rattle.deny_codes.specs.FirstMatch.{is_first}
 use Rattle.deny_codes.specs.Licences.{Asked, accepted_keys, allowance_hit, allowance_range, allows, asked_in, asked_of}
 use Rattle.deny_codes.specs.Licences.{exception_hit, exception_not_encountered_keys, exception_of, exception_range}
@@ -32,7 +33,6 @@ use Rattle.deny_codes.specs.Licences.{hits_by, holds, is_accepted, is_granted, i
 use Rattle.deny_codes.specs.Licences.{is_rejected, is_skipped_private, is_unlicensed, is_unreadable, keys_where}
 use Rattle.deny_codes.specs.Licences.{licence_hits, license_key, licensed_key, not_encountered_keys, parse_error_keys}
 use Rattle.deny_codes.specs.Licences.{rejected_keys, skipped_private_keys, unlicensed_keys}
-use Rattle.deny_codes.specs.Standing.{StandsLicensed}
 use Rattle.deny_laws.specs.Renaming.{KeepsLicencesApart, Renaming, renamed_allowance, renamed_as, renamed_exception}
 use Rattle.deny_laws.specs.Renaming.{renamed_hit, renamed_licensing}
 use Rattle.deny_laws.proofs.Anew.{any_anew, crate_hit_anew, filter_map_anew, keys_back, keys_there, none_anew, ranged}

@@ -9,8 +9,8 @@ use Rattle.deny_base.specs.declared.key.Key.{Key}
 use Rattle.deny_model.specs.Graph.{Crate}
 use Rattle.deny_model.specs.Policy.{Ban, Entry, Policy, Replacing, Root}
 use Rattle.deny_codes.specs.Circumstances.{Circumstances}
+use Rattle.deny_codes.specs.EachCode.{StandsAs}
 use Rattle.deny_codes.specs.Facts.{Facts}
-use Rattle.deny_codes.specs.Standing.{StandsAs}
 use Rattle.deny_codes.specs.Wildcards.{is_allowed_path, is_asked, is_minded_in, unresolved_keys, wildcard_keys}
 use Rattle.deny_codes.specs.Wildcards.{wildcards_in}
 use Rattle.deny_codes.proofs.WildcardLemmas.{AskAlike, same_unresolved_keys, same_wildcard_keys}

@@ -16,13 +16,14 @@ use Rattle.deny_model.specs.Skips.{unmatched_skip_keys, unmatched_skip_root_keys
 use Rattle.deny_codes.specs.AllowList.{allowed_keys}
 use Rattle.deny_codes.specs.Bans.{allowed_by_wrapper_keys, banned_keys, unmatched_wrapper_keys}
 use Rattle.deny_codes.specs.Circumstances.{Circumstances}
+use Rattle.deny_codes.specs.EachCode.{StandsAs}
 use Rattle.deny_codes.specs.Facts.{Facts, AreFacts}
 use Rattle.deny_codes.specs.Features.{default_enabled_keys, feature_banned_keys, mismatched_keys, unknown_feature_keys}
 use Rattle.deny_codes.specs.Hits.{hits_in}
 use Rattle.deny_codes.specs.Packages.{build_keys_in, bypass_hits_in, deprecated_keys_in}
 use Rattle.deny_codes.specs.SkippedTrees.{skipped_by_root_keys}
 use Rattle.deny_codes.specs.Skips.{skipped_keys}
-use Rattle.deny_codes.specs.Standing.{StandsAs, StandsBy, Stands}
+use Rattle.deny_codes.specs.Standing.{StandsBy, Stands}
 use Rattle.deny_codes.specs.StdReplacements.{ignore_hits_in, replaced_keys_in, unmatched_ignore_keys_in}
 use Rattle.deny_codes.specs.Wildcards.{unresolved_keys, wildcard_keys}
 use Rattle.deny_codes.specs.Wrappers.{unused_wrapper_keys, wrapper_hits_of}

@@ -37,11 +37,12 @@ use Rattle.deny_model.specs.VersionOrder.{version_cmp}
 use Rattle.deny_model.specs.Wrappers.{hits_wrapper, is_hit_wrapper, unused_wrapper_keys_of}
 use Rattle.deny_codes.specs.Bans.{allowed_by_wrapper_keys, banned_keys, unmatched_wrapper_keys}
 use Rattle.deny_codes.specs.Circumstances.{Circumstances}
+use Rattle.deny_codes.specs.EachCode.{StandsAs}
 use Rattle.deny_codes.specs.Facts.{Facts, AreFacts}
 use Rattle.deny_codes.specs.Packages.{bypass_hits_in}
 use Rattle.deny_codes.specs.SkippedTrees.{skipped_by_root_keys}
 use Rattle.deny_codes.specs.Skips.{skipped_keys}
-use Rattle.deny_codes.specs.Standing.{StandsAs, StandsBy, Stands}
+use Rattle.deny_codes.specs.Standing.{StandsBy, Stands}
 use Rattle.deny_codes.specs.StdReplacements.{ignore_hits_in}
 use Rattle.deny_codes.specs.Wrappers.{unused_wrapper_keys, wrapper_hits_of}
 use Rattle.deny_codes.specs.Wildcards.{is_asked}

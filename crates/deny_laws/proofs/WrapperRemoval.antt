@@ -38,11 +38,12 @@ use Rattle.deny_model.specs.Skips.{unmatched_skip_keys, unnecessary_skip_keys}
 use Rattle.deny_model.proofs.SpanLemmas.{same_span-itself}
 use Rattle.deny_codes.specs.Bans.{allowed_by_wrapper_keys, banned_keys, bears_name, unmatched_wrapper_keys}
 use Rattle.deny_codes.specs.Circumstances.{Circumstances}
+use Rattle.deny_codes.specs.EachCode.{StandsAs}
 use Rattle.deny_codes.specs.Facts.{Facts, AreFacts}
 use Rattle.deny_codes.specs.FirstMatch.{first_of}
 use Rattle.deny_codes.specs.Packages.{bypass_hits_in}
 use Rattle.deny_codes.specs.SkippedTrees.{skipped_by_root_keys}
-use Rattle.deny_codes.specs.Standing.{StandsAs, StandsBy, Stands}
+use Rattle.deny_codes.specs.Standing.{StandsBy, Stands}
 use Rattle.deny_codes.specs.StdReplacements.{ignore_hits_in}
 use Rattle.deny_codes.specs.Wrappers.{unused_wrapper_keys, wrapper_hits_of}
 use Rattle.deny_codes.specs.Wildcards.{is_asked}

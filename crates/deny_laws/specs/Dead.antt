@@ -1,6 +1,7 @@
 -- Dead entries: those that a finding names as unused and that nothing hits.
 use Rattle.std.specs.Prelude.{◌≡◌, ◌≢◌, ◌⊎◌, Bool, List, Option, Contains, filter_map, option_map}
 use Rattle.deny_lists.specs.Ascending.{Lists}
+use Rattle.deny_base.specs.Code.{unused_kind}
 use Rattle.deny_base.specs.Entry.{entry_cmp}
 use Rattle.deny_base.specs.KeyOrder.{key_cmp}
 use Rattle.deny_base.specs.declared.entry.EntryId.{EntryId}
@@ -12,7 +13,6 @@ use Rattle.deny_base.specs.declared.key.Key.{Key}
 use Rattle.deny_model.specs.Graph.{Crate}
 use Rattle.deny_model.specs.Policy.{Policy}
 use Rattle.deny_codes.specs.Circumstances.{Circumstances}
-use Rattle.deny_codes.specs.Codes.{unused_kind}
 use Rattle.deny_codes.specs.Facts.{Facts, AreFacts}
 use Rattle.deny_codes.specs.Hits.{TellsLicensed, both_hits}
 use Rattle.deny_codes.specs.Standing.{Stands}

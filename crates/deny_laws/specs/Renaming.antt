@@ -1,5 +1,6 @@
 -- Ranges of a policy in whose place others stand, as where its text is printed anew, and what that comes to.
 use Rattle.std.specs.Prelude.{◌≡◌, ℕ, Bool, List, Contains, Option, Some, if◌then◌else◌, map, option_map}
+use Rattle.deny_base.specs.Code.{has_entry}
 use Rattle.deny_base.specs.declared.code.DiagnosticCode.{DiagnosticCode}
 use Rattle.deny_base.specs.declared.entry.EntryId.{EntryId}
 use Rattle.deny_base.specs.declared.entry.Hit.{Hit}
@@ -15,7 +16,6 @@ use Rattle.deny_model.specs.Policy as policy
 use Rattle.deny_model.specs.Policy.{Ban, Entry, FeatureEntry, Policy, Replacing, Root, Spec}
 use Rattle.deny_codes.specs.BuildScripts.{bypass_range}
 use Rattle.deny_codes.specs.Circumstances.{Circumstances}
-use Rattle.deny_codes.specs.Codes.{has_entry}
 use Rattle.deny_codes.specs.Facts.{Facts, AreFacts}
 use Rattle.deny_codes.specs.Hits.{hits_in, licence_hits_in}
 use Rattle.deny_codes.specs.Licences.{allowance_range, exception_range}

@@ -31,14 +31,16 @@ use Rattle.deny_model.specs.Graph.{Crate, Graph}
 use Rattle.deny_model.specs.Licensing.{Exception, Licensing}
 use Rattle.deny_codes.specs.Circumstances.{Circumstances}
 use Rattle.deny_codes.specs.Codes.{is_of_licenses}
+use Rattle.deny_codes.specs.EachCode.{StandsLicensed}
 use Rattle.deny_codes.specs.Facts.{Facts}
 use Rattle.deny_codes.specs.Licences.{Asked, IsByCounting, TellsCounting, allowance_range}
 use Rattle.deny_codes.specs.Licences.{exception_not_encountered_keys, exception_range, grants_by_allowance}
 use Rattle.deny_codes.specs.Licences.{grants_by_exception, hits_by, is_hit_by, is_looked_at, keys_where, license_key}
 use Rattle.deny_codes.specs.Licences.{licensed_key, not_encountered_keys}
-use Rattle.deny_codes.specs.Standing.{ListsOwn, StandsBy, StandsIn, StandsLicensed}
+use Rattle.deny_codes.specs.Standing.{ListsOwn, StandsBy, StandsIn}
 use Rattle.deny_codes.proofs.Parts.{lists_append, lists_same}
-use Rattle.deny_codes.proofs.Sections.{as_code, as_deprecated, two_checks}
+use Rattle.deny_codes.proofs.EachCode.{as_code}
+use Rattle.deny_codes.proofs.Sections.{as_deprecated, two_checks}
 use Rattle.deny_facts.specs.Placed.{ArePlaced}
 use Rattle.deny_krates.proofs.PlaceLemmas.{place_of}
 use Rattle.deny_licenses.specs.Check.{of_licences}

@@ -21,13 +21,14 @@ use Rattle.deny_model.specs.Graph.{Crate, Graph, crate_text, kid_of}
 use Rattle.deny_model.specs.Licensing.{Licensing}
 use Rattle.deny_model.specs.Told.{crate_at}
 use Rattle.deny_codes.specs.Circumstances.{Circumstances}
+use Rattle.deny_codes.specs.EachCode.{words_licensed}
 use Rattle.deny_codes.specs.Licences.{Asked, TellsCounting, accepted_told, asked_in, asked_of, bad_place}
 use Rattle.deny_codes.specs.Licences.{exception_not_encountered_told, expression_in, expression_of, holds, is_granted}
 use Rattle.deny_codes.specs.Licences.{is_licensed, is_passed_over, licence_text, licensed_key}
 use Rattle.deny_codes.specs.Licences.{not_encountered_told, parse_error_told, rejected_notes, rejected_told}
 use Rattle.deny_codes.specs.Licences.{skipped_private_told, unlicensed_told, with_text}
 use Rattle.deny_codes.specs.Telling.{plainly}
-use Rattle.deny_codes.specs.Told.{pack_of, pack_told, words_licensed}
+use Rattle.deny_codes.specs.Told.{pack_of, pack_told}
 use Rattle.deny_codes.specs.declared.words.Words.{Words}
 use Rattle.deny_facts.specs.Placed.{ArePlaced}
 use Rattle.deny_krates.proofs.PlaceLemmas.{place_of}

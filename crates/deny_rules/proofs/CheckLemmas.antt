@@ -8,6 +8,7 @@ use Rattle.std.specs.Option.{option_map_or}
 use Rattle.std.specs.List.Sorted.{IsStrictlySortedBy}
 use Rattle.std.specs.Prelude.{IsTrue, filter}
 use Rattle.deny_lists.specs.Ascending.{Lists}
+use Rattle.deny_base.specs.Code.{is_told_here}
 use Rattle.deny_base.specs.KeyOrder.{key_cmp}
 use Rattle.deny_base.specs.declared.code.Code.{Code}
 use Rattle.deny_base.specs.declared.code.Code.TheVariants as code
@@ -30,7 +31,7 @@ use Rattle.deny_codes.proofs.Made.{replaced_made, unmatched_ignore_made}
 use Rattle.deny_dup_edges.specs.DupEdges.{is_duplicate, is_of_duplicate}
 use Rattle.deny_std.specs.Found.{IsOfStd}
 use Rattle.deny_std.specs.declared.replacements.Replacements.{Replacements}
-use Rattle.deny_telling.specs.Here.{AreToldHere, is_told_here}
+use Rattle.deny_telling.specs.Here.{AreToldHere}
 use Rattle.deny_telling.specs.Telling.{TellsPrefix}
 use Rattle.deny_telling.proofs.TableLemmas.{told_untabled}
 use Rattle.deny_rules.proofs.StdLastLemmas.{rules_here}

@@ -14,9 +14,10 @@ use Rattle.deny_base.specs.declared.key.Section.TheVariants as section
 use Rattle.deny_model.specs.Duplicates.{IsDuplicate}
 use Rattle.deny_codes.specs.Circumstances.{Circumstances}
 use Rattle.deny_codes.specs.Codes.{is_of_bans}
+use Rattle.deny_codes.specs.EachCode.{StandsAs}
 use Rattle.deny_codes.specs.Facts.{Facts}
 use Rattle.deny_codes.specs.Packages.{build_keys_in}
-use Rattle.deny_codes.specs.Standing.{ListsOwn, StandsAs, StandsBy, StandsIn}
+use Rattle.deny_codes.specs.Standing.{ListsOwn, StandsBy, StandsIn}
 use Rattle.deny_lists.proofs.Adding.{adds_then}
 use Rattle.deny_lists.proofs.Members.{Contains-flat_map, Contains-from_flat_map, at_member}
 use Rattle.deny_codes.proofs.BuildMade.{build_made, deprecated_made}

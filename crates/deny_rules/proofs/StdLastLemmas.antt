@@ -6,7 +6,8 @@ use Rattle.std.specs.List.{AllByRecursion, flat_map}
 use Rattle.std.specs.Option.{option_map_or}
 use Rattle.std.specs.Prelude.{Contains, IsTrue, None, Option, Some, filter, not}
 use Rattle.std.specs.declared.cmp.Ordering.TheVariants.{Less}
-use Rattle.deny_base.specs.Code.{code_number, diagnostic_code_cmp, diagnostic_code_number, section_cmp, section_number}
+use Rattle.deny_base.specs.Code.{code_number, diagnostic_code_cmp, diagnostic_code_number, is_of_builds, is_told_here}
+use Rattle.deny_base.specs.Code.{section_cmp, section_number}
 use Rattle.deny_base.specs.KeyOrder.{key_cmp}
 use Rattle.deny_base.specs.declared.code.Code.{Code}
 use Rattle.deny_base.specs.declared.code.Code.TheVariants as code
@@ -37,7 +38,7 @@ use Rattle.deny_codes.specs.StdReplacements.{unmatched_ignore_keys_in}
 use Rattle.deny_codes.specs.Wrappers.{unused_wrapper_keys}
 use Rattle.deny_lists.proofs.Members.{Contains-from_flat_map, at_member, from_contains_map, no_member}
 use Rattle.deny_lists.proofs.Orders.{then-less}
-use Rattle.deny_codes.proofs.BuildMade.{MadeDeprecated, MadeOfBuilds, build_made, deprecated_made, is_of_builds}
+use Rattle.deny_codes.proofs.BuildMade.{MadeDeprecated, MadeOfBuilds, build_made, deprecated_made}
 use Rattle.deny_codes.proofs.Made.{Made, allowed_by_wrapper_made, allowed_made, banned_made, default_enabled_made}
 use Rattle.deny_codes.proofs.Made.{duplicate_made, feature_banned_made, feature_not_allowed_made, mismatched_made}
 use Rattle.deny_codes.proofs.Made.{not_allowed_made, replaced_made, skipped_by_root_made, skipped_made}
@@ -46,7 +47,6 @@ use Rattle.deny_codes.proofs.Made.{unused_entry_made, wildcard_made, workspace_d
 use Rattle.deny_features.specs.FeatureKeys.{IsOfFeatures}
 use Rattle.deny_manifest_rules.specs.ManifestKeys.{IsOfManifests}
 use Rattle.deny_std.specs.Found.{IsOfStd}
-use Rattle.deny_telling.specs.Here.{is_told_here}
 use Rattle.deny_rules.proofs.BuildSections.{key_of_crates}
 use Rattle.deny_crate_rules.specs.Rules.{ban_rules, keys_of_rules, skip_rules}
 use Rattle.deny_rules.specs.private.OwnRules.{IsByRule, IsOfBuilds}

@@ -19,11 +19,12 @@ use Rattle.deny_model.specs.Graph.{Graph}
 use Rattle.deny_model.specs.Keys.{key_of}
 use Rattle.deny_model.specs.Policy.{Replacing}
 use Rattle.deny_codes.specs.Circumstances.{Circumstances}
+use Rattle.deny_codes.specs.EachCode.{words_as}
 use Rattle.deny_codes.specs.Saying.{Saying, said_by, said_in}
 use Rattle.deny_codes.specs.StdReplacements.{ignore_at, replaced_key, replaced_keys, replaced_told}
 use Rattle.deny_codes.specs.StdReplacements.{unmatched_ignore_keys, unmatched_ignore_told}
 use Rattle.deny_codes.specs.Telling.{not_built}
-use Rattle.deny_codes.specs.Told.{pack_of, pack_told, words_as}
+use Rattle.deny_codes.specs.Told.{pack_of, pack_told}
 use Rattle.deny_std.specs.Found.{IsFoundIn, IsOfStd, TellsStd, TellsStdPrefix}
 use Rattle.deny_std.specs.declared.replacements.Replacements.{Replacements}
 use Rattle.deny_std.specs.declared.told.Unmatched.{Unmatched}

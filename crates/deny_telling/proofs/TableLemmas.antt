@@ -1,20 +1,22 @@
 -- What is told here of a key asks no table of replacements.
 use Rattle.std.proofs.Common.{◌≡◌, ap, List, map, refl, ℕ}
 use Rattle.std.specs.Prelude.{IsTrue}
+use Rattle.deny_base.specs.Code.{is_told_here}
 use Rattle.deny_base.specs.declared.code.Code.{Code}
 use Rattle.deny_base.specs.declared.code.Code.TheVariants as code
 use Rattle.deny_base.specs.declared.code.DiagnosticCode.{DiagnosticCode}
 use Rattle.deny_base.specs.declared.code.DiagnosticCode.TheVariants.{Deprecated, Bans, License}
 use Rattle.deny_base.specs.declared.key.Key.{Key}
 use Rattle.deny_codes.specs.Circumstances.{Circumstances, tabled}
+use Rattle.deny_codes.specs.EachCode.{words_as}
 use Rattle.deny_codes.specs.PackagesTold.{bypassed_by_glob_told, checksum_match_told, checksum_mismatch_told}
 use Rattle.deny_codes.specs.PackagesTold.{denied_by_extension_told, detected_told, features_enabled_told, mismatch_note}
 use Rattle.deny_codes.specs.PackagesTold.{path_bypassed_told, script_denied_told, unable_to_check_told}
 use Rattle.deny_codes.specs.PackagesTold.{unmatched_glob_told, unmatched_path_told}
-use Rattle.deny_codes.specs.Told.{pack_of, pack_told, words_as, words_by}
+use Rattle.deny_codes.specs.Told.{pack_of, pack_told, words_by}
 use Rattle.deny_lists.proofs.Agreement.{map_on}
 use Rattle.std.proofs.lemmas.List.Elements.{All-contains}
-use Rattle.deny_telling.specs.Here.{AreToldHere, is_told_here}
+use Rattle.deny_telling.specs.Here.{AreToldHere}
 
 words_as_untabled : (d : Code) (c : Circumstances) (table : List ℕ) (key : Key) → IsTrue (is_told_here (Bans d))
     → words_as d (tabled c table) key ≡ words_as d c key

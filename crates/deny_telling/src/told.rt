@@ -1,11 +1,13 @@
 //! What a report tells of each key, code by code.
 ghost use Rattle.std.specs.Prelude.{◌≡◌, ◌++◌, IfOk, IsTrue, OnErr, OnOk, map};
+ghost use Rattle.deny_base.specs.Code.{bans_told_here, is_told_here};
 ghost use Rattle.deny_build_told.specs.AtHand.{IsAtHand};
 ghost use Rattle.deny_cfg.specs.PolicyView.{policy_view};
-ghost use Rattle.deny_codes.specs.Told.{check_told, diag_of, pack_of, pack_told, words_as, words_licensed, words_told};
+ghost use Rattle.deny_codes.specs.EachCode.{words_as, words_licensed};
+ghost use Rattle.deny_codes.specs.Told.{check_told, diag_of, pack_of, pack_told, words_told};
 ghost use Rattle.deny_manifest_rules.specs.Uses.{AreUses};
 ghost use Rattle.deny_spans.specs.SpansView.{AreSpansOf, spans_view};
-ghost use Rattle.deny_telling.specs.Here.{AreToldHere, bans_told_here, is_told_here};
+ghost use Rattle.deny_telling.specs.Here.{AreToldHere};
 ghost use Rattle.deny_telling.specs.Telling.{TellsPrefix};
 ghost use Rattle.deny_telling.specs.private.Teller.{told_from};
 ghost use Rattle.deny_told.specs.Told.{told_by};
@@ -101,7 +103,7 @@ fn tell(alloc: Global, teller: &Teller<'_>, at: &AtHand<'_>, key: &Key) -> Resul
     pack_of(alloc, key, words)
 }
 
-#[tactic(auto, unfolding(deny_codes::specs::Told::words_licensed))]
+#[tactic(auto, unfolding(deny_codes::specs::EachCode::words_licensed))]
 fn words_told(
     alloc: Global,
     teller: &Teller<'_>,
@@ -128,7 +130,7 @@ fn words_told(
     }
 }
 
-#[tactic(auto, unfolding(deny_codes::specs::Told::words_as))]
+#[tactic(auto, unfolding(deny_codes::specs::EachCode::words_as))]
 fn words_as(
     alloc: Global,
     teller: &Teller<'_>,

@@ -4,14 +4,14 @@ ghost use Rattle.std.specs.Option.{option_to_list};
 ghost use Rattle.deny_lists.specs.Reader.{Answers};
 ghost use Rattle.deny_krates.specs.Nodes.{node_at, nodes_of};
 ghost use Rattle.deny_trees.specs.Once.{ShowsOnce};
-ghost use Rattle.deny_trees.specs.Shown.{bans_is_of_path, crate_shown, depth_shown, graphs_shown, is_of_path};
+ghost use Rattle.deny_trees.specs.Shown.{crate_shown, depth_shown, graphs_shown};
 ghost use Rattle.deny_trees.specs.Tree.{graph_at, graph_of};
 
 use crate::apart::{let_go, push_tree};
 use crate::build::tree_of;
 use crate::node::GraphNode;
 use crate::shown::krate_inner;
-use deny_base::{Code, Diag, DiagnosticCode, Kid};
+use deny_base::{Diag, Kid};
 use deny_krates::{Krates, NodeId};
 use deny_lists::{List, NoMemory};
 use std::alloc::Global;
@@ -77,7 +77,7 @@ pub fn graphs_of(
     if !diag.graph_nodes.as_slice().is_empty() {
         return trees_of(alloc, grapher.krates, most, diag.graph_nodes.as_slice());
     }
-    let shown = crate_shown(alloc, is_of_path(diag.key.code), kid)?;
+    let shown = crate_shown(alloc, diag.key.code.is_of_path(), kid)?;
     trees_of(alloc, grapher.krates, most, shown.as_slice())
 }
 
@@ -199,58 +199,4 @@ fn crate_shown(
         })?;
     }
     Ok(shown)
-}
-
-// Whether a finding is about a file of a package, or about an entry for one.
-#[tactic(auto, unfolding(crate::specs::Shown::is_of_path))]
-fn is_of_path(code: DiagnosticCode) -> bool
-    ensures { result ≡ is_of_path code }
-{
-    match code {
-        DiagnosticCode::Deprecated | DiagnosticCode::License(_) => false,
-        DiagnosticCode::Bans(code) => bans_is_of_path(code),
-    }
-}
-
-fn bans_is_of_path(code: Code) -> bool
-    ensures { result ≡ bans_is_of_path code }
-{
-    match code {
-        Code::PathBypassed
-        | Code::PathBypassedByGlob
-        | Code::ChecksumMatch
-        | Code::ChecksumMismatch
-        | Code::DeniedByExtension
-        | Code::DetectedExecutable
-        | Code::DetectedExecutableScript
-        | Code::UnableToCheckPath
-        | Code::FeaturesEnabled
-        | Code::UnmatchedBypass
-        | Code::UnmatchedPathBypass
-        | Code::UnmatchedGlob => true,
-        Code::Banned
-        | Code::Allowed
-        | Code::NotAllowed
-        | Code::Duplicate
-        | Code::Skipped
-        | Code::Wildcard
-        | Code::UnmatchedSkip
-        | Code::UnnecessarySkip
-        | Code::AllowedByWrapper
-        | Code::UnmatchedWrapper
-        | Code::SkippedByRoot
-        | Code::UnmatchedSkipRoot
-        | Code::BuildScriptNotAllowed
-        | Code::ExactFeaturesMismatch
-        | Code::FeatureNotExplicitlyAllowed
-        | Code::FeatureBanned
-        | Code::UnknownFeature
-        | Code::DefaultFeatureEnabled
-        | Code::UnusedWrapper
-        | Code::WorkspaceDuplicate
-        | Code::UnresolvedWorkspaceDependency
-        | Code::UnusedWorkspaceDependency
-        | Code::ReplacedInStd
-        | Code::UnmatchedReplacementIgnore => false,
-    }
 }

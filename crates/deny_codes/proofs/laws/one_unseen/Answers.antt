@@ -2,12 +2,13 @@ use Rattle.std.proofs.Common.{List}
 use Rattle.std.specs.Prelude.{IsTrue}
 use Rattle.deny_lists.specs.Ascending.{Lists}
 use Rattle.deny_lists.proofs.Sorted.{one_list}
+use Rattle.deny_base.specs.Code.{asks_no_file}
 use Rattle.deny_base.specs.KeyOrder.{key_cmp}
 use Rattle.deny_base.specs.declared.key.Key.{Key}
 use Rattle.deny_build_model.specs.declared.package.Package.{Package}
 use Rattle.deny_model.specs.View.{View}
 use Rattle.deny_codes.specs.Circumstances.{Circumstances, seen_anew}
-use Rattle.deny_codes.specs.Codes.{asks_no_file, unseeing}
+use Rattle.deny_codes.specs.Codes.{unseeing}
 use Rattle.deny_codes.specs.Facts.{Facts, AreFacts}
 use Rattle.deny_codes.specs.Standing.{AreKeys, Stands}
 use Rattle.deny_codes.proofs.Agreement.{stands_alike}

@@ -2,11 +2,12 @@ use Rattle.std.proofs.Common.{◌≡◌, ◌∙◌, ℕ, List, [], ◌∷◌, tr
 use Rattle.std.proofs.Common.{length}
 use Rattle.std.specs.Prelude.{◌==◌, filter_map, option_copied}
 use Rattle.std.proofs.lemmas.List.{nil_from_length}
+use Rattle.deny_base.specs.Code.{is_of_path}
 use Rattle.deny_base.specs.declared.finding.Diag.{Diag}
 use Rattle.deny_base.specs.declared.finding.GraphNode as base
 use Rattle.deny_base.specs.declared.span.Kid.{Kid}
 use Rattle.deny_model.specs.Graph.{Graph}
-use Rattle.deny_trees.specs.Shown.{crate_shown, depth_shown, graphs_shown, is_of_path, or_else, shown_nodes}
+use Rattle.deny_trees.specs.Shown.{crate_shown, depth_shown, graphs_shown, or_else, shown_nodes}
 use Rattle.deny_trees.specs.Tree.{graph_of}
 use Rattle.deny_trees.specs.declared.node.GraphNode.{GraphNode}
 use Rattle.deny_trees.proofs.graphs.graphs_of.Goals as goal
