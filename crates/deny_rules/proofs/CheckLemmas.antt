@@ -34,7 +34,7 @@ use Rattle.deny_std.specs.declared.replacements.Replacements.{Replacements}
 use Rattle.deny_telling.specs.Here.{AreToldHere}
 use Rattle.deny_telling.specs.Telling.{TellsPrefix}
 use Rattle.deny_telling.proofs.TableLemmas.{told_untabled}
-use Rattle.deny_rules.proofs.StdLastLemmas.{rules_here}
+use Rattle.deny_rules.proofs.OwnRuleLemmas.{rules_here}
 use Rattle.deny_rules.proofs.StdLemmas.{nothing_of_std}
 use Rattle.deny_rules.specs.private.OwnRules.{IsByRule}
 use Rattle.deny_rules.specs.private.Replaced.{IsFoundBy, IsFoundOf}

@@ -1,8 +1,16 @@
--- What stands in the sections of the bans check: what its rules give, a line a rule, and replaced crates.
-use Rattle.std.proofs.Common.{List, ◌++◌, ◌⊎◌, arith, inl, inr, refl, subst, sym, ℕ, ◌<◌, ◌≡◌}
-use Rattle.std.specs.List.{AllByRecursion}
-use Rattle.std.specs.Prelude.{Contains, IsTrue, length, slice_index_or}
+-- What stands in the sections of the bans check: what its rules give, a line a rule, and behind it replaced crates.
+use Rattle.std.proofs.Common.{◌≡◌, ◌<◌, ◌++◌, ◌⊎◌, ℕ, Bool, true, false, List, [], arith, inl, inr, refl, subst, sym}
+use Rattle.std.specs.List.{AllByRecursion, flat_map}
+use Rattle.std.specs.Option.{option_map_or}
+use Rattle.std.specs.Prelude.{◌||◌, Contains, IsTrue, None, Option, Some, filter, length, not, slice_index_or}
+use Rattle.std.specs.declared.cmp.Ordering.TheVariants.{Less}
+use Rattle.std.proofs.lemmas.Bool.{false≢true}
+use Rattle.std.proofs.lemmas.List.Elements.{Contains-append_cases}
 use Rattle.deny_lists.specs.Ascending.{Adds, Lists}
+use Rattle.deny_lists.proofs.Adding.{adds_then}
+use Rattle.deny_lists.proofs.Members.{Contains-flat_map, Contains-from_flat_map, at_member, no_member}
+use Rattle.deny_base.specs.Code.{code_number, diagnostic_code_cmp, diagnostic_code_number, is_of_builds, is_told_here}
+use Rattle.deny_base.specs.Code.{section_cmp, section_number}
 use Rattle.deny_base.specs.KeyOrder.{key_cmp}
 use Rattle.deny_base.specs.declared.code.Code.{Code}
 use Rattle.deny_base.specs.declared.code.Code.TheVariants as code
@@ -11,31 +19,48 @@ use Rattle.deny_base.specs.declared.code.DiagnosticCode.TheVariants.{Deprecated,
 use Rattle.deny_base.specs.declared.key.Key.{Key}
 use Rattle.deny_base.specs.declared.key.Section.{Section}
 use Rattle.deny_base.specs.declared.key.Section.TheVariants as section
+use Rattle.deny_base.proofs.CodeEqual.{each_code}
 use Rattle.deny_model.specs.Duplicates.{IsDuplicate}
+use Rattle.deny_build_model.specs.Building.{Building}
+use Rattle.deny_codes.specs.BuildScripts.{bypass_range}
 use Rattle.deny_codes.specs.Circumstances.{Circumstances}
 use Rattle.deny_codes.specs.Codes.{is_of_bans}
 use Rattle.deny_codes.specs.EachCode.{StandsAs}
 use Rattle.deny_codes.specs.Facts.{Facts}
-use Rattle.deny_codes.specs.Packages.{build_keys_in}
+use Rattle.deny_codes.specs.Packages.{build_keys_in, Looking, build_keys, is_used, looking, package_keys}
+use Rattle.deny_codes.specs.Packages.{unmatched_bypass_keys}
 use Rattle.deny_codes.specs.Standing.{ListsOwn, StandsBy, StandsIn}
-use Rattle.deny_lists.proofs.Adding.{adds_then}
-use Rattle.deny_lists.proofs.Members.{Contains-flat_map, Contains-from_flat_map, at_member}
-use Rattle.deny_codes.proofs.BuildMade.{build_made, deprecated_made}
+use Rattle.deny_codes.proofs.BuildMade.{build_made, deprecated_made, MadeOfBuilds}
 use Rattle.deny_codes.proofs.Made.{Made, allowed_by_wrapper_made, allowed_made, banned_made, default_enabled_made}
 use Rattle.deny_codes.proofs.Made.{duplicate_made, feature_banned_made, feature_not_allowed_made, mismatched_made}
 use Rattle.deny_codes.proofs.Made.{not_allowed_made, replaced_made, skipped_by_root_made, skipped_made}
-use Rattle.deny_codes.proofs.Made.{unknown_feature_made, unmatched_ignore_made, unmatched_skip_made}
-use Rattle.deny_codes.proofs.Made.{unmatched_skip_root_made, unmatched_wrapper_made, unnecessary_skip_made}
-use Rattle.deny_codes.proofs.Made.{unresolved_made, unused_entry_made, unused_wrapper_made, wildcard_made}
-use Rattle.deny_codes.proofs.Made.{workspace_duplicate_made}
+use Rattle.deny_codes.proofs.Made.{unknown_feature_made, unmatched_ignore_made, unmatched_wrapper_made, unresolved_made}
+use Rattle.deny_codes.proofs.Made.{unused_entry_made, wildcard_made, workspace_duplicate_made}
 use Rattle.deny_codes.proofs.Parts.{lists_append, lists_same}
 use Rattle.deny_codes.proofs.Sections.{not_licensed}
+use Rattle.deny_std.specs.Found.{IsOfStd}
 use Rattle.deny_features.specs.FeatureKeys.{IsOfFeatures}
 use Rattle.deny_manifest_rules.specs.ManifestKeys.{IsOfManifests}
-use Rattle.deny_std.specs.Found.{IsOfStd}
-use Rattle.deny_rules.proofs.StdLastLemmas.{rules_first}
 use Rattle.deny_crate_rules.specs.Rules.{ban_rules, keys_of_rules, skip_rules}
 use Rattle.deny_rules.specs.private.OwnRules.{IsByRule, IsOfBuilds}
+use Rattle.deny_rules.proofs.BuildSections.{key_of_crates}
+use Rattle.deny_rules.proofs.StdLastLemmas.{IsFirst, IsUnused, deprecated_first, of_section, of_unused, unmatched_roots}
+use Rattle.deny_rules.proofs.StdLastLemmas.{unmatched_skips, unnecessary_skips, unused_made, unused_map}
+use Rattle.deny_rules.proofs.StdLastLemmas.{unused_wrappers}
+
+-- the codes of builds are told beside the rules
+builds_told : DiagnosticCode → Bool
+builds_told Deprecated = true
+builds_told (Bans d) = not (is_of_builds d) || is_told_here (Bans d)
+builds_told (License d) = true
+
+both_hold : (a b : Bool) → (not a || b) ≡ true → a ≡ true → b ≡ true
+both_hold true b all is = all
+both_hold false b all is = absurd (false≢true is)
+
+told_of_builds : (d : Code) → is_of_builds d ≡ true → IsTrue (is_told_here (Bans d))
+unfolding builds_told
+told_of_builds d mine = both_hold (is_of_builds d) (is_told_here (Bans d)) (each_code builds_told refl (Bans d)) mine
 
 module _ (c : Circumstances) (facts : Facts) where
   abbrev IsOwn : Key → Type 0
@@ -52,95 +77,142 @@ module _ (c : Circumstances) (facts : Facts) where
     subst (λ (e : DiagnosticCode). StandsBy e c facts key) (sym made.code_is) is,
   )
 
-  -- what a rule gives stands
-  abbrev IsSound : List Key → Type 0
-  IsSound keys = (key : Key) → Contains keys key → IsOwn key
+  -- a key of a rule stands, is told beside the rules, and comes before what stands of replaced crates
+  abbrev IsSound : Key → Type 0
+  IsSound key = IsOwn key × IsFirst key
 
-  bans_sound : AllByRecursion IsSound (ban_rules c.policy c.graph)
+  abbrev AreSound : List Key → Type 0
+  AreSound keys = (key : Key) → Contains keys key → IsSound key
+
+  -- in a section before those of unused entries
+  sound_in : (s : Section) (d : Code) (key : Key) → IsTrue (is_of_bans s) → IsTrue (is_told_here (Bans d))
+      → section_cmp s section.Unused ≡ Less → section_cmp s section.Std ≡ Less → Made s d key
+      → StandsAs d c facts key → IsSound key
+  sound_in s d key mine here unused std made is = (own s d key mine made is, of_section s d key here unused std made)
+
+  of_crate : (d : Code) (key : Key) → IsTrue (is_told_here (Bans d)) → Made section.Crates d key
+      → StandsAs d c facts key → IsSound key
+  unfolding section_number
+  of_crate d key here made is = sound_in section.Crates d key refl here refl refl made is
+
+  -- or of an unused entry, before those of replaced crates
+  of_entry : (d : Code) (key : Key) → IsTrue (is_told_here (Bans d))
+      → diagnostic_code_cmp (Bans d) (Bans code.UnmatchedReplacementIgnore) ≡ Less → IsUnused d key
+      → StandsAs d c facts key → IsSound key
+  unfolding section_number
+  of_entry d key here below unused is =
+      (own section.Unused d key refl (unused_made d key unused) is, of_unused d key here below refl unused)
+
+  bans_sound : AllByRecursion AreSound (ban_rules c.policy c.graph)
+  unfolding code_number diagnostic_code_number
   bans_sound = (
-    λ key is. own section.Crates code.Banned key refl (banned_made c.policy c.graph key is) is,
+    λ key is. of_crate code.Banned key refl (banned_made c.policy c.graph key is) is,
     (
-      λ key is. own section.Crates code.AllowedByWrapper key refl (allowed_by_wrapper_made c.policy c.graph key is) is,
+      λ key is. of_crate code.AllowedByWrapper key refl (allowed_by_wrapper_made c.policy c.graph key is) is,
       (
-        λ key is. own section.Crates code.UnmatchedWrapper key refl (unmatched_wrapper_made c.policy c.graph key is) is,
+        λ key is. of_crate code.UnmatchedWrapper key refl (unmatched_wrapper_made c.policy c.graph key is) is,
         (
-          λ key is. own section.Unused code.UnusedWrapper key refl (unused_wrapper_made c.policy c.graph key is) is,
+          λ key is. of_entry code.UnusedWrapper key refl refl (unused_wrappers c.policy c.graph key is) is,
           (
-            λ key is. own section.Crates code.Allowed key refl (allowed_made c.policy c.graph key is) is,
-            (λ key is. own section.Crates code.NotAllowed key refl (not_allowed_made c.policy c.graph key is) is, tt),
+            λ key is. of_crate code.Allowed key refl (allowed_made c.policy c.graph key is) is,
+            (λ key is. of_crate code.NotAllowed key refl (not_allowed_made c.policy c.graph key is) is, tt),
           ),
         ),
       ),
     ),
   )
 
-  skips_sound : AllByRecursion IsSound (skip_rules c.policy c.graph facts.chains)
+  skips_sound : AllByRecursion AreSound (skip_rules c.policy c.graph facts.chains)
+  unfolding code_number diagnostic_code_number
   skips_sound = (
-    λ key is. own section.Crates code.Skipped key refl (skipped_made c.policy c.graph facts.chains key is) is,
+    λ key is. of_crate code.Skipped key refl (skipped_made c.policy c.graph facts.chains key is) is,
     (
-      λ key is. own section.Crates code.SkippedByRoot key refl
-          (skipped_by_root_made c.policy c.graph facts.chains key is) is,
+      λ key is. of_crate code.SkippedByRoot key refl (skipped_by_root_made c.policy c.graph facts.chains key is) is,
       (
-        λ key is. own section.Unused code.UnmatchedSkip key refl
-            (unmatched_skip_made c.policy c.graph facts.chains key is) is,
+        λ key is. of_entry code.UnmatchedSkip key refl refl (unmatched_skips c.policy c.graph facts.chains key is) is,
         (
-          λ key is. own section.Unused code.UnnecessarySkip key refl
-              (unnecessary_skip_made c.policy c.graph facts.chains key is) is,
-          (
-            λ key is. own section.Unused code.UnmatchedSkipRoot key refl
-                (unmatched_skip_root_made c.policy c.graph key is) is,
-            tt,
-          ),
+          λ key is. of_entry code.UnnecessarySkip key refl refl
+              (unnecessary_skips c.policy c.graph facts.chains key is) is,
+          (λ key is. of_entry code.UnmatchedSkipRoot key refl refl (unmatched_roots c.policy c.graph key is) is, tt),
         ),
       ),
     ),
   )
 
-  in_rules : (rules : List (List Key)) → AllByRecursion IsSound rules → (key : Key) → Contains (keys_of_rules rules) key
-      → IsOwn key
+  in_rules : (rules : List (List Key)) → AllByRecursion AreSound rules → (key : Key)
+      → Contains (keys_of_rules rules) key → IsSound key
   in_rules rules all key is =
       let from = Contains-from_flat_map (λ (keys : List Key). keys) rules key is in
-      at_member IsSound rules from.from all from.member key from.of
+      at_member AreSound rules from.from all from.member key from.of
 
-  features_sound : (key : Key) → IsOfFeatures c.policy c.graph key → IsOwn key
-  features_sound key (inl is) = own section.Crates code.ExactFeaturesMismatch key refl
+  duplicates_sound : (key : Key) → IsDuplicate c.policy c.graph facts.chains key → IsSound key
+  unfolding section_number
+  duplicates_sound key is = sound_in section.Groups code.Duplicate key refl refl refl refl
+      (duplicate_made c.policy c.graph facts.chains key is) is
+
+  features_sound : (key : Key) → IsOfFeatures c.policy c.graph key → IsSound key
+  features_sound key (inl is) = of_crate code.ExactFeaturesMismatch key refl
       (mismatched_made c.policy c.graph key is) is
-  features_sound key (inr (inl is)) = own section.Crates code.FeatureNotExplicitlyAllowed key refl
+  features_sound key (inr (inl is)) = of_crate code.FeatureNotExplicitlyAllowed key refl
       (feature_not_allowed_made c.policy c.graph key is) is
-  features_sound key (inr (inr (inl is))) = own section.Crates code.FeatureBanned key refl
+  features_sound key (inr (inr (inl is))) = of_crate code.FeatureBanned key refl
       (feature_banned_made c.policy c.graph key is) is
-  features_sound key (inr (inr (inr (inl is)))) = own section.Crates code.UnknownFeature key refl
+  features_sound key (inr (inr (inr (inl is)))) = of_crate code.UnknownFeature key refl
       (unknown_feature_made c.policy c.graph key is) (inl is)
-  features_sound key (inr (inr (inr (inr is)))) = own section.Crates code.DefaultFeatureEnabled key refl
+  features_sound key (inr (inr (inr (inr is)))) = of_crate code.DefaultFeatureEnabled key refl
       (default_enabled_made c.policy c.graph key is) is
 
-  manifests_sound : (key : Key) → IsOfManifests c.policy c.graph facts.chains c.view key → IsOwn key
-  manifests_sound key (inl is) = own section.Crates code.Wildcard key refl
+  manifests_sound : (key : Key) → IsOfManifests c.policy c.graph facts.chains c.view key → IsSound key
+  unfolding section_number
+  manifests_sound key (inl is) = of_crate code.Wildcard key refl
       (wildcard_made c.policy c.graph facts.chains c.view key is) is
-  manifests_sound key (inr (inl is)) = own section.Crates code.UnresolvedWorkspaceDependency key refl
+  manifests_sound key (inr (inl is)) = of_crate code.UnresolvedWorkspaceDependency key refl
       (unresolved_made c.policy c.graph facts.chains c.view key is) is
-  manifests_sound key (inr (inr (inl is))) = own section.Workspace code.WorkspaceDuplicate key refl
+  manifests_sound key (inr (inr (inl is))) = sound_in section.Workspace code.WorkspaceDuplicate key refl refl refl refl
       (workspace_duplicate_made c.graph c.view key c.policy is) is
-  manifests_sound key (inr (inr (inr is))) = own section.Workspace code.UnusedWorkspaceDependency key refl
-      (unused_entry_made c.policy c.view key is) is
+  manifests_sound key (inr (inr (inr is))) = sound_in section.Workspace code.UnusedWorkspaceDependency key refl refl
+      refl refl (unused_entry_made c.policy c.view key is) is
 
-  builds_sound : (key : Key) → IsOfBuilds c facts key → IsOwn key
+  built_first : (key : Key) → MadeOfBuilds key → Contains (build_keys_in c facts) key → IsFirst key
+  unfolding section_number code_number diagnostic_code_number unmatched_bypass_keys
+  built_first key made is = by_building c.building is
+    where
+      by_building : (o : Option Building)
+          → Contains (option_map_or (λ b. build_keys (looking c facts b)) o []) key → IsFirst key
+      by_building None at = absurd (no_member key at)
+      by_building (Some b) at =
+          let l : Looking = looking c facts b in
+          elim (Contains-append_cases (flat_map (package_keys l) c.graph.crates) (unmatched_bypass_keys l) key at) [
+            | inl here ↦ of_section section.Crates made.code key (told_of_builds made.code made.of_builds) refl refl
+                (record { code_is = made.made.code_is; section_is = key_of_crates l key here })
+            | inr there ↦ of_unused code.UnmatchedBypass key refl refl refl
+                (unused_map code.UnmatchedBypass bypass_range (filter (λ y. not (is_used l y)) b.bypass) key there)
+          ]
+
+  builds_sound : (key : Key) → IsOfBuilds c facts key → IsSound key
   builds_sound key (inl is) =
-      let made = build_made c facts key is in
-      own made.section made.code key made.of_bans made.made (made.stands c facts key is)
+      let made = build_made c facts key is in (
+        own made.section made.code key made.of_bans made.made (made.stands c facts key is),
+        built_first key made is,
+      )
   builds_sound key (inr is) = let made = deprecated_made c key is in (
-    subst (λ (t : Section). IsTrue (is_of_bans t)) (sym made.section_is) refl,
-    subst (λ (e : DiagnosticCode). StandsBy e c facts key) (sym made.code_is) is,
+    (
+      subst (λ (t : Section). IsTrue (is_of_bans t)) (sym made.section_is) refl,
+      subst (λ (e : DiagnosticCode). StandsBy e c facts key) (sym made.code_is) is,
+    ),
+    deprecated_first key made,
   )
 
-  sound : (key : Key) → ByRule key → IsOwn key
+  sound : (key : Key) → ByRule key → IsSound key
   sound key (inl is) = in_rules (ban_rules c.policy c.graph) bans_sound key is
   sound key (inr (inl is)) = in_rules (skip_rules c.policy c.graph facts.chains) skips_sound key is
-  sound key (inr (inr (inl is))) = own section.Groups code.Duplicate key refl
-      (duplicate_made c.policy c.graph facts.chains key is) is
+  sound key (inr (inr (inl is))) = duplicates_sound key is
   sound key (inr (inr (inr (inl is)))) = features_sound key is
   sound key (inr (inr (inr (inr (inl is))))) = manifests_sound key is
   sound key (inr (inr (inr (inr (inr is))))) = builds_sound key is
+
+  pub rules_here : (key : Key) → ByRule key → IsTrue (is_told_here key.code)
+  rules_here key is = (sound key is).1.here
 
   std_sound : (key : Key) → IsOfStd c key → IsOwn key
   std_sound key (inl is) = own section.Unused code.UnmatchedReplacementIgnore key refl
@@ -251,7 +323,7 @@ pub lists_own : (c : Circumstances) (facts : Facts) (rules std : List Key)
 lists_own c facts rules std these those =
     lists_same key_cmp (IsEither c facts) (StandsIn is_of_bans c facts) (rules ++ std)
     (lists_append key_cmp (ByRule c facts) (IsOfStd c) rules std these those
-    (λ x y is there. rules_first c facts x is c y there))
+    (λ x y is there. (sound c facts x is).1.first c y there))
     (λ key is. elim is as (λ _. StandsIn is_of_bans c facts key)
-    [ inl by_rule ↦ sound c facts key by_rule | inr of_std ↦ std_sound c facts key of_std ])
+    [ inl by_rule ↦ (sound c facts key by_rule).0 | inr of_std ↦ std_sound c facts key of_std ])
     (λ key is. whole_by key.code c facts key is.0 is.1)
