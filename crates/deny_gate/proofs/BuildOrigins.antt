@@ -2,13 +2,16 @@
 -- file of a crate that is walked; those of another checksum come from the checksum that a policy writes.
 use Rattle.std.proofs.Common.{◌≡◌, ◌∙◌, ◌++◌, ◌∷◌, ℕ, Bool, true, false, List, [], Option, None, Some, ap, inl, inr}
 use Rattle.std.proofs.Common.{refl}
-use Rattle.std.specs.Prelude.{Contains, map, if◌then◌else◌}
+use Rattle.std.specs.Prelude.{◌&&◌, Contains, is_none, map, not, if◌then◌else◌}
 use Rattle.std.specs.List.{AllByRecursion, flat_map}
 use Rattle.std.specs.Option.{option_map_or}
 use Rattle.std.proofs.lemmas.List.Elements.{Contains-append_cases}
 use Rattle.deny_lists.proofs.Each.{all_append, all_flat, all_mapped, all_from_members}
 use Rattle.deny_lists.proofs.Members.{Contains-from_flat_map, at_member, no_member}
 use Rattle.deny_lists.proofs.Finding.{found_member}
+use Rattle.deny_base.specs.Code.{bans_have_entry, bans_rule}
+use Rattle.deny_base.specs.Rule.{Rule, OnCrates, OnWildcards, OnFeatures, OnDefaultFeatures, OnWorkspaceDependencies}
+use Rattle.deny_base.specs.Rule.{OnStdReplacements, OnBuildScripts, OnPackageFiles, OnLicenses}
 use Rattle.deny_base.specs.declared.code.Code.{Code}
 use Rattle.deny_base.specs.declared.code.Code.TheVariants as code
 use Rattle.deny_base.specs.declared.code.DiagnosticCode.TheVariants.{Bans}
@@ -39,25 +42,24 @@ use Rattle.deny_codes.specs.Packages.{path_key, right_script_keys, script_keys, 
 use Rattle.deny_codes.specs.Packages.{unmatched_bypass_keys, unmatched_glob_keys, unmatched_keys, unmatched_path_keys}
 use Rattle.deny_codes.specs.Packages.{walked_keys, walks}
 
--- codes of builds that tell no errors
+-- codes that tell no errors
 abbrev pub is_mild : Code → Bool
-is_mild code.UnknownFeature = true
-is_mild code.PathBypassed = true
-is_mild code.PathBypassedByGlob = true
-is_mild code.ChecksumMatch = true
-is_mild code.FeaturesEnabled = true
-is_mild code.UnmatchedBypass = true
-is_mild code.UnmatchedPathBypass = true
-is_mild code.UnmatchedGlob = true
-is_mild _ = false
+is_mild d = is_none (bans_rule d)
 
--- and those of files alone
+abbrev pub is_on_files : Rule → Bool
+is_on_files OnCrates = false
+is_on_files OnWildcards = false
+is_on_files OnFeatures = false
+is_on_files OnDefaultFeatures = false
+is_on_files OnWorkspaceDependencies = false
+is_on_files OnStdReplacements = false
+is_on_files OnBuildScripts = false
+is_on_files OnPackageFiles = true
+is_on_files OnLicenses = false
+
+-- those of files that do, of which no entry of the policy speaks: none of checksums
 abbrev pub is_of_files : Code → Bool
-is_of_files code.DeniedByExtension = true
-is_of_files code.DetectedExecutable = true
-is_of_files code.DetectedExecutableScript = true
-is_of_files code.UnableToCheckPath = true
-is_of_files _ = false
+is_of_files d = option_map_or is_on_files (bans_rule d) false && not (bans_have_entry d)
 
 -- a checksum of a path that the bypass of a crate allows
 pub record IsPathSum (l : Looking) (c : Crate) (sum : Spanned (List ℕ)) : Type 0 where

@@ -40,7 +40,8 @@ use Rattle.deny_gate.proofs.OneHits.{hits_alike}
 use Rattle.deny_gate.proofs.PackagesStay.{seen_without}
 use Rattle.deny_gate.proofs.Placed.{in_place}
 use Rattle.deny_gate.proofs.ScriptSums.{SumsDiffer, mismatch_alike}
-use Rattle.deny_gate.proofs.Severities.{MismatchAlike, severity_alike}
+use Rattle.deny_gate.proofs.EachCode.{severity_alike}
+use Rattle.deny_gate.proofs.Severities.{MismatchAlike}
 use Rattle.deny_gate.proofs.SumsApart.{sums_differ}
 
 -- what is dead by the hits of a report is dead by all hits, since they are the same

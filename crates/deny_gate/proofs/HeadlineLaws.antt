@@ -35,7 +35,9 @@ use Rattle.deny_gate.specs.Stats.{same_check}
 use Rattle.deny_gate.specs.declared.report.Finding.{Finding}
 use Rattle.deny_gate.specs.declared.report.Report.{Report}
 use Rattle.deny_gate.proofs.FindingLaws.{key_told}
-use Rattle.deny_gate.proofs.OtherErrors.{grave, minds, rule_written}
+use Rattle.deny_gate.proofs.EachCode.{grave}
+use Rattle.deny_gate.proofs.MindedRules.{minds}
+use Rattle.deny_gate.proofs.WrittenRules.{rule_written}
 use Rattle.deny_gate.proofs.Placed.{ArePlaced, are_placed}
 use Rattle.deny_gate.proofs.Violations.{error_is, violation_error, violation_from, violation_stands}
 

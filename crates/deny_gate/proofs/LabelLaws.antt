@@ -9,8 +9,6 @@ use Rattle.std.proofs.lemmas.List.Elements.{Contains-append_cases, Contains-appe
 use Rattle.deny_base.specs.declared.files.File.{File}
 use Rattle.deny_base.specs.declared.code.Code.{Code}
 use Rattle.deny_base.specs.declared.code.Code.TheVariants as code
-use Rattle.deny_base.specs.declared.code.DiagnosticCode.{DiagnosticCode}
-use Rattle.deny_base.specs.declared.code.DiagnosticCode.TheVariants.{Deprecated, Bans, License}
 use Rattle.deny_base.specs.declared.key.Key.{Key}
 use Rattle.deny_base.specs.declared.key.Section.TheVariants as section
 use Rattle.deny_base.specs.declared.label.Label.{Label}
@@ -40,20 +38,17 @@ use Rattle.deny_model.specs.Told.{ban_labels, crate_at, entry_labels, label_at, 
 use Rattle.deny_model.specs.Told.{spec_labels, wrapper_labels}
 use Rattle.deny_model.specs.Wrappers.{is_hit_wrapper, same_span, unused_wrapper_keys_of}
 use Rattle.deny_toml.specs.Ranges.{IsRange}
-use Rattle.deny_codes.specs.AllowList.{allowed_told, not_allowed_told}
-use Rattle.deny_codes.specs.Bans.{allowed_by_wrapper_told, banned_told, unmatched_wrapper_told}
 use Rattle.deny_codes.specs.BuildScripts.{required_enabled, required_of, used}
 use Rattle.deny_codes.specs.Circumstances.{Circumstances}
 use Rattle.deny_codes.specs.Duplicates.{duplicate_told}
-use Rattle.deny_codes.specs.EachCode.{StandsAs, StandsLicensed, words_as, words_licensed}
+use Rattle.deny_codes.specs.EachCode.{StandsAs, StandsLicensed, words_licensed}
 use Rattle.deny_codes.specs.Facts.{Facts}
 use Rattle.deny_codes.specs.Features.{banned_features, default_enabled_keys, default_enabled_keys_at}
-use Rattle.deny_codes.specs.Features.{default_enabled_keys_of, default_enabled_told, default_level, feature_banned_keys}
-use Rattle.deny_codes.specs.Features.{feature_banned_keys_at, feature_banned_keys_of, feature_banned_told}
-use Rattle.deny_codes.specs.Features.{feature_not_allowed_told, has_feature, is_default_told, is_enabled}
-use Rattle.deny_codes.specs.Features.{mismatch_labels, mismatched_told, missing, spoken_of, tells_unknown}
+use Rattle.deny_codes.specs.Features.{default_enabled_keys_of, default_level, feature_banned_keys}
+use Rattle.deny_codes.specs.Features.{feature_banned_keys_at, feature_banned_keys_of, has_feature, is_default_told}
+use Rattle.deny_codes.specs.Features.{is_enabled, mismatch_labels, missing, spoken_of, tells_unknown}
 use Rattle.deny_codes.specs.Features.{unknown_feature_keys, unknown_feature_keys_at, unknown_feature_keys_of}
-use Rattle.deny_codes.specs.Features.{unknown_feature_told, unknown_features}
+use Rattle.deny_codes.specs.Features.{unknown_features}
 use Rattle.deny_codes.specs.Licences.{IsOfLicences, accepted_told, exception_not_encountered_keys}
 use Rattle.deny_codes.specs.Licences.{exception_not_encountered_told, grants_by_allowance, grants_by_exception}
 use Rattle.deny_codes.specs.Licences.{is_hit_by, license_key, not_encountered_keys, not_encountered_told}
@@ -61,33 +56,24 @@ use Rattle.deny_codes.specs.Licences.{not_encountered_told_in, parse_error_told,
 use Rattle.deny_codes.specs.Licences.{skipped_private_told, unlicensed_told}
 use Rattle.deny_codes.specs.Members.{is_member}
 use Rattle.deny_codes.specs.PackageFiles.{globs_of, is_decided_by}
-use Rattle.deny_codes.specs.PackagesTold.{bypassed_by_glob_told, checksum_match_told, checksum_mismatch_told}
-use Rattle.deny_codes.specs.PackagesTold.{denied_by_extension_told, deprecated_told, detected_told, enabled_by_key}
-use Rattle.deny_codes.specs.PackagesTold.{extension_labels, features_enabled_told, file_of_key, glob_label, glob_labels}
-use Rattle.deny_codes.specs.PackagesTold.{own_globs, path_bypassed_told, script_denied_told, script_glob_label}
-use Rattle.deny_codes.specs.PackagesTold.{script_globs, script_told, unable_to_check_told, unmatched_bypass_told}
-use Rattle.deny_codes.specs.PackagesTold.{unmatched_glob_told, unmatched_path_told, used_by_key}
-use Rattle.deny_codes.specs.Saying.{Saying, said_by}
-use Rattle.deny_codes.specs.SkippedTrees.{skipped_by_root_told, unmatched_skip_root_told}
-use Rattle.deny_codes.specs.Skips.{skipped_told, unmatched_skip_told, unnecessary_skip_told}
-use Rattle.deny_codes.specs.Standing.{Stands, StandsBy}
+use Rattle.deny_codes.specs.PackagesTold.{bypassed_by_glob_told, checksum_mismatch_told, denied_by_extension_told}
+use Rattle.deny_codes.specs.PackagesTold.{detected_told, enabled_by_key, extension_labels, features_enabled_told}
+use Rattle.deny_codes.specs.PackagesTold.{file_of_key, glob_label, glob_labels, own_globs, script_glob_label}
+use Rattle.deny_codes.specs.PackagesTold.{script_globs, script_told, used_by_key}
+use Rattle.deny_codes.specs.Saying.{Saying}
 use Rattle.deny_codes.specs.StdReplacements.{ignore_labels, ignore_range, replaced_told, unmatched_ignore_told}
 use Rattle.deny_codes.specs.Telling.{not_built}
-use Rattle.deny_codes.specs.Told.{diag_of, words_by, words_told}
-use Rattle.deny_codes.specs.Wrappers.{unused_wrapper_keys, unused_wrapper_told}
+use Rattle.deny_codes.specs.Wrappers.{unused_wrapper_keys}
 use Rattle.deny_codes.specs.declared.words.Words as finding
 use Rattle.deny_laws.proofs.Asking.{used_member}
-use Rattle.deny_gate.specs.Labels.{AreLabelled, AreLockLines, ArePlaced, IsPlaced, build_ranges, building_ranges}
-use Rattle.deny_gate.specs.Labels.{built_in_globs, built_in_ranges, feature_ranges, level_ranges, licence_ranges}
-use Rattle.deny_gate.specs.Labels.{own_range, range_of, ranges_of}
-use Rattle.deny_gate.specs.Report.{IsReport, finding_told, lock_id, policy_id}
-use Rattle.deny_gate.specs.declared.report.Finding.{Finding}
-use Rattle.deny_gate.specs.declared.report.Report.{Report}
-use Rattle.deny_gate.proofs.BuildEntries.{entry_known, feature_there, glob_there, of_bypass, of_extension, older_known}
+use Rattle.deny_gate.specs.Labels.{AreLockLines, ArePlaced, IsPlaced, build_ranges, building_ranges, built_in_globs}
+use Rattle.deny_gate.specs.Labels.{built_in_ranges, feature_ranges, level_ranges, licence_ranges, own_range, range_of}
+use Rattle.deny_gate.specs.Labels.{ranges_of}
+use Rattle.deny_gate.specs.Report.{lock_id, policy_id}
+use Rattle.deny_gate.proofs.BuildEntries.{feature_there, glob_there, of_bypass, of_extension}
 use Rattle.deny_gate.proofs.Found.{of_found}
 use Rattle.deny_gate.proofs.LockLabels.{lock_placed}
-use Rattle.deny_gate.proofs.ManifestLabels.{duplicate_placed, no_labels, unresolved_placed, unused_placed}
-use Rattle.deny_gate.proofs.ManifestLabels.{wildcard_placed}
+use Rattle.deny_gate.proofs.ManifestLabels.{no_labels}
 use Rattle.deny_gate.proofs.Placed.{ArePlaced as AtPlaces}
 use Rattle.deny_gate.proofs.PolicyRanges.{allow_known, ban_instead, ban_known, ban_name, ban_reason, ban_wrapper}
 use Rattle.deny_gate.proofs.PolicyRanges.{entry_name, entry_reason, feature_allowed, feature_denied, feature_flag}
@@ -103,7 +89,7 @@ abbrev pub AreOf : List Span → ℕ → List Label → Type 0
 AreOf ranges file labels = All (IsOf ranges file) labels
 
 module _ (p : Policy) (file : ℕ) where
-  none : AreOf (ranges_of p) file []
+  pub none : AreOf (ranges_of p) file []
   none = All-nil (IsOf (ranges_of p) file)
 
   one_more : (label : Label) (labels : List Label) → label.file_id ≡ file → Contains (ranges_of p) label.span
@@ -130,7 +116,7 @@ module _ (p : Policy) (file : ℕ) where
       (label_at file (codes "use instead") use_instead) (at_words (codes "reason") reason why)
       (at_words (codes "use instead") use_instead other))
 
-  of_ban_entry : (message : List ℕ) (ban : Ban) → Contains p.deny ban
+  pub of_ban_entry : (message : List ℕ) (ban : Ban) → Contains p.deny ban
       → AreOf (ranges_of p) file (ban_labels file message ban)
   of_ban_entry message ban written =
       of_spec message ban.spec ban.reason ban.use_instead (ban_known p ban ban.spec.range written (ban_name ban))
@@ -140,24 +126,25 @@ module _ (p : Policy) (file : ℕ) where
   nothing : (range : Span) → Contains (range_of None) range → Contains (ranges_of p) range
   nothing range is = absurd (no_member range is)
 
-  of_allowed : (message : List ℕ) (e : Entry) → Contains p.allow e
+  pub of_allowed : (message : List ℕ) (e : Entry) → Contains p.allow e
       → AreOf (ranges_of p) file (entry_labels file message e)
   of_allowed message e written =
       of_spec message e.spec e.reason None (allow_known p e e.spec.range written (entry_name e))
       (λ range is. allow_known p e range written (entry_reason e range is)) nothing
 
-  of_skip : (message : List ℕ) (e : Entry) → Contains p.skip e → AreOf (ranges_of p) file (entry_labels file message e)
+  pub of_skip : (message : List ℕ) (e : Entry) → Contains p.skip e
+      → AreOf (ranges_of p) file (entry_labels file message e)
   of_skip message e written =
       of_spec message e.spec e.reason None (skip_known p e e.spec.range written (entry_name e))
       (λ range is. skip_known p e range written (entry_reason e range is)) nothing
 
-  of_root : (message : List ℕ) (t : Root) → Contains p.skip_tree t
+  pub of_root : (message : List ℕ) (t : Root) → Contains p.skip_tree t
       → AreOf (ranges_of p) file (root_labels file message t)
   of_root message t written =
       of_spec message t.spec t.reason None (tree_known p t t.spec.range written (root_name t))
       (λ range is. tree_known p t range written (root_reason t range is)) nothing
 
-  of_wrapper : (ban : Ban) (o : Option Words) → Contains p.deny ban
+  pub of_wrapper : (ban : Ban) (o : Option Words) → Contains p.deny ban
       → ((w : Words) → o ≡ Some w → Contains ban.wrappers w) → AreOf (ranges_of p) file (wrapper_labels file ban o)
   of_wrapper ban None written is = none
   of_wrapper ban (Some w) written is =
@@ -166,7 +153,7 @@ module _ (p : Policy) (file : ℕ) where
       (one_more (primary file w.span (codes "allowed wrapper")) [] refl
       (ban_known p ban w.span written (ban_wrapper ban w (is w refl))) none)
 
-  wrapper_in : (ban : Ban) (o : Option Crate) (w : Words) → option_and_then (wrapper_of ban.wrappers) o ≡ Some w
+  pub wrapper_in : (ban : Ban) (o : Option Crate) (w : Words) → option_and_then (wrapper_of ban.wrappers) o ≡ Some w
       → Contains ban.wrappers w
   unfolding wrapper_of
   wrapper_in ban None w is = absurd (cc is)
@@ -181,14 +168,14 @@ module _ (p : Policy) (file : ℕ) where
       (at_words (codes "ignore reason") e.reason
       (λ range is. ignore_known p r e range minded written (entry_reason e range is)))
 
-  of_unmatched_ignore : (o : Option Replacing) (key : Key) → p.replacing ≡ o
+  pub of_unmatched_ignore : (o : Option Replacing) (key : Key) → p.replacing ≡ o
       → AreOf (ranges_of p) file (option_map_or (λ r. unmatched_ignore_told r file key) o not_built).labels
   unfolding unmatched_ignore_told
   of_unmatched_ignore None key same = none
   of_unmatched_ignore (Some r) key same = of_found (AreOf (ranges_of p) file) (ignore_labels file)
       (λ e. same_span (ignore_range e) key.entry) r.ignore none (λ e written. of_ignore r e same written)
 
-  of_replaced : (o : Option Replacing) (g : Graph) (said : Saying) (key : Key)
+  pub of_replaced : (o : Option Replacing) (g : Graph) (said : Saying) (key : Key)
       → AreOf (ranges_of p) file (option_map_or (λ r. replaced_told r g said key) o not_built).labels
   unfolding replaced_told
   of_replaced None g said key = none
@@ -203,7 +190,7 @@ module _ (p : Policy) (file : ℕ) where
       one_more (primary file w.span message) (map (λ (v : Words). primary file v.span message) ws) refl
       (known w (Contains-first w ws)) (of_words message ws (λ v is. known v (Contains-rest w ws v is)))
 
-  of_mismatch : (e : FeatureEntry) (o : Option Crate) → Contains p.features e
+  pub of_mismatch : (e : FeatureEntry) (o : Option Crate) → Contains p.features e
       → AreOf (ranges_of p) file (option_map_or (mismatch_labels file e) o [])
   unfolding missing
   of_mismatch e None written = none
@@ -216,7 +203,7 @@ module _ (p : Policy) (file : ℕ) where
       (of_words (codes "allowed feature not present") (filter absent e.allow.value)
       (λ w is. feature_known p e w.span written (feature_allowed e w (filtered absent e.allow.value w is))))
 
-  of_list : (e : FeatureEntry) → Contains p.features e
+  pub of_list : (e : FeatureEntry) → Contains p.features e
       → AreOf (ranges_of p) file (primary file e.allow.span (codes "allowed features") ∷ [])
   of_list e written = one_more (primary file e.allow.span (codes "allowed features")) [] refl
       (feature_known p e e.allow.span written (feature_list e)) none
@@ -237,7 +224,7 @@ module _ (p : Policy) (file : ℕ) where
       by true is = absurd (no_member w is)
       by false is = filtered (λ (v : Words). is_enabled c v.value) e.deny w is
 
-  of_feature_banned : (g : Graph) (key : Key) → Contains (feature_banned_keys p g) key
+  pub of_feature_banned : (g : Graph) (key : Key) → Contains (feature_banned_keys p g) key
       → Contains (ranges_of p) key.entry
   unfolding feature_banned_keys_of feature_banned_keys_at
   of_feature_banned g key is =
@@ -265,7 +252,7 @@ module _ (p : Policy) (file : ℕ) where
           [ inl allowed ↦ feature_allowed e w allowed | inr denied ↦ feature_denied e w denied ]
       by false is = absurd (no_member w is)
 
-  of_unknown_feature : (g : Graph) (key : Key) → Contains (unknown_feature_keys p g) key
+  pub of_unknown_feature : (g : Graph) (key : Key) → Contains (unknown_feature_keys p g) key
       → Contains (ranges_of p) key.entry
   unfolding unknown_feature_keys_of unknown_feature_keys_at
   of_unknown_feature g key is =
@@ -317,12 +304,12 @@ module _ (p : Policy) (file : ℕ) where
       by None same is = absurd (no_member key is)
       by (Some at) same is = of_default_of c key at (level_in g c at same) is
 
-  of_default : (g : Graph) (key : Key) → Contains (default_enabled_keys p g) key → Contains (ranges_of p) key.entry
+  pub of_default : (g : Graph) (key : Key) → Contains (default_enabled_keys p g) key → Contains (ranges_of p) key.entry
   of_default g key is =
       let of = Contains-from_flat_map (default_enabled_keys_at p g) g.crates key is in
       of_default_at g key of.from of.of
 
-  of_unused_wrapper : (g : Graph) (key : Key) → Contains (unused_wrapper_keys p g) key
+  pub of_unused_wrapper : (g : Graph) (key : Key) → Contains (unused_wrapper_keys p g) key
       → Contains (ranges_of p) key.entry
   unfolding unused_wrapper_keys_of key_of
   of_unused_wrapper g key is =
@@ -335,7 +322,7 @@ module _ (p : Policy) (file : ℕ) where
       subst (λ (range : Span). Contains (ranges_of p) range) (ap (λ (k : Key). k.entry) at.2)
       (ban_known p ban at.0.span of.member (ban_wrapper ban at.0 written))
 
-  of_unmatched_root : (g : Graph) (key : Key) → Contains (unmatched_skip_root_keys p g) key
+  pub of_unmatched_root : (g : Graph) (key : Key) → Contains (unmatched_skip_root_keys p g) key
       → Contains (ranges_of p) key.entry
   unfolding unmatched_skip_root_keys key_of
   of_unmatched_root g key is =
@@ -409,7 +396,7 @@ of_exception_not_encountered (Some l) g file key is =
     one_label (licence_ranges (Some l)) file key.entry (codes "unmatched license exception")
     (of_exception l g is.counts key is.listed)
 
-of_licence : (d : LicenseCode) (licensing : Option Licensing) (g : Graph) (file : ℕ) (key : Key)
+pub of_licence : (d : LicenseCode) (licensing : Option Licensing) (g : Graph) (file : ℕ) (key : Key)
     → StandsLicensed d licensing g key
     → AreOf (licence_ranges licensing) file (words_licensed d licensing g file key).labels
 unfolding words_licensed accepted_told unlicensed_told parse_error_told skipped_private_told
@@ -421,10 +408,6 @@ of_licence license.SkippedPrivateWorkspaceCrate licensing g file key is = no_lab
 of_licence license.LicenseNotEncountered licensing g file key is = of_not_encountered licensing g file key is
 of_licence license.LicenseExceptionNotEncountered licensing g file key is =
     of_exception_not_encountered licensing g file key is
-
-told_labels : (c : Circumstances) (key : Key) → (finding_told c key).diag.diag.labels ≡ (words_told c key).labels
-unfolding finding_told diag_of
-told_labels c key = refl
 
 -- ---- code by code
 
@@ -462,33 +445,34 @@ placed_in files ranges text there lie label of = record {
   range = All-contains (IsRange text) ranges label.span lie of.known;
 }
 
-all_placed : (files : List File) (ranges : List Span) (text : List ℕ) (file : ℕ) (labels : List Label)
+pub all_placed : (files : List File) (ranges : List Span) (text : List ℕ) (file : ℕ) (labels : List Label)
     → slice_get files policy_id ≡ Some (policy_file text) → file ≡ policy_id → All (IsRange text) ranges
     → AreOf ranges file labels → ArePlaced files labels
 all_placed files ranges text file labels there first lie are =
     All-weaker (IsOf ranges policy_id) (IsPlaced files) (placed_in files ranges text there lie) labels
     (subst (λ (n : ℕ). AreOf ranges n labels) first are)
 
-module _ (c : Circumstances) (facts : Facts) (text : List ℕ) (files : List File) (are : AreRanges c text files) where
-  abbrev LabelsOf : List Label → Type 0
-  LabelsOf labels = AreOf (ranges_of c.policy) c.files.policy labels
+-- labels mark ranges of the policy's bans, in its file
+abbrev pub LabelsOf : Circumstances → List Label → Type 0
+LabelsOf c labels = AreOf (ranges_of c.policy) c.files.policy labels
 
-  in_policy : (labels : List Label) → LabelsOf labels → ArePlaced files labels
+module _ {c : Circumstances} {text : List ℕ} {files : List File} (are : AreRanges c text files) where
+  pub in_policy : (labels : List Label) → LabelsOf c labels → ArePlaced files labels
   in_policy labels of =
       all_placed files (ranges_of c.policy) text c.files.policy labels are.policy_there are.first are.of_policy of
 
   unlabelled : ArePlaced files []
   unlabelled = no_labels files
 
-  of_duplicate : (key : Key) → StandsAs code.Duplicate c facts key
+  pub of_duplicate : (facts : Facts) (key : Key) → StandsAs code.Duplicate c facts key
       → ArePlaced files (duplicate_told c.policy c.graph c.files.lock key).labels
-  of_duplicate key is =
+  of_duplicate facts key is =
       subst (λ (lock : Option ℕ). ArePlaced files (duplicate_told c.policy c.graph lock key).labels) (sym are.second)
       (lock_placed c.graph are.lines are.places files (lock_id c.files.globs) (lock_file c.graph.root c.graph)
       are.lock_there refl c.policy facts.chains key is)
 
   -- a label at the entry of a key
-  at_entry : (key : Key) (message : List ℕ) → Contains (ranges_of c.policy) key.entry
+  pub at_entry : (key : Key) (message : List ℕ) → Contains (ranges_of c.policy) key.entry
       → ArePlaced files (primary c.files.policy key.entry message ∷ [])
   at_entry key message known =
       let label = primary c.files.policy key.entry message in
@@ -500,7 +484,7 @@ module _ (c : Circumstances) (facts : Facts) (text : List ℕ) (files : List Fil
   in_builds labels of = all_placed files (build_ranges c.building) text c.files.policy labels are.policy_there are.first
       are.of_builds of
 
-  at_build_entry : (key : Key) (message : List ℕ) → Contains (build_ranges c.building) key.entry
+  pub at_build_entry : (key : Key) (message : List ℕ) → Contains (build_ranges c.building) key.entry
       → ArePlaced files (primary c.files.policy key.entry message ∷ [])
   at_build_entry key message known = in_builds (primary c.files.policy key.entry message ∷ [])
       (one_label (build_ranges c.building) c.files.policy key.entry message known)
@@ -518,7 +502,7 @@ module _ (c : Circumstances) (facts : Facts) (text : List ℕ) (files : List Fil
       (record { in_file = refl; known = known w (Contains-first w ws) })
       (words_labelled ws (λ v at. known v (Contains-rest w ws v at)))
 
-  built : (told : Building → finding.Words) (o : Option Building) → c.building ≡ o
+  pub built : (told : Building → finding.Words) (o : Option Building) → c.building ≡ o
       → ((b : Building) → c.building ≡ Some b → ArePlaced files (told b).labels)
       → ArePlaced files (option_map_or told o not_built).labels
   built told None said each = unlabelled
@@ -599,146 +583,23 @@ module _ (c : Circumstances) (facts : Facts) (text : List ℕ) (files : List Fil
     enabled_placed = in_builds (map (glob_label c.files.policy) (enabled_by_key b c key))
         (words_labelled (enabled_by_key b c key) (enabled_in (crate_at c.graph key.place)))
 
-    by_glob_placed : ArePlaced files (bypassed_by_glob_told b c key).labels
+    pub by_glob_placed : ArePlaced files (bypassed_by_glob_told b c key).labels
     unfolding bypassed_by_glob_told
     by_glob_placed = globs_placed (file_of_key c key)
 
-    by_extension_placed : ArePlaced files (denied_by_extension_told b c key).labels
+    pub by_extension_placed : ArePlaced files (denied_by_extension_told b c key).labels
     unfolding denied_by_extension_told
     by_extension_placed = extensions_placed (file_of_key c key)
 
-    features_placed : ArePlaced files (features_enabled_told b c key).labels
+    pub features_placed : ArePlaced files (features_enabled_told b c key).labels
     unfolding features_enabled_told
     features_placed = enabled_placed
 
-    mismatch_placed : Contains (build_ranges c.building) key.entry
+    pub mismatch_placed : Contains (build_ranges c.building) key.entry
         → ArePlaced files (checksum_mismatch_told b c key).labels
     unfolding checksum_mismatch_told
     mismatch_placed known = at_build_entry key (codes "expected checksum") known
 
-    script_placed : ArePlaced files (script_told b c key).labels
+    pub script_placed : ArePlaced files (script_told b c key).labels
     unfolding detected_told
     script_placed = unlabelled
-
-  -- ---- code by code
-
-  of_code : (d : Code) (key : Key) → key.code ≡ Bans d → StandsAs d c facts key
-      → ArePlaced files (words_as d c key).labels
-  unfolding words_as banned_told allowed_told not_allowed_told skipped_told unmatched_skip_told
-      unnecessary_skip_told allowed_by_wrapper_told unmatched_wrapper_told skipped_by_root_told unmatched_skip_root_told
-      unused_wrapper_told mismatched_told feature_not_allowed_told feature_banned_told unknown_feature_told
-      default_enabled_told script_denied_told path_bypassed_told checksum_match_told detected_told unable_to_check_told
-      unmatched_bypass_told unmatched_path_told unmatched_glob_told
-  of_code code.Banned key coded is = in_policy _ (of_found LabelsOf (ban_labels c.files.policy (codes "banned here"))
-      (λ ban. same_span ban.spec.range key.entry) c.policy.deny (none c.policy c.files.policy)
-      (λ ban written. of_ban_entry c.policy c.files.policy (codes "banned here") ban written))
-  of_code code.Allowed key coded is =
-      in_policy _ (of_found LabelsOf (entry_labels c.files.policy (codes "allowed here"))
-      (λ e. same_span e.spec.range key.entry) c.policy.allow (none c.policy c.files.policy)
-      (λ e written. of_allowed c.policy c.files.policy (codes "allowed here") e written))
-  of_code code.NotAllowed key coded is = unlabelled
-  of_code code.Duplicate key coded is = of_duplicate key is
-  of_code code.Skipped key coded is =
-      in_policy _ (of_found LabelsOf (entry_labels c.files.policy (codes "skipped here"))
-      (λ e. same_span e.spec.range key.entry) c.policy.skip (none c.policy c.files.policy)
-      (λ e written. of_skip c.policy c.files.policy (codes "skipped here") e written))
-  of_code code.UnmatchedSkip key coded is = in_policy _ (of_found LabelsOf
-      (entry_labels c.files.policy (codes "unmatched skip configuration"))
-      (λ e. same_span e.spec.range key.entry) c.policy.skip (none c.policy c.files.policy)
-      (λ e written. of_skip c.policy c.files.policy (codes "unmatched skip configuration") e written))
-  of_code code.UnnecessarySkip key coded is = in_policy _ (of_found LabelsOf
-      (entry_labels c.files.policy (codes "unnecessary skip configuration"))
-      (λ e. same_span e.spec.range key.entry) c.policy.skip (none c.policy c.files.policy)
-      (λ e written. of_skip c.policy c.files.policy (codes "unnecessary skip configuration") e written))
-  of_code code.AllowedByWrapper key coded is = in_policy _ (
-      let by : Ban → Option Words = λ ban. option_and_then (wrapper_of ban.wrappers) (crate_at c.graph key.other) in
-      of_found LabelsOf (λ ban. wrapper_labels c.files.policy ban (by ban))
-      (λ ban. same_span ban.spec.range key.entry) c.policy.deny (none c.policy c.files.policy)
-      (λ ban written. of_wrapper c.policy c.files.policy ban (by ban) written
-      (wrapper_in c.policy c.files.policy ban (crate_at c.graph key.other))))
-  of_code code.UnmatchedWrapper key coded is = in_policy _ (
-      of_found LabelsOf (ban_labels c.files.policy (codes "banned here"))
-      (λ ban. same_span ban.spec.range key.entry) c.policy.deny (none c.policy c.files.policy)
-      (λ ban written. of_ban_entry c.policy c.files.policy (codes "banned here") ban written))
-  of_code code.SkippedByRoot key coded is = in_policy _ (
-      of_found LabelsOf (root_labels c.files.policy (codes "matched skip root"))
-      (λ t. same_span t.spec.range key.entry) c.policy.skip_tree (none c.policy c.files.policy)
-      (λ t written. of_root c.policy c.files.policy (codes "matched skip root") t written))
-  of_code code.UnmatchedSkipRoot key coded is =
-      at_entry key (codes "no crate matched these criteria") (of_unmatched_root c.policy c.files.policy c.graph key is)
-  of_code code.UnusedWrapper key coded is =
-      at_entry key (codes "unmatched wrapper") (of_unused_wrapper c.policy c.files.policy c.graph key is)
-  of_code code.ExactFeaturesMismatch key coded is = in_policy _ (
-      let at = crate_at c.graph key.place in
-      of_found LabelsOf (λ e. option_map_or (mismatch_labels c.files.policy e) at [])
-      (λ e. same_span e.spec.range key.entry) c.policy.features (none c.policy c.files.policy)
-      (λ e written. of_mismatch c.policy c.files.policy e at written))
-  of_code code.FeatureNotExplicitlyAllowed key coded is = in_policy _ (
-      of_found LabelsOf (λ e. primary c.files.policy e.allow.span (codes "allowed features") ∷ [])
-      (λ e. same_span e.spec.range key.entry) c.policy.features (none c.policy c.files.policy)
-      (λ e written. of_list c.policy c.files.policy e written))
-  of_code code.FeatureBanned key coded is =
-      at_entry key (codes "feature denied here") (of_feature_banned c.policy c.files.policy c.graph key is)
-  of_code code.UnknownFeature key coded (inl is) =
-      at_entry key (codes "unknown feature") (of_unknown_feature c.policy c.files.policy c.graph key is)
-  of_code code.UnknownFeature key coded (inr is) =
-      at_build_entry key (codes "unknown feature") (entry_known c facts code.UnknownFeature key is coded refl)
-  of_code code.DefaultFeatureEnabled key coded is =
-      at_entry key (codes "lint level") (of_default c.policy c.files.policy c.graph key is)
-  of_code code.ReplacedInStd key coded is = in_policy _ (
-      of_replaced c.policy c.files.policy c.policy.replacing c.graph (said_by c.table) key)
-  of_code code.UnmatchedReplacementIgnore key coded is = in_policy _ (
-      of_unmatched_ignore c.policy c.files.policy c.policy.replacing key refl)
-  of_code code.Wildcard key coded is = wildcard_placed files c.view are.of_manifests c.policy c.graph key
-  of_code code.UnresolvedWorkspaceDependency key coded is = unresolved_placed files c.view are.of_manifests c.graph key
-  of_code code.WorkspaceDuplicate key coded is = duplicate_placed files c.view are.of_manifests c.policy c.graph key
-  of_code code.UnusedWorkspaceDependency key coded is = unused_placed files c.view are.of_manifests c.policy key
-  of_code code.BuildScriptNotAllowed key coded is = unlabelled
-  of_code code.PathBypassed key coded is =
-      at_build_entry key (codes "allowed path") (entry_known c facts code.PathBypassed key is coded refl)
-  of_code code.PathBypassedByGlob key coded is =
-      built (λ b. bypassed_by_glob_told b c key) c.building refl (λ b said. by_glob_placed b said key)
-  of_code code.ChecksumMatch key coded is =
-      at_build_entry key (codes "checksum") (entry_known c facts code.ChecksumMatch key is coded refl)
-  of_code code.ChecksumMismatch key coded is =
-      built (λ b. checksum_mismatch_told b c key) c.building refl
-      (λ b said. mismatch_placed b said key (entry_known c facts code.ChecksumMismatch key is coded refl))
-  of_code code.DeniedByExtension key coded is =
-      built (λ b. denied_by_extension_told b c key) c.building refl (λ b said. by_extension_placed b said key)
-  of_code code.DetectedExecutable key coded is = unlabelled
-  of_code code.DetectedExecutableScript key coded is =
-      built (λ b. script_told b c key) c.building refl (λ b said. script_placed b said key)
-  of_code code.UnableToCheckPath key coded is = unlabelled
-  of_code code.FeaturesEnabled key coded is =
-      built (λ b. features_enabled_told b c key) c.building refl (λ b said. features_placed b said key)
-  of_code code.UnmatchedBypass key coded is =
-      at_build_entry key (codes "unmatched bypass") (entry_known c facts code.UnmatchedBypass key is coded refl)
-  of_code code.UnmatchedPathBypass key coded is =
-      at_build_entry key [] (entry_known c facts code.UnmatchedPathBypass key is coded refl)
-  of_code code.UnmatchedGlob key coded is =
-      at_build_entry key [] (entry_known c facts code.UnmatchedGlob key is coded refl)
-
-  labels_of_key : (d : DiagnosticCode) (key : Key) → key.code ≡ d → StandsBy d c facts key
-      → ArePlaced files (words_by d c key).labels
-  unfolding deprecated_told
-  labels_of_key Deprecated key coded is = at_build_entry key [] (older_known c key is)
-  labels_of_key (Bans d) key coded is = of_code d key coded is
-  labels_of_key (License d) key coded is =
-      all_placed files (licence_ranges c.licensing) text c.files.policy (words_by (License d) c key).labels
-      are.policy_there are.first are.of_licences (of_licence d c.licensing c.graph c.files.policy key is)
-
-  are_labelled : (keys : List Key) → ((key : Key) → Contains keys key → Stands c facts key)
-      → AreLabelled files (map (finding_told c) keys)
-  are_labelled [] stand = All-nil (λ (f : Finding). ArePlaced files f.diag.diag.labels)
-  are_labelled (key ∷ keys) stand =
-      All-cons (λ (f : Finding). ArePlaced files f.diag.diag.labels) (finding_told c key) (map (finding_told c) keys)
-      (subst (λ (ls : List Label). ArePlaced files ls) (sym (told_labels c key))
-      (labels_of_key key.code key refl (stand key (Contains-first key keys))))
-      (are_labelled keys (λ k is. stand k (Contains-rest key keys k is)))
-
--- so those of a report do
-pub report_labelled : (c : Circumstances) (text : List ℕ) (report : Report) → AreRanges c text report.files
-    → IsReport c report → AreLabelled report.files report.findings
-report_labelled c text report are is =
-    subst (λ (found : List Finding). AreLabelled report.files found) (sym is.told)
-    (are_labelled c is.listed.facts text report.files are is.keys is.listed.listed.sound)

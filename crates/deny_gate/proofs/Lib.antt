@@ -2,6 +2,7 @@ pub mod AnswerLaws
 pub mod ApartLemmas
 pub mod Beside
 pub mod BuildEntries
+pub mod BuildErrors
 pub mod BuildOrigins
 pub mod BypassHits
 pub mod BypassHitsApart
@@ -11,6 +12,7 @@ pub mod Covered
 pub mod DeadEntries
 pub mod DeadLaws
 pub mod DeadRows
+pub mod EachCode
 pub mod ExitLaws
 pub mod FeatureSpans
 pub mod FindingLaws
@@ -24,11 +26,10 @@ pub mod JoinedUnread
 pub mod LabelLaws
 pub mod LockLabels
 pub mod ManifestLabels
+pub mod MindedRules
 pub mod OneGraph
 pub mod OneHits
 pub mod OneReport
-pub mod OtherBuildErrors
-pub mod OtherErrors
 pub mod PackagesStay
 pub mod Placed
 pub mod PolicyBuildRanges
@@ -41,3 +42,4 @@ pub mod Standing
 pub mod SumsApart
 pub mod Unseeing
 pub mod Violations
+pub mod WrittenRules

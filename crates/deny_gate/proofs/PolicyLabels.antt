@@ -3,12 +3,19 @@ use Rattle.std.proofs.Common.{◌≡◌, ◌++◌, ◌+◌, ℕ, List, [], ◌�
 use Rattle.std.proofs.Common.{subst, sym, ◌∙◌}
 use Rattle.std.specs.Prelude.{All, Contains, IfOk, IfSome, slice_get, option_map, option_and_then}
 use Rattle.std.specs.List.{flat_map}
-use Rattle.std.proofs.lemmas.List.Elements.{All-from_recursion, recursion_from_All}
+use Rattle.std.proofs.lemmas.List.Elements.{All-from_recursion, recursion_from_All, All-nil, All-cons}
 use Rattle.std.proofs.lemmas.Option.{none-some, same_Some}
+use Rattle.deny_lists.proofs.Members.{Contains-first, Contains-rest}
 use Rattle.deny_base.specs.declared.files.File.{File}
+use Rattle.deny_base.specs.declared.key.Key.{Key}
+use Rattle.deny_base.specs.declared.label.Label.{Label}
 use Rattle.deny_base.specs.declared.level.LintLevel.{LintLevel}
 use Rattle.deny_base.specs.declared.span.Span.{Span}
 use Rattle.deny_base.specs.declared.span.Spanned.{Spanned}
+use Rattle.deny_codes.specs.Circumstances.{Circumstances}
+use Rattle.deny_codes.specs.Facts.{Facts}
+use Rattle.deny_codes.specs.Standing.{Stands}
+use Rattle.deny_codes.specs.Told.{diag_of, words_told}
 use Rattle.deny_cfg.specs.LabelRanges.{AreLabels, exception_range, licence_labels, of_some, reason_range, spec_range}
 use Rattle.deny_cfg.specs.LabelRanges.{std_ranges, with_spec, word_labels, word_ranges}
 use Rattle.deny_cfg.specs.LabelRanges as written
@@ -44,14 +51,39 @@ use Rattle.deny_toml.specs.Ranges.{IsRange}
 use Rattle.deny_gate.specs.Gating.{Extras, IsReportOn, IsReportSeen, Texts, circumstances_of, extras_of, first_files}
 use Rattle.deny_gate.specs.Labels.{AreLabelled, ban_ranges, build_ranges, built_in_globs, built_in_ranges, entry_ranges}
 use Rattle.deny_gate.specs.Labels.{feature_ranges, ignore_ranges, licence_ranges, own_range, range_of, ranges_of}
-use Rattle.deny_gate.specs.Labels.{root_ranges}
-use Rattle.deny_gate.specs.Report.{lock_id, policy_id}
+use Rattle.deny_gate.specs.Labels.{root_ranges, ArePlaced}
+use Rattle.deny_gate.specs.Report.{lock_id, policy_id, IsReport, finding_told}
+use Rattle.deny_gate.specs.declared.report.Finding.{Finding}
 use Rattle.deny_gate.specs.declared.report.GateError.{GateError}
 use Rattle.deny_gate.specs.declared.report.Report.{Report}
+use Rattle.deny_gate.proofs.EachCode.{labels_of_key}
 use Rattle.deny_gate.proofs.FeatureSpans.{feature_spans, spans_lie}
-use Rattle.deny_gate.proofs.LabelLaws.{AreRanges, report_labelled}
+use Rattle.deny_gate.proofs.LabelLaws.{AreRanges}
 use Rattle.deny_gate.proofs.Placed.{are_placed}
 use Rattle.deny_gate.proofs.PolicyBuildRanges.{built_in_lie, builds_lie, glob_numbered}
+
+-- ---- the labels of findings
+
+told_labels : (c : Circumstances) (key : Key) → (finding_told c key).diag.diag.labels ≡ (words_told c key).labels
+unfolding finding_told diag_of
+told_labels c key = refl
+
+are_labelled : (c : Circumstances) (facts : Facts) (text : List ℕ) (files : List File) → AreRanges c text files
+    → (keys : List Key) → ((key : Key) → Contains keys key → Stands c facts key)
+    → AreLabelled files (map (finding_told c) keys)
+are_labelled c facts text files are [] stand = All-nil (λ (f : Finding). ArePlaced files f.diag.diag.labels)
+are_labelled c facts text files are (key ∷ keys) stand =
+    All-cons (λ (f : Finding). ArePlaced files f.diag.diag.labels) (finding_told c key) (map (finding_told c) keys)
+    (subst (λ (ls : List Label). ArePlaced files ls) (sym (told_labels c key))
+    (labels_of_key c facts text files are key.code key refl (stand key (Contains-first key keys))))
+    (are_labelled c facts text files are keys (λ k is. stand k (Contains-rest key keys k is)))
+
+-- so those of a report do
+report_labelled : (c : Circumstances) (text : List ℕ) (report : Report) → AreRanges c text report.files
+    → IsReport c report → AreLabelled report.files report.findings
+report_labelled c text report are is =
+    subst (λ (found : List Finding). AreLabelled report.files found) (sym is.told)
+    (are_labelled c is.listed.facts text report.files are is.keys is.listed.listed.sound)
 
 -- ---- where the files stand
 

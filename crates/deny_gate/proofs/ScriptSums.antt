@@ -23,7 +23,7 @@ use Rattle.deny_laws.specs.Removal.{cut_building, cut_bypass, stays_bypass}
 use Rattle.deny_laws.proofs.Asking.{used_member}
 use Rattle.deny_gate.proofs.BuildOrigins.{IsPathSum, Origin, denied, is_mild, is_of_files, mild, of_file, of_script}
 use Rattle.deny_gate.proofs.BuildOrigins.{of_sum}
-use Rattle.deny_gate.proofs.OtherBuildErrors.{same_code, script_sum_there}
+use Rattle.deny_gate.proofs.BuildErrors.{same_code, script_sum_there}
 
 -- no checksum of a script has the range of one of a path
 abbrev pub SumsDiffer : Building → Type 0

@@ -6,17 +6,15 @@ use Rattle.std.specs.List.{list_any}
 use Rattle.std.specs.Option.{option_map_or}
 use Rattle.std.specs.Str.{bytes_eq}
 use Rattle.deny_lists.specs.Ascending.{Lists}
+use Rattle.deny_base.specs.Code.{rule_of}
 use Rattle.deny_base.specs.KeyOrder.{key_cmp}
-use Rattle.deny_base.specs.declared.code.Code.{Code}
-use Rattle.deny_base.specs.declared.code.Code.TheVariants as code
+use Rattle.deny_base.specs.Rule.{Rule, OnCrates, OnWildcards, OnFeatures, OnDefaultFeatures, OnWorkspaceDependencies}
+use Rattle.deny_base.specs.Rule.{OnStdReplacements, OnBuildScripts, OnPackageFiles, OnLicenses}
 use Rattle.deny_base.specs.declared.code.Code.TheVariants.{Banned, NotAllowed}
 use Rattle.deny_base.specs.declared.code.DiagnosticCode.{DiagnosticCode}
-use Rattle.deny_base.specs.declared.code.DiagnosticCode.TheVariants.{Deprecated, Bans, License}
 use Rattle.deny_base.specs.declared.edge.Edge.{Edge}
 use Rattle.deny_base.specs.declared.key.Key.{Key}
 use Rattle.deny_base.specs.declared.level.LintLevel.TheVariants.{Deny}
-use Rattle.deny_base.specs.declared.license_code.LicenseCode.{LicenseCode}
-use Rattle.deny_base.specs.declared.license_code.LicenseCode.TheVariants as license
 use Rattle.deny_cfg.specs.PolicyText.{IsPolicyOf}
 use Rattle.deny_cfg.specs.PolicyView.{policy_view}
 use Rattle.deny_cfg.specs.declared.policy.Policy as cfg
@@ -126,56 +124,22 @@ pub data IsViolation (p : Policy) (g : Graph) (facts : Facts) : Key → Type 0 w
 
 -- ---- what a report tells of it
 
--- the codes of the crate rules that can tell errors
-abbrev pub is_crate_code : Code → Bool
-is_crate_code code.Banned = true
-is_crate_code code.Allowed = false
-is_crate_code code.NotAllowed = true
-is_crate_code code.Duplicate = true
-is_crate_code code.Skipped = false
-is_crate_code code.Wildcard = false
-is_crate_code code.UnmatchedSkip = false
-is_crate_code code.UnnecessarySkip = false
-is_crate_code code.AllowedByWrapper = false
-is_crate_code code.UnmatchedWrapper = false
-is_crate_code code.SkippedByRoot = false
-is_crate_code code.UnmatchedSkipRoot = false
-is_crate_code code.BuildScriptNotAllowed = false
-is_crate_code code.ExactFeaturesMismatch = false
-is_crate_code code.FeatureNotExplicitlyAllowed = false
-is_crate_code code.FeatureBanned = false
-is_crate_code code.UnknownFeature = false
-is_crate_code code.DefaultFeatureEnabled = false
-is_crate_code code.PathBypassed = false
-is_crate_code code.PathBypassedByGlob = false
-is_crate_code code.ChecksumMatch = false
-is_crate_code code.ChecksumMismatch = false
-is_crate_code code.DeniedByExtension = false
-is_crate_code code.DetectedExecutable = false
-is_crate_code code.DetectedExecutableScript = false
-is_crate_code code.UnableToCheckPath = false
-is_crate_code code.FeaturesEnabled = false
-is_crate_code code.UnmatchedBypass = false
-is_crate_code code.UnmatchedPathBypass = false
-is_crate_code code.UnmatchedGlob = false
-is_crate_code code.UnusedWrapper = false
-is_crate_code code.WorkspaceDuplicate = false
-is_crate_code code.UnresolvedWorkspaceDependency = false
-is_crate_code code.UnusedWorkspaceDependency = false
-is_crate_code code.ReplacedInStd = false
-is_crate_code code.UnmatchedReplacementIgnore = false
+-- the rule on crates
+abbrev pub is_on_crates : Rule → Bool
+is_on_crates OnCrates = true
+is_on_crates OnWildcards = false
+is_on_crates OnFeatures = false
+is_on_crates OnDefaultFeatures = false
+is_on_crates OnWorkspaceDependencies = false
+is_on_crates OnStdReplacements = false
+is_on_crates OnBuildScripts = false
+is_on_crates OnPackageFiles = false
+is_on_crates OnLicenses = false
 
+-- the code of a rule on crates; a finding without a code is of none
 abbrev pub is_crate_rule : Option DiagnosticCode → Bool
 is_crate_rule None = false
-is_crate_rule (Some Deprecated) = false
-is_crate_rule (Some (Bans code)) = is_crate_code code
-is_crate_rule (Some (License license.Accepted)) = false
-is_crate_rule (Some (License license.Rejected)) = false
-is_crate_rule (Some (License license.Unlicensed)) = false
-is_crate_rule (Some (License license.ParseError)) = false
-is_crate_rule (Some (License license.SkippedPrivateWorkspaceCrate)) = false
-is_crate_rule (Some (License license.LicenseNotEncountered)) = false
-is_crate_rule (Some (License license.LicenseExceptionNotEncountered)) = false
+is_crate_rule (Some code) = option_map_or is_on_crates (rule_of code) false
 
 unfoldable pub is_crate_error : Finding → Bool
 is_crate_error f = has_error f && is_crate_rule f.diag.diag.code
@@ -202,61 +166,28 @@ has_element v = option_map_or (λ elements. not (length elements == 0)) (array_i
 abbrev pub has_entry : List ℕ → Value → Bool
 has_entry name table = option_map_or has_element (below_name name table) false
 
--- the table `bans` writes the rule that can tell errors by this code; the crate rules are written by what they speak of
-unfoldable pub bans_write : Code → Value → Bool
-bans_write code.Banned bans = false
-bans_write code.Allowed bans = false
-bans_write code.NotAllowed bans = false
-bans_write code.Duplicate bans = false
-bans_write code.Skipped bans = false
-bans_write code.Wildcard bans = denies (codes "wildcards") bans
-bans_write code.UnmatchedSkip bans = false
-bans_write code.UnnecessarySkip bans = false
-bans_write code.AllowedByWrapper bans = false
-bans_write code.UnmatchedWrapper bans = false
-bans_write code.SkippedByRoot bans = false
-bans_write code.UnmatchedSkipRoot bans = false
-bans_write code.BuildScriptNotAllowed bans =
-    option_map_or (has_key (codes "allow-build-scripts")) (below_name (codes "build") bans)
-    (has_key (codes "allow-build-scripts") bans)
-bans_write code.ExactFeaturesMismatch bans = has_entry (codes "features") bans
-bans_write code.FeatureNotExplicitlyAllowed bans = has_entry (codes "features") bans
-bans_write code.FeatureBanned bans = has_entry (codes "features") bans
-bans_write code.UnknownFeature bans = false
-bans_write code.DefaultFeatureEnabled bans =
-    has_key (codes "workspace-default-features") bans || has_key (codes "external-default-features") bans
-bans_write code.PathBypassed bans = false
-bans_write code.PathBypassedByGlob bans = false
-bans_write code.ChecksumMatch bans = false
-bans_write code.ChecksumMismatch bans = has_key (codes "build") bans
-bans_write code.DeniedByExtension bans = has_key (codes "build") bans
-bans_write code.DetectedExecutable bans = has_key (codes "build") bans
-bans_write code.DetectedExecutableScript bans = has_key (codes "build") bans
-bans_write code.UnableToCheckPath bans = has_key (codes "build") bans
-bans_write code.FeaturesEnabled bans = false
-bans_write code.UnmatchedBypass bans = false
-bans_write code.UnmatchedPathBypass bans = false
-bans_write code.UnmatchedGlob bans = false
-bans_write code.UnusedWrapper bans = false
-bans_write code.WorkspaceDuplicate bans = has_key (codes "workspace-dependencies") bans
-bans_write code.UnresolvedWorkspaceDependency bans = false
-bans_write code.UnusedWorkspaceDependency bans = has_key (codes "workspace-dependencies") bans
-bans_write code.ReplacedInStd bans = has_key (codes "std-replacements") bans
-bans_write code.UnmatchedReplacementIgnore bans = false
+-- the table `bans` passes a test
+abbrev pub in_bans : (Value → Bool) → Value → Bool
+in_bans test tree = option_map_or test (below_name (codes "bans") tree) false
 
-unfoldable pub licenses_write : LicenseCode → Value → Bool
-licenses_write license.Accepted tree = false
-licenses_write license.Rejected tree = has_key (codes "licenses") tree
-licenses_write license.Unlicensed tree = has_key (codes "licenses") tree
-licenses_write license.ParseError tree = has_key (codes "licenses") tree
-licenses_write license.SkippedPrivateWorkspaceCrate tree = false
-licenses_write license.LicenseNotEncountered tree = has_key (codes "licenses") tree
-licenses_write license.LicenseExceptionNotEncountered tree = false
+-- the text of this tree writes a rule; the crate rules are written by what they speak of
+unfoldable pub rule_stands : Rule → Value → Bool
+rule_stands OnCrates tree = false
+rule_stands OnWildcards tree = in_bans (denies (codes "wildcards")) tree
+rule_stands OnFeatures tree = in_bans (has_entry (codes "features")) tree
+rule_stands OnDefaultFeatures tree = in_bans
+    (λ bans. has_key (codes "workspace-default-features") bans || has_key (codes "external-default-features") bans) tree
+rule_stands OnWorkspaceDependencies tree = in_bans (has_key (codes "workspace-dependencies")) tree
+rule_stands OnStdReplacements tree = in_bans (has_key (codes "std-replacements")) tree
+rule_stands OnBuildScripts tree = in_bans
+    (λ bans. option_map_or (has_key (codes "allow-build-scripts")) (below_name (codes "build") bans)
+    (has_key (codes "allow-build-scripts") bans)) tree
+rule_stands OnPackageFiles tree = in_bans (has_key (codes "build")) tree
+rule_stands OnLicenses tree = has_key (codes "licenses") tree
 
+-- and so the rule that can tell errors by this code
 abbrev pub writes : DiagnosticCode → Value → Bool
-writes Deprecated tree = false
-writes (Bans code) tree = option_map_or (bans_write code) (below_name (codes "bans") tree) false
-writes (License code) tree = licenses_write code tree
+writes code tree = option_map_or (λ rule. rule_stands rule tree) (rule_of code) false
 
 -- the text writes the rule of a code
 pub record WritesRule (text : List ℕ) (code : DiagnosticCode) : Type 0 where

@@ -7,6 +7,8 @@ use Rattle.std.specs.List.{list_any}
 use Rattle.std.specs.Option.{option_map_or}
 use Rattle.std.proofs.lemmas.Bool.{and_parts, false≢true, not-true}
 use Rattle.deny_lists.proofs.Members.{any_from}
+use Rattle.deny_base.specs.Code.{bans_have_entry, bans_rule}
+use Rattle.deny_base.specs.Rule.{Rule}
 use Rattle.deny_base.specs.declared.code.Code.{Code}
 use Rattle.deny_base.specs.declared.code.Code.TheVariants as code
 use Rattle.deny_base.specs.declared.code.DiagnosticCode.TheVariants.{Bans}
@@ -31,31 +33,10 @@ use Rattle.deny_codes.specs.Telling.{not_built}
 use Rattle.deny_codes.specs.declared.words.Words.{Words}
 use Rattle.deny_laws.proofs.Asking.{used_member}
 use Rattle.deny_gate.specs.Report.{is_error}
-use Rattle.deny_gate.proofs.BuildOrigins.{Origin, denied, is_mild, is_of_files, mild, of_file, of_script, of_sum}
-use Rattle.deny_gate.proofs.BuildOrigins.{origin_of}
+use Rattle.deny_gate.proofs.BuildOrigins.{Origin, denied, is_mild, is_of_files, is_on_files, mild, of_file, of_script}
+use Rattle.deny_gate.proofs.BuildOrigins.{of_sum, origin_of}
 use Rattle.deny_gate.proofs.BuildEntries.{sum_if}
-
--- ---- what a policy minds
-
--- it lists crates that may have a script
-abbrev pub lists_scripts : Building → Bool
-lists_scripts b = is_some b.scripts
-
-abbrev pub minds_files : Building → Bool
-minds_files b = is_minded b.executables
-
--- by the codes that can be errors
-abbrev pub minds_build : Code → Building → Bool
-minds_build code.BuildScriptNotAllowed b = lists_scripts b
-minds_build code.ChecksumMismatch b = minds_files b
-minds_build code.DeniedByExtension b = minds_files b
-minds_build code.DetectedExecutable b = minds_files b
-minds_build code.DetectedExecutableScript b = minds_files b
-minds_build code.UnableToCheckPath b = minds_files b
-minds_build _ b = false
-
-abbrev pub minds_build_in : Code → Option Building → Bool
-minds_build_in d building = option_map_or (minds_build d) building false
+use Rattle.deny_gate.proofs.MindedRules.{lists_scripts, minds_files}
 
 -- ---- crates that are walked, and scripts that are not allowed
 
@@ -111,9 +92,6 @@ mild_script l c sum key wanted same =
 pub same_code : (key : Key) (d e : Code) → key.code ≡ Bans d → key.code ≡ Bans e → d ≡ e
 same_code key d e one other = let both : Bans d ≡ Bans e = sym one ∙ other in cc both
 
-mild_minds : (d e : Code) (b : Building) → is_mild e ≡ true → e ≡ d → is_mild d ≡ false → minds_build d b ≡ true
-mild_minds d e b mine same grave = absurd (false≢true (sym grave ∙ (ap is_mild (sym same) ∙ mine)))
-
 module _ (c : Circumstances) (facts : Facts) (b : Building) (is_said : c.building ≡ Some b) (key : Key)
     (of : Origin (looking c facts b) key) where
   -- a script that is not allowed
@@ -121,8 +99,8 @@ module _ (c : Circumstances) (facts : Facts) (b : Building) (is_said : c.buildin
   script_minded is = by of
     where
       by : Origin (looking c facts b) key → lists_scripts b ≡ true
-      by (mild d code_is mine) = mild_minds code.BuildScriptNotAllowed d b mine
-          (same_code key d code.BuildScriptNotAllowed code_is is) refl
+      by (mild d code_is mine) = absurd (false≢true (ap is_mild
+          (same_code key code.BuildScriptNotAllowed d is code_is) ∙ mine))
       by (denied k code_is bad) = denied_listed (looking c facts b) k bad
       by (of_script k sum known code_is checked wanted same) =
           absurd (cc (same_code key code.ChecksumMismatch code.BuildScriptNotAllowed code_is is))
@@ -136,14 +114,13 @@ module _ (c : Circumstances) (facts : Facts) (b : Building) (is_said : c.buildin
   file_minded d is mine = by of
     where
       by : Origin (looking c facts b) key → minds_files b ≡ true
-      by (mild e code_is soft) = absurd (never e d soft mine (same_code key e d code_is is))
+      by (mild e code_is soft) = absurd (never (bans_rule d) (bans_have_entry d)
+          (ap is_mild (same_code key d e is code_is) ∙ soft) mine)
         where
-          never : (e d : Code) → is_mild e ≡ true → is_of_files d ≡ true → e ≡ d → ⊥
-          never e code.DeniedByExtension soft mine same = false≢true (ap is_mild (sym same) ∙ soft)
-          never e code.DetectedExecutable soft mine same = false≢true (ap is_mild (sym same) ∙ soft)
-          never e code.DetectedExecutableScript soft mine same = false≢true (ap is_mild (sym same) ∙ soft)
-          never e code.UnableToCheckPath soft mine same = false≢true (ap is_mild (sym same) ∙ soft)
-          never e _ soft mine same = false≢true mine
+          never : (o : Option Rule) (entry : Bool) → is_none o ≡ true
+              → (option_map_or is_on_files o false && not entry) ≡ true → ⊥
+          never None entry soft mine = false≢true mine
+          never (Some rule) entry soft mine = false≢true soft
       by (denied k code_is bad) = absurd (false≢true (ap is_of_files
           (same_code key code.BuildScriptNotAllowed d code_is is) ∙ mine))
       by (of_script k sum known code_is checked wanted same) = absurd (false≢true (ap is_of_files
@@ -167,35 +144,18 @@ module _ (c : Circumstances) (facts : Facts) (b : Building) (is_said : c.buildin
 
 -- so an error of such a code comes only where the policy minds it
 module _ (c : Circumstances) (facts : Facts) (key : Key) (at : Contains (build_keys_in c facts) key) where
-  minded_in : (d : Code) → ((b : Building) → c.building ≡ Some b → Origin (looking c facts b) key
-      → minds_build d b ≡ true) → minds_build_in d c.building ≡ true
-  minded_in d each =
+  minded_in : (test : Building → Bool) → ((b : Building) → c.building ≡ Some b → Origin (looking c facts b) key
+      → test b ≡ true) → option_map_or test c.building false ≡ true
+  minded_in test each =
       let of = origin_of c facts key at in
-      ap (λ (o : Option Building). minds_build_in d o) of.is_said ∙ each of.building of.is_said of.origin
+      ap (λ (o : Option Building). option_map_or test o false) of.is_said ∙ each of.building of.is_said of.origin
 
-  pub denied_minded : key.code ≡ Bans code.BuildScriptNotAllowed
-      → minds_build_in code.BuildScriptNotAllowed c.building ≡ true
-  denied_minded is = minded_in code.BuildScriptNotAllowed (λ b said of. script_minded c facts b said key of is)
+  pub denied_minded : key.code ≡ Bans code.BuildScriptNotAllowed → option_map_or lists_scripts c.building false ≡ true
+  denied_minded is = minded_in lists_scripts (λ b said of. script_minded c facts b said key of is)
 
-  pub extension_minded : key.code ≡ Bans code.DeniedByExtension
-      → minds_build_in code.DeniedByExtension c.building ≡ true
-  extension_minded is = minded_in code.DeniedByExtension
-      (λ b said of. file_minded c facts b said key of code.DeniedByExtension is refl)
-
-  pub executable_minded : key.code ≡ Bans code.DetectedExecutable
-      → minds_build_in code.DetectedExecutable c.building ≡ true
-  executable_minded is = minded_in code.DetectedExecutable
-      (λ b said of. file_minded c facts b said key of code.DetectedExecutable is refl)
-
-  pub interpreted_minded : key.code ≡ Bans code.DetectedExecutableScript
-      → minds_build_in code.DetectedExecutableScript c.building ≡ true
-  interpreted_minded is = minded_in code.DetectedExecutableScript
-      (λ b said of. file_minded c facts b said key of code.DetectedExecutableScript is refl)
-
-  pub unable_minded : key.code ≡ Bans code.UnableToCheckPath
-      → minds_build_in code.UnableToCheckPath c.building ≡ true
-  unable_minded is = minded_in code.UnableToCheckPath
-      (λ b said of. file_minded c facts b said key of code.UnableToCheckPath is refl)
+  pub files_minded : (d : Code) → key.code ≡ Bans d → is_of_files d ≡ true
+      → option_map_or minds_files c.building false ≡ true
+  files_minded d is mine = minded_in minds_files (λ b said of. file_minded c facts b said key of d is mine)
 
   mismatch_error : (b : Building) → c.building ≡ Some b
       → is_error (words_as code.ChecksumMismatch c key).severity ≡ true → is_error (mismatch_severity b key) ≡ true
@@ -208,6 +168,6 @@ module _ (c : Circumstances) (facts : Facts) (key : Key) (at : Contains (build_k
 
   pub mismatch_minded : key.code ≡ Bans code.ChecksumMismatch
       → is_error (words_as code.ChecksumMismatch c key).severity ≡ true
-      → minds_build_in code.ChecksumMismatch c.building ≡ true
-  mismatch_minded is error = minded_in code.ChecksumMismatch
+      → option_map_or minds_files c.building false ≡ true
+  mismatch_minded is error = minded_in minds_files
       (λ b said of. sum_minded c facts b said key of is (mismatch_error b said error))

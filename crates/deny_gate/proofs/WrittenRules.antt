@@ -1,0 +1,365 @@
+-- A rule that a policy minds, its text writes.
+use Rattle.std.proofs.Common.{◌≡◌, ◌∙◌, ◌==◌, ℕ, Bool, true, false, not, length, List, [], ◌∷◌, Option, None, Some}
+use Rattle.std.proofs.Common.{refl, sym, ap, subst}
+use Rattle.std.specs.Option.{option_map_or}
+use Rattle.std.specs.Prelude.{◌||◌, codes, is_some, map, option_and_then, option_map, if◌then◌else◌}
+use Rattle.std.specs.Str.{bytes_eq}
+use Rattle.std.proofs.lemmas.Bool.{false≢true}
+use Rattle.std.proofs.lemmas.List.{length-map}
+use Rattle.deny_lists.proofs.Options.{is_some-option_map}
+use Rattle.deny_base.specs.Code.{rule_of}
+use Rattle.deny_base.specs.Rule.{Rule, OnCrates, OnWildcards, OnFeatures, OnDefaultFeatures, OnWorkspaceDependencies}
+use Rattle.deny_base.specs.Rule.{OnStdReplacements, OnBuildScripts, OnPackageFiles, OnLicenses}
+use Rattle.deny_base.specs.declared.code.DiagnosticCode.{DiagnosticCode}
+use Rattle.deny_base.specs.declared.level.LintLevel.{LintLevel}
+use Rattle.deny_base.specs.declared.level.LintLevel.TheVariants as level
+use Rattle.deny_base.specs.declared.span.Span.{Span}
+use Rattle.deny_base.specs.declared.span.Spanned.{Spanned}
+use Rattle.deny_toml.specs.Calls.{array_in, below_name, table_in, text_in, value_at}
+use Rattle.deny_toml.specs.Deserialize.{ReadsArray, ReadsEach}
+use Rattle.deny_toml.specs.Value.{entries_in}
+use Rattle.deny_toml.specs.declared.value.Table.{Table}
+use Rattle.deny_toml.specs.declared.value.Value.{Value}
+use Rattle.deny_codes.specs.BuildScripts.{is_minded}
+use Rattle.deny_entries.specs.PolicyKey.{name_of}
+use Rattle.deny_entries.specs.Spec.{ReadsSpec}
+use Rattle.deny_entries.specs.SpecView.{spec_view}
+use Rattle.deny_entries.specs.Table.{Entries, ReadsIfThere, ReadsIn, ReadsOr, ReadsTable, at_key}
+use Rattle.deny_entries.specs.Words.{ReadsAs, ReadsList, ReadsSpanned, level_of}
+use Rattle.deny_entries.specs.declared.package_spec.PackageSpec.{PackageSpec}
+use Rattle.deny_entries.specs.declared.policy_key.PolicyKey.TheVariants as key
+use Rattle.deny_entries.proofs.RowLaws.{says_of}
+use Rattle.deny_tables.specs.Build.{ReadsBuild}
+use Rattle.deny_tables.specs.Config.{ReadsConfig}
+use Rattle.deny_tables.specs.Features.{ReadsCrateFeatures}
+use Rattle.deny_tables.specs.Licenses.{ReadsLicenses}
+use Rattle.deny_tables.specs.StdReplacements.{a_std}
+use Rattle.deny_tables.specs.Workspace.{a_workspace}
+use Rattle.deny_tables.specs.declared.bans.cfg.build.BuildConfig.{BuildConfig}
+use Rattle.deny_tables.specs.declared.bans.cfg.config.Config.{Config}
+use Rattle.deny_tables.specs.declared.bans.cfg.features.CrateFeatures.{CrateFeatures}
+use Rattle.deny_tables.specs.declared.bans.cfg.std_replacements.StdReplacementConfig.{StdReplacementConfig}
+use Rattle.deny_tables.specs.declared.bans.cfg.workspace.WorkspaceDepsConfig.{WorkspaceDepsConfig}
+use Rattle.deny_build_cfg.specs.Build.{IsBuildOf, build_by}
+use Rattle.deny_build_cfg.specs.BuildingView.{building_view}
+use Rattle.deny_build_cfg.specs.Globs.{OfBoth}
+use Rattle.deny_build_cfg.specs.declared.valid.ValidBuildConfig.{ValidBuildConfig}
+use Rattle.deny_cfg.specs.LicensingView.{licensing_of, licensing_view}
+use Rattle.deny_cfg.specs.PolicyText.{IsPolicyOf, ReadsBans}
+use Rattle.deny_cfg.specs.PolicyView.{building_of, feature_view, policy_view, replacing_view, sharing_view}
+use Rattle.deny_cfg.specs.Valid.{build_of, features_of, older_key_of}
+use Rattle.deny_cfg.specs.declared.bans.cfg.valid.ValidKrateFeatures.{ValidKrateFeatures}
+use Rattle.deny_cfg.specs.declared.policy.Policy as cfg
+use Rattle.deny_gate.specs.Headline.{WritesRule, denies, has_element, has_entry, has_key, is_deny, writes, rule_stands}
+use Rattle.deny_gate.specs.Report.{policy_id}
+use Rattle.deny_gate.proofs.Covered.{some_test}
+use Rattle.deny_gate.proofs.MindedRules.{denies_wildcards, has_features, lists_scripts, minds, minds_files, minds_rule}
+
+there_if_read : {T : Type 0} (Reads : Value → T → Type 0) (v : Option Value) (x : Option T) → ReadsIfThere Reads v x
+    → is_some x ≡ true → is_some v ≡ true
+there_if_read Reads None x says some = absurd (false≢true (sym (ap (λ o. is_some o) says) ∙ some))
+there_if_read Reads (Some v) x says some = refl
+
+-- a list that is read from elements is as long as they are
+elements_there : (vs : List Value) (read : List CrateFeatures) → ReadsEach ReadsCrateFeatures vs read
+    → not (length read == 0) ≡ true → not (length vs == 0) ≡ true
+elements_there [] [] each some = some
+elements_there [] (f ∷ fs) each some = absurd each
+elements_there (v ∷ vs) read each some = some_test (v ∷ vs) (λ none. cc none)
+
+entry_there : (o : Option (List Value)) (read : List CrateFeatures) → ReadsArray ReadsCrateFeatures o read
+    → not (length read == 0) ≡ true → option_map_or (λ (vs : List Value). not (length vs == 0)) o false ≡ true
+entry_there None read each some = absurd each
+entry_there (Some vs) read each some = elements_there vs read each some
+
+features_there : (o : Option Value) (read : List CrateFeatures) → ReadsOr [] (ReadsList ReadsCrateFeatures) o read
+    → not (length read == 0) ≡ true → option_map_or has_element o false ≡ true
+features_there None read says some =
+    absurd (false≢true (sym (ap (λ (fs : List CrateFeatures). not (length fs == 0)) says) ∙ some))
+features_there (Some v) read says some = entry_there (array_in v) read says some
+
+-- whether either test passes, where each leads to another
+or_both : (a b c d : Bool) → (a ≡ true → c ≡ true) → (b ≡ true → d ≡ true) → (a || b) ≡ true → (c || d) ≡ true
+or_both a b true d left right is = refl
+or_both true b false d left right is = absurd (false≢true (left refl))
+or_both false b false d left right is = right is
+
+-- what the entries of the table `bans` write, the table does; without entries nothing is written
+module _ (config : Config) (writes : Entries → Bool) (in_table : Option Table → Bool)
+    (same : (t : Table) → in_table (Some t) ≡ writes (entries_in t)) (nothing : writes [] ≡ false)
+    (each : (entries : Entries) → ReadsConfig entries config → writes entries ≡ true) where
+  by_table : (o : Option Table) → ReadsIn ReadsConfig o config → in_table o ≡ true
+  by_table None reads = absurd reads
+  by_table (Some t) reads = same t ∙ each (entries_in t) reads
+
+  by_bans : (o : Option Value) → ReadsBans o config → option_map_or (λ v. in_table (table_in v)) o false ≡ true
+  by_bans None reads = absurd (false≢true (sym nothing ∙ each [] reads))
+  by_bans (Some v) reads = by_table (table_in v) reads
+
+-- a key of the table
+abbrev key_in : List ℕ → Option Table → Option Value
+key_in name o = option_and_then (λ t. value_at name (entries_in t)) o
+
+features_written : (config : Config) (o : Option Value) → ReadsBans o config → not (length config.features == 0) ≡ true
+    → option_map_or (has_entry (codes "features")) o false ≡ true
+unfolding name_of
+features_written config o reads some =
+    by_bans config (λ entries. option_map_or has_element (value_at (codes "features") entries) false)
+    (λ t. option_map_or has_element (key_in (codes "features") t) false) (λ t. refl) refl
+    (λ entries keys. features_there (at_key key.Features entries) config.features (says_of key.Features keys) some)
+    o reads
+
+levels_written : (config : Config) (o : Option Value) → ReadsBans o config
+    → (is_some config.workspace_default_features || is_some config.external_default_features) ≡ true
+    → option_map_or
+    (λ bans. has_key (codes "workspace-default-features") bans || has_key (codes "external-default-features") bans)
+    o false ≡ true
+unfolding name_of
+levels_written config o reads some =
+    by_bans config
+    (λ entries. is_some (value_at (codes "workspace-default-features") entries)
+    || is_some (value_at (codes "external-default-features") entries))
+    (λ t. is_some (key_in (codes "workspace-default-features") t)
+    || is_some (key_in (codes "external-default-features") t)) (λ t. refl) refl
+    (λ entries keys. or_both (is_some config.workspace_default_features) (is_some config.external_default_features)
+    (is_some (at_key key.WorkspaceDefaultFeatures entries)) (is_some (at_key key.ExternalDefaultFeatures entries))
+    (there_if_read (ReadsSpanned (ReadsAs level_of)) (at_key key.WorkspaceDefaultFeatures entries)
+    config.workspace_default_features (says_of key.WorkspaceDefaultFeatures keys))
+    (there_if_read (ReadsSpanned (ReadsAs level_of)) (at_key key.ExternalDefaultFeatures entries)
+    config.external_default_features (says_of key.ExternalDefaultFeatures keys)) some)
+    o reads
+
+-- the word of a level that is read
+deny_of : (allowed warns denied : Bool)
+    → (if allowed then Some level.Allow else if warns then Some level.Warn
+    else if denied then Some level.Deny else None) ≡ Some level.Deny → denied ≡ true
+deny_of true warns denied is = absurd (cc is)
+deny_of false true denied is = absurd (cc is)
+deny_of false false true is = refl
+deny_of false false false is = absurd (cc is)
+
+deny_word : (text : List ℕ) → level_of text ≡ Some level.Deny → bytes_eq text (codes "deny") ≡ true
+unfolding level_of
+deny_word text is = deny_of (bytes_eq text (codes "allow")) (bytes_eq text (codes "warn"))
+    (bytes_eq text (codes "deny")) is
+
+deny_read : (o : Option (List ℕ)) → option_and_then level_of o ≡ Some level.Deny
+    → option_map_or (λ text. bytes_eq text (codes "deny")) o false ≡ true
+deny_read None is = absurd (cc is)
+deny_read (Some text) is = deny_word text is
+
+-- a level that is read and is not the one that stands for nothing is written
+deny_there : (o : Option Value) (l : LintLevel) → ReadsOr level.Allow (ReadsAs level_of) o l → denies_wildcards l ≡ true
+    → option_map_or is_deny o false ≡ true
+deny_there None l says denied =
+    absurd (false≢true (sym (ap denies_wildcards says) ∙ denied))
+deny_there (Some v) level.Allow says denied = absurd (false≢true denied)
+deny_there (Some v) level.Warn says denied = absurd (false≢true denied)
+deny_there (Some v) level.Deny says denied = deny_read (text_in v) says
+
+wildcards_written : (config : Config) (o : Option Value) → ReadsBans o config → denies_wildcards config.wildcards ≡ true
+    → option_map_or (denies (codes "wildcards")) o false ≡ true
+unfolding name_of
+wildcards_written config o reads denied =
+    by_bans config (λ entries. option_map_or is_deny (value_at (codes "wildcards") entries) false)
+    (λ t. option_map_or is_deny (key_in (codes "wildcards") t) false) (λ t. refl) refl
+    (λ entries keys. deny_there (at_key key.Wildcards entries) config.wildcards (says_of key.Wildcards keys) denied)
+    o reads
+
+sharing_written : (config : Config) (o : Option Value) → ReadsBans o config
+    → is_some config.workspace_dependencies ≡ true
+    → option_map_or (has_key (codes "workspace-dependencies")) o false ≡ true
+unfolding name_of
+sharing_written config o reads some =
+    by_bans config (λ entries. is_some (value_at (codes "workspace-dependencies") entries))
+    (λ t. is_some (key_in (codes "workspace-dependencies") t)) (λ t. refl) refl
+    (λ entries keys. there_if_read a_workspace.Reads (at_key key.WorkspaceDependencies entries)
+    config.workspace_dependencies (says_of key.WorkspaceDependencies keys) some)
+    o reads
+
+std_written : (config : Config) (o : Option Value) → ReadsBans o config → is_some config.std_replacements ≡ true
+    → option_map_or (has_key (codes "std-replacements")) o false ≡ true
+unfolding name_of
+std_written config o reads some =
+    by_bans config (λ entries. is_some (value_at (codes "std-replacements") entries))
+    (λ t. is_some (key_in (codes "std-replacements") t)) (λ t. refl) refl
+    (λ entries keys. there_if_read a_std.Reads (at_key key.StdReplacements entries) config.std_replacements
+    (says_of key.StdReplacements keys) some)
+    o reads
+
+-- the table `build`, and the list of crates that may have a script: its own, or the older one where there is no table
+abbrev has_scripts : Option BuildConfig → Bool
+has_scripts o = option_map_or (λ b. is_some b.allow_build_scripts) o false
+
+abbrev has_files : Option BuildConfig → Bool
+has_files o = option_map_or (λ b. is_minded b.executables) o false
+
+own_list : (v : Value) (b : BuildConfig) → ReadsTable ReadsBuild v b → is_some b.allow_build_scripts ≡ true
+    → has_key (codes "allow-build-scripts") v ≡ true
+unfolding name_of
+own_list v b reads some = by (table_in v) reads
+  where
+    by : (o : Option Table) → ReadsIn ReadsBuild o b → is_some (key_in (codes "allow-build-scripts") o) ≡ true
+    by None reads = absurd reads
+    by (Some t) reads = there_if_read (ReadsList ReadsSpec) (at_key key.AllowBuildScripts (entries_in t))
+        b.allow_build_scripts (says_of key.AllowBuildScripts reads) some
+
+older_list : (scripts : Option (Spanned (List PackageSpec))) → has_scripts (build_by None scripts) ≡ true
+    → is_some scripts ≡ true
+older_list None some = absurd (false≢true some)
+older_list (Some list) some = refl
+
+scripts_there : (v w : Option Value) (build : Option BuildConfig) (scripts : Option (Spanned (List PackageSpec)))
+    → ReadsIfThere (ReadsTable ReadsBuild) v build → ReadsIfThere (ReadsSpanned (ReadsList ReadsSpec)) w scripts
+    → has_scripts (build_by build scripts) ≡ true
+    → option_map_or (has_key (codes "allow-build-scripts")) v (is_some w) ≡ true
+scripts_there None w build scripts none reads some =
+    there_if_read (ReadsSpanned (ReadsList ReadsSpec)) w scripts reads
+    (older_list scripts (ap (λ (o : Option BuildConfig). has_scripts (build_by o scripts)) (sym none) ∙ some))
+scripts_there (Some v) w None scripts says reads some = absurd says
+scripts_there (Some v) w (Some b) scripts says reads some = own_list v b says some
+
+older_files : (scripts : Option (Spanned (List PackageSpec))) → has_files (build_by None scripts) ≡ true → ⊥
+older_files None minded = false≢true minded
+older_files (Some list) minded = false≢true minded
+
+files_there : (v : Option Value) (build : Option BuildConfig) (scripts : Option (Spanned (List PackageSpec)))
+    → ReadsIfThere (ReadsTable ReadsBuild) v build → has_files (build_by build scripts) ≡ true → is_some v ≡ true
+files_there None build scripts none minded = absurd (older_files scripts
+    (ap (λ (o : Option BuildConfig). has_files (build_by o scripts)) (sym none) ∙ minded))
+files_there (Some v) build scripts says minded = refl
+
+scripts_written : (config : Config) (o : Option Value) → ReadsBans o config → has_scripts (build_of config) ≡ true
+    → option_map_or
+    (λ bans. option_map_or (has_key (codes "allow-build-scripts")) (below_name (codes "build") bans)
+    (has_key (codes "allow-build-scripts") bans))
+    o false ≡ true
+unfolding name_of
+scripts_written config o reads some =
+    by_bans config
+    (λ entries. option_map_or (has_key (codes "allow-build-scripts")) (value_at (codes "build") entries)
+    (is_some (value_at (codes "allow-build-scripts") entries)))
+    (λ t. option_map_or (has_key (codes "allow-build-scripts")) (key_in (codes "build") t)
+    (is_some (key_in (codes "allow-build-scripts") t))) (λ t. refl) refl
+    (λ entries keys. scripts_there (at_key key.Build entries) (at_key key.AllowBuildScripts entries) config.build
+    config.allow_build_scripts (says_of key.Build keys) (says_of key.AllowBuildScripts keys) some)
+    o reads
+
+files_written : (config : Config) (o : Option Value) → ReadsBans o config → has_files (build_of config) ≡ true
+    → option_map_or (has_key (codes "build")) o false ≡ true
+unfolding name_of
+files_written config o reads minded =
+    by_bans config (λ entries. is_some (value_at (codes "build") entries))
+    (λ t. is_some (key_in (codes "build") t)) (λ t. refl) refl
+    (λ entries keys. files_there (at_key key.Build entries) config.build config.allow_build_scripts
+    (says_of key.Build keys) minded)
+    o reads
+
+-- what rules see of the table that holds
+scripts_seen : (next : ℕ) (older : Option Span) (o : Option BuildConfig) (valid : Option ValidBuildConfig)
+    → OfBoth (λ build. IsBuildOf build next older) o valid
+    → option_map_or lists_scripts (option_map building_view valid) false ≡ true → has_scripts o ≡ true
+scripts_seen next older None None both minded = minded
+scripts_seen next older None (Some v) both minded = absurd both
+scripts_seen next older (Some b) None both minded = absurd both
+scripts_seen next older (Some b) (Some v) both minded =
+    ap (λ (o : Option (List PackageSpec)). is_some o) (sym both.allow_build_scripts)
+    ∙ (sym (seen_list v.allow_build_scripts) ∙ minded)
+  where
+    seen_list : (o : Option (List PackageSpec)) → is_some (option_map (map spec_view) o) ≡ is_some o
+    seen_list None = refl
+    seen_list (Some list) = refl
+
+files_seen : (next : ℕ) (older : Option Span) (o : Option BuildConfig) (valid : Option ValidBuildConfig)
+    → OfBoth (λ build. IsBuildOf build next older) o valid
+    → option_map_or minds_files (option_map building_view valid) false ≡ true → has_files o ≡ true
+files_seen next older None None both minded = minded
+files_seen next older None (Some v) both minded = absurd both
+files_seen next older (Some b) None both minded = absurd both
+files_seen next older (Some b) (Some v) both minded =
+    ap (λ (l : LintLevel). is_minded l) (sym both.executables) ∙ minded
+
+-- ---- what the rules see is what was read
+
+module _ (text : List ℕ) (said : cfg.Policy) (is : IsPolicyOf text policy_id said) where
+  abbrev config : Config
+  config = is.config
+
+  abbrev tree : Value
+  tree = is.says.tree
+
+  features_read : has_features (policy_view said.bans) ≡ true → not (length config.features == 0) ≡ true
+  features_read some =
+      let valid = is.valid in
+      let lengths : length (map feature_view said.bans.features) ≡ length config.features =
+      length-map said.bans.features feature_view
+      ∙ (ap (λ (fs : List ValidKrateFeatures). length fs) valid.features ∙ length-map config.features features_of) in
+      subst (λ (n : ℕ). not (n == 0) ≡ true) lengths some
+
+  levels_read : (is_some said.bans.workspace_default_features || is_some said.bans.external_default_features) ≡ true
+      → (is_some config.workspace_default_features || is_some config.external_default_features) ≡ true
+  levels_read some =
+      let valid = is.valid in
+      subst (λ (o : Option (Spanned LintLevel)). (is_some config.workspace_default_features || is_some o) ≡ true)
+      valid.external_default_features
+      (subst (λ (o : Option (Spanned LintLevel)). (is_some o || is_some said.bans.external_default_features) ≡ true)
+      valid.workspace_default_features some)
+
+  std_read : is_some (option_map replacing_view said.bans.std_replacements) ≡ true
+      → is_some config.std_replacements ≡ true
+  std_read some = ap (λ (o : Option StdReplacementConfig). is_some o) (sym is.valid.std_replacements)
+      ∙ (sym (is_some-option_map replacing_view said.bans.std_replacements) ∙ some)
+
+  wildcards_read : denies_wildcards said.bans.wildcards ≡ true → denies_wildcards config.wildcards ≡ true
+  wildcards_read denied =
+      subst (λ (l : LintLevel). denies_wildcards l ≡ true) is.valid.wildcards denied
+
+  sharing_read : is_some (option_map sharing_view said.bans.workspace_dependencies) ≡ true
+      → is_some config.workspace_dependencies ≡ true
+  sharing_read some = ap (λ (o : Option WorkspaceDepsConfig). is_some o)
+      (sym is.valid.workspace_dependencies)
+      ∙ (sym (is_some-option_map sharing_view said.bans.workspace_dependencies) ∙ some)
+
+  files_said : option_map_or minds_files (building_of said.bans) false ≡ true
+      → option_map_or (has_key (codes "build")) (below_name (codes "bans") tree) false ≡ true
+  files_said minded = files_written config (below_name (codes "bans") tree) is.says.reads
+      (files_seen _ (older_key_of config) (build_of config) said.bans.build is.valid.build minded)
+
+  licenses_there : is_some (licensing_of said.licenses) ≡ true → has_key (codes "licenses") tree ≡ true
+  licenses_there some = there_if_read (ReadsTable ReadsLicenses) (below_name (codes "licenses") tree) said.licenses
+      is.says.reads_licenses (sym (is_some-option_map licensing_view said.licenses) ∙ some)
+
+  abbrev said_minds : Rule → Bool
+  said_minds rule = minds_rule rule (policy_view said.bans) (licensing_of said.licenses) (building_of said.bans)
+
+  stands : (rule : Rule) → said_minds rule ≡ true → rule_stands rule tree ≡ true
+  unfolding rule_stands
+  stands OnCrates minded = absurd (false≢true minded)
+  stands OnWildcards minded =
+      wildcards_written config (below_name (codes "bans") tree) is.says.reads (wildcards_read minded)
+  stands OnFeatures minded =
+      features_written config (below_name (codes "bans") tree) is.says.reads (features_read minded)
+  stands OnDefaultFeatures minded =
+      levels_written config (below_name (codes "bans") tree) is.says.reads (levels_read minded)
+  stands OnWorkspaceDependencies minded =
+      sharing_written config (below_name (codes "bans") tree) is.says.reads (sharing_read minded)
+  stands OnStdReplacements minded =
+      std_written config (below_name (codes "bans") tree) is.says.reads (std_read minded)
+  stands OnBuildScripts minded = scripts_written config (below_name (codes "bans") tree) is.says.reads
+      (scripts_seen _ (older_key_of config) (build_of config) said.bans.build is.valid.build minded)
+  stands OnPackageFiles minded = files_said minded
+  stands OnLicenses minded = licenses_there minded
+
+  written : (o : Option Rule) → option_map_or (λ rule. said_minds rule) o false ≡ true
+      → option_map_or (λ rule. rule_stands rule tree) o false ≡ true
+  written None minded = absurd (false≢true minded)
+  written (Some rule) minded = stands rule minded
+
+  pub rule_written : (d : DiagnosticCode)
+      → minds d (policy_view said.bans) (licensing_of said.licenses) (building_of said.bans) ≡ true
+      → WritesRule text d
+  rule_written d minded = record {
+    tree = tree;
+    is_tree = is.says.is_tree;
+    written = written (rule_of d) minded;
+  }
