@@ -1,13 +1,13 @@
 -- What listing a folder gives: entries behind its front, with names that ascend.
 use Rattle.std.proofs.Common.{◌≡◌, ℕ, ◌&&◌, Bool, true, false, List, [], ◌∷◌, ◌++◌, map, cond, drop, length, Option}
 use Rattle.std.proofs.Common.{None, Some, Result, Ok, Err, T, refl, sym, ap, ◌∙◌, subst, String}
-use Rattle.std.specs.Prelude.{IfOk, IsTrue, MatchOption, option_map, option_copied, nat_eq, unwrap_or}
+use Rattle.std.specs.Prelude.{IfOk, IsTrue, MatchOption, codes, option_map, option_copied, nat_eq, unwrap_or}
 use Rattle.std.specs.Borrow.{Bor}
 use Rattle.std.specs.BTreeMap.{BTreeMap, IsOrdered}
 use Rattle.std.specs.Cmp.Lexicographic.{nat_list_cmp_total, slice_cmp}
 use Rattle.std.specs.FinMap as finite
 use Rattle.std.specs.FinMap.Entries.{below_all, is_sorted}
-use Rattle.std.specs.List.{AllByRecursion, cons_option, filter_map, starts_with}
+use Rattle.std.specs.List.{AllByRecursion, cons_option, ends_with, filter_map, starts_with}
 use Rattle.std.specs.List.Sorted.{IsStrictlySortedBy}
 use Rattle.std.specs.Option.{option_and_then}
 use Rattle.std.specs.Ordering.{is_lt, nat_cmp}
@@ -41,6 +41,43 @@ behind_is (Some x) front path strips =
     let begins : starts_with (λ a b. nat_eq a b) path front ≡ true = (starts_is Decides-eqb path front _ refl).1
     (drop strips.0 path) strips.1.1 in
     rw begins (ap (λ t. Some t) (strips.2 ∙ ap (λ n. drop n path) strips.1.0))
+
+-- what stands behind two texts stands behind the second, in what stands behind the first
+behind_both : (front more path : List ℕ)
+    → text_behind (front ++ more) path ≡ option_and_then (text_behind more) (text_behind front path)
+unfolding text_behind
+behind_both [] more [] = refl
+behind_both [] more (p ∷ ps) = refl
+behind_both (f ∷ fs) more [] = refl
+behind_both (f ∷ fs) more (p ∷ ps) = elim (nat_eq f p) as (λ b. nat_eq f p ≡ b
+    → text_behind (f ∷ fs ++ more) (p ∷ ps) ≡ option_and_then (text_behind more) (text_behind (f ∷ fs) (p ∷ ps))) [
+      | true ↦ λ same. rw same (behind_both fs more ps)
+      | false ↦ λ other. rw other refl
+    ] refl
+
+-- what stands behind a folder and its slash, by what stands behind the folder
+below_front : (dir path : List ℕ) → text_behind (front_of dir) path
+    ≡ cond (ends_with nat_eq dir (codes "/")) (text_behind dir path)
+    (option_and_then (text_behind (codes "/")) (text_behind dir path))
+unfolding front_of
+below_front dir path = elim (ends_with nat_eq dir (codes "/"))
+    as (λ b. text_behind (cond b dir (dir ++ codes "/")) path
+    ≡ cond b (text_behind dir path) (option_and_then (text_behind (codes "/")) (text_behind dir path)))
+    [ true ↦ refl | false ↦ behind_both dir (codes "/") path ]
+
+pub below_some : (dir path rest : List ℕ) → Some rest ≡ text_behind dir path
+    → cond (ends_with nat_eq dir (codes "/")) (Some rest) (text_behind (codes "/") rest)
+    ≡ text_behind (front_of dir) path
+below_some dir path rest is = ap (λ (found : Option (List ℕ)). cond (ends_with nat_eq dir (codes "/")) found
+    (option_and_then (text_behind (codes "/")) found)) is ∙ sym (below_front dir path)
+
+pub below_none : (dir path : List ℕ) → None ≡ text_behind dir path → None ≡ text_behind (front_of dir) path
+below_none dir path is = never (ends_with nat_eq dir (codes "/"))
+    ∙ (ap (λ (found : Option (List ℕ)). cond (ends_with nat_eq dir (codes "/")) found
+    (option_and_then (text_behind (codes "/")) found)) is ∙ sym (below_front dir path)) where
+      never : (b : Bool) → None ≡ cond b None (option_and_then (text_behind (codes "/")) None)
+      never true = refl
+      never false = refl
 
 -- an entry tells of what stands behind the front
 record IsBehind (front : List ℕ) (at : List ℕ × Place) (entry : Entry) : Type 0 where

@@ -1,7 +1,7 @@
-ghost use Rattle.std.specs.Prelude.{◌≡◌, IfOk, IsTrue, map};
+ghost use Rattle.std.specs.Prelude.{◌≡◌, IfOk, IsTrue, Some, codes, map, nat_eq, if◌then◌else◌};
 ghost use Rattle.std.specs.BTreeMap.{IsOrdered};
 ghost use Rattle.std.specs.FinMap as finite;
-ghost use Rattle.std.specs.List.{filter_map, list_any};
+ghost use Rattle.std.specs.List.{ends_with, filter_map, list_any};
 ghost use Rattle.std.specs.Option.{option_copied};
 ghost use Rattle.std.specs.String.{string_cmp};
 ghost use Rattle.deny_lists.specs.TextMap.{with_bytes};
@@ -20,16 +20,25 @@ use std::collections::BTreeMap;
 pub fn child_path(alloc: Global, dir: &str, name: &str) -> Result<Text, NoMemory>
     ensures { IfOk result (λ path. path ≡ child dir.now name.now) }
 {
-    let mut path = front_of(alloc, dir)?;
+    let mut path = front_with_room(alloc, dir, name.len())?;
     path.push_str(name)?;
     Ok(path)
 }
 
-#[tactic(auto, unfolding(crate::specs::Children::front_of))]
 fn front_of(alloc: Global, dir: &str) -> Result<Text, NoMemory>
     ensures { IfOk result (λ front. front ≡ front_of dir.now) }
 {
-    let mut front = Text::from_str(alloc, dir)?;
+    front_with_room(alloc, dir, 0)
+}
+
+/// What stands before the names of a folder's children, with room for a name of this length.
+#[tactic(auto, unfolding(crate::specs::Children::front_of))]
+fn front_with_room(alloc: Global, dir: &str, room: usize) -> Result<Text, NoMemory>
+    ensures { IfOk result (λ front. front ≡ front_of dir.now) }
+{
+    let length = dir.len().saturating_add(1).saturating_add(room);
+    let mut front = Text::from_string(String::with_capacity(alloc, length)?);
+    front.push_str(dir)?;
     if !dir.as_bytes().ends_with(b"/") {
         front.push_str("/")?;
     }
@@ -50,10 +59,32 @@ fn has_slash(name: &[u8]) -> bool
 }
 
 /// What stands behind the prefix, in a path that begins with it.
-fn path_behind<'p>(front: &str, path: &'p str) -> Option<&'p str>
+pub fn path_behind<'p>(front: &str, path: &'p str) -> Option<&'p str>
     ensures { option_copied result ≡ text_behind front.now path.now }
 {
     path.strip_prefix(front)
+}
+
+/// What stands behind a folder and its slash, in a path that begins with these.
+pub fn path_below<'p>(dir: &str, path: &'p str) -> Option<&'p str>
+    ensures { option_copied result ≡ text_behind (front_of dir.now) path.now }
+{
+    match path_behind(dir, path) {
+        Some(rest) => behind_slash(dir, rest),
+        None => None,
+    }
+}
+
+/// What stands behind a folder's slash, where this stands behind the folder's path.
+fn behind_slash<'p>(dir: &str, rest: &'p str) -> Option<&'p str>
+    ensures { option_copied result ≡ (if ends_with nat_eq dir.now (codes "/") then Some rest.now
+        else text_behind (codes "/") rest.now) }
+{
+    if dir.as_bytes().ends_with(b"/") {
+        Some(rest)
+    } else {
+        path_behind("/", rest)
+    }
 }
 
 /// The name behind the front of a folder, at the path of one of its children.

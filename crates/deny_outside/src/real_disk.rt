@@ -3,11 +3,13 @@ ghost use Rattle.std.specs.List.{list_all};
 ghost use Rattle.deny_outside.specs.Children.{AreListed, is_child_name};
 ghost use Rattle.deny_outside.specs.Disk.{untold};
 
-use crate::children::is_child_name;
+use crate::children::{child_path, is_child_name};
 use crate::disk::{DiskError, Entry, PackageFiles};
+use crate::path::is_name;
 use deny_lists::{List, Text, put_records_in_order};
 use std::alloc::Global;
-use std::fs::File;
+use std::fs::{File, Files};
+use std::io::Read;
 use std::os::unix::fs::FileExt;
 use std::{fs, io};
 
@@ -92,17 +94,66 @@ fn disk_error(error: io::Error) -> DiskError {
     }
 }
 
-/// What the folder holds, in the order in which the system gives it. A link is not followed.
-fn read_folder(rt: &HostRuntime, alloc: Global, dir: &str) -> io::Result<List<Entry>> {
-    let mut entries = List::new(alloc);
-    for entry in fs::read_dir(rt, dir)? {
-        let entry = entry?;
-        entries.vec.push(Entry {
-            name: Text::from_string(String::from_str(alloc, entry.file_name())?),
-            folder: entry.file_type()?.is_dir(),
-        })?;
+/// How many bytes of names are asked for at a time.
+const NAMES: usize = 0x2000;
+
+/// What was read of a folder. The paths of what it holds are written in one place, one after the other.
+#[derive(Drop)]
+struct Listing {
+    front: Text,
+    path: String,
+    entries: List<Entry>,
+}
+
+impl Listing {
+    /// Takes names, each with a 0 behind it. The folder itself and the one above are left out.
+    fn take(&mut self, rt: &HostRuntime, alloc: Global, names: &[u8]) -> Result<(), DiskError> {
+        for name in names.split(|byte| *byte == 0) {
+            if is_name(name) {
+                self.take_name(rt, alloc, name)?;
+            }
+        }
+        Ok(())
     }
-    Ok(entries)
+
+    /// Takes a name, with what stands there. A link is not followed.
+    fn take_name(&mut self, rt: &HostRuntime, alloc: Global, name: &[u8]) -> Result<(), DiskError> {
+        let Ok(name) = str::from_utf8(name) else {
+            return Err(DiskError::Failed);
+        };
+        self.path.clear();
+        self.path.push_str(self.front.as_str())?;
+        self.path.push_str(name)?;
+        let found = rt.symlink_metadata(self.path.as_str()).map_err(disk_error)?;
+        self.entries.push(Entry {
+            name: Text::from_str(alloc, name)?,
+            folder: found.is_dir(),
+        })?;
+        Ok(())
+    }
+}
+
+/// What the folder holds, in the order in which the system gives it.
+fn read_folder(rt: &HostRuntime, alloc: Global, dir: &str) -> Result<List<Entry>, DiskError> {
+    if dir.is_empty() {
+        return Err(DiskError::Failed);
+    }
+    let front = child_path(alloc, dir, "")?;
+    let mut folder = rt.open_dir(front.as_str()).map_err(disk_error)?;
+    let mut listing = Listing {
+        front,
+        path: String::new(alloc),
+        entries: List::new(alloc),
+    };
+    let mut names = [0u8; NAMES];
+    for _ in 0..u64::MAX {
+        let n = folder.read(&mut names).map_err(disk_error)?;
+        if n == 0 {
+            return Ok(listing.entries);
+        }
+        listing.take(rt, alloc, &names[..n])?;
+    }
+    Err(DiskError::Failed)
 }
 
 fn have_child_names(entries: &[Entry]) -> bool
@@ -117,7 +168,7 @@ fn have_child_names(entries: &[Entry]) -> bool
 fn list_folder(rt: &HostRuntime, alloc: Global, dir: &str) -> Result<List<Entry>, DiskError>
     ensures { IfOk result AreListed }
 {
-    let mut entries = read_folder(rt, alloc, dir).map_err(disk_error)?;
+    let mut entries = read_folder(rt, alloc, dir)?;
     put_records_in_order(&mut entries)?;
     if have_child_names(entries.as_slice()) {
         Ok(entries)
