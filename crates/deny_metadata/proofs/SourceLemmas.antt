@@ -4,13 +4,14 @@ use Rattle.std.proofs.Common.{refl, sym, ap, ◌∙◌, subst}
 use Rattle.std.specs.Prelude.{◌==◌, All, cond, IfSome, MatchOption, filter, is_some, option_copied, option_map}
 use Rattle.std.specs.Borrow.{Bor}
 use Rattle.std.specs.List.{starts_with}
-use Rattle.std.specs.Str.{IsUtf8, is_utf8}
+use Rattle.std.specs.Str.{IsUtf8}
 use Rattle.std.specs.Str.Pattern.{FindsTextPrefix, StripsPrefix}
 use Rattle.std.proofs.lemmas.Bool.Decides.{Decides-eqb}
 use Rattle.std.proofs.lemmas.List.Elements.{All-nil, All-cons, All-head, All-tail, All-map, All-filter, All-take}
 use Rattle.std.proofs.lemmas.List.Elements.{All-drop, All-weaker}
 use Rattle.std.proofs.lemmas.Slice.Eq.{starts_is}
-use Rattle.std.proofs.lemmas.Str.{is_utf8-from_IsUtf8, IsUtf8-from_is_utf8}
+use Rattle.std.proofs.lemmas.Str.{is_utf8-from_IsUtf8}
+use Rattle.deny_lists.proofs.Texts.{is_utf8-false}
 use Rattle.std.proofs.lemmas.Str.Pattern.{starts_text}
 use Rattle.form_urlencoded.specs.Form.{ampersand, decode, is_nonempty, onto_first, raw_pairs, split, split_pair}
 use Rattle.percent_encoding.proofs.AsciiSetLemmas.{ascii_from_kept}
@@ -42,11 +43,7 @@ decoded_is part text utf8 same = rw (is_utf8-from_IsUtf8 _ utf8) same
 
 pub written_is : (part text : List ℕ) → (IsUtf8 (decode part) → ⊥) → text ≡ part → text ≡ form_text part
 unfolding form_text
-written_is part text isnt same = rw (not_utf8 (decode part) isnt) same
-  where
-    not_utf8 : (bytes : List ℕ) → (IsUtf8 bytes → ⊥) → is_utf8 bytes ≡ false
-    not_utf8 bytes isnt = elim (is_utf8 bytes) as (λ b. is_utf8 bytes ≡ b → is_utf8 bytes ≡ false)
-        [ true ↦ λ e. absurd (isnt (IsUtf8-from_is_utf8 bytes e)) | false ↦ λ e. e ] refl
+written_is part text isnt same = rw (is_utf8-false (decode part) isnt) same
 
 -- an error of decoding is no want of memory
 pub no_memory : (fault : DecodeError) (e : Utf8Error) → fault ≡ error.Utf8 e → fault ≡ error.OutOfMemory → ⊥

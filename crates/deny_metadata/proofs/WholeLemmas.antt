@@ -5,8 +5,7 @@ use Rattle.std.proofs.Common.{Ordering, Less, Equal, Greater}
 use Rattle.std.specs.Prelude.{◌||◌, ⊤, if◌then◌else◌, unwrap_or}
 use Rattle.std.specs.Ordering.{match_ordering, nat_cmp}
 use Rattle.std.specs.Cmp.Lexicographic.{slice_cmp}
-use Rattle.std.specs.Str.{is_utf8, IsUtf8}
-use Rattle.std.proofs.lemmas.Str.{IsUtf8-from_is_utf8}
+use Rattle.std.specs.Str.{is_utf8}
 use Rattle.json.specs.Json as json
 use Rattle.json.specs.Json.{Json}
 use Rattle.serde_json.specs.Data.{Data, Num, Members, number, array, object, unsigned, negative, float, item}
@@ -198,10 +197,6 @@ pub parse_fails : (bytes : List ℕ) (e : MetadataFault) → is_utf8 bytes ≡ t
 parse_fails bytes e utf8 (inl memory) = subst (λ (f : MetadataFault). Fails f (value_at bytes)) (sym memory) tt
 parse_fails bytes e utf8 (inr (is, none)) =
     subst (λ (f : MetadataFault). Fails f (value_at bytes)) (sym is) (no_json bytes utf8 none)
-
-pub not_utf8 : (bytes : List ℕ) → (IsUtf8 bytes → ⊥) → is_utf8 bytes ≡ false
-not_utf8 bytes isnt = elim (is_utf8 bytes) as (λ b. is_utf8 bytes ≡ b → is_utf8 bytes ≡ false)
-    [ true ↦ λ e. absurd (isnt (IsUtf8-from_is_utf8 bytes e)) | false ↦ λ e. e ] refl
 
 pub no_text : (bytes : List ℕ) → is_utf8 bytes ≡ false → document_at bytes ≡ Err NoJson
 unfolding document_at value_at json_at

@@ -10,7 +10,7 @@ use Rattle.deny_metadata.specs.Document.{json_at, json_of}
 use Rattle.deny_metadata.specs.Reading.{Fails}
 use Rattle.deny_metadata.specs.declared.fault.MetadataFault.{MetadataFault}
 use Rattle.deny_metadata.specs.declared.fault.MetadataFault.TheVariants.{Json, Memory}
-use Rattle.deny_metadata.proofs.WholeLemmas.{not_utf8}
+use Rattle.deny_lists.proofs.Texts.{is_utf8-false}
 use Rattle.deny_metadata.proofs.owned.json_in.Goals as goal
 
 no_text : (bytes : List ℕ) → is_utf8 bytes ≡ false → json_at bytes ≡ Err Json
@@ -34,7 +34,7 @@ answers bytes text (Err e) utf8 same ok (inr (json, none)) =
     (a_text bytes utf8 ∙ ap json_of (ap read (sym same) ∙ none))
 
 pub returns-in-Err : goal.returns-in-Err
-returns-in-Err c = no_text _ (not_utf8 _ c.in-Err.ensures.cases.0)
+returns-in-Err c = no_text _ (is_utf8-false _ c.in-Err.ensures.cases.0)
 
 pub returns-in-Ok : goal.returns-in-Ok
 returns-in-Ok c = answers _ _ c.value_of_text.result (is_utf8-from_IsUtf8 _ c.in-Ok.ensures.cases.1)
