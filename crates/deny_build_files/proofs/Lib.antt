@@ -5,3 +5,4 @@ mod HeaderRows
 pub mod HomeLemmas
 mod HomeRows
 pub mod ScriptLemmas
+mod WrittenLemmas

@@ -1,12 +1,14 @@
 //! Paths as they are shown: below the home of cargo, below the folder of a crate, or as they are.
-ghost use Rattle.std.specs.Prelude.{◌≡◌, ◌≤◌, ◌++◌, codes, drop, length, map, option_map, option_copied, IfOk, IfSome};
+ghost use Rattle.std.specs.Prelude.{◌≡◌, ◌≤◌, ◌++◌, true, codes, drop, length, map, option_map, option_copied, IfOk, IfSome, Some};
 ghost use Rattle.std.specs.List.{join_by};
 ghost use Rattle.deny_build_model.specs.Paths.{is_component, parts};
+ghost use Rattle.deny_outside.specs.Children.{text_behind};
 ghost use Rattle.deny_build_files.specs.Home.{below_home, home_path, is_absolute, parts_behind, rest_below, same_name, same_start};
-ghost use Rattle.deny_build_files.specs.private.Home.{parts_after, parts_below, parts_past};
+ghost use Rattle.deny_build_files.specs.private.Home.{begins_plainly, parts_after, parts_below, parts_past};
 
 use crate::parts::parts_of;
 use deny_lists::{NoMemory, Text};
+use deny_outside::path_behind;
 use std::alloc::Global;
 
 /// A path as it is shown: `$CARGO_HOME/` and the rest below `home`, else `$crate/` and the rest
@@ -24,46 +26,89 @@ pub fn home_path(
 ) -> Result<Text, NoMemory>
     ensures { IfOk result (λ shown. shown ≡ home_path path.now root.now (option_copied home.entry)) }
 {
-    let own = parts_of(alloc, path, '/')?;
-    if let Some(rest) = below_home(alloc, path, own.as_slice(), home)? {
-        return joined(alloc, "$CARGO_HOME/", rest.as_str());
+    if let Some(shown) = shown_in_home(alloc, path, home)? {
+        return Ok(shown);
     }
-    match rest_below(alloc, root, path, own.as_slice())? {
-        Some(rest) => joined(alloc, "$crate/", rest.as_str()),
+    match shown_below(alloc, "$crate/", root, path)? {
+        Some(shown) => Ok(shown),
         None => Ok(Text::from_str(alloc, path)?),
     }
 }
 
-fn below_home(
-    alloc: Global,
-    path: &str,
-    own: &[&str],
-    home: Option<&str>,
-) -> Result<Option<Text>, NoMemory>
-    requires { map (λ part. part.now) own.now ≡ parts path.now }
-    ensures { IfOk result (λ rest. rest ≡ below_home path.now (option_copied home.entry)) }
+fn shown_in_home(alloc: Global, path: &str, home: Option<&str>) -> Result<Option<Text>, NoMemory>
+    ensures { IfOk result (λ shown. shown
+        ≡ option_map (λ rest. codes "$CARGO_HOME/" ++ rest) (below_home path.now (option_copied home.entry))) }
 {
     match home {
-        Some(home) => rest_below(alloc, home, path, own),
+        Some(home) => shown_below(alloc, "$CARGO_HOME/", home, path),
         None => Ok(None),
     }
 }
 
-// What is written of a path of these parts below a folder, where it lies in that.
-fn rest_below(
+// A front and what is written of a path below a folder, where it lies in that.
+fn shown_below(
     alloc: Global,
+    front: &str,
     folder: &str,
     path: &str,
-    own: &[&str],
 ) -> Result<Option<Text>, NoMemory>
-    requires { map (λ part. part.now) own.now ≡ parts path.now }
+    ensures { IfOk result (λ shown. shown ≡ option_map (λ rest. front.now ++ rest) (rest_below folder.now path.now)) }
+{
+    if let Some(rest) = written_below(folder, path) {
+        let shown = joined(alloc, front, rest)?;
+        return Ok(Some(shown));
+    }
+    match rest_below(alloc, folder, path)? {
+        Some(rest) => {
+            let shown = joined(alloc, front, rest.as_str())?;
+            Ok(Some(shown))
+        }
+        None => Ok(None),
+    }
+}
+
+// What is written of a path below a folder, where the path is written as the folder, a slash and a component: no parts
+// are gathered of such a path, as most are.
+fn written_below<'p>(folder: &str, path: &'p str) -> Option<&'p str>
+    ensures { IfSome result (λ rest. rest_below folder.now path.now ≡ Some rest.now) }
+{
+    match path_behind(folder, path) {
+        Some(slashed) if !folder.is_empty() => component_behind(slashed),
+        Some(_) | None => None,
+    }
+}
+
+// What stands behind a slash, where that is a component as far as its first byte tells.
+fn component_behind(slashed: &str) -> Option<&str>
+    ensures behind { IfSome result (λ rest. Some rest.now ≡ text_behind (codes "/") slashed.now) }
+    ensures component { IfSome result (λ rest. begins_plainly rest.now ≡ true) }
+{
+    match path_behind("/", slashed) {
+        Some(rest) if begins_plainly(rest) => Some(rest),
+        Some(_) | None => None,
+    }
+}
+
+// Whether the first part is a component, as far as its first byte tells.
+fn begins_plainly(rest: &str) -> bool
+    ensures { result ≡ begins_plainly rest.now }
+{
+    match rest.as_bytes() {
+        [byte, ..] => !(*byte == b'/' || *byte == b'.'),
+        [] => false,
+    }
+}
+
+// What is written of a path below a folder, where it lies in that.
+fn rest_below(alloc: Global, folder: &str, path: &str) -> Result<Option<Text>, NoMemory>
     ensures { IfOk result (λ rest. rest ≡ rest_below folder.now path.now) }
 {
     if !same_start(folder, path) {
         return Ok(None);
     }
     let names = parts_of(alloc, folder, '/')?;
-    match parts_below(names.as_slice(), own) {
+    let own = parts_of(alloc, path, '/')?;
+    match parts_below(names.as_slice(), own.as_slice()) {
         Some(rest) => {
             let text = text_of(alloc, rest)?;
             Ok(Some(text))
@@ -163,7 +208,9 @@ fn text_of(alloc: Global, parts: &[&str]) -> Result<Text, NoMemory>
 fn joined(alloc: Global, front: &str, rest: &str) -> Result<Text, NoMemory>
     ensures { IfOk result (λ text. text ≡ front.now ++ rest.now) }
 {
-    let mut text = Text::from_str(alloc, front)?;
+    let length = front.len().saturating_add(rest.len());
+    let mut text = Text::from_string(String::with_capacity(alloc, length)?);
+    text.push_str(front)?;
     text.push_str(rest)?;
     Ok(text)
 }

@@ -63,11 +63,11 @@ fn interpreter_of_line(alloc: Global, path: &str, line: &[u8]) -> Result<Option<
 fn interpreter_of_text(alloc: Global, path: &str, line: &str) -> Result<Option<Text>, NoMemory>
     ensures { IfOk result (λ name. name ≡ interpreter_of_text path.now line.now) }
 {
-    if line.as_bytes().starts_with(b"#![") && is_rust_path(alloc, path)? {
+    if line.as_bytes().starts_with(b"#![") && is_rust_path(path) {
         return Ok(None);
     }
     let parts = parts_of(alloc, line, ' ')?;
-    match named_by(alloc, parts.as_slice())? {
+    match named_by(parts.as_slice()) {
         Some(name) => Ok(Some(Text::from_str(alloc, name)?)),
         None => Ok(None),
     }
@@ -75,49 +75,47 @@ fn interpreter_of_text(alloc: Global, path: &str, line: &str) -> Result<Option<T
 
 /// Whether the last component of a path ends with `.rs` after at least one byte.
 #[tactic(auto, unfolding(crate::specs::Script::is_rust_path))]
-fn is_rust_path(alloc: Global, path: &str) -> Result<bool, NoMemory>
-    ensures { IfOk result (λ is. is ≡ is_rust_path path.now) }
+fn is_rust_path(path: &str) -> bool
+    ensures { result ≡ is_rust_path path.now }
 {
-    let name = last_part(alloc, path)?;
-    Ok(name.len() > 3 && name.as_bytes().ends_with(b".rs"))
+    let name = last_part(path);
+    name.len() > 3 && name.as_bytes().ends_with(b".rs")
 }
 
 /// The interpreter that the parts of a line name, without its folder.
 #[tactic(auto, unfolding(crate::specs::Script::named_by))]
-fn named_by<'t>(alloc: Global, parts: &[&'t str]) -> Result<Option<&'t str>, NoMemory>
-    ensures { IfOk result (λ name. option_copied name ≡ named_by (map (λ part. part.now) parts.now)) }
+fn named_by<'t>(parts: &[&'t str]) -> Option<&'t str>
+    ensures { option_copied result ≡ named_by (map (λ part. part.now) parts.now) }
 {
     match parts {
         [first, rest @ ..] => {
             if first.as_bytes().ends_with(b"#!") {
-                named_in(alloc, rest)
+                named_in(rest)
             } else {
-                named_in(alloc, parts)
+                named_in(parts)
             }
         }
-        [] => Ok(None),
+        [] => None,
     }
 }
 
 #[tactic(auto, unfolding(crate::specs::Script::named_in))]
-fn named_in<'t>(alloc: Global, parts: &[&'t str]) -> Result<Option<&'t str>, NoMemory>
-    ensures { IfOk result (λ name. option_copied name ≡ named_in (map (λ part. part.now) parts.now)) }
+fn named_in<'t>(parts: &[&'t str]) -> Option<&'t str>
+    ensures { option_copied result ≡ named_in (map (λ part. part.now) parts.now) }
 {
     match parts {
-        [] => Ok(None),
-        [part, rest @ ..] if part.as_bytes().ends_with(b"/env") => Ok(rest.first().copied()),
-        [part, ..] => Ok(Some(last_part(alloc, part)?)),
+        [] => None,
+        [part, rest @ ..] if part.as_bytes().ends_with(b"/env") => rest.first().copied(),
+        [part, ..] => Some(last_part(part)),
     }
 }
 
 /// What stands after the last slash; all where there is none.
-#[tactic(auto, unfolding(crate::specs::Script::last_part))]
-fn last_part<'t>(alloc: Global, text: &'t str) -> Result<&'t str, NoMemory>
-    ensures { IfOk result (λ part. part.now ≡ last_part text.now) }
+fn last_part(text: &str) -> &str
+    ensures { result.now ≡ last_part text.now }
 {
-    let parts = parts_of(alloc, text, '/')?;
-    match parts.as_slice() {
-        [.., last] => Ok(last),
-        [] => Ok(""),
+    match text.rsplit_once('/') {
+        Some((_, rest)) => rest,
+        None => text,
     }
 }

@@ -1,5 +1,5 @@
 -- The rest of a path below a folder, by the parts of both.
-use Rattle.std.specs.Prelude.{ℕ, List, [], ◌∷◌, Option, None, Some, if◌then◌else◌}
+use Rattle.std.specs.Prelude.{ℕ, ◌==◌, ◌||◌, Bool, false, not, List, [], ◌∷◌, Option, None, Some, if◌then◌else◌}
 use Rattle.std.specs.Option.{option_and_then}
 use Rattle.deny_build_model.specs.Paths.{is_component}
 use Rattle.deny_build_files.specs.Home.{parts_behind, same_name}
@@ -17,3 +17,8 @@ parts_past name own = if is_component name then parts_after name (parts_behind 0
 abbrev pub parts_below : List (List ℕ) → List (List ℕ) → Option (List (List ℕ))
 parts_below [] own = Some (parts_behind 0 own)
 parts_below (name ∷ names) own = option_and_then (λ rest. parts_below names rest) (parts_past name own)
+
+-- the first part is a component, by its first byte
+abbrev pub begins_plainly : List ℕ → Bool
+begins_plainly [] = false
+begins_plainly (byte ∷ rest) = not (byte == 47 || byte == 46)

@@ -1,9 +1,11 @@
-use Rattle.std.proofs.Common.{List, ℕ, Bor, map, ap, ◌∙◌}
-use Rattle.deny_build_files.specs.Script.{last_part}
-use Rattle.deny_build_files.proofs.ScriptLemmas.{last_now}
+use Rattle.std.proofs.Common.{◌∙◌}
+use Rattle.deny_build_files.proofs.ScriptLemmas.{last_alone, last_behind}
 use Rattle.deny_build_files.proofs.script.last_part.Goals as goal
 
-pub returns-in-len1-up : goal.returns-in-len1-up
-unfolding last_part
-returns-in-len1-up c = last_now c.as_slice.result.now c.args.text.now _
-    (ap (map (λ (part : Bor (List ℕ)). part.now)) c.as_slice.ensures.value ∙ c.in_ok-parts.ensures)
+pub returns-in-Some : goal.returns-in-Some
+returns-in-Some c =
+    let split = c.in-Some.ensures.cases in
+    split.4 ∙ last_behind c.args.text.now split.0 split.1 split.2.0 split.2.1
+
+pub returns-in-None : goal.returns-in-None
+returns-in-None c = last_alone c.args.text.now c.in-None.ensures.cases
