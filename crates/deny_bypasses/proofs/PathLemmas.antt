@@ -1,11 +1,11 @@
 -- An allowed path is found among those whose components are spelled alike.
-use Rattle.std.proofs.Common.{◌≡◌, ◌∙◌, ◌∷◌, [], ℕ, true, Bor, Contains, List, Option, Some, None, find, map}
-use Rattle.std.proofs.Common.{option_map, refl, sym, ap}
-use Rattle.std.specs.Prelude.{◌↔◌, option_and_then, slice_get}
+use Rattle.std.proofs.Common.{◌≡◌, ◌∙◌, ◌∷◌, [], ℕ, arith, true, Bor, Contains, List, Option, Some, None, find, map}
+use Rattle.std.proofs.Common.{length, option_map, refl, sym, ap}
+use Rattle.std.specs.Prelude.{◌↔◌, ◌==◌, option_and_then, slice_get}
 use Rattle.std.specs.Cmp.Lexicographic.{bytes_decides, pointwise}
 use Rattle.std.specs.List.Sorted.{IsStrictlyIncreasing}
 use Rattle.std.specs.Option.{option_copied}
-use Rattle.std.proofs.lemmas.Bool.{and_parts}
+use Rattle.std.proofs.lemmas.Bool.{and_parts, eqb-true}
 use Rattle.deny_build_cfg.specs.BuildingView.{bypass_view, path_view}
 use Rattle.deny_build_cfg.specs.declared.valid.ValidBypass.{ValidBypass}
 use Rattle.deny_build_model.specs.Building.{AllowedPath}
@@ -38,6 +38,18 @@ among_all : (bypass : Option ValidBypass) (path : List ℕ)
 unfolding path_of
 among_all None path = refl
 among_all (Some bypass) path = refl
+
+none_among : (files : List BypassPath) (path : List ℕ) → (length files == 0) ≡ true
+    → None ≡ first_of allows (map path_view files) path
+none_among [] path empty = refl
+none_among (file ∷ files) path empty = absurd (omega (arith, eqb-true (length (file ∷ files)) 0 empty))
+
+-- a bypass that allows no file allows none at a path
+pub none_allowed : (bypass : Option ValidBypass) (files : List BypassPath) (path : List ℕ) → files ≡ files_of bypass
+    → (length files == 0) ≡ true → None ≡ path_of_used (option_map bypass_view bypass) path
+none_allowed bypass files path those empty =
+    none_among files path empty
+    ∙ (ap (λ (fs : List BypassPath). first_of allows (map path_view fs) path) those ∙ among_all bypass path)
 
 -- the numbers are those of the paths that are spelled alike
 pub path_found : (bypass : Option ValidBypass) (path : List ℕ) (names : List (List ℕ)) (asked : List ℕ)

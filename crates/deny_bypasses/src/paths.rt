@@ -35,16 +35,15 @@ impl<'b> Allowed<'b> {
         ensures { IfOk result (λ found. option_map (λ file. path_view file.now) found
             ≡ path_of_used (option_map bypass_view (option_copied self.now.bypass)) path.now) }
     {
+        let files = files_of(self.bypass);
+        if files.is_empty() {
+            return Ok(None);
+        }
         let names = components(alloc, path)?;
         let spelling = spelled(alloc, names.as_slice())?;
         let mut numbers = Vec::new(alloc);
         self.spellings.numbers_of(spelling.as_str(), &mut numbers)?;
-        first_with(
-            alloc,
-            files_of(self.bypass),
-            numbers.as_slice(),
-            names.as_slice(),
-        )
+        first_with(alloc, files, numbers.as_slice(), names.as_slice())
     }
 }
 

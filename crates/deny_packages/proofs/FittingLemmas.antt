@@ -1,13 +1,13 @@
 -- The patterns of the numbers that fit are those that fit.
 use Rattle.std.proofs.Common.{◌≡◌, ◌∙◌, ◌+◌, ◌-◌, ◌<◌, ◌≤◌, [], ◌∷◌, suc, ℕ, List, Option, None, Some, ap, arith, inl}
-use Rattle.std.proofs.Common.{inr, map, refl, subst, sym, Bor}
+use Rattle.std.proofs.Common.{inr, length, map, refl, subst, sym, Bor}
 use Rattle.std.specs.Prelude.{◌↔◌, Contains, filter_map, slice_get, slice_index}
 use Rattle.std.specs.List.{AllZip, cons_option}
 use Rattle.std.specs.List.Sorted.{IsStrictlyIncreasing}
 use Rattle.std.specs.Str.{chars}
 use Rattle.std.proofs.lemmas.Bool.{cases_lt}
 use Rattle.deny_build_cfg.specs.BuildingView.{words_of}
-use Rattle.deny_build_cfg.specs.Globs.{IsGlobOf, own_text, patterns_at}
+use Rattle.deny_build_cfg.specs.Globs.{IsGlobOf, extension_text, own_text, patterns_at}
 use Rattle.deny_build_cfg.specs.declared.pattern.GlobPattern.{GlobPattern}
 use Rattle.deny_build_cfg.specs.declared.pattern.GlobPattern.TheVariants.{Builtin, User}
 use Rattle.deny_globs.specs.Fits.{Fits}
@@ -173,3 +173,9 @@ pub texts_given : (f : GlobPattern → List ℕ) (patterns items : List (Bor Glo
     → texts ≡ map (λ p. f p.now) patterns → patterns ≡ items → texts ≡ map f (map (λ p. p.now) items)
 texts_given f patterns items texts are same =
     are ∙ texts_now f patterns ∙ ap (λ (ps : List (Bor GlobPattern)). map f (map (λ p. p.now) ps)) same
+
+-- of no globs none fits
+pub none_fitting : (path : List ℕ) (patterns : List GlobPattern) (texts : List (List ℕ)) → length patterns ≡ 0
+    → texts ≡ [] → AreFitting path (map extension_text patterns) texts
+none_fitting path [] texts empty are = rw are none
+none_fitting path (pattern ∷ patterns) texts empty are = absurd (omega (arith, empty))

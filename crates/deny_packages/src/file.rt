@@ -9,6 +9,7 @@ ghost use Rattle.deny_build_cfg.specs.BuildingView.{building_view, bypass_view};
 ghost use Rattle.deny_build_cfg.specs.Globs.{extension_text};
 ghost use Rattle.deny_codes.specs.BuildScripts.{used};
 ghost use Rattle.deny_krates.specs.Crates.{crate_view};
+ghost use Rattle.deny_model.specs.Crates as crates;
 ghost use Rattle.deny_packages.specs.Seen.{IsFileSeen, of_crate};
 ghost use Rattle.deny_packages.specs.Why.{IsBecause};
 ghost use Rattle.deny_packages.specs.private.Entries.{IsFoundFor, entries_for, entries_of, gaps_of};
@@ -27,14 +28,15 @@ use deny_outside::PackageFiles;
 use deny_unread::{Purpose, Unread};
 use std::alloc::Global;
 
-/// The file at a path of a crate with the bypass of these allowed paths: what decides of it, and what that asks is read. `indices` is of no
-/// matter before and after.
+/// The file at a path of a crate with this folder and the bypass of these allowed paths: what decides of it, and what
+/// that asks is read. `indices` is of no matter before and after.
 pub(crate) fn see_file<D: PackageFiles>(
     alloc: Global,
     config: &ValidBuildConfig,
     allowed: &Allowed<'_>,
     home: Option<&str>,
     krate: &Krate,
+    root: &str,
     disk: &mut D,
     path: &str,
     indices: &mut Vec<usize>,
@@ -44,6 +46,7 @@ pub(crate) fn see_file<D: PackageFiles>(
     requires own { AreOwnRead (option_copied allowed.now.bypass) }
     requires used { (place : ℕ) → used (building_view config.now) (crate_view place krate.now)
         ≡ option_map bypass_view (option_copied allowed.now.bypass) }
+    requires root { root.now ≡ crates.folder (crate_view 0 krate.now) }
     ensures seen { IfOk result (λ file. (place : ℕ) (folder : Folders) →
         IsFileSeen (IsBecause folder (D.seen disk.old) (D.seen disk.new)) (D.seen disk.old).files
         (building_view config.now) (option_copied home.entry) (gaps_of file) (crate_view place krate.now) path.now
@@ -54,14 +57,14 @@ pub(crate) fn see_file<D: PackageFiles>(
         AreCaused folder (D.seen disk.old) (D.seen disk.new) (added unread.old unread.new)) }
     ensures later { IsLater (D.seen disk.old) (D.seen disk.new) }
 {
-    let rest = below(alloc, krate.folder(), path)?;
+    let rest = below(root, path);
     let decision = decide(alloc, config, allowed, rest, indices)?;
     let found = find(alloc, config, krate, disk, path, decision.asks, unread)?;
     Ok(PackageFile {
         path: Text::from_str(alloc, rest)?,
         globs: decision.globs,
         seen: Seen {
-            shown: home_path(alloc, path, krate.folder(), home)?,
+            shown: home_path(alloc, path, root, home)?,
             found,
         },
     })

@@ -52,6 +52,7 @@ pub(crate) fn see_files<D: PackageFiles>(
     ensures later { IsLater (D.seen disk.old) (D.seen disk.new) }
 {
     let allowed = Allowed::new(alloc, bypass)?;
+    let root = krate.folder();
     let mut indices = Vec::new(alloc);
     let mut files = List::new(alloc);
     for path in paths {
@@ -61,6 +62,7 @@ pub(crate) fn see_files<D: PackageFiles>(
             &allowed,
             home,
             krate,
+            root,
             disk,
             path.path.as_str(),
             &mut indices,

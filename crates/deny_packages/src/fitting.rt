@@ -54,6 +54,9 @@ pub(crate) fn fitting_scripts(
     requires { AreRead extension_text globs.now }
     ensures { IfOk result (AreFitting path.now (map extension_text globs.now.patterns)) }
 {
+    if globs.patterns.len() == 0 {
+        return Ok(List::new(alloc));
+    }
     match globs.matches(path, indices)? {
         Some(patterns) => {
             let texts = extension_texts(alloc, patterns.as_slice())?;

@@ -22,7 +22,7 @@ impl PartialEq for FilePath {
     ghost laws = { partial_equiv_from_equiv (eq_by_cmp_equiv file_cmp_total) };
 
     fn eq(&self, other: &Self) -> bool {
-        self.cmp(other) == Ordering::Equal
+        self.path == other.path
     }
 }
 
@@ -66,9 +66,13 @@ fn rank(byte: u8) -> u16
 fn path_cmp(a: &[u8], b: &[u8]) -> Ordering
     ensures { result ≡ path_cmp a.now b.now }
 {
-    a.iter()
-        .map(|byte| rank(*byte))
-        .cmp(b.iter().map(|byte| rank(*byte)))
+    let both = a.len().min(b.len());
+    for index in 0..both {
+        if a[index] != b[index] {
+            return rank(a[index]).cmp(&rank(b[index]));
+        }
+    }
+    a.len().cmp(&b.len())
 }
 
 /// Paths in the order of their components.

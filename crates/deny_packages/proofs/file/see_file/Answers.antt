@@ -1,7 +1,6 @@
-use Rattle.std.proofs.Common.{◌∙◌, Some, ap, option_map, refl, sym}
+use Rattle.std.proofs.Common.{Some, option_map, refl}
 use Rattle.std.specs.Option.{option_copied}
 use Rattle.deny_build_cfg.specs.BuildingView.{building_view, bypass_view}
-use Rattle.deny_build_files.specs.Home.{home_path}
 use Rattle.deny_krates.specs.Crates.{crate_view}
 use Rattle.deny_packages.proofs.StepLemmas.{file_noted, file_seen}
 use Rattle.deny_packages.proofs.file.see_file.Goals as goal
@@ -13,19 +12,17 @@ returns-clause-seen g c = λ place folder.
     let seen = g.D.PackageFiles.seen in
     let home = option_copied a.home in
     file_seen (building_view a.config.now) (crate_view place a.krate.now)
-    (option_map bypass_view (option_copied a.allowed.now.bypass)) (c.requires.used place) c.in_ok-rest.rest.now
+    (option_map bypass_view (option_copied a.allowed.now.bypass)) (c.requires.used place) c.below-rest.result.now
     c.in_ok-from_str.field-0 c.in_ok-from_str.ensures c.in_ok-decision.decision c.in_ok-decision.ensures
     c.in_ok-home_path.field-0 c.in_ok-found.found (IsBecause folder (seen a.disk.now) (seen c.find.new.disk))
-    (seen a.disk.now).files home a.path.now c.folder.result.now c.in_ok-rest.ensures c.folder.ensures
-    (c.in_ok-home_path.ensures
-    ∙ ap (λ root. home_path a.path.now root home) (c.folder-2.ensures ∙ sym c.folder.ensures))
+    (seen a.disk.now).files home a.path.now a.root.now c.below-rest.ensures c.requires.root c.in_ok-home_path.ensures
     (c.in_ok-found.ensures.found place folder)
 
 pub returns-clause-noted : goal.returns-clause-noted
 returns-clause-noted g c = λ place.
     let a = c.args in
     file_noted (building_view a.config.now) (crate_view place a.krate.now)
-    (option_map bypass_view (option_copied a.allowed.now.bypass)) (c.requires.used place) c.in_ok-rest.rest.now
+    (option_map bypass_view (option_copied a.allowed.now.bypass)) (c.requires.used place) c.below-rest.result.now
     c.in_ok-from_str.field-0 c.in_ok-from_str.ensures c.in_ok-decision.decision c.in_ok-decision.ensures
     c.in_ok-home_path.field-0 c.in_ok-found.found (Some a.krate.now.id) a.path.now a.unread.now c.find.new.unread refl
     c.in_ok-found.ensures.noted

@@ -1,8 +1,12 @@
-use Rattle.std.proofs.Common.{◌≡◌, ℕ, List, None, Some, map, subst, sym}
+use Rattle.std.proofs.Common.{◌≡◌, ◌∙◌, ℕ, List, None, Some, map, subst, sym}
 use Rattle.deny_build_cfg.specs.Globs.{extension_text, patterns_at}
-use Rattle.deny_packages.proofs.FittingLemmas.{fitting_matched, texts_given}
+use Rattle.deny_packages.proofs.FittingLemmas.{fitting_matched, none_fitting, texts_given}
 use Rattle.deny_packages.proofs.fitting.fitting_scripts.Goals as goal
 use Rattle.deny_packages.specs.Globs.{AreFitting}
+
+pub returns-then-len-eq0 : goal.returns-then-len-eq0
+returns-then-len-eq0 c = none_fitting c.args.path.now c.args.globs.now.patterns c.new.result
+    (sym c.len.ensures ∙ c.if-len-eq0.true) c.new.ensures
 
 pub returns-in_ok-texts-in-Some : goal.returns-in_ok-texts-in-Some
 returns-in_ok-texts-in-Some c =
@@ -22,6 +26,6 @@ returns-in-None c =
     let found = c.in_ok-patterns.ensures in
     let gives : None ≡ patterns_at globs.patterns c.matches.new.indices.items = rw c.in-None.is at found.patterns in
     subst (λ (ts : List (List ℕ)). AreFitting c.args.path.now (map extension_text globs.patterns) ts)
-    (sym c.new.ensures)
+    (sym c.new-in-None.ensures)
     (fitting_matched extension_text c.args.path.now globs.patterns globs.set c.matches.new.indices.items None c.requires
     found.ascending found.exact gives)

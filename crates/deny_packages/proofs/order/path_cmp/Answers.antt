@@ -1,19 +1,25 @@
-use Rattle.std.proofs.Common.{◌≡◌, ◌∙◌, refl, rules, sym}
+use Rattle.std.proofs.Common.{◌≡◌, ◌∙◌, arith, refl, sym}
 use Rattle.std.specs.Ordering.{nat_cmp}
-use Rattle.std.proofs.lemmas.Iterator.{YieldsList-from_map, YieldsList-from_slice}
-use Rattle.std.proofs.lemmas.Iterator.Consumers.{YieldsList-at}
-use Rattle.std.proofs.lemmas.Iterator.Search.{cmp_from_yields_List}
-use Rattle.deny_build_model.specs.Paths.{rank}
-use Rattle.deny_packages.proofs.OrderLemmas.{cmp_by_ranks}
+use Rattle.deny_packages.proofs.OrderLemmas.{cmp_end, cmp_on, cmp_here}
 use Rattle.deny_packages.proofs.order.path_cmp.Goals as goal
+
+pub loop-index-init : goal.loop-index-init
+loop-index-init c = refl
+
+pub returns-then-a-index : goal.returns-then-a-index
+returns-then-a-index c =
+    c.cmp.ensures ∙ (λ i. nat_cmp (c.rank.ensures i) (c.rank-then-a-index.ensures i))
+    ∙ sym (c.loop-index.invariant ∙ cmp_here c.args.a.now c.args.b.now c.loop-index.index
+    (omega (arith, c.loop-index-test.true, c.min-both.ensures))
+    (omega (arith, c.loop-index-test.true, c.min-both.ensures)) c.if-a-index.true)
+
+pub loop-index-preserved : goal.loop-index-preserved
+loop-index-preserved c =
+    c.loop-index.invariant ∙ cmp_on c.args.a.now c.args.b.now c.loop-index.index
+    (omega (arith, c.loop-index-test.true, c.min-both.ensures))
+    (omega (arith, c.loop-index-test.true, c.min-both.ensures)) c.if-a-index.false
 
 pub returns : goal.returns
 returns c =
-    cmp_from_yields_List (λ x y. y ≡ x) _ nat_cmp _ c.cmp.ensures.ran
-    (YieldsList-from_map _ rank (YieldsList-at c.map.ensures.source (YieldsList-from_slice c.args.a.now cc))
-    c.map.ensures.closure (λ x r q k. search rules))
-    (λ it e. YieldsList-at e (YieldsList-from_map _ rank
-    (YieldsList-at c.map-2.ensures.source (YieldsList-from_slice c.args.b.now cc))
-    c.map-2.ensures.closure (λ x r q k. search rules)))
-    (λ x y. refl)
-    ∙ sym (cmp_by_ranks c.args.a.now c.args.b.now)
+    c.cmp-2.ensures ∙ sym (c.loop-index.invariant ∙ cmp_end c.args.a.now c.args.b.now c.loop-index.index
+    (omega (arith, c.loop-index-test.false, c.loop-index.auto.index-end, c.min-both.ensures)))

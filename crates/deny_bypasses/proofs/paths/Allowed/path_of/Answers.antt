@@ -7,8 +7,13 @@ use Rattle.deny_codes.specs.PackageFiles.{path_of_used}
 use Rattle.deny_tables.specs.declared.bans.cfg.bypass.BypassPath.{BypassPath}
 use Rattle.deny_bypasses.specs.Paths.{spelled}
 use Rattle.deny_bypasses.specs.private.Components.{has_components_at}
-use Rattle.deny_bypasses.proofs.PathLemmas.{path_found}
+use Rattle.deny_bypasses.proofs.PathLemmas.{none_allowed, path_found}
 use Rattle.deny_bypasses.proofs.paths.Allowed.path_of.Goals as goal
+
+pub returns-then-is_empty : goal.returns-then-is_empty
+returns-then-is_empty c =
+    none_allowed (option_copied c.args.self.now.bypass) c.files_of-files.result.now c.args.path.now
+    c.files_of-files.ensures (sym c.is_empty.ensures ∙ c.if-is_empty.true)
 
 pub returns : goal.returns
 returns c =
@@ -19,7 +24,7 @@ returns c =
     let names = map text c.as_slice-3.result.now in
     let asked = c.as_str.result.now in
     let numbers = c.numbers_of.new.numbers.items in
-    let files = c.files_of.result.now in
+    let files = c.files_of-files.result.now in
     IfOk-weaker c.first_with.result
     (λ found. option_copied found
     ≡ option_and_then (slice_get files) (find (has_components_at files names) c.as_slice-2.result.now))
@@ -30,7 +35,7 @@ returns c =
     (c.as_str.ensures ∙ (c.in_ok-spelling.ensures
     ∙ ap (λ (ns : List (Bor (List ℕ))). spelled (map text ns))
     (c.as_slice.ensures.value ∙ sym c.as_slice-3.ensures.value)))
-    c.files_of.ensures c.in_ok-numbers_of.ensures.ascending
+    c.files_of-files.ensures c.in_ok-numbers_of.ensures.ascending
     (subst (λ (ns : List (List ℕ)). (i : ℕ) → Contains numbers i ↔ (slice_get ns i ≡ Some asked)) self.spelled
     c.in_ok-numbers_of.ensures.exact)
     (is ∙ ap (λ (ns : List ℕ). option_and_then (slice_get files) (find (has_components_at files names) ns))
