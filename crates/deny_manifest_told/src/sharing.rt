@@ -1,5 +1,6 @@
 //! What is told of dependencies that a workspace shares.
-ghost use Rattle.std.specs.Prelude.{◌≡◌, ◌++◌, [], ℕ, IfOk, IfSome, OnOk, Some, None, map, option_map};
+ghost use Rattle.std.specs.Prelude.{◌≡◌, ◌++◌, [], ℕ, IfOk, IfSome, IsTrue, OnOk, Some, None, is_some, map};
+ghost use Rattle.std.specs.Prelude.{option_map};
 ghost use Rattle.std.specs.Option.{option_map_or};
 ghost use Rattle.deny_base.specs.declared.span.Span.{Span};
 ghost use Rattle.deny_cfg.specs.PolicyView.{sharing_view};
@@ -272,7 +273,8 @@ pub fn unused_entry_told(
     unused: &ByRange<'_, UnusedWorkspaceDep>,
     key: &Key,
 ) -> Result<Words, NoMemory>
-    requires { AreUnusedOf told.now unused.now }
+    requires unused { AreUnusedOf told.now unused.now }
+    requires there { IsTrue (is_some (unused_at (told_from told.now).view key.now.entry)) }
     ensures { IfOk result (λ words. let c = told_from told.now in
         words ≡ unused_entry_told c.policy c.view key.now) }
 {
@@ -290,7 +292,8 @@ fn unused_entry_told_by(
     key: &Key,
     shared: &WorkspaceDepsConfig,
 ) -> Result<Words, NoMemory>
-    requires { AreUnusedOf told.now unused.now }
+    requires unused { AreUnusedOf told.now unused.now }
+    requires there { IsTrue (is_some (unused_at (told_from told.now).view key.now.entry)) }
     ensures { IfOk result (λ words. words
         ≡ unused_entry_told_by (told_from told.now).view key.now (sharing_view shared.now)) }
 {
@@ -306,13 +309,12 @@ fn unused_labels_at(
     unused: &ByRange<'_, UnusedWorkspaceDep>,
     range: Span,
 ) -> Labels
-    requires { AreUnusedOf told.now unused.now }
+    requires unused { AreUnusedOf told.now unused.now }
+    requires there { IsTrue (is_some (unused_at (told_from told.now).view range)) }
     ensures { IfOk result (λ labels. let c = told_from told.now in
         labels ≡ option_map_or (unused_labels_in c.view) (unused_at c.view range) []) }
 {
-    let Some(entry) = unused_at(told, unused, range) else {
-        return Ok(List::new(alloc));
-    };
+    let entry = unused_at(told, unused, range);
     let Some(file) = told.spans.workspace_id else {
         return Ok(List::new(alloc));
     };
@@ -324,11 +326,15 @@ fn unused_at<'u>(
     _told: &Told<'_>,
     unused: &ByRange<'u, UnusedWorkspaceDep>,
     range: Span,
-) -> Option<&'u UnusedWorkspaceDep>
-    requires { AreUnusedOf _told.now unused.now }
-    ensures { option_map (λ e. dep_view None e.now) result ≡ unused_at (told_from _told.now).view range }
+) -> &'u UnusedWorkspaceDep
+    requires unused { AreUnusedOf _told.now unused.now }
+    requires there { IsTrue (is_some (unused_at (told_from _told.now).view range)) }
+    ensures { Some (dep_view None result.now) ≡ unused_at (told_from _told.now).view range }
 {
-    unused.at(range)
+    match unused.at(range) {
+        Some(entry) => entry,
+        None => unreachable!(),
+    }
 }
 
 #[tactic(auto, unfolding(deny_codes::specs::Sharing::unused_labels))]

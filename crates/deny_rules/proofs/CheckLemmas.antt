@@ -32,9 +32,9 @@ use Rattle.deny_dup_edges.specs.DupEdges.{is_duplicate, is_of_duplicate}
 use Rattle.deny_std.specs.Found.{IsOfStd}
 use Rattle.deny_std.specs.declared.replacements.Replacements.{Replacements}
 use Rattle.deny_telling.specs.Here.{AreToldHere}
-use Rattle.deny_telling.specs.Telling.{TellsPrefix}
+use Rattle.deny_telling.specs.Telling.{AreStanding, TellsPrefix}
 use Rattle.deny_telling.proofs.TableLemmas.{told_untabled}
-use Rattle.deny_rules.proofs.OwnRuleLemmas.{rules_here}
+use Rattle.deny_rules.proofs.OwnRuleLemmas.{rules_here, rules_stand}
 use Rattle.deny_rules.proofs.StdLemmas.{nothing_of_std}
 use Rattle.deny_rules.specs.private.OwnRules.{IsByRule}
 use Rattle.deny_rules.specs.private.Replaced.{IsFoundBy, IsFoundOf}
@@ -45,6 +45,12 @@ pub told_by_rules : (c : Circumstances) (facts : Facts) (keys : List Key) → Li
     → AreToldHere keys
 told_by_rules c facts keys listed k d within =
     rules_here c facts _ (listed.sound _ (All-contains_itself keys k d within))
+
+-- and stands
+pub standing_by_rules : (c : Circumstances) (facts : Facts) (keys : List Key) → Lists key_cmp (IsByRule c facts) keys
+    → AreStanding c keys
+standing_by_rules c facts keys listed k d within =
+    (facts, rules_stand c facts _ (listed.sound _ (All-contains_itself keys k d within)))
 
 -- ---- one after the other
 

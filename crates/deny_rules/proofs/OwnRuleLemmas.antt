@@ -29,7 +29,7 @@ use Rattle.deny_codes.specs.EachCode.{StandsAs}
 use Rattle.deny_codes.specs.Facts.{Facts}
 use Rattle.deny_codes.specs.Packages.{build_keys_in, Looking, build_keys, is_used, looking, package_keys}
 use Rattle.deny_codes.specs.Packages.{unmatched_bypass_keys}
-use Rattle.deny_codes.specs.Standing.{ListsOwn, StandsBy, StandsIn}
+use Rattle.deny_codes.specs.Standing.{ListsOwn, Stands, StandsBy, StandsIn}
 use Rattle.deny_codes.proofs.BuildMade.{build_made, deprecated_made, MadeOfBuilds}
 use Rattle.deny_codes.proofs.Made.{Made, allowed_by_wrapper_made, allowed_made, banned_made, default_enabled_made}
 use Rattle.deny_codes.proofs.Made.{duplicate_made, feature_banned_made, feature_not_allowed_made, mismatched_made}
@@ -213,6 +213,9 @@ module _ (c : Circumstances) (facts : Facts) where
 
   pub rules_here : (key : Key) → ByRule key → IsTrue (is_told_here key.code)
   rules_here key is = (sound key is).1.here
+
+  pub rules_stand : (key : Key) → ByRule key → Stands c facts key
+  rules_stand key is = (sound key is).0.1
 
   std_sound : (key : Key) → IsOfStd c key → IsOwn key
   std_sound key (inl is) = own section.Unused code.UnmatchedReplacementIgnore key refl

@@ -1,10 +1,11 @@
 -- What is looked up for a finding: entries by their ranges, and crates by their places.
-use Rattle.std.proofs.Common.{◌≡◌, ◌+◌, ◌||◌, ℕ, Bool, true, false, List, [], ◌∷◌, Option, Some, None, MatchOption, Bor}
-use Rattle.std.proofs.Common.{map, filter_map, option_map, refl, sym, ap, ◌∙◌, subst}
-use Rattle.std.specs.Prelude.{codes, cond, find, option_and_then, unwrap_or}
-use Rattle.std.specs.FinMap as finite
+use Rattle.std.proofs.Common.{◌≡◌, ◌+◌, ◌++◌, ◌||◌, ℕ, Bool, true, false, List, [], ◌∷◌, Option, Some, None}
+use Rattle.std.proofs.Common.{MatchOption, map, filter_map, option_map, refl, sym, ap, ◌∙◌, subst}
+use Rattle.std.specs.Prelude.{IsTrue, codes, cond, find, is_some, option_and_then, unwrap_or}
 use Rattle.std.specs.List.{cons_option, list_any}
-use Rattle.std.specs.Option.{option_map_or}
+use Rattle.std.specs.Option.{option_map_or, option_or}
+use Rattle.std.proofs.lemmas.List.Elements.{All-contains}
+use Rattle.std.proofs.lemmas.List.Folds.{find-append}
 use Rattle.std.proofs.lemmas.Option.{slice_get-map, unwrap_or-slice_get}
 use Rattle.deny_base.specs.declared.label.Label.{Label}
 use Rattle.deny_base.specs.declared.span.Span.{Span}
@@ -18,20 +19,13 @@ use Rattle.deny_model.specs.Graph.{Crate, Graph}
 use Rattle.deny_model.specs.Policy.{Ban, Policy, Root, Words}
 use Rattle.deny_model.specs.Told.{ban_at, crate_at, crates_at, primary, wrapper_labels}
 use Rattle.deny_model.specs.Wrappers.{same_span}
+use Rattle.deny_facts.specs.Marks.{mark_at}
 use Rattle.deny_facts.specs.Matches.{AreBanMatches, IsBanMatch, ban_of}
 use Rattle.deny_facts.specs.Wrappers as wrappers
 use Rattle.deny_facts.specs.declared.matches.BanMatch.{BanMatch}
-use Rattle.deny_told.proofs.ByRangeLemmas.{seen}
 use Rattle.deny_told.specs.ByRange.{first_of}
-use Rattle.deny_facts.specs.Marks.{mark_at}
-use Rattle.deny_telling.specs.private.Wrappers.{wrapper_range}
-use Rattle.std.proofs.lemmas.List.Elements.{All-contains}
-use Rattle.deny_lists.proofs.Agreement.{found_on}
-use Rattle.deny_lists.proofs.Filters.{and_then-and_then, find-map, map-and_then}
-
-and_then-map : {X Y Z : Type 0} (f : Y → Option Z) (h : X → Y) (o : Option X)
-    → option_and_then f (option_map h o) ≡ option_and_then (λ x. f (h x)) o
-and_then-map f h o = ap (option_and_then f) (map-and_then h o) ∙ and_then-and_then f (λ x. Some (h x)) o
+use Rattle.deny_lists.proofs.Filters.{find-map}
+use Rattle.deny_lists.proofs.Finding.{found_member}
 
 -- a skipped tree that was found, at some number
 abbrev name_range : PackageSpecOrExtended TreeSkipExtended → Span
@@ -55,15 +49,22 @@ root_found range n (e ∷ es) = by_test (same_span e.spec.name.span range) (root
     by_test true rest = (n, refl)
     by_test false rest = rest
 
-pub root_seen : (range : Span) (es : List (PackageSpecOrExtended TreeSkipExtended))
-    (r : Option (Bor (PackageSpecOrExtended TreeSkipExtended)))
-    → option_map (λ e. e.now) r ≡ first_of name_range range es
-    → MatchOption r (find (λ t. same_span t.spec.range range) (roots_from 0 es) ≡ None)
-    (λ e. (number : ℕ) × (find (λ t. same_span t.spec.range range) (roots_from 0 es) ≡ Some
-    (root_view number e.now)))
+pub root_there : (range : Span) (es : List (PackageSpecOrExtended TreeSkipExtended))
+    → IsTrue (is_some (find (λ t. same_span t.spec.range range) (roots_from 0 es)))
+    → IsTrue (is_some (first_of name_range range es))
 unfolding IsRootAt
-root_seen range es None is = subst (IsRootAt range (roots_from 0 es)) (sym is) (root_found range 0 es)
-root_seen range es (Some e) is = subst (IsRootAt range (roots_from 0 es)) (sym is) (root_found range 0 es)
+root_there range es is = by_item (first_of name_range range es) (root_found range 0 es)
+  where
+    by_item : (o : Option (PackageSpecOrExtended TreeSkipExtended)) → IsRootAt range (roots_from 0 es) o
+        → IsTrue (is_some o)
+    by_item None none = subst (λ (o : Option Root). IsTrue (is_some o)) none is
+    by_item (Some e) at = refl
+
+pub root_seen : (range : Span) (es : List (PackageSpecOrExtended TreeSkipExtended))
+    (e : PackageSpecOrExtended TreeSkipExtended) → first_of name_range range es ≡ Some e
+    → (number : ℕ) × (find (λ t. same_span t.spec.range range) (roots_from 0 es) ≡ Some (root_view number e))
+unfolding IsRootAt
+root_seen range es e is = subst (IsRootAt range (roots_from 0 es)) is (root_found range 0 es)
 
 -- one of the crates at these places passes a test, where one of the places has a mark
 pub one_marked : (g : Graph) (t : Crate → Bool) (marks : List Bool) (places : List ℕ) → marks ≡ map t g.crates
@@ -83,34 +84,33 @@ one_marked g t marks (place ∷ places) is = ap (λ b. b || list_any (mark_at ma
     joined None = refl
     joined (Some c) = refl
 
--- the labels of a ban, and of its wrapper of the name of the crate at a place
-pub wrapper_told : (p : Policy) (g : Graph) (file : ℕ) (range : Span) (place : ℕ) (b : Ban) (found : Option Span)
-    → ban_at p range ≡ Some b → found ≡ option_and_then (λ c. wrapper_range p.deny range c.name) (crate_at g place)
-    → option_map_or (λ ban. wrapper_labels file ban (option_and_then (wrapper_of ban.wrappers) (crate_at g place)))
-    (ban_at p range) []
-    ≡ option_map_or (λ span. primary file b.spec.range (codes "banned here") ∷ primary file span
+-- the labels of a ban that was found, and of its wrapper of the name of the crate at a place
+pub wrapper_told : (p : Policy) (g : Graph) (file : ℕ) (range : Span) (place : ℕ) (m : BanMatch) (found : Option Span)
+    → Some (ban_of m) ≡ ban_at p range → IsBanMatch p g m → found ≡ wrappers.range_at g m.ranges place
+    → option_map_or (λ span. primary file (ban_of m).spec.range (codes "banned here") ∷ primary file span
     (codes "allowed wrapper") ∷ []) found []
-unfolding wrapper_of wrappers.first_of
-wrapper_told p g file range place b found is at =
-    ap (λ (o : Option Ban). option_map_or (λ ban. wrapper_labels file ban
-    (option_and_then (wrapper_of ban.wrappers) (crate_at g place))) o []) is
-    ∙ (by_crate (crate_at g place) ∙ ap told (sym at))
+    ≡ option_map_or (λ ban. wrapper_labels file ban (option_and_then (wrapper_of ban.wrappers) (crate_at g place)))
+    (ban_at p range) []
+unfolding wrapper_of wrappers.first_of wrappers.range_of wrappers.range_at
+wrapper_told p g file range place m found is match at =
+    ap told at ∙ (by_crate (crate_at g place) ∙ ap (λ (o : Option Ban). option_map_or (λ ban. wrapper_labels file ban
+    (option_and_then (wrapper_of ban.wrappers) (crate_at g place))) o []) is)
   where
+    ban : Ban
+    ban = ban_of m
+
     told : Option Span → List Label
-    told = λ o. option_map_or (λ span. primary file b.spec.range (codes "banned here") ∷ primary file span
+    told = λ o. option_map_or (λ span. primary file ban.spec.range (codes "banned here") ∷ primary file span
         (codes "allowed wrapper") ∷ []) o []
 
-    by_wrapper : (o : Option Words) → wrapper_labels file b o ≡ told (option_map (λ (w : Words). w.span) o)
+    by_wrapper : (o : Option Words) → told (option_map (λ (w : Words). w.span) o) ≡ wrapper_labels file ban o
     by_wrapper None = refl
     by_wrapper (Some w) = refl
 
-    by_crate : (o : Option Crate) → wrapper_labels file b (option_and_then (wrapper_of b.wrappers) o) ≡ told
-        (option_and_then (λ c. wrapper_range p.deny range c.name) o)
+    by_crate : (o : Option Crate) → told (option_and_then (wrappers.range_of m.ranges) o)
+        ≡ wrapper_labels file ban (option_and_then (wrapper_of ban.wrappers) o)
     by_crate None = refl
-    by_crate (Some c) =
-        by_wrapper (wrapper_of b.wrappers c)
-        ∙ ap (λ (o : Option Ban). told (option_and_then (λ (ban : Ban). option_map (λ (w : Words). w.span)
-        (wrappers.first_of ban.wrappers c.name)) o)) (sym is)
+    by_crate (Some c) = ap told (match.first c.name) ∙ by_wrapper (wrapper_of ban.wrappers c)
 
 -- ---- what entries were found to speak of
 
@@ -129,25 +129,59 @@ several_of_told mine cfg own g marks same_cfg same_graph are =
     ∙ (ap (λ (c : ValidConfig). map (is_denied_multiple (policy_view c)) own.crates) same_cfg
     ∙ ap (λ (h : Graph). map (is_denied_multiple (policy_view cfg)) h.crates) same_graph)
 
-module _ (p : Policy) (g : Graph) (ms : List BanMatch) (range : Span) where
-  -- the entry that was found at a range
-  pub ban_found : (o : Option (Bor BanMatch)) → AreBanMatches p g p.deny ms
-      → option_map (λ m. m.now) o ≡ first_of (λ (m : BanMatch). m.ban.now.spec.name.span) range ms
-      → option_map (λ m. ban_of m.now) o ≡ ban_at p range
-  ban_found o are at =
-      seen (λ (ban : Ban). same_span ban.spec.range range) ban_of ms o at
-      ∙ ap (find (λ (ban : Ban). same_span ban.spec.range range)) are.of
+-- what is found of a list is found of what is seen of it
+module _ {X Y : Type 0} (test : Y → Bool) (view : X → Y) (xs : List X) where
+  pub there_below : IsTrue (is_some (find test (map view xs))) → IsTrue (is_some (find (λ x. test (view x)) xs))
+  there_below is = by_item (find (λ x. test (view x)) xs)
+      (subst (λ (o : Option Y). IsTrue (is_some o)) (find-map test view xs) is)
+    where
+      by_item : (o : Option X) → IsTrue (is_some (option_map view o)) → IsTrue (is_some o)
+      by_item None some = some
+      by_item (Some x) some = refl
 
-  -- and its first wrapper of a name
-  pub wrapper_found : (name : List ℕ) (o : Option (Bor BanMatch)) → AreBanMatches p g p.deny ms
-      → option_map (λ m. m.now) o ≡ first_of (λ (m : BanMatch). m.ban.now.spec.name.span) range ms
-      → option_and_then (λ m. finite.get m.now.ranges name) o ≡ wrapper_range p.deny range name
-  wrapper_found name o are at =
-      let at_range = λ (ban : Ban). same_span ban.spec.range range in
-      let first = λ (ban : Ban). option_map (λ (w : Words). w.span) (wrappers.first_of ban.wrappers name) in
-      sym (and_then-map (λ (m : BanMatch). finite.get m.ranges name) (λ (m : Bor BanMatch). m.now) o)
-      ∙ (ap (option_and_then (λ (m : BanMatch). finite.get m.ranges name)) at
-      ∙ (found_on (λ (m : BanMatch). finite.get m.ranges name) (λ m. first (ban_of m)) (λ m. at_range (ban_of m)) ms
-      (λ m is _. (All-contains (IsBanMatch p g) ms m are.each is).first name)
-      ∙ (sym (and_then-map first ban_of (find (λ m. at_range (ban_of m)) ms))
-      ∙ ap (option_and_then first) (sym (find-map at_range ban_of ms) ∙ ap (find at_range) are.of))))
+  pub seen_at : (x : X) → find (λ x. test (view x)) xs ≡ Some x → Some (view x) ≡ find test (map view xs)
+  seen_at x is = sym (find-map test view xs ∙ ap (option_map view) is)
+
+module _ (p : Policy) (g : Graph) (ms : List BanMatch) (range : Span) (are : AreBanMatches p g p.deny ms) where
+  at_range : Ban → Bool
+  at_range ban = same_span ban.spec.range range
+
+  -- the entry of a range is among those that were found
+  pub ban_there : IsTrue (is_some (ban_at p range))
+      → IsTrue (is_some (first_of (λ (m : BanMatch). m.ban.now.spec.name.span) range ms))
+  unfolding at_range
+  ban_there is = there_below at_range ban_of ms
+      (subst (λ (bans : List Ban). IsTrue (is_some (find at_range bans))) (sym are.of) is)
+
+  pub ban_seen : (m : BanMatch) → first_of (λ (m : BanMatch). m.ban.now.spec.name.span) range ms ≡ Some m
+      → Some (ban_of m) ≡ ban_at p range
+  unfolding at_range
+  ban_seen m is = seen_at at_range ban_of ms m is ∙ ap (find at_range) are.of
+
+  pub ban_matched : (m : BanMatch) → first_of (λ (m : BanMatch). m.ban.now.spec.name.span) range ms ≡ Some m
+      → IsBanMatch p g m
+  unfolding at_range
+  ban_matched m is = All-contains (IsBanMatch p g) ms m are.each
+      (found_member (λ (m : BanMatch). at_range (ban_of m)) ms m is)
+
+-- of joined lists the first item is that of the first list, where it has one
+module _ {X : Type 0} (test : X → Bool) (xs ys : List X) (there : IsTrue (is_some (find test xs))) where
+  pub first_found : find test (xs ++ ys) ≡ find test xs
+  first_found = find-append test xs ys ∙ by_item (find test xs) there
+    where
+      by_item : (o : Option X) → IsTrue (is_some o) → option_or o (find test ys) ≡ o
+      by_item None some = absurd (cc some)
+      by_item (Some x) some = refl
+
+  pub found_in_first : IsTrue (is_some (find test (xs ++ ys)))
+  found_in_first = subst (λ (o : Option X). IsTrue (is_some o)) (sym first_found) there
+
+-- and else that of the second, where that has one
+pub found_behind : {X : Type 0} (test : X → Bool) (xs ys : List X) → IsTrue (is_some (find test ys))
+    → IsTrue (is_some (find test (xs ++ ys)))
+found_behind test xs ys there = subst (λ (o : Option _). IsTrue (is_some o)) (sym (find-append test xs ys))
+    (by_item (find test xs))
+  where
+    by_item : (o : Option _) → IsTrue (is_some (option_or o (find test ys)))
+    by_item None = there
+    by_item (Some x) = refl

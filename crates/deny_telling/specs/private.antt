@@ -1,3 +1,3 @@
+pub mod EntryNumbers
 pub mod Features
 pub mod Teller
-pub mod Wrappers

@@ -1,6 +1,7 @@
 //! What is told of the allow list.
-ghost use Rattle.std.specs.Prelude.{◌≡◌, IfOk};
+ghost use Rattle.std.specs.Prelude.{◌≡◌, IfOk, IsTrue, is_some};
 ghost use Rattle.deny_codes.specs.AllowList.{allowed_told, not_allowed_told};
+ghost use Rattle.deny_model.specs.Told.{allow_at};
 ghost use Rattle.deny_telling.specs.private.Teller.{told_from};
 
 use crate::entry_labels::allow_labels_at;
@@ -14,6 +15,7 @@ use std::alloc::Global;
 /// What is told of a crate that an entry allows.
 #[tactic(auto, unfolding(deny_codes::specs::AllowList::allowed_told))]
 pub fn allowed_told(alloc: Global, teller: &Teller<'_>, key: &Key) -> Result<Words, NoMemory>
+    requires { IsTrue (is_some (allow_at (told_from teller.now).policy key.now.entry)) }
     ensures { IfOk result (λ words. let c = told_from teller.now in
         words ≡ allowed_told c.policy c.graph c.files.policy key.now) }
 {

@@ -1,16 +1,15 @@
 //! What is told of bans, and of the wrappers that lift them.
-ghost use Rattle.std.specs.Prelude.{◌≡◌, ◌++◌, IfOk, codes, option_and_then};
+ghost use Rattle.std.specs.Prelude.{◌≡◌, ◌++◌, IfOk, IsTrue, codes, is_some};
 ghost use Rattle.deny_codes.specs.Bans.{allowed_by_wrapper_told, banned_told};
 ghost use Rattle.deny_codes.specs.Bans.{unmatched_wrapper_told, wrapper_labels_at};
-ghost use Rattle.deny_model.specs.Told.{crate_at, crate_text_at, of_crate};
+ghost use Rattle.deny_model.specs.Told.{ban_at, crate_text_at, of_crate};
 ghost use Rattle.deny_telling.specs.private.Teller.{told_from};
-ghost use Rattle.deny_telling.specs.private.Wrappers.{wrapper_range};
 
 use crate::entry_labels::ban_labels_at;
 use crate::teller::Teller;
-use deny_base::{Key, Severity, Span};
+use deny_base::{Key, Severity};
 use deny_codes::Words;
-use deny_facts::{krate_at, krate_text};
+use deny_facts::{krate_text, range_at};
 use deny_lists::{List, NoMemory, Text};
 use deny_told::{Labels, kid_at, lone_label, of_crate, plainly, primary};
 use std::alloc::Global;
@@ -18,6 +17,7 @@ use std::alloc::Global;
 /// What is told of a crate that is banned.
 #[tactic(auto, unfolding(deny_codes::specs::Bans::banned_told))]
 pub fn banned_told(alloc: Global, teller: &Teller<'_>, key: &Key) -> Result<Words, NoMemory>
+    requires { IsTrue (is_some (ban_at (told_from teller.now).policy key.now.entry)) }
     ensures { IfOk result (λ words. let c = told_from teller.now in
         words ≡ banned_told c.policy c.graph c.files.policy key.now) }
 {
@@ -40,6 +40,7 @@ pub fn allowed_by_wrapper_told(
     teller: &Teller<'_>,
     key: &Key,
 ) -> Result<Words, NoMemory>
+    requires { IsTrue (is_some (ban_at (told_from teller.now).policy key.now.entry)) }
     ensures { IfOk result (λ words. let c = told_from teller.now in
         words ≡ allowed_by_wrapper_told c.policy c.graph c.files.policy key.now) }
 {
@@ -67,28 +68,18 @@ fn allowed_by_wrapper_message(
 
 // The name of the ban of a key, and its wrapper of the name of the key's dependent.
 fn wrapper_labels_at(alloc: Global, teller: &Teller<'_>, key: &Key) -> Labels
+    requires { IsTrue (is_some (ban_at (told_from teller.now).policy key.now.entry)) }
     ensures { IfOk result (λ labels. let c = told_from teller.now in
         labels ≡ wrapper_labels_at c.files.policy c.policy c.graph key.now) }
 {
-    let Some(ban) = teller.ban(key.entry) else {
-        return Ok(List::new(alloc));
-    };
-    let Some(wrapper) = wrapper_at(teller, key.entry, key.other) else {
+    let found = teller.ban(key.entry);
+    let Some(wrapper) = range_at(teller.told.krates, &found.ranges, key.other) else {
         return Ok(List::new(alloc));
     };
     let file = teller.file();
-    let mut labels = lone_label(alloc, file, ban.spec.name.span, "banned here")?;
+    let mut labels = lone_label(alloc, file, found.ban.spec.name.span, "banned here")?;
     labels.push(primary(alloc, file, wrapper, "allowed wrapper")?)?;
     Ok(labels)
-}
-
-// The range of the first wrapper of the name of the crate at a place, of the ban of a range.
-fn wrapper_at(teller: &Teller<'_>, range: Span, place: u32) -> Option<Span>
-    ensures { let c = told_from teller.now in
-        result ≡ option_and_then (λ k. wrapper_range c.policy.deny range k.name) (crate_at c.graph place) }
-{
-    let krate = krate_at(teller.told.krates, place)?;
-    teller.wrapper(range, krate.name.as_str())
 }
 
 /// What is told of a dependent of a banned crate that is no wrapper.
@@ -98,6 +89,7 @@ pub fn unmatched_wrapper_told(
     teller: &Teller<'_>,
     key: &Key,
 ) -> Result<Words, NoMemory>
+    requires { IsTrue (is_some (ban_at (told_from teller.now).policy key.now.entry)) }
     ensures { IfOk result (λ words. let c = told_from teller.now in
         words ≡ unmatched_wrapper_told c.policy c.graph c.files.policy key.now) }
 {

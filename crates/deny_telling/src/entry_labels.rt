@@ -1,10 +1,10 @@
 //! The labels of an entry of the policy.
-ghost use Rattle.std.specs.Prelude.{◌≡◌, ◌++◌, IfOk, OnOk, option_map};
+ghost use Rattle.std.specs.Prelude.{◌≡◌, ◌++◌, IfOk, IsTrue, OnOk, is_some, option_map};
 ghost use Rattle.deny_base.specs.declared.span.Spanned.{Spanned};
 ghost use Rattle.deny_cfg.specs.PolicyView.{ban_view, entry_view, root_view};
 ghost use Rattle.deny_cfg.specs.SpecView.{spec_view};
 ghost use Rattle.deny_codes.specs.Telling.{allow_labels_at, ban_labels_at, root_labels_at, skip_labels_at};
-ghost use Rattle.deny_model.specs.Told.{label_at, spec_labels};
+ghost use Rattle.deny_model.specs.Told.{allow_at, ban_at, label_at, root_at, skip_at, spec_labels};
 ghost use Rattle.deny_telling.specs.private.Teller.{told_from};
 
 use crate::teller::Teller;
@@ -52,20 +52,19 @@ fn spec_labels(
 
 /// The labels of the ban of a range.
 pub fn ban_labels_at(alloc: Global, teller: &Teller<'_>, message: &str, range: Span) -> Labels
+    requires { IsTrue (is_some (ban_at (told_from teller.now).policy range)) }
     ensures { IfOk result (λ labels. let c = told_from teller.now in
         labels ≡ ban_labels_at c.files.policy message.now c.policy range) }
 {
-    match teller.ban(range) {
-        Some(ban) => spec_labels(
-            alloc,
-            teller.file(),
-            message,
-            &ban.spec,
-            reason_of_ban(ban),
-            use_instead_of(ban),
-        ),
-        None => Ok(List::new(alloc)),
-    }
+    let ban = teller.ban(range).ban;
+    spec_labels(
+        alloc,
+        teller.file(),
+        message,
+        &ban.spec,
+        reason_of_ban(ban),
+        use_instead_of(ban),
+    )
 }
 
 fn reason_of_ban(ban: &PackageSpecOrExtended<KrateBan>) -> Option<&Spanned<Text>>
@@ -93,30 +92,24 @@ fn use_instead_of(ban: &PackageSpecOrExtended<KrateBan>) -> Option<&Spanned<Text
 
 /// The labels of the entry of the allow list of a range.
 pub fn allow_labels_at(alloc: Global, teller: &Teller<'_>, message: &str, range: Span) -> Labels
+    requires { IsTrue (is_some (allow_at (told_from teller.now).policy range)) }
     ensures { IfOk result (λ labels. let c = told_from teller.now in
         labels ≡ allow_labels_at c.files.policy message.now c.policy range) }
 {
-    match teller.allow(range) {
-        Some(entry) => {
-            let reason = reason_of(entry);
-            spec_labels(alloc, teller.file(), message, &entry.spec, reason, None)
-        }
-        None => Ok(List::new(alloc)),
-    }
+    let entry = teller.allow(range);
+    let reason = reason_of(entry);
+    spec_labels(alloc, teller.file(), message, &entry.spec, reason, None)
 }
 
 /// The labels of the skip of a range.
 pub fn skip_labels_at(alloc: Global, teller: &Teller<'_>, message: &str, range: Span) -> Labels
+    requires { IsTrue (is_some (skip_at (told_from teller.now).policy range)) }
     ensures { IfOk result (λ labels. let c = told_from teller.now in
         labels ≡ skip_labels_at c.files.policy message.now c.policy range) }
 {
-    match teller.skip(range) {
-        Some(entry) => {
-            let reason = reason_of(entry);
-            spec_labels(alloc, teller.file(), message, &entry.spec, reason, None)
-        }
-        None => Ok(List::new(alloc)),
-    }
+    let entry = teller.skip(range);
+    let reason = reason_of(entry);
+    spec_labels(alloc, teller.file(), message, &entry.spec, reason, None)
 }
 
 fn reason_of(entry: &PackageSpecOrExtended<Reason>) -> Option<&Spanned<Text>>
@@ -130,16 +123,13 @@ fn reason_of(entry: &PackageSpecOrExtended<Reason>) -> Option<&Spanned<Text>>
 
 /// The labels of the skipped tree of a range.
 pub fn root_labels_at(alloc: Global, teller: &Teller<'_>, message: &str, range: Span) -> Labels
+    requires { IsTrue (is_some (root_at (told_from teller.now).policy range)) }
     ensures { IfOk result (λ labels. let c = told_from teller.now in
         labels ≡ root_labels_at c.files.policy message.now c.policy range) }
 {
-    match teller.root(range) {
-        Some(root) => {
-            let reason = reason_of_root(root);
-            spec_labels(alloc, teller.file(), message, &root.spec, reason, None)
-        }
-        None => Ok(List::new(alloc)),
-    }
+    let root = teller.root(range);
+    let reason = reason_of_root(root);
+    spec_labels(alloc, teller.file(), message, &root.spec, reason, None)
 }
 
 fn reason_of_root(root: &PackageSpecOrExtended<TreeSkipExtended>) -> Option<&Spanned<Text>>

@@ -1,5 +1,6 @@
 //! What is told of features.
-ghost use Rattle.std.specs.Prelude.{◌≡◌, ◌++◌, ◌∷◌, [], IfOk, OnOk, codes, filter, map, not};
+ghost use Rattle.std.specs.Prelude.{◌≡◌, ◌++◌, ◌∷◌, [], IfOk, IsTrue, OnOk, Some, codes, filter, find, is_some};
+ghost use Rattle.std.specs.Prelude.{map, not};
 ghost use Rattle.std.specs.Cmp.Lexicographic.{slice_cmp};
 ghost use Rattle.std.specs.List.{list_any};
 ghost use Rattle.std.specs.List.Sorted.{IsStrictlySortedBy};
@@ -14,7 +15,8 @@ ghost use Rattle.deny_codes.specs.Features.{with_features};
 ghost use Rattle.deny_codes.specs.PackagesTold.{required_features};
 ghost use Rattle.deny_model.specs.Text.{same_text};
 ghost use Rattle.deny_model.specs.Told.{crate_at, node_of, primary};
-ghost use Rattle.deny_telling.specs.private.Features.{feature_node};
+ghost use Rattle.deny_model.specs.Wrappers.{same_span};
+ghost use Rattle.deny_telling.specs.private.Features.{feature_node, listed_features, named_features};
 ghost use Rattle.deny_telling.specs.private.Teller.{told_from};
 
 use crate::teller::Teller;
@@ -30,6 +32,7 @@ use std::alloc::Global;
 /// What is told of a crate whose features are not exactly those of an entry.
 #[tactic(auto, unfolding(deny_codes::specs::Features::mismatched_told))]
 pub fn mismatched_told(alloc: Global, teller: &Teller<'_>, key: &Key) -> Result<Words, NoMemory>
+    requires { IsTrue (is_some (feature_entry_at (told_from teller.now).policy key.now.entry)) }
     ensures { IfOk result (λ words. let c = told_from teller.now in
         words ≡ mismatched_told c.policy c.graph c.files.policy key.now) }
 {
@@ -40,10 +43,11 @@ pub fn mismatched_told(alloc: Global, teller: &Teller<'_>, key: &Key) -> Result<
         key,
         "' did not match exactly",
     )?;
-    let features = unlisted_of(alloc, teller, key)?;
-    let labels = mismatch_labels(alloc, teller, key)?;
+    let entry = teller.feature_entry(key.entry);
+    let features = unlisted_of(alloc, teller, entry, key)?;
+    let labels = mismatch_labels(alloc, teller, entry, key)?;
     let notes = unlisted_notes(alloc, features.as_slice())?;
-    let nodes = mismatch_nodes(alloc, teller, key, features.as_slice())?;
+    let nodes = mismatch_nodes(alloc, teller, entry, key, features.as_slice())?;
     let krate = kid_at(teller.told.krates, key.place)?;
     Ok(Words {
         severity: Severity::Error,
@@ -57,14 +61,17 @@ pub fn mismatched_told(alloc: Global, teller: &Teller<'_>, key: &Key) -> Result<
 }
 
 // The enabled features of the crate of a key that its entry does not list.
-fn unlisted_of(alloc: Global, teller: &Teller<'_>, key: &Key) -> Result<List<Text>, NoMemory>
+fn unlisted_of(
+    alloc: Global,
+    teller: &Teller<'_>,
+    entry: &ValidKrateFeatures,
+    key: &Key,
+) -> Result<List<Text>, NoMemory>
+    requires { Some (feature_view entry.now) ≡ feature_entry_at (told_from teller.now).policy key.now.entry }
     ensures { IfOk result (λ features. let c = told_from teller.now in
         features ≡ entry_and_crate c.policy c.graph key.now (unlisted c.policy c.graph) []) }
 {
     are_placed(teller.told.krates);
-    let Some(entry) = teller.feature_entry(key.entry) else {
-        return Ok(List::new(alloc));
-    };
     let allowed = ranges_by_name(alloc, entry.features.allow.value.as_slice())?;
     unlisted(
         alloc,
@@ -77,13 +84,16 @@ fn unlisted_of(alloc: Global, teller: &Teller<'_>, key: &Key) -> Result<List<Tex
 }
 
 // The `exact` of the entry of a key, and those of its features that are not enabled.
-fn mismatch_labels(alloc: Global, teller: &Teller<'_>, key: &Key) -> Labels
+fn mismatch_labels(
+    alloc: Global,
+    teller: &Teller<'_>,
+    entry: &ValidKrateFeatures,
+    key: &Key,
+) -> Labels
+    requires { Some (feature_view entry.now) ≡ feature_entry_at (told_from teller.now).policy key.now.entry }
     ensures { IfOk result (λ labels. let c = told_from teller.now in
         labels ≡ entry_and_crate c.policy c.graph key.now (mismatch_labels c.files.policy) []) }
 {
-    let Some(entry) = teller.feature_entry(key.entry) else {
-        return Ok(List::new(alloc));
-    };
     let Some(_krate) = krate_at(teller.told.krates, key.place) else {
         return Ok(List::new(alloc));
     };
@@ -153,10 +163,12 @@ fn unlisted_note(alloc: Global, feature: &Text) -> Result<Text, NoMemory>
 fn mismatch_nodes(
     alloc: Global,
     teller: &Teller<'_>,
+    _entry: &ValidKrateFeatures,
     key: &Key,
     features: &[Text],
 ) -> Result<List<GraphNode>, NoMemory>
-    requires { let c = told_from teller.now in
+    requires entry { Some (feature_view _entry.now) ≡ feature_entry_at (told_from teller.now).policy key.now.entry }
+    requires features { let c = told_from teller.now in
         features.now ≡ entry_and_crate c.policy c.graph key.now (unlisted c.policy c.graph) [] }
     ensures { IfOk result (λ nodes. let c = told_from teller.now in
         nodes ≡ entry_and_crate c.policy c.graph key.now (mismatch_nodes c.policy c.graph) []) }
@@ -165,10 +177,7 @@ fn mismatch_nodes(
     if features.len() != 0 {
         return feature_nodes_at(alloc, teller, key.place, features);
     }
-    match teller.feature_entry(key.entry) {
-        Some(_) => crate_nodes_at(alloc, teller, key.place),
-        None => Ok(List::new(alloc)),
-    }
+    crate_nodes_at(alloc, teller, key.place)
 }
 
 // The crate at a place, as it is shown.
@@ -247,6 +256,7 @@ pub fn feature_not_allowed_told(
     teller: &Teller<'_>,
     key: &Key,
 ) -> Result<Words, NoMemory>
+    requires { IsTrue (is_some (feature_entry_at (told_from teller.now).policy key.now.entry)) }
     ensures { IfOk result (λ words. let c = told_from teller.now in
         words ≡ feature_not_allowed_told c.policy c.graph c.files.policy key.now) }
 {
@@ -267,24 +277,25 @@ pub fn feature_not_allowed_told(
 
 // What the entry of a range allows.
 fn allow_labels(alloc: Global, teller: &Teller<'_>, range: Span) -> Labels
+    requires { IsTrue (is_some (feature_entry_at (told_from teller.now).policy range)) }
     ensures { IfOk result (λ labels. let c = told_from teller.now in
         labels ≡ option_map_or (λ e. primary c.files.policy e.allow.span (codes "allowed features") ∷ [])
         (feature_entry_at c.policy range) []) }
 {
-    match teller.feature_entry(range) {
-        Some(entry) => lone_label(
-            alloc,
-            teller.file(),
-            entry.features.allow.span,
-            "allowed features",
-        ),
-        None => Ok(List::new(alloc)),
-    }
+    let entry = teller.feature_entry(range);
+    lone_label(
+        alloc,
+        teller.file(),
+        entry.features.allow.span,
+        "allowed features",
+    )
 }
 
 /// What is told of a denied feature that is enabled.
 #[tactic(auto, unfolding(deny_codes::specs::Features::feature_banned_told))]
 pub fn feature_banned_told(alloc: Global, teller: &Teller<'_>, key: &Key) -> Result<Words, NoMemory>
+    requires { IsTrue (is_some (find (λ w. same_span w.span key.now.entry)
+        (listed_features teller.now.told.cfg.now))) }
     ensures { IfOk result (λ words. let c = told_from teller.now in
         words ≡ feature_banned_told c.policy c.graph c.files.policy key.now) }
 {
@@ -312,6 +323,8 @@ pub fn unknown_feature_told(
     teller: &Teller<'_>,
     key: &Key,
 ) -> Result<Words, NoMemory>
+    requires { IsTrue (is_some (find (λ w. same_span w.span key.now.entry)
+        (named_features teller.now.told.cfg.now))) }
     ensures { IfOk result (λ words. let c = told_from teller.now in words
         ≡ unknown_feature_told c.policy (required_features c.building) c.graph c.files.policy key.now) }
 {
@@ -368,27 +381,23 @@ fn default_severity(teller: &Teller<'_>, key: &Key) -> Severity
     }
 }
 
-// The feature of a range; none is as an empty text.
+// The feature of a range.
 #[tactic(auto, unfolding(deny_codes::specs::Features::feature_at))]
 fn feature_at<'t>(teller: &'t Teller<'_>, range: Span) -> &'t str
+    requires { IsTrue (is_some (find (λ w. same_span w.span range) (listed_features teller.now.told.cfg.now))) }
     ensures { result.now ≡ feature_at (told_from teller.now).policy range }
 {
-    match teller.feature(range) {
-        Some(word) => word.value.as_str(),
-        None => "",
-    }
+    teller.feature(range).value.as_str()
 }
 
 // The same, of those features and those that bypasses require.
 #[tactic(auto, unfolding(deny_codes::specs::Features::named_at))]
 fn named_at<'t>(teller: &'t Teller<'_>, range: Span) -> &'t str
+    requires { IsTrue (is_some (find (λ w. same_span w.span range) (named_features teller.now.told.cfg.now))) }
     ensures { let c = told_from teller.now in
         result.now ≡ named_at (required_features c.building) c.policy range }
 {
-    match teller.named_feature(range) {
-        Some(word) => word.value.as_str(),
-        None => "",
-    }
+    teller.named_feature(range).value.as_str()
 }
 
 // A sentence about a feature of the crate of a key.

@@ -5,6 +5,7 @@ ghost use Rattle.deny_build_cfg.specs.BuildingView.{bypass_view};
 ghost use Rattle.deny_cfg.specs.PolicyView.{building_of, feature_view};
 ghost use Rattle.deny_codes.specs.Features.{features_of};
 ghost use Rattle.deny_codes.specs.PackagesTold.{required_features};
+ghost use Rattle.deny_telling.specs.private.Features.{named_features};
 ghost use Rattle.deny_told.specs.ByRange.{IsByRange, PutsBefore};
 
 use deny_base::Spanned;
@@ -14,18 +15,31 @@ use deny_lists::{NoMemory, Text};
 use deny_told::ByRange;
 use std::alloc::Global;
 
-/// Finds the features that entries allow and deny, in the order in which the entries list them.
-pub fn listed_by_range<'c>(
+/// Finds the features that entries allow and deny, in the order in which the entries list them, and
+/// behind them those that bypasses require.
+pub fn named_by_range<'c>(
     alloc: Global,
-    entries: &'c [ValidKrateFeatures],
+    cfg: &'c ValidConfig,
 ) -> Result<ByRange<'c, Spanned<Text>>, NoMemory>
-    ensures { IfOk result (IsByRange (λ w. w.span) (flat_map features_of (map feature_view entries.now))) }
+    ensures { IfOk result (IsByRange (λ w. w.span) (named_features cfg.now)) }
 {
-    let mut found = ByRange::of_none(alloc);
-    for number in (0..entries.len()).rev() {
-        put_features(&mut found, &entries[number])?;
-    }
+    let mut found = required_by_range(alloc, cfg)?;
+    put_listed(&mut found, cfg.features.as_slice())?;
     Ok(found)
+}
+
+// Puts the features that entries list before those that are found.
+fn put_listed<'c>(
+    found: &mut ByRange<'c, Spanned<Text>>,
+    entries: &'c [ValidKrateFeatures],
+) -> Result<(), NoMemory>
+    ensures { OnOk result (PutsBefore (λ w. w.span) (flat_map features_of (map feature_view entries.entry.now))
+        found.old found.new) }
+{
+    for number in (0..entries.len()).rev() {
+        put_features(found, &entries[number])?;
+    }
+    Ok(())
 }
 
 // Puts the features of an entry before those that are found.
@@ -40,8 +54,8 @@ fn put_features<'c>(
     found.put_before(entry.features.allow.value.as_slice())
 }
 
-/// Finds the features that bypasses require.
-pub fn required_by_range<'c>(
+// Finds the features that bypasses require.
+fn required_by_range<'c>(
     alloc: Global,
     cfg: &'c ValidConfig,
 ) -> Result<ByRange<'c, Spanned<Text>>, NoMemory>

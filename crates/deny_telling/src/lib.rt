@@ -8,6 +8,7 @@ mod allow_list;
 mod bans;
 mod duplicates;
 mod entry_labels;
+mod entry_numbers;
 mod features;
 mod features_by_range;
 mod skipped_trees;

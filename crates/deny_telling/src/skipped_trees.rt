@@ -1,6 +1,7 @@
 //! What is told of skipped trees.
-ghost use Rattle.std.specs.Prelude.{◌≡◌, IfOk};
+ghost use Rattle.std.specs.Prelude.{◌≡◌, IfOk, IsTrue, is_some};
 ghost use Rattle.deny_codes.specs.SkippedTrees.{skipped_by_root_told, unmatched_skip_root_told};
+ghost use Rattle.deny_model.specs.Told.{root_at};
 ghost use Rattle.deny_telling.specs.private.Teller.{told_from};
 
 use crate::entry_labels::root_labels_at;
@@ -18,6 +19,7 @@ pub fn skipped_by_root_told(
     teller: &Teller<'_>,
     key: &Key,
 ) -> Result<Words, NoMemory>
+    requires { IsTrue (is_some (root_at (told_from teller.now).policy key.now.entry)) }
     ensures { IfOk result (λ words. let c = told_from teller.now in
         words ≡ skipped_by_root_told c.policy c.graph c.files.policy key.now) }
 {

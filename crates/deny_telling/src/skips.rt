@@ -1,8 +1,8 @@
 //! What is told of skips.
-ghost use Rattle.std.specs.Prelude.{◌≡◌, ◌++◌, IfOk};
+ghost use Rattle.std.specs.Prelude.{◌≡◌, ◌++◌, IfOk, IsTrue, is_some};
 ghost use Rattle.deny_cfg.specs.SpecView.{spec_view};
 ghost use Rattle.deny_codes.specs.Skips.{skipped_told, unmatched_skip_told, unnecessary_skip_told};
-ghost use Rattle.deny_model.specs.Told.{skip_text_at, spec_text};
+ghost use Rattle.deny_model.specs.Told.{skip_at, skip_text_at, spec_text};
 ghost use Rattle.deny_telling.specs.private.Teller.{told_from};
 
 use crate::entry_labels::skip_labels_at;
@@ -17,6 +17,7 @@ use std::alloc::Global;
 /// What is told of a crate that a skip speaks of.
 #[tactic(auto, unfolding(deny_codes::specs::Skips::skipped_told))]
 pub fn skipped_told(alloc: Global, teller: &Teller<'_>, key: &Key) -> Result<Words, NoMemory>
+    requires { IsTrue (is_some (skip_at (told_from teller.now).policy key.now.entry)) }
     ensures { IfOk result (λ words. let c = told_from teller.now in
         words ≡ skipped_told c.policy c.graph c.files.policy key.now) }
 {
@@ -30,6 +31,7 @@ pub fn skipped_told(alloc: Global, teller: &Teller<'_>, key: &Key) -> Result<Wor
 /// What is told of a skip that speaks of no crate.
 #[tactic(auto, unfolding(deny_codes::specs::Skips::unmatched_skip_told))]
 pub fn unmatched_skip_told(alloc: Global, teller: &Teller<'_>, key: &Key) -> Result<Words, NoMemory>
+    requires { IsTrue (is_some (skip_at (told_from teller.now).policy key.now.entry)) }
     ensures { IfOk result (λ words. let c = told_from teller.now in
         words ≡ unmatched_skip_told c.policy c.files.policy key.now) }
 {
@@ -51,6 +53,7 @@ pub fn unnecessary_skip_told(
     teller: &Teller<'_>,
     key: &Key,
 ) -> Result<Words, NoMemory>
+    requires { IsTrue (is_some (skip_at (told_from teller.now).policy key.now.entry)) }
     ensures { IfOk result (λ words. let c = told_from teller.now in
         words ≡ unnecessary_skip_told c.policy c.files.policy key.now) }
 {
@@ -73,6 +76,7 @@ fn of_skip(
     range: Span,
     after: &str,
 ) -> Result<Text, NoMemory>
+    requires { IsTrue (is_some (skip_at (told_from teller.now).policy range)) }
     ensures { IfOk result (λ text. text ≡ before.now
         ++ (skip_text_at (told_from teller.now).policy range ++ after.now)) }
 {
@@ -81,12 +85,10 @@ fn of_skip(
 }
 
 fn skip_text_at(alloc: Global, teller: &Teller<'_>, range: Span) -> Result<Text, NoMemory>
+    requires { IsTrue (is_some (skip_at (told_from teller.now).policy range)) }
     ensures { IfOk result (λ text. text ≡ skip_text_at (told_from teller.now).policy range) }
 {
-    match teller.skip(range) {
-        Some(entry) => spec_text(alloc, &entry.spec),
-        None => Ok(Text::new(alloc)),
-    }
+    spec_text(alloc, &teller.skip(range).spec)
 }
 
 // The name of a spec, and its requirement as it is written.

@@ -1,23 +1,24 @@
 //! What findings are told from.
-ghost use Rattle.std.specs.Prelude.{◌≡◌, ◌++◌, IfOk, find, map, option_map, MatchOption, ℕ, None};
-ghost use Rattle.std.specs.List.{flat_map, list_any};
+ghost use Rattle.std.specs.Prelude.{◌≡◌, IfOk, IsTrue, Some, ℕ, find, is_some, map};
+ghost use Rattle.std.specs.List.{list_any};
 ghost use Rattle.deny_build_told.specs.Sums.{AreSumsOf};
-ghost use Rattle.deny_cfg.specs.PolicyView.{ban_view, building_of, entry_view, feature_view, policy_view, root_view};
-ghost use Rattle.deny_codes.specs.Features.{feature_entry_at, features_of};
-ghost use Rattle.deny_codes.specs.PackagesTold.{required_features};
+ghost use Rattle.deny_cfg.specs.PolicyView.{entry_view, feature_view, policy_view, root_view};
+ghost use Rattle.deny_codes.specs.Features.{feature_entry_at};
 ghost use Rattle.deny_model.specs.Duplicates.{is_denied_multiple};
 ghost use Rattle.deny_model.specs.Told.{allow_at, ban_at, crates_at, root_at, skip_at};
 ghost use Rattle.deny_model.specs.Wrappers.{same_span};
 ghost use Rattle.deny_facts.specs.Marks.{mark_at};
-ghost use Rattle.deny_facts.specs.Matches.{AreBanMatches};
+ghost use Rattle.deny_facts.specs.Matches.{AreBanMatches, IsBanMatch, ban_of};
 ghost use Rattle.deny_manifest_told.specs.Found.{AreUnusedOf, AreUsesOf};
-ghost use Rattle.deny_telling.specs.private.Wrappers.{wrapper_range};
+ghost use Rattle.deny_telling.specs.private.EntryNumbers.{NumbersEntries};
+ghost use Rattle.deny_telling.specs.private.Features.{listed_features, named_features};
 ghost use Rattle.deny_told.specs.ByRange.{IsByRange};
 
-use crate::features_by_range::{listed_by_range, required_by_range};
+use crate::entry_numbers::{EntryList, EntryNumbers};
+use crate::features_by_range::named_by_range;
 use deny_base::{FileId, Span, Spanned};
 use deny_build_told::script_sums;
-use deny_cfg::bans::cfg::{Checksum, KrateBan, TreeSkipExtended, ValidKrateFeatures};
+use deny_cfg::bans::cfg::{Checksum, TreeSkipExtended, ValidKrateFeatures};
 use deny_cfg::{PackageSpecOrExtended, Reason};
 use deny_facts::{BanMatch, Matches, mark_at};
 use deny_lists::{NoMemory, Text};
@@ -26,7 +27,8 @@ use deny_spans::UnusedWorkspaceDep;
 use deny_told::{ByRange, Told};
 use std::alloc::Global;
 
-/// What findings are told from, with what finds the policy's entries and the workspace's by their ranges.
+/// What findings are told from, with what finds the policy's entries by their numbers, and the features
+/// that it names, its checksums and the workspace's entries by their ranges.
 #[derive(Drop)]
 pub struct Teller<'c> {
     pub told: Told<'c>,
@@ -34,13 +36,8 @@ pub struct Teller<'c> {
     pub unused: ByRange<'c, UnusedWorkspaceDep>,
     pub sums: ByRange<'c, Spanned<Checksum>>,
     found: &'c Matches<'c>,
-    banned: ByRange<'c, BanMatch<'c>>,
-    allowed: ByRange<'c, PackageSpecOrExtended<Reason>>,
-    skipped: ByRange<'c, PackageSpecOrExtended<Reason>>,
-    roots: ByRange<'c, PackageSpecOrExtended<TreeSkipExtended>>,
-    feature_entries: ByRange<'c, ValidKrateFeatures>,
+    numbers: EntryNumbers,
     features: ByRange<'c, Spanned<Text>>,
-    required: ByRange<'c, Spanned<Text>>,
     ghost uses_fit: { AreUsesOf told uses.now },
     ghost unused_found: { AreUnusedOf told unused },
     ghost sums_found: { AreSumsOf told.cfg.now sums },
@@ -48,18 +45,13 @@ pub struct Teller<'c> {
         found.now.bans },
     ghost several_marked: { found.now.several ≡ map (is_denied_multiple (policy_view told.cfg.now))
         told.krates.now.crates },
-    ghost banned_found: { IsByRange (λ m. m.ban.now.spec.name.span) found.now.bans banned },
-    ghost allowed_found: { IsByRange (λ e. e.spec.name.span) told.cfg.now.allowed allowed },
-    ghost skipped_found: { IsByRange (λ e. e.spec.name.span) told.cfg.now.skipped skipped },
-    ghost roots_found: { IsByRange (λ e. e.spec.name.span) told.cfg.now.tree_skipped roots },
-    ghost entries_found: { IsByRange (λ e. e.spec.name.span) told.cfg.now.features feature_entries },
-    ghost features_found: { IsByRange (λ w. w.span) (flat_map features_of (map feature_view told.cfg.now.features)) features },
-    ghost required_found: { IsByRange (λ w. w.span) (required_features (building_of told.cfg.now)) required },
+    ghost entries_numbered: { NumbersEntries told.cfg.now found.now.bans numbers },
+    ghost features_found: { IsByRange (λ w. w.span) (named_features told.cfg.now) features },
 }
 
 impl<'c> Teller<'c> {
-    /// Finds the policy's entries and the workspace's by their ranges; those that ban crates as they were
-    /// found for the check.
+    /// Numbers the policy's entries, and finds the workspace's by their ranges; those that ban crates as
+    /// they were found for the check.
     pub fn new(
         alloc: Global,
         told: Told<'c>,
@@ -77,13 +69,8 @@ impl<'c> Teller<'c> {
             unused: ByRange::new(alloc, told.spans.unused_workspace_deps.as_slice())?,
             sums: script_sums(alloc, cfg)?,
             found,
-            banned: ByRange::new(alloc, found.bans.as_slice())?,
-            allowed: ByRange::new(alloc, cfg.allowed.as_slice())?,
-            skipped: ByRange::new(alloc, cfg.skipped.as_slice())?,
-            roots: ByRange::new(alloc, cfg.tree_skipped.as_slice())?,
-            feature_entries: ByRange::new(alloc, cfg.features.as_slice())?,
-            features: listed_by_range(alloc, cfg.features.as_slice())?,
-            required: required_by_range(alloc, cfg)?,
+            numbers: EntryNumbers::of_policy(alloc, cfg, found.bans.as_slice())?,
+            features: named_by_range(alloc, cfg)?,
             told,
         })
     }
@@ -95,72 +82,68 @@ impl<'c> Teller<'c> {
         self.told.cfg.file_id
     }
 
-    /// The ban of a range.
-    pub fn ban(&self, range: Span) -> Option<&'c PackageSpecOrExtended<KrateBan>>
-        ensures { option_map (λ e. ban_view e.now) result ≡ ban_at (policy_view self.now.told.cfg.now) range }
+    /// The ban of a range, with what it speaks of.
+    pub fn ban(&self, range: Span) -> &'c BanMatch<'c>
+        requires { IsTrue (is_some (ban_at (policy_view self.now.told.cfg.now) range)) }
+        ensures ban { Some (ban_of result.now) ≡ ban_at (policy_view self.now.told.cfg.now) range }
+        ensures is { IsBanMatch (policy_view self.now.told.cfg.now) self.now.told.krates.now result.now }
     {
-        match self.banned.at(range) {
-            Some(found) => Some(found.ban),
-            None => None,
-        }
+        let bans = self.found.bans.as_slice();
+        self.numbers.first(EntryList::Deny, bans, range)
     }
 
     /// The entry of the allow list of a range.
-    pub fn allow(&self, range: Span) -> Option<&'c PackageSpecOrExtended<Reason>>
-        ensures { option_map (λ e. entry_view e.now) result ≡ allow_at (policy_view self.now.told.cfg.now) range }
+    pub fn allow(&self, range: Span) -> &'c PackageSpecOrExtended<Reason>
+        requires { IsTrue (is_some (allow_at (policy_view self.now.told.cfg.now) range)) }
+        ensures { Some (entry_view result.now) ≡ allow_at (policy_view self.now.told.cfg.now) range }
     {
-        self.allowed.at(range)
+        let allowed = self.told.cfg.allowed.as_slice();
+        self.numbers.first(EntryList::Allow, allowed, range)
     }
 
     /// The skip of a range.
-    pub fn skip(&self, range: Span) -> Option<&'c PackageSpecOrExtended<Reason>>
-        ensures { option_map (λ e. entry_view e.now) result ≡ skip_at (policy_view self.now.told.cfg.now) range }
+    pub fn skip(&self, range: Span) -> &'c PackageSpecOrExtended<Reason>
+        requires { IsTrue (is_some (skip_at (policy_view self.now.told.cfg.now) range)) }
+        ensures { Some (entry_view result.now) ≡ skip_at (policy_view self.now.told.cfg.now) range }
     {
-        self.skipped.at(range)
+        let skipped = self.told.cfg.skipped.as_slice();
+        self.numbers.first(EntryList::Skip, skipped, range)
     }
 
     /// The skipped tree of a range.
-    pub fn root(&self, range: Span) -> Option<&'c PackageSpecOrExtended<TreeSkipExtended>>
-        ensures { MatchOption result (root_at (policy_view self.now.told.cfg.now) range ≡ None)
-            (λ e. (number : ℕ) × (root_at (policy_view self.now.told.cfg.now) range ≡ Some (root_view number e.now))) }
+    pub fn root(&self, range: Span) -> &'c PackageSpecOrExtended<TreeSkipExtended>
+        requires { IsTrue (is_some (root_at (policy_view self.now.told.cfg.now) range)) }
+        ensures { (number : ℕ) × (root_at (policy_view self.now.told.cfg.now) range ≡ Some (root_view number result.now)) }
     {
-        self.roots.at(range)
+        let roots = self.told.cfg.tree_skipped.as_slice();
+        self.numbers.first(EntryList::SkipTree, roots, range)
     }
 
     /// The entry on features of a range.
-    pub fn feature_entry(&self, range: Span) -> Option<&'c ValidKrateFeatures>
-        ensures { option_map (λ e. feature_view e.now) result ≡ feature_entry_at (policy_view self.now.told.cfg.now) range }
+    pub fn feature_entry(&self, range: Span) -> &'c ValidKrateFeatures
+        requires { IsTrue (is_some (feature_entry_at (policy_view self.now.told.cfg.now) range)) }
+        ensures { Some (feature_view result.now) ≡ feature_entry_at (policy_view self.now.told.cfg.now) range }
     {
-        self.feature_entries.at(range)
+        let entries = self.told.cfg.features.as_slice();
+        self.numbers.first(EntryList::Features, entries, range)
     }
 
     /// The feature of a range, of those that entries allow or deny.
-    pub fn feature(&self, range: Span) -> Option<&'c Spanned<Text>>
-        ensures { option_map (λ w. w.now) result ≡ find (λ w. same_span w.span range)
-            (flat_map features_of (policy_view self.now.told.cfg.now).features) }
+    pub fn feature(&self, range: Span) -> &'c Spanned<Text>
+        requires { IsTrue (is_some (find (λ w. same_span w.span range) (listed_features self.now.told.cfg.now))) }
+        ensures { Some result.now ≡ find (λ w. same_span w.span range) (listed_features self.now.told.cfg.now) }
     {
-        self.features.at(range)
+        self.named_feature(range)
     }
 
     /// The feature of a range, of those and of those that bypasses require.
-    pub fn named_feature(&self, range: Span) -> Option<&'c Spanned<Text>>
-        ensures { option_map (λ w. w.now) result ≡ find (λ w. same_span w.span range)
-            (flat_map features_of (policy_view self.now.told.cfg.now).features
-            ++ required_features (building_of self.now.told.cfg.now)) }
+    pub fn named_feature(&self, range: Span) -> &'c Spanned<Text>
+        requires { IsTrue (is_some (find (λ w. same_span w.span range) (named_features self.now.told.cfg.now))) }
+        ensures { Some result.now ≡ find (λ w. same_span w.span range) (named_features self.now.told.cfg.now) }
     {
         match self.features.at(range) {
-            Some(feature) => Some(feature),
-            None => self.required.at(range),
-        }
-    }
-
-    /// The range of the first wrapper of a name, of the ban of a range.
-    pub fn wrapper(&self, range: Span, name: &str) -> Option<Span>
-        ensures { result ≡ wrapper_range (policy_view self.now.told.cfg.now).deny range name.now }
-    {
-        match self.banned.at(range) {
-            Some(found) => found.ranges.get(name).copied(),
-            None => None,
+            Some(feature) => feature,
+            None => unreachable!(),
         }
     }
 

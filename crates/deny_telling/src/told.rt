@@ -1,14 +1,16 @@
 //! What a report tells of each key, code by code.
 ghost use Rattle.std.specs.Prelude.{◌≡◌, ◌++◌, IfOk, IsTrue, OnErr, OnOk, map};
 ghost use Rattle.deny_base.specs.Code.{bans_told_here, is_told_here};
+ghost use Rattle.deny_base.specs.declared.code.DiagnosticCode.TheVariants.{Bans};
 ghost use Rattle.deny_build_told.specs.AtHand.{IsAtHand};
 ghost use Rattle.deny_cfg.specs.PolicyView.{policy_view};
-ghost use Rattle.deny_codes.specs.EachCode.{words_as, words_licensed};
+ghost use Rattle.deny_codes.specs.EachCode.{StandsAs, words_as, words_licensed};
+ghost use Rattle.deny_codes.specs.Facts.{Facts};
 ghost use Rattle.deny_codes.specs.Told.{check_told, diag_of, pack_of, pack_told, words_told};
 ghost use Rattle.deny_manifest_rules.specs.Uses.{AreUses};
 ghost use Rattle.deny_spans.specs.SpansView.{AreSpansOf, spans_view};
 ghost use Rattle.deny_telling.specs.Here.{AreToldHere};
-ghost use Rattle.deny_telling.specs.Telling.{TellsPrefix};
+ghost use Rattle.deny_telling.specs.Telling.{AreStanding, IsStanding, TellsPrefix};
 ghost use Rattle.deny_telling.specs.private.Teller.{told_from};
 ghost use Rattle.deny_told.specs.Told.{told_by};
 
@@ -42,8 +44,8 @@ use deny_spans::KrateSpans;
 use deny_told::Told;
 use std::alloc::Global;
 
-/// Appends what is told of keys, in their order, one pack a key: of every code but those of what the
-/// standard library replaces and those of licences. Where memory runs out, it has appended what is
+/// Appends what is told of keys that stand, in their order, one pack a key: of every code but those of
+/// what the standard library replaces and those of licences. Where memory runs out, it has appended what is
 /// told of the first of them, or nothing.
 pub fn tell_all(
     alloc: Global,
@@ -55,6 +57,8 @@ pub fn tell_all(
     sink: &mut List<Pack>,
 ) -> Result<(), NoMemory>
     requires told_here { AreToldHere keys.now }
+    requires stand { AreStanding
+        (told_by found.now.cfg.now found.now.krates.now spans.now packages.now) keys.now }
     requires spans { AreSpansOf found.now.krates.now spans.now }
     requires uses { AreUses (policy_view found.now.cfg.now) found.now.krates.now (spans_view spans.now) uses.now }
     ensures ok { OnOk result (sink.new ≡ sink.old
@@ -79,6 +83,7 @@ fn add_packs(
     sink: &mut List<Pack>,
 ) -> Result<(), NoMemory>
     requires told_here { AreToldHere keys.now }
+    requires stand { AreStanding (told_from teller.now) keys.now }
     requires spans { AreSpansOf teller.now.told.krates.now teller.now.told.spans.now }
     ensures ok { OnOk result (sink.new ≡ sink.old ++ map (pack_told (told_from teller.now)) keys.now) }
     ensures prefix { OnErr result (TellsPrefix (told_from teller.now) keys.now sink.old sink.new) }
@@ -95,6 +100,7 @@ fn add_packs(
 // What is told of a key.
 fn tell(alloc: Global, teller: &Teller<'_>, at: &AtHand<'_>, key: &Key) -> Result<Pack, NoMemory>
     requires told_here { IsTrue (is_told_here key.now.code) }
+    requires stands { IsStanding (told_from teller.now) key.now }
     requires spans { AreSpansOf teller.now.told.krates.now teller.now.told.spans.now }
     requires at_hand { IsAtHand teller.now.told.packages.now key.now.place at.now }
     ensures { IfOk result (λ pack. pack ≡ pack_told (told_from teller.now) key.now) }
@@ -111,6 +117,7 @@ fn words_told(
     key: &Key,
 ) -> Result<Words, NoMemory>
     requires told_here { IsTrue (is_told_here key.now.code) }
+    requires stands { IsStanding (told_from teller.now) key.now }
     requires spans { AreSpansOf teller.now.told.krates.now teller.now.told.spans.now }
     requires at_hand { IsAtHand teller.now.told.packages.now key.now.place at.now }
     ensures { IfOk result (λ words. words ≡ words_told (told_from teller.now) key.now) }
@@ -139,6 +146,8 @@ fn words_as(
     key: &Key,
 ) -> Result<Words, NoMemory>
     requires told_here { IsTrue (bans_told_here code) }
+    requires code { key.now.code ≡ Bans code }
+    requires stands { (facts : Facts) × StandsAs code (told_from teller.now) facts key.now }
     requires spans { AreSpansOf teller.now.told.krates.now teller.now.told.spans.now }
     requires at_hand { IsAtHand teller.now.told.packages.now key.now.place at.now }
     ensures { IfOk result (λ words. words ≡ words_as code (told_from teller.now) key.now) }

@@ -1,4 +1,6 @@
-use Rattle.std.proofs.Common.{None, ◌∙◌}
+use Rattle.std.proofs.Common.{None, Option, Some, subst, sym, ◌∙◌}
+use Rattle.std.specs.Prelude.{IsTrue, is_some}
+use Rattle.deny_model.specs.View.{WorkspaceEntry}
 use Rattle.deny_model.specs.Wrappers.{same_span}
 use Rattle.deny_told.proofs.ByRangeLemmas.{seen}
 use Rattle.deny_workspace.specs.Workspace.{dep_view}
@@ -7,5 +9,12 @@ use Rattle.deny_manifest_told.proofs.sharing.unused_at.Goals as goal
 pub returns : goal.returns
 returns c =
     seen (λ e. same_span e.key c.args.range)
-    (dep_view None) c.args._told.now.spans.now.unused_workspace_deps c.at.result
-    (c.at.ensures ∙ c.requires.at c.args.range)
+    (dep_view None) c.args._told.now.spans.now.unused_workspace_deps (Some c.in-Some.entry)
+    (c.in-Some.ensures ∙ c.requires.unused.at c.args.range)
+
+pub unreachable-requires : goal.unreachable-requires
+unreachable-requires c =
+    cc (subst (λ (o : Option WorkspaceEntry). IsTrue (is_some o))
+    (sym (seen (λ e. same_span e.key c.args.range)
+    (dep_view None) c.args._told.now.spans.now.unused_workspace_deps None
+    (c.in-None.ensures ∙ c.requires.unused.at c.args.range))) c.requires.there)

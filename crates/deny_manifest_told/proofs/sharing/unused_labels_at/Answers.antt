@@ -7,22 +7,22 @@ use Rattle.deny_workspace.specs.Workspace.{dep_view}
 use Rattle.deny_manifest_told.proofs.ManifestLemmas.{in_file, in_no_file}
 use Rattle.deny_manifest_told.proofs.sharing.unused_labels_at.Goals as goal
 
-pub returns-in_default-workspace_id : goal.returns-in_default-workspace_id
+pub returns-in_default : goal.returns-in_default
 unfolding unused_labels_in
-returns-in_default-workspace_id c =
+returns-in_default c =
     let view = spans_view c.args.told.now.spans.now in
-    c.new-in_default-workspace_id.ensures
-    ∙ in_no_file unused_labels (unused_at view c.args.range) (dep_view None c.in-Some.entry.now) c.in-Some.ensures
-    view.workspace c.in_default-workspace_id.is
+    c.new.ensures
+    ∙ in_no_file unused_labels (unused_at view c.args.range) (dep_view None c.unused_at-entry.result.now)
+    c.unused_at-entry.ensures view.workspace c.in_default.is
 
 pub returns : goal.returns
 unfolding unused_labels_in
 returns c =
     let view = spans_view c.args.told.now.spans.now in
-    let file = c.in-Some-workspace_id.file in
-    let entry = dep_view None c.in-Some.entry.now in
+    let file = c.in-Some.file in
+    let entry = dep_view None c.unused_at-entry.result.now in
     IfOk-weaker c.unused_labels.result (λ labels. labels ≡ unused_labels file entry)
     (λ labels. labels ≡ option_map_or (unused_labels_in view) (unused_at view c.args.range) [])
     (λ labels is. is
-    ∙ in_file unused_labels (unused_at view c.args.range) entry c.in-Some.ensures file view.workspace
-    c.in-Some-workspace_id.is) c.unused_labels.ensures
+    ∙ in_file unused_labels (unused_at view c.args.range) entry c.unused_at-entry.ensures file view.workspace
+    c.in-Some.is) c.unused_labels.ensures

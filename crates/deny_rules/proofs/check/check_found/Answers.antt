@@ -9,11 +9,11 @@ use Rattle.deny_codes.specs.Saying.{bytes_of}
 use Rattle.deny_codes.specs.Told.{pack_told}
 use Rattle.deny_dup_edges.specs.DupEdges.{ShowsEach, is_of_duplicate}
 use Rattle.deny_telling.specs.Here.{AreToldHere}
-use Rattle.deny_telling.specs.Telling.{TellsPrefix}
+use Rattle.deny_telling.specs.Telling.{AreStanding, TellsPrefix}
 use Rattle.deny_told.specs.Told.{told_by}
 use Rattle.deny_rules.specs.private.OfPackages.{facts_by}
 use Rattle.deny_rules.proofs.CheckLemmas.{both_told, first_cut, found_of, hits_then, same_duplicates, second_cut}
-use Rattle.deny_rules.proofs.CheckLemmas.{told_by_rules}
+use Rattle.deny_rules.proofs.CheckLemmas.{standing_by_rules, told_by_rules}
 use Rattle.deny_rules.proofs.OwnRuleLemmas.{lists_own}
 use Rattle.deny_rules.proofs.StdLemmas.{std_ordered}
 use Rattle.deny_rules.proofs.check.check_found.Goals as goal
@@ -23,10 +23,17 @@ tell_all-requires g c =
     let found = c.args.found.now in
     let spans = c.args.spans.now in
     let looked = c.in_ok-looked.looked in
+    let seen : Circumstances = told_by found.cfg.now found.krates.now spans looked.packages in
+    let facts : Facts = facts_by found.marks looked.reached.items in
     record {
       told_here = subst AreToldHere (sym c.as_slice-rules.ensures)
-          (told_by_rules (told_by found.cfg.now found.krates.now spans looked.packages)
-          (facts_by found.marks looked.reached.items) c.in_ok-keys.keys c.in_ok-keys.ensures);
+          (told_by_rules seen facts c.in_ok-keys.keys c.in_ok-keys.ensures);
+      stand = subst (λ (ks : List Key). AreStanding
+          (told_by found.cfg.now found.krates.now spans c.as_slice-packages.result.now) ks)
+          (sym c.as_slice-rules.ensures)
+          (subst (λ (ps : List Package). AreStanding (told_by found.cfg.now found.krates.now spans ps)
+          c.in_ok-keys.keys) (sym c.as_slice-packages.ensures)
+          (standing_by_rules seen facts c.in_ok-keys.keys c.in_ok-keys.ensures));
       spans = c.requires.spans;
       uses = c.in_ok-uses.ensures;
     }

@@ -15,11 +15,11 @@ returns c =
     let g = c.args.teller.now.told.krates.now in
     let file = c.args.teller.now.told.cfg.now.file_id in
     let key = c.args.key.now in
-    let e = feature_view c.in-Some.entry.now in
+    let e = feature_view c.args.entry.now in
     IfOk-weaker c.missing_labels.result
     (λ labels. labels ≡ primary file e.exact.span (codes "exact enabled here")
     ∷ map (λ w. primary file w.span (codes "allowed feature not present"))
     (filter (λ w. not (list_any (same_text w.value) c.enabled_at.result.now)) e.allow.value))
     (λ labels. labels ≡ entry_and_crate p g key (mismatch_labels file) [])
-    (λ labels is. is ∙ labels_told p g file key c.enabled_at.result.now c.in-Some.ensures c.in-Some-krate_at.ensures
+    (λ labels is. is ∙ labels_told p g file key c.enabled_at.result.now c.requires c.in-Some.ensures
     c.enabled_at.ensures.enabled) c.missing_labels.ensures

@@ -11,8 +11,8 @@ returns c =
     let p = policy_view c.args.teller.now.told.cfg.now in
     let g = c.args.teller.now.told.krates.now in
     let key = c.args.key.now in
-    let e = feature_view c.in-Some.entry.now in
+    let e = feature_view c.args.entry.now in
     IfOk-weaker c.unlisted.result (λ features. features ≡ unlisted_at p g e key.place)
     (λ features. features ≡ entry_and_crate p g key (unlisted p g) [])
     (λ features is. is ∙ (unlisted_there p g e key.place c.are_placed.ensures
-    ∙ sym (of_entry p g key (unlisted p g) [] e (sym c.in-Some.ensures)))) c.unlisted.ensures
+    ∙ sym (of_entry p g key (unlisted p g) [] e (sym c.requires)))) c.unlisted.ensures

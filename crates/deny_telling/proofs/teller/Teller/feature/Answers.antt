@@ -1,5 +1,21 @@
 use Rattle.std.proofs.Common.{◌∙◌}
+use Rattle.deny_cfg.specs.PolicyView.{building_of}
+use Rattle.deny_codes.specs.PackagesTold.{required_features}
+use Rattle.deny_model.specs.Policy.{Words}
+use Rattle.deny_model.specs.Wrappers.{same_span}
+use Rattle.deny_telling.specs.private.Features.{listed_features}
+use Rattle.deny_telling.proofs.ToldLemmas.{first_found, found_in_first}
 use Rattle.deny_telling.proofs.teller.Teller.feature.Goals as goal
 
+pub named_feature-requires : goal.named_feature-requires
+named_feature-requires c =
+    let cfg = c.args.self.now.told.cfg.now in
+    found_in_first (λ (w : Words). same_span w.span c.args.range) (listed_features cfg)
+    (required_features (building_of cfg)) c.requires
+
 pub returns : goal.returns
-returns c = c.at.ensures ∙ c.args.self.now.features_found.at c.args.range
+returns c =
+    let cfg = c.args.self.now.told.cfg.now in
+    c.named_feature.ensures
+    ∙ first_found (λ (w : Words). same_span w.span c.args.range) (listed_features cfg)
+    (required_features (building_of cfg)) c.requires
