@@ -1,3 +1,4 @@
+pub mod MovedLemmas
 pub mod PathLemmas
 pub mod SumLemmas
 pub mod TakingLemmas

@@ -1,10 +1,10 @@
-ghost use Rattle.std.specs.Prelude.{◌≡◌, ◌++◌, [], ◌∷◌, ◌+◌, ◌-◌, ◌^◌, ◌≤◌, true, false};
+ghost use Rattle.std.specs.Prelude.{◌≡◌, ◌++◌, [], ◌∷◌, ◌+◌, ◌-◌, ◌^◌, ◌<◌, ◌≤◌, true, false};
 ghost use Rattle.std.specs.Prelude.{All, Contains, fold, length, map, IfOk, IfSome, OnOk, Some};
 ghost use Rattle.std.specs.BTreeSet.{insert_key};
 ghost use Rattle.std.specs.BTreeMap.Range.{IsLtBy};
 ghost use Rattle.std.specs.Cmp.Lexicographic.{slice_cmp};
 ghost use Rattle.std.specs.List.{filter_map};
-ghost use Rattle.std.specs.List.Sorted.{IsStrictlySortedBy};
+ghost use Rattle.std.specs.List.Sorted.{IsPermutation, IsStrictlySortedBy};
 ghost use Rattle.std.specs.Ordering.{nat_cmp};
 ghost use Rattle.deny_lists.specs.Ascending.{Lists};
 ghost use Rattle.deny_outside.specs.Disk.{Disk, IsLater};
@@ -165,10 +165,42 @@ fn visit<D: PackageFiles>(
             Ok(())
         }
         Ok(entries) => {
+            let start = walk.files.len();
             take_folder(alloc, root, by_git, folder, entries.as_slice(), walk)?;
+            move_behind(&mut walk.files, start);
             Ok(())
         }
     }
+}
+
+/// Moves the files from a place on to where the first of them belongs among those before it. What one folder holds
+/// ascends, and no other file belongs between it: so files stay ascending as they come, and the order that they are put
+/// in at the end is the one that they have.
+fn move_behind(files: &mut List<Text>, start: usize)
+    ensures { IsPermutation files.old files.new }
+{
+    if start < files.len() {
+        let place = place_of(files.as_slice(), start);
+        rotate(files.vec.as_mut_slice(), place, start);
+    }
+}
+
+/// How many of the files before a place come before the one at that place, if they ascend.
+fn place_of(files: &[Text], start: usize) -> usize
+    requires { start < length files.now }
+    ensures { result ≤ start }
+{
+    let file = &files[start];
+    files[..start].partition_point(|other| other < file)
+}
+
+/// Moves the files from `start` on before those from `place` on.
+fn rotate(files: &mut [Text], place: usize, start: usize)
+    requires before { place ≤ start }
+    requires within { start ≤ length files.old }
+    ensures { IsPermutation files.old files.new }
+{
+    files[place..].rotate_left(start - place);
 }
 
 fn note(

@@ -1,4 +1,5 @@
 use Rattle.std.proofs.Common.{◌≡◌, ◌+◌, ◌-◌, ◌^◌, ◌≤◌, true, length, sym, ap, subst, arith}
+use Rattle.deny_walk.proofs.MovedLemmas.{walking_moved}
 use Rattle.deny_walk.proofs.TakingLemmas.{length_pending}
 use Rattle.deny_walk.proofs.WalkingLemmas.{noted_listed, noted_unlisted, walking_taken, walking_unlisted}
 use Rattle.deny_walk.specs.private.Taking.{path_taken}
@@ -24,12 +25,15 @@ returns-in_ok-take_folder-in-Ok-clause-walking g c = λ start first walk.
     let seen = g.D.PackageFiles.seen in
     let told = c.in_ok-listed.ensures in
     let taken = c.in_ok-take_folder-in-Ok.ensures in
-    walking_taken a.krate.now a.root.now a.by_git start first (seen a.disk.now) a.unread.now a.folder.now
+    walking_moved a.krate.now a.root.now a.by_git c.take_folder.new.walk.pending.keys c.take_folder.new.walk.files
+    c.move_behind.new.files c.take_folder.new.walk.count c.move_behind.ensures start first (seen c.list_folder.new.disk)
+    c.list_folder.new.unread
+    (walking_taken a.krate.now a.root.now a.by_git start first (seen a.disk.now) a.unread.now a.folder.now
     a.walk.now.pending.keys a.walk.now.files a.walk.now.count walk c.requires.least (seen c.list_folder.new.disk)
     c.list_folder.ensures.later c.in-Ok.entries c.as_slice.result.now c.list_folder.new.unread
     c.take_folder.new.walk.pending.keys c.take_folder.new.walk.files c.take_folder.new.walk.count
     (rw c.in-Ok.is at told.names) (rw c.in-Ok.is at told.entries) (rw c.in-Ok.is at told.listed)
-    c.as_slice.ensures (rw c.in-Ok.is at told.unread) taken.pending taken.files taken.count
+    c.as_slice.ensures (rw c.in-Ok.is at told.unread) taken.pending taken.files taken.count)
 
 pub returns-in_ok-take_folder-in-Ok-clause-noted : goal.returns-in_ok-take_folder-in-Ok-clause-noted
 returns-in_ok-take_folder-in-Ok-clause-noted g c = λ start first walk noted.
