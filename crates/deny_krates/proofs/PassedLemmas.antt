@@ -7,9 +7,8 @@ use Rattle.semver.specs.declared.error.Error.{Error}
 use Rattle.deny_lists.proofs.Members.{Contains-by_cases, no_member}
 use Rattle.deny_krates.specs.private.Numbered.{HasVersion}
 use Rattle.deny_metadata.proofs.ReadingLemmas.{bound, err-ok}
-use Rattle.deny_metadata.specs.Checked.{keeps, packages_read, read_or, version_reads}
+use Rattle.deny_metadata.specs.Checked.{packages_read, read_or, version_reads}
 use Rattle.deny_metadata.specs.Reading.{each_passes}
-use Rattle.deny_metadata.specs.declared.checked.Rule.TheVariants.{Versions}
 use Rattle.deny_metadata.specs.declared.document.Package.{Package}
 use Rattle.deny_metadata.specs.declared.fault.MetadataFault.{MetadataFault}
 use Rattle.deny_metadata.specs.declared.fault.MetadataFault.TheVariants.{Version}
@@ -25,10 +24,10 @@ each_passed {A} check (y ∷ ys) passed x stands =
 
 pub versions_read : (packages : List Package) → packages_read packages ≡ Ok tt
     → (p : Package) → Contains packages p → HasVersion p
-unfolding packages_read keeps version_reads read_or
+unfolding packages_read version_reads read_or
 versions_read packages passed p stands =
-    let all = bound (each_passes (keeps Versions) packages) _ tt passed in
-    let one = each_passed (keeps Versions) packages all.1 p stands in
+    let all = bound (each_passes version_reads packages) _ tt passed in
+    let one = each_passed version_reads packages all.1 p stands in
     let first = bound (read_or (Version p.id) (result_ok (version_parts p.version))) _ tt one in
     by_case (version_parts p.version) refl first.1
   where

@@ -8,3 +8,4 @@ pub mod OtherLinks
 pub mod Reach
 pub mod Resolved
 pub mod Sources
+pub mod Taken

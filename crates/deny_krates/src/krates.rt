@@ -11,6 +11,7 @@ ghost use Rattle.deny_krates.specs.Orderly.{IsOrderly};
 ghost use Rattle.deny_krates.specs.private.NodeNumbers.{first_features_of};
 ghost use Rattle.deny_krates.specs.private.Resolved.{AreBetween};
 ghost use Rattle.deny_metadata.specs.Checked.{Resolved, checked, resolved};
+ghost use Rattle.deny_metadata.specs.PackageTexts.{AreTextsOf};
 ghost use Rattle.deny_krates.specs.Read.{IsGraph, IsGraphOf};
 ghost use Rattle.deny_metadata.specs.Reading.{Fails};
 ghost use Rattle.deny_krates.specs.Dependents.{AreDirectDependencies, AreDirectDependents};
@@ -34,7 +35,7 @@ use crate::resolution::{declared, resolution};
 use crate::resolved::{ResolvedAt, resolved_between, resolved_of};
 use deny_base::{DepKind, Edge, Kid, edge_order};
 use deny_lists::{List, NoMemory, Text};
-use deny_metadata::{Document, MetadataFault, ResolvedNode, resolve};
+use deny_metadata::{Document, MetadataFault, PackageTexts, Resolution, ResolvedNode, resolve};
 use deny_model::TargetEdge;
 use std::alloc::Global;
 use std::marker::Model;
@@ -260,13 +261,12 @@ fn graph_in(alloc: Global, document: Document) -> Result<Krates, MetadataFault>
     if document.packages.len() >= MANY || document.nodes.len() >= MANY {
         return Err(MetadataFault::Memory);
     }
-    let resolution = resolve(alloc, &document)?;
-    Ok(put_together(
-        alloc,
-        document,
-        resolution.starts.as_slice(),
-        resolution.rows.as_slice(),
-    )?)
+    let Resolution {
+        starts,
+        rows,
+        texts,
+    } = resolve(alloc, &document)?;
+    Ok(put_together(alloc, document, starts.as_slice(), rows.as_slice(), texts)?)
 }
 
 // The graph of a document without fault.
@@ -275,14 +275,16 @@ fn put_together(
     document: Document,
     starts: &[u32],
     rows: &[ResolvedNode],
+    texts: PackageTexts,
 ) -> Result<Krates, NoMemory>
     requires few { length document.nodes < 2 ^ 28 }
     requires resolved { IsResolved document starts.now rows.now }
+    requires texts { AreTextsOf document.packages texts }
     ensures { IfOk result (IsGraph document) }
 {
     let marks = reach(alloc, rows, starts)?;
     let kept = kept_of(alloc, document.packages.as_slice(), rows, marks.as_slice())?;
-    join(alloc, document, starts, rows, kept.as_slice())
+    join(alloc, document, starts, rows, texts, kept.as_slice())
 }
 
 // The graph of the packages that are kept.
@@ -291,17 +293,25 @@ fn join(
     document: Document,
     starts: &[u32],
     rows: &[ResolvedNode],
+    texts: PackageTexts,
     kept: &[KeptPackage],
 ) -> Result<Krates, NoMemory>
     requires few { length kept.now < 2 ^ 28 }
     requires numbered { (marks : List Bool) × IsNumbered document starts.now rows.now marks kept.now }
+    requires texts { AreTextsOf document.packages texts }
     ensures { IfOk result (IsGraph document) }
 {
     let places = places_in(alloc, kept, rows.len())?;
     let members = members_of(alloc, starts, places.as_slice())?;
     let target_edges = target_edges_of(alloc, kept, rows, places.as_slice())?;
     let edges = edges_of(alloc, target_edges.as_slice())?;
-    let krates = krates_of(alloc, document.packages, document.nodes.as_slice(), kept)?;
+    let krates = krates_of(
+        alloc,
+        document.packages,
+        texts,
+        document.nodes.as_slice(),
+        kept,
+    )?;
     finish(
         alloc,
         document.workspace_root,

@@ -15,7 +15,7 @@ use Rattle.deny_generator.specs.Made.{below, version_at}
 use Rattle.deny_generator.specs.MetadataText.{id_at, path_text, registry}
 use Rattle.deny_model.specs.Text.{same_text}
 use Rattle.deny_metadata.proofs.IndexLemmas.{is_new, no_more_ids}
-use Rattle.deny_metadata.specs.Checked.{Numbering, Resolved, distinct, distinct_after, keeps, known, links_of}
+use Rattle.deny_metadata.specs.Checked.{Numbering, Resolved, distinct, distinct_after, known, links_of}
 use Rattle.deny_metadata.specs.Checked.{manifest_path_reads, node_ids, number_in, number_or, optional_reads}
 use Rattle.deny_metadata.specs.Checked.{package_ids, packages_read, read_or, requirement_reads, requirements_read}
 use Rattle.deny_metadata.specs.Checked.{resolved, resolved_by, resolved_node, source_reads, version_reads}
@@ -205,7 +205,7 @@ unfolding manifest_path_reads
 manifest_path-app declarations = refl
 
 packages_read-packages : (numbers : List ℕ) → packages_read (packages numbers) ≡ Ok tt
-unfolding packages_read keeps
+unfolding packages_read
 packages_read-packages numbers =
     let declarations = map declared numbers in
     rw (

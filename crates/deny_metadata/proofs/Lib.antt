@@ -3,6 +3,7 @@ pub mod CheckedLemmas
 pub mod ElementsLemmas
 pub mod FeaturesLemmas
 pub mod IndexLemmas
+pub mod PackageTextsLemmas
 pub mod PrunedLemmas
 pub mod ReadingLemmas
 pub mod SourceLemmas

@@ -10,8 +10,6 @@ use Rattle.deny_metadata.specs.Source.{source_of}
 use Rattle.deny_metadata.specs.Versions.{rust_version_of}
 use Rattle.deny_metadata.specs.declared.checked.Link.{Link}
 use Rattle.deny_metadata.specs.declared.checked.ResolvedNode.{ResolvedNode}
-use Rattle.deny_metadata.specs.declared.checked.Rule.{Rule}
-use Rattle.deny_metadata.specs.declared.checked.Rule.TheVariants.{Versions, Requirements, Sources, ManifestPaths}
 use Rattle.deny_metadata.specs.declared.document.Declaration.{Declaration}
 use Rattle.deny_metadata.specs.declared.document.Document.{Document}
 use Rattle.deny_metadata.specs.declared.document.NeededAs.{NeededAs}
@@ -114,19 +112,13 @@ pub record Resolved : Type 0 where
   pub starts : List ℕ
   pub rows : List ResolvedNode
 
-unfoldable pub keeps : Rule → Package → Result (Unit {0}) MetadataFault
-keeps Versions = version_reads
-keeps Requirements = requirements_read
-keeps Sources = source_reads
-keeps ManifestPaths = manifest_path_reads
-
--- all packages keep one rule before the next is looked at
+-- the versions of all packages read, then the requirements of all, the sources and the manifest paths
 unfoldable pub packages_read : List Package → Result (Unit {0}) MetadataFault
 packages_read packages = do
-  _ ← each_passes (keeps Versions) packages
-  _ ← each_passes (keeps Requirements) packages
-  _ ← each_passes (keeps Sources) packages
-  each_passes (keeps ManifestPaths) packages
+  _ ← each_passes version_reads packages
+  _ ← each_passes requirements_read packages
+  _ ← each_passes source_reads packages
+  each_passes manifest_path_reads packages
 
 -- members and nodes resolve by these numbers, and what the packages write reads
 unfoldable pub resolved_by : Numbering → Numbering → Document → Result Resolved MetadataFault

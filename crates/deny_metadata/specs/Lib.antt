@@ -2,6 +2,7 @@ pub mod Checked
 pub mod Document
 pub mod Elements
 pub mod Member
+pub mod PackageTexts
 pub mod Reading
 pub mod Source
 pub mod Versions

@@ -30,6 +30,11 @@ abbrev pub Gives : {A : Type 0} → Result A MetadataFault → Result A Metadata
 Gives (Ok x) read = read ≡ Ok x
 Gives (Err e) read = Fails e read
 
+-- there is an answer exactly where the check passes, and else a fault of the check
+abbrev pub Passes : {A : Type 0} → Result A MetadataFault → Result (Unit {0}) MetadataFault → Type 0
+Passes (Ok x) check = check ≡ Ok tt
+Passes (Err e) check = Fails e check
+
 -- what a check of each in turn answers: the first fault
 unfoldable pub each_passes : {A : Type 0} → (A → Result (Unit {0}) MetadataFault) → List A
     → Result (Unit {0}) MetadataFault

@@ -1,13 +1,13 @@
-ghost use Rattle.std.specs.Prelude.{◌≡◌, ◌≤◌, ◌<◌, ◌^◌, ◌++◌, ℕ, List, Ok, Err, Some, OnOk, MatchResult, length, map};
-ghost use Rattle.deny_metadata.specs.Checked.{Resolved, resolved, resolved_by, number_or, number_in, known, links_to, links_of, resolved_node, version_reads, requirement_reads, source_reads, manifest_path_reads, keeps, packages_read, package_ids, node_ids, distinct};
+ghost use Rattle.std.specs.Prelude.{◌≡◌, ◌≤◌, ◌<◌, ◌^◌, ◌++◌, ℕ, List, Ok, Err, Some, OnOk, MatchResult, IfOk, length, map};
+ghost use Rattle.deny_metadata.specs.Checked.{Resolved, resolved, resolved_by, number_or, number_in, known, links_to, links_of, resolved_node, manifest_path_reads, packages_read, package_ids, node_ids, distinct};
 ghost use Rattle.deny_metadata.specs.private.Index.{IsIndex, number_by};
-ghost use Rattle.deny_metadata.specs.Reading.{Fails, Gives, each, each_passes};
+ghost use Rattle.deny_metadata.specs.PackageTexts.{AreTextsOf};
+ghost use Rattle.deny_metadata.specs.Reading.{Fails, Gives, Passes, each, each_passes};
 
-use crate::document::{Declaration, Document, NeededAs, Node, NodeDependency, Package};
+use crate::document::{Document, NeededAs, Node, NodeDependency, Package};
 use crate::fault::MetadataFault;
 use crate::index::{HashedId, index_of, number_by};
-use crate::source::source_in;
-use crate::versions::{requirement_in, rust_version_in, version_in};
+use crate::package_texts::{PackageTexts, requirements_of, sources_of, versions_of};
 use deny_lists::{List, NoMemory, Text};
 use std::alloc::Global;
 use std::collections::BTreeMap;
@@ -138,82 +138,6 @@ fn resolve_nodes<'d>(
     Ok(rows)
 }
 
-// What the texts of packages have to be, in the order in which they are checked.
-#[derive(Debug, Clone, Copy, PartialEq, Eq)]
-pub enum Rule {
-    Versions,
-    Requirements,
-    Sources,
-    ManifestPaths,
-}
-
-// The fault of a version that is none.
-fn no_version(listed: &Package) -> Result<(), MetadataFault>
-    ensures { Gives result (Err (MetadataFault.Version listed.now.id)) }
-{
-    Err(MetadataFault::Version(listed.id.clone()?))
-}
-
-// That a package's version is one, and its version of Rust where it writes one.
-#[tactic(auto, unfolding(crate::specs::Checked::version_reads, crate::specs::Checked::read_or, crate::specs::Checked::optional_reads))]
-fn check_version(alloc: Global, listed: &Package) -> Result<(), MetadataFault>
-    ensures { Gives result (version_reads listed.now) }
-{
-    if version_in(alloc, listed.version.as_str())?.is_none() {
-        return no_version(listed);
-    }
-    match &listed.rust_version {
-        None => Ok(()),
-        Some(text) => match rust_version_in(text.as_str()) {
-            None => no_version(listed),
-            Some(_) => Ok(()),
-        },
-    }
-}
-
-// That a declaration's requirement is one.
-#[tactic(auto, unfolding(crate::specs::Checked::requirement_reads, crate::specs::Checked::read_or))]
-fn check_requirement(
-    alloc: Global,
-    id: &Text,
-    declaration: &Declaration,
-) -> Result<(), MetadataFault>
-    ensures { Gives result (requirement_reads id.now declaration.now) }
-{
-    match requirement_in(alloc, declaration.req.as_str())? {
-        None => Err(MetadataFault::Requirement(id.clone()?)),
-        Some(_) => Ok(()),
-    }
-}
-
-// That each requirement that the package of this id declares is one.
-fn check_requirements(
-    alloc: Global,
-    id: &Text,
-    declarations: &[Declaration],
-) -> Result<(), MetadataFault>
-    ensures { Gives result (each_passes (requirement_reads id.now) declarations.now) }
-{
-    for declaration in declarations {
-        check_requirement(alloc, id, declaration)?;
-    }
-    Ok(())
-}
-
-// That a package's source is one, where it writes one.
-#[tactic(auto, unfolding(crate::specs::Checked::source_reads, crate::specs::Checked::read_or, crate::specs::Checked::optional_reads))]
-fn check_source(alloc: Global, listed: &Package) -> Result<(), MetadataFault>
-    ensures { Gives result (source_reads listed.now) }
-{
-    match &listed.source {
-        None => Ok(()),
-        Some(text) => match source_in(alloc, text.as_str())? {
-            None => Err(MetadataFault::Source(listed.id.clone()?)),
-            Some(_) => Ok(()),
-        },
-    }
-}
-
 // That a package's manifest stands in a folder.
 #[tactic(auto, unfolding(crate::specs::Checked::manifest_path_reads))]
 fn check_manifest_path(listed: &Package) -> Result<(), MetadataFault>
@@ -226,47 +150,40 @@ fn check_manifest_path(listed: &Package) -> Result<(), MetadataFault>
     }
 }
 
-// That a package is as the rule wants it.
-#[tactic(auto, unfolding(crate::specs::Checked::keeps, crate::specs::Checked::requirements_read))]
-fn check(alloc: Global, listed: &Package, rule: Rule) -> Result<(), MetadataFault>
-    ensures { Gives result (keeps rule listed.now) }
-{
-    match rule {
-        Rule::Versions => check_version(alloc, listed),
-        Rule::Requirements => {
-            check_requirements(alloc, &listed.id, listed.dependencies.as_slice())
-        }
-        Rule::Sources => check_source(alloc, listed),
-        Rule::ManifestPaths => check_manifest_path(listed),
-    }
-}
-
-// That each package is as the rule wants it.
-fn check_each(alloc: Global, packages: &[Package], rule: Rule) -> Result<(), MetadataFault>
-    ensures { Gives result (each_passes (keeps rule) packages.now) }
+// That each package's manifest stands in a folder.
+fn check_manifest_paths(packages: &[Package]) -> Result<(), MetadataFault>
+    ensures { Gives result (each_passes manifest_path_reads packages.now) }
 {
     for listed in packages {
-        check(alloc, listed, rule)?;
+        check_manifest_path(listed)?;
     }
     Ok(())
 }
 
-// That what the packages write reads.
+// What the packages write, read, or the first fault of it.
 #[tactic(auto, unfolding(crate::specs::Checked::packages_read))]
-fn check_packages(alloc: Global, packages: &[Package]) -> Result<(), MetadataFault>
-    ensures { Gives result (packages_read packages.now) }
+fn read_packages(alloc: Global, packages: &[Package]) -> Result<PackageTexts, MetadataFault>
+    ensures faults { Passes result (packages_read packages.now) }
+    ensures texts { IfOk result (AreTextsOf packages.now) }
 {
-    check_each(alloc, packages, Rule::Versions)?;
-    check_each(alloc, packages, Rule::Requirements)?;
-    check_each(alloc, packages, Rule::Sources)?;
-    check_each(alloc, packages, Rule::ManifestPaths)
+    let versions = versions_of(alloc, packages)?;
+    let requirements = requirements_of(alloc, packages)?;
+    let sources = sources_of(alloc, packages)?;
+    check_manifest_paths(packages)?;
+    Ok(PackageTexts {
+        versions,
+        requirements,
+        sources,
+    })
 }
 
-/// The numbers of the nodes of the members, and what each node resolves to.
+/// The numbers of the nodes of the members, what each node resolves to, and what the texts of the
+/// packages say.
 #[derive(Drop)]
 pub struct Resolution {
     pub starts: List<u32>,
     pub rows: List<ResolvedNode>,
+    pub texts: PackageTexts,
 }
 
 #[tactic(auto, unfolding(crate::specs::Checked::resolved_by))]
@@ -275,23 +192,29 @@ fn resolve_by<'d>(
     indexes: &Indexes<'d>,
     document: &'d Document,
 ) -> Result<Resolution, MetadataFault>
-    ensures { MatchResult result (λ r. resolved_by (number_by indexes.now.packages) (number_by indexes.now.nodes) document.now
+    ensures numbers { MatchResult result (λ r. resolved_by (number_by indexes.now.packages) (number_by indexes.now.nodes) document.now
         ≡ Ok (record { document = document.now; starts = r.starts; rows = r.rows }))
         (λ e. Fails e (resolved_by (number_by indexes.now.packages) (number_by indexes.now.nodes) document.now)) }
+    ensures texts { IfOk result (λ r. AreTextsOf document.now.packages r.texts) }
 {
     let starts = numbers(alloc, indexes, document.members.as_slice())?;
     let rows = resolve_nodes(alloc, indexes, document.nodes.as_slice())?;
-    check_packages(alloc, document.packages.as_slice())?;
-    Ok(Resolution { starts, rows })
+    let texts = read_packages(alloc, document.packages.as_slice())?;
+    Ok(Resolution {
+        starts,
+        rows,
+        texts,
+    })
 }
 
-/// The ids of a document as numbers of its nodes, or its first fault.
+/// The ids of a document as numbers of its nodes, and what its packages write, read; or its first fault.
 pub fn resolve(alloc: Global, document: &Document) -> Result<Resolution, MetadataFault>
     requires packages { length document.now.packages < 2 ^ 28 }
     requires nodes { length document.now.nodes < 2 ^ 28 }
-    ensures { MatchResult result (λ r.
+    ensures numbers { MatchResult result (λ r.
         resolved document.now ≡ Ok (record { document = document.now; starts = r.starts; rows = r.rows }))
         (λ e. Fails e (resolved document.now)) }
+    ensures texts { IfOk result (λ r. AreTextsOf document.now.packages r.texts) }
 {
     let packages = index_of(alloc, document.packages.as_slice())?;
     let nodes = index_of(alloc, document.nodes.as_slice())?;

@@ -11,6 +11,7 @@ mod floats;
 mod index;
 mod member;
 mod owned;
+mod package_texts;
 mod pruned;
 mod source;
 mod text;
@@ -24,5 +25,5 @@ pub use document::{
 };
 pub use fault::MetadataFault;
 pub use owned::value_of;
+pub use package_texts::{PackageTexts, PackageVersions};
 pub use source::{GitSpec, Source, source_in};
-pub use versions::{requirement_in, rust_version_in, version_in};

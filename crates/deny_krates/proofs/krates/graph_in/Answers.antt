@@ -8,15 +8,15 @@ use Rattle.deny_krates.proofs.krates.graph_in.Goals as goal
 pub put_together-requires-clause-resolved : goal.put_together-requires-clause-resolved
 put_together-requires-clause-resolved c =
     let doc = c.args.document in
-    let is = (resolved_is doc _ c.in_ok-resolution.ensures).0 in
+    let is = (resolved_is doc _ c.in_ok-starts.ensures.numbers).0 in
     subst (λ (starts : List ℕ). IsResolved doc starts c.as_slice-2.result.now) (sym c.as_slice.ensures)
-    (subst (λ (rows : List ResolvedNode). IsResolved doc c.in_ok-resolution.resolution.starts rows)
+    (subst (λ (rows : List ResolvedNode). IsResolved doc c.in_ok-starts.field-0.starts rows)
     (sym c.as_slice-2.ensures) is)
 
 pub returns-clause-ok : goal.returns-clause-ok
 returns-clause-ok c =
     let r : Resolved = record {
       document = c.args.document;
-      starts = c.in_ok-resolution.resolution.starts;
-      rows = c.in_ok-resolution.resolution.rows;
-    } in (r, c.in_ok-resolution.ensures, c.in_ok-put_together.ensures)
+      starts = c.in_ok-starts.field-0.starts;
+      rows = c.in_ok-starts.field-0.rows;
+    } in (r, c.in_ok-starts.ensures.numbers, c.in_ok-put_together.ensures)

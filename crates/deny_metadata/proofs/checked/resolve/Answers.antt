@@ -8,8 +8,8 @@ use Rattle.deny_metadata.proofs.CheckedLemmas.{first_fails, second_fails, resolv
 use Rattle.deny_metadata.proofs.ReadingLemmas.{fails_through, handed_fault}
 use Rattle.deny_metadata.proofs.checked.resolve.Goals as goal
 
-pub returns-in_err-packages : goal.returns-in_err-packages
-returns-in_err-packages c =
+pub returns-in_err-packages-clause-numbers : goal.returns-in_err-packages-clause-numbers
+returns-in_err-packages-clause-numbers c =
     let doc = c.args.document.now in
     let fault = c.in_err-packages.field-0.0 in
     let fails = subst (λ (ps : List Package). Fails fault (distinct (map (λ p. p.id) ps))) c.as_slice.ensures
@@ -17,8 +17,8 @@ returns-in_err-packages c =
     handed_fault _ _ fault (resolved doc) c.from_residual.ensures.1
     (fails_through fault (distinct (map (λ p. p.id) doc.packages)) (resolved doc) (λ f is. first_fails doc f is) fails)
 
-pub returns-in_err-nodes : goal.returns-in_err-nodes
-returns-in_err-nodes c =
+pub returns-in_err-nodes-clause-numbers : goal.returns-in_err-nodes-clause-numbers
+returns-in_err-nodes-clause-numbers c =
     let doc = c.args.document.now in
     let fault = c.in_err-nodes.field-0.0 in
     let apart = subst (λ (ps : List Package). distinct (map (λ p. p.id) ps) ≡ Ok tt) c.as_slice.ensures
@@ -29,8 +29,8 @@ returns-in_err-nodes c =
     (fails_through fault (distinct (map (λ n. n.id) doc.nodes)) (resolved doc) (λ f is. second_fails doc f apart is)
     fails)
 
-pub returns : goal.returns
-returns c =
+pub returns-clause-numbers : goal.returns-clause-numbers
+returns-clause-numbers c =
     let doc = c.args.document.now in
     let apart = subst (λ (ps : List Package). distinct (map (λ p. p.id) ps) ≡ Ok tt) c.as_slice.ensures
     c.in_ok-packages.ensures.distinct in
@@ -42,4 +42,4 @@ returns c =
     c.in_ok-nodes.ensures.index in
     resolves doc _ c.resolve_by.result
     (resolved_by_indexes c.in_ok-packages.packages c.in_ok-nodes.nodes doc apart nodes_apart packages nodes)
-    c.resolve_by.ensures
+    c.resolve_by.ensures.numbers
