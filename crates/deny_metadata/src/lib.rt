@@ -24,6 +24,5 @@ pub use document::{
     Declaration, Document, Feature, NeededAs, Node, NodeDependency, Package, Target, document_at,
 };
 pub use fault::MetadataFault;
-pub use owned::value_of;
 pub use package_texts::{PackageTexts, PackageVersions};
 pub use source::{GitSpec, Source, source_in};
