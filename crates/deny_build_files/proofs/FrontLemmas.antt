@@ -1,19 +1,36 @@
--- A front that is enough tells what the whole file is.
+-- A front is read in place, and one that is enough tells what the whole file is.
 use Rattle.std.proofs.Common.{◌≡◌, ◌⊎◌, inl, inr, ℕ, suc, ◌+◌, ◌-◌, ◌<◌, ◌≤◌, Bool, true, false, not, ◌&&◌, ◌||◌, cond}
 use Rattle.std.proofs.Common.{List, [], ◌∷◌, ◌++◌, length, take, drop, Option, None, Some, option_map, option_and_then}
-use Rattle.std.proofs.Common.{IfSome, refl, sym, ap, ◌∙◌, arith, rules, length-append, nat_lt, nat_eq, nat_le, codes}
-use Rattle.std.proofs.Common.{position}
+use Rattle.std.proofs.Common.{IfSome, refl, sym, ap, subst, ◌∙◌, arith, rules, length-append, nat_lt, nat_eq, nat_le}
+use Rattle.std.proofs.Common.{codes, position}
 use Rattle.std.proofs.Math.Seq.{take-append-add}
 use Rattle.std.proofs.lemmas.Bool.{false≢true, lt-ltb, le-ltb}
 use Rattle.std.proofs.lemmas.Bool.Decides.{leb_tells}
-use Rattle.std.proofs.lemmas.List.{take-append-le, take-append-drop, take_all}
+use Rattle.std.proofs.lemmas.List.{take-append-le, take-append-drop, take_all, length-take-le}
 use Rattle.std.specs.Cmp.Lexicographic.{pointwise}
 use Rattle.std.specs.List.{list_any, position_or_len}
-use Rattle.deny_outside.specs.Disk.{Files, bytes_at}
+use Rattle.deny_outside.specs.Count.{counted}
+use Rattle.deny_outside.specs.Disk.{Disk, Files, IsLater, IsPieceOf, bytes_at}
+use Rattle.deny_outside.specs.Read.{IsReading}
+use Rattle.deny_outside.proofs.PieceLemmas.{reading_more}
 use Rattle.deny_build_files.specs.Header.{executable_in, executable_by, native_kind}
 use Rattle.deny_build_files.specs.Script.{begins, is_newline, line_in, first_line, interpreter_by, interpreter_in}
 use Rattle.deny_build_model.specs.declared.package.ExecutableKind.{ExecutableKind}
 use Rattle.deny_build_files.specs.private.Front.{IsFront, is_enough, is_open_script}
+
+-- behind the first `at` bytes of a buffer, which are a front of the text, stands the piece that was read there
+pub reading_in_place : (start old new : Disk) (path buffer piece rest : List ℕ) (at n : ℕ) → at ≤ length buffer
+    → n ≤ length piece → IsReading start old path (take at buffer) → IsLater old new
+    → new.given ≡ counted old.given n → IfSome old.files (λ files. IsPieceOf (bytes_at files path) at n piece)
+    → IsReading start new path (take (at + n) (take at buffer ++ (piece ++ rest)))
+reading_in_place start old new path buffer piece rest at n inside fits reading later given next =
+    let front = take at buffer in
+    let long : length front ≡ at = length-take-le at buffer inside in
+    let filled : take (at + n) (front ++ (piece ++ rest)) ≡ front ++ take n piece
+    = ap (λ k. take (k + n) (front ++ (piece ++ rest))) (sym long)
+    ∙ (take-append-add front (piece ++ rest) n ∙ ap (λ bytes. front ++ bytes) (take-append-le n piece rest fits)) in
+    subst (IsReading start new path) (sym filled)
+    (reading_more start old new path front piece at n fits (sym long) reading later given next)
 
 -- where one passes, the first that does is the same whatever follows
 first_step : (this any : Bool) (long short count : ℕ) → (any ≡ true → (long ≡ short) × (short < count))

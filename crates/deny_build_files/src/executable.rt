@@ -28,8 +28,9 @@ pub fn check_is_executable<D: PackageFiles>(
     ensures fault { IsErrOf result CheckEnd.Fault → FailedAt (D.seen disk.old) (D.seen disk.new) Read path.now }
     ensures never_long { IsErrOf result CheckEnd.Long → ⊥ }
 {
-    let front = front_of(alloc, disk, path)?;
-    Ok(executable_in(alloc, path, front.as_slice(), exclude_archives)?)
+    let mut buffer = [0u8; 256];
+    let n = front_of(disk, path, &mut buffer)?;
+    Ok(executable_in(alloc, path, &buffer[..n], exclude_archives)?)
 }
 
 /// What a file with this front is, where that tells it.

@@ -1,5 +1,5 @@
 //! As much of a file's front as tells whether it is executable.
-ghost use Rattle.std.specs.Prelude.{◌≡◌, ◌+◌, ◌≤◌, ◌<◌, true, false, length, IfOk, IfSome, IsErrOf, IsOk, Ok};
+ghost use Rattle.std.specs.Prelude.{◌≡◌, ◌+◌, ◌≤◌, ◌<◌, true, false, length, take, IfOk, IfSome, IsErrOf, Ok};
 ghost use Rattle.std.specs.List.{list_any};
 ghost use Rattle.deny_build_files.specs.Script.{is_newline};
 ghost use Rattle.deny_outside.specs.Disk.{Disk, IsLater, FailedAt, bytes_at};
@@ -9,57 +9,54 @@ ghost use Rattle.deny_build_files.specs.private.Front.{IsFront, is_enough, is_op
 
 use crate::check_end::CheckEnd;
 use deny_outside::PackageFiles;
-use std::alloc::Global;
 
-/// A front of the file at `path` that tells whether it is executable: at least 16 bytes, and of a
-/// script the first line; all that there is, and never more than 256 bytes.
+/// Reads a front of the file at `path` into the caller's buffer, and says how many bytes it has: as
+/// many as tell whether the file is executable, which are at least 16, and of a script the first line,
+/// or all that there are. At most 256 bytes are read, and by one call where that gives enough.
 pub fn front_of<D: PackageFiles>(
-    alloc: Global,
     disk: &mut D,
     path: &str,
-) -> Result<Vec<u8>, CheckEnd>
-    ensures front { IfOk result (λ front. IfSome (D.seen disk.old).files
-        (λ files. IsFront front.items (bytes_at files path.now))) }
+    buffer: &mut [u8; 256],
+) -> Result<usize, CheckEnd>
+    ensures front { IfOk result (λ n. IfSome (D.seen disk.old).files
+        (λ files. IsFront (take n buffer.new) (bytes_at files path.now))) }
+    ensures within { IfOk result (λ n. n ≤ 256) }
     ensures few { IfOk result (λ _. (D.seen disk.new).given ≤ (D.seen disk.old).given + 256) }
     ensures later { IsLater (D.seen disk.old) (D.seen disk.new) }
     ensures fault { IsErrOf result CheckEnd.Fault → FailedAt (D.seen disk.old) (D.seen disk.new) Read path.now }
     ensures never_long { IsErrOf result CheckEnd.Long → ⊥ }
 {
-    let mut buffer = [0u8; 256];
-    let mut front = Vec::new(alloc);
-    while !is_enough(front.as_slice()) {
-        let left = 256 - front.as_slice().len();
-        if !read_piece(disk, path, &mut buffer[..left], &mut front)? {
-            return Ok(front);
+    let mut read = 0;
+    while !is_enough(&buffer[..read]) {
+        let n = read_piece(disk, path, buffer, read)?;
+        if n == 0 {
+            return Ok(read);
         }
+        read += n;
     }
-    Ok(front)
+    Ok(read)
 }
 
-/// Reads a piece of the file behind `front`, and says whether there was one.
+/// Reads a piece of the file behind the first `read` bytes of the buffer, which are its front, and
+/// says how many bytes it has.
 fn read_piece<D: PackageFiles>(
     disk: &mut D,
     path: &str,
-    piece: &mut [u8],
-    front: &mut Vec<u8>,
-) -> Result<bool, CheckEnd>
-    requires room { 0 < length piece.old }
-    ensures piece { length piece.new ≡ length piece.old }
-    ensures reading { (start : Disk) → IsReading start (D.seen disk.old) path.now front.old.items
-        → IsOk result → IsReading start (D.seen disk.new) path.now front.new.items }
-    ensures given { IsOk result → (D.seen disk.new).given + length front.old.items
-        ≤ (D.seen disk.old).given + length front.new.items }
-    ensures fits { IsOk result → length front.new.items ≤ length front.old.items + length piece.old }
-    ensures more { result ≡ Ok true → length front.old.items < length front.new.items }
-    ensures ended { (start : Disk) → IsReading start (D.seen disk.old) path.now front.old.items
-        → result ≡ Ok false → IsWhole start path.now front.new.items }
+    buffer: &mut [u8],
+    read: usize,
+) -> Result<usize, CheckEnd>
+    requires room { read < length buffer.old }
+    ensures reading { (start : Disk) → IsReading start (D.seen disk.old) path.now (take read buffer.old)
+        → IfOk result (λ n. IsReading start (D.seen disk.new) path.now (take (read + n) buffer.new)) }
+    ensures given { IfOk result (λ n. (D.seen disk.new).given ≤ (D.seen disk.old).given + n) }
+    ensures fits { IfOk result (λ n. read + n ≤ length buffer.new) }
+    ensures ended { (start : Disk) → IsReading start (D.seen disk.old) path.now (take read buffer.old)
+        → result ≡ Ok 0 → IsWhole start path.now (take read buffer.new) }
     ensures later { IsLater (D.seen disk.old) (D.seen disk.new) }
     ensures fault { IsErrOf result CheckEnd.Fault → FailedAt (D.seen disk.old) (D.seen disk.new) Read path.now }
     ensures never_long { IsErrOf result CheckEnd.Long → ⊥ }
 {
-    let n = disk.read_at(path, front.as_slice().len() as u64, piece)?;
-    front.extend_from_slice(&piece[..n])?;
-    Ok(n > 0)
+    Ok(disk.read_at(path, read as u64, &mut buffer[read..])?)
 }
 
 /// Whether a front tells whether the file is executable, whatever follows.
