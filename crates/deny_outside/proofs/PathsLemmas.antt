@@ -13,10 +13,10 @@ use Rattle.std.proofs.Math.Seq.{take-append_seam}
 use Rattle.std.proofs.lemmas.Bool.{and_from, and_parts, false≢true, eqb-true, ne_eqb}
 use Rattle.deny_outside.specs.Disk.{Files}
 use Rattle.deny_outside.specs.MemoryDisk.{HoldsPaths, folder_at, folder_before, folders_of, is_held, with_folder}
-use Rattle.deny_outside.specs.MemoryDisk.{with_folders}
+use Rattle.deny_outside.specs.MemoryDisk.{with_file, with_folders}
 use Rattle.deny_outside.specs.Paths.{is_name, is_path, is_slash, names_behind}
 use Rattle.deny_outside.specs.declared.disk.Place.{Place}
-use Rattle.deny_outside.specs.declared.disk.Place.TheVariants.{Folder}
+use Rattle.deny_outside.specs.declared.disk.Place.TheVariants.{File, Folder}
 
 -- ---- the part of a path before one of its slashes
 
@@ -127,14 +127,10 @@ holds_folders files (folder ∷ folders) holds held = holds_folders (with_folder
     (holds_folder files folder holds held.0) held.1
 
 -- a file and its folders, or nothing where memory is wanting
-pub holds_put : (r : Result (Unit {0}) NoMemory) (files new : Files) (path key : List ℕ) (folders : List (List ℕ))
-    (place : Place) → HoldsPaths files
-    → is_path path ≡ true → folders ≡ folders_of path → key ≡ path
-    → OnOk r (new ≡ finite.insert (with_folders files folders) key place) → OnErr r (new ≡ files) → HoldsPaths new
-holds_put (Ok done) files new path key folders place holds is below at put stays =
-    let held : AllByRecursion (λ folder. is_held folder ≡ true) folders =
-    subst (λ fs. AllByRecursion (λ folder. is_held folder ≡ true) fs) (sym below) (folders_held path is) in
-    let key_held : is_held key ≡ true = ap is_held at ∙ ap (λ b. b || bytes_eq path (codes "/")) is in
-    subst HoldsPaths (sym put)
-    (holds_insert (with_folders files folders) key place (holds_folders files folders holds held) key_held)
-holds_put (Err e) files new path key folders place holds is below at put stays = subst HoldsPaths (sym stays) holds
+pub holds_put : (r : Result (Unit {0}) NoMemory) (files new : Files) (path bytes : List ℕ) → HoldsPaths files
+    → is_path path ≡ true → OnOk r (new ≡ with_file files path bytes) → OnErr r (new ≡ files) → HoldsPaths new
+holds_put (Ok done) files new path bytes holds is put stays =
+    let folders = holds_folders files (folders_of path) holds (folders_held path is) in
+    let held : is_held path ≡ true = ap (λ b. b || bytes_eq path (codes "/")) is in
+    subst HoldsPaths (sym put) (holds_insert (with_folders files (folders_of path)) path (File bytes) folders held)
+holds_put (Err e) files new path bytes holds is put stays = subst HoldsPaths (sym stays) holds

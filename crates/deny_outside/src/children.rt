@@ -25,12 +25,6 @@ pub fn child_path(alloc: Global, dir: &str, name: &str) -> Result<Text, NoMemory
     Ok(path)
 }
 
-fn front_of(alloc: Global, dir: &str) -> Result<Text, NoMemory>
-    ensures { IfOk result (λ front. front ≡ front_of dir.now) }
-{
-    front_with_room(alloc, dir, 0)
-}
-
 /// What stands before the names of a folder's children, with room for a name of this length.
 #[tactic(auto, unfolding(crate::specs::Children::front_of))]
 fn front_with_room(alloc: Global, dir: &str, room: usize) -> Result<Text, NoMemory>
@@ -121,7 +115,7 @@ fn entries_behind(
     Ok(entries)
 }
 
-fn is_folder_at(files: &TextMap<Place>, path: &str) -> bool
+pub(crate) fn is_folder_at(files: &TextMap<Place>, path: &str) -> bool
     ensures { result ≡ is_folder (finite.get files.now path.now) }
 {
     matches!(files.get(path), Some(Place::Folder))
@@ -139,6 +133,6 @@ pub(crate) fn children_of(
     if !is_folder_at(files, dir) {
         return Ok(List::new(alloc));
     }
-    let front = front_of(alloc, dir)?;
+    let front = front_with_room(alloc, dir, 0)?;
     entries_behind(alloc, &files.tree, front.as_str())
 }

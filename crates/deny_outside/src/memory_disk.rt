@@ -4,11 +4,11 @@ ghost use Rattle.std.specs.List.{list_any};
 ghost use Rattle.std.specs.FinMap as finite;
 ghost use Rattle.deny_outside.specs.Count.{counted};
 ghost use Rattle.deny_outside.specs.Children.{AreListed, children};
-ghost use Rattle.deny_outside.specs.Disk.{IsLater, FailedAt, IsPieceOf, bytes_at, is_folder};
+ghost use Rattle.deny_outside.specs.Disk.{IsLater, FailedAt, IsPieceOf, bytes_at};
 ghost use Rattle.deny_outside.specs.MemoryDisk.{Memory, memory_seen, called, failed_by, fails_next, is_failing, is_failing_call, is_listing, text_to_read, folder_before, folders_of, with_folders, with_file, is_file, takes_file};
 ghost use Rattle.deny_outside.specs.declared.disk.Place.TheVariants.{File};
 
-use crate::children::children_of;
+use crate::children::{children_of, is_folder_at};
 use crate::disk::{Call, DiskError, Entry, PackageFiles, Place};
 use crate::path::is_path;
 use deny_lists::{List, NoMemory, Text, TextMap};
@@ -66,7 +66,7 @@ fn folder_before(path: &str, place: usize) -> &str
 }
 
 /// The folders that the path goes through, the outermost first.
-pub(crate) fn folders_of(alloc: Global, path: &str) -> Result<List<Text>, NoMemory>
+fn folders_of(alloc: Global, path: &str) -> Result<List<Text>, NoMemory>
     ensures { IfOk result (λ folders. folders ≡ folders_of path.now) }
 {
     let mut folders = List::new(alloc);
@@ -78,31 +78,61 @@ pub(crate) fn folders_of(alloc: Global, path: &str) -> Result<List<Text>, NoMemo
     Ok(folders)
 }
 
+/// Puts a file in place of what stood at its path.
+fn put_alone(
+    alloc: Global,
+    files: &mut TextMap<Place>,
+    path: &str,
+    bytes: &[u8],
+) -> Result<(), NoMemory>
+    ensures ok { OnOk result (files.new ≡ finite.insert files.old path.now (File bytes.now)) }
+    ensures err { OnErr result (files.new ≡ files.old) }
+{
+    let key = Text::from_str(alloc, path)?;
+    let text = List::from_vec(Vec::from_slice(alloc, bytes)?);
+    files.insert(key, Place::File(text))
+}
+
 /// Puts the folders that are not there yet, and then the file.
-pub(crate) fn put_below(
+fn put_below(
+    alloc: Global,
     files: &mut TextMap<Place>,
     folders: &[Text],
-    path: Text,
-    file: Place,
+    path: &str,
+    bytes: &[u8],
 ) -> Result<(), NoMemory>
     ensures ok { OnOk result
-        (files.new ≡ finite.insert (with_folders files.old folders.now) path file) }
+        (files.new ≡ finite.insert (with_folders files.old folders.now) path.now (File bytes.now)) }
     ensures err { OnErr result (files.new ≡ files.old) }
 {
     let Some((folder, rest)) = folders.split_first() else {
-        return files.insert(path, file);
+        return put_alone(alloc, files, path, bytes);
     };
     if files.contains_key(folder.as_str()) {
-        return put_below(files, rest, path, file);
+        return put_below(alloc, files, rest, path, bytes);
     }
     files.insert(folder.clone()?, Place::Folder)?;
-    match put_below(files, rest, path, file) {
+    match put_below(alloc, files, rest, path, bytes) {
         Ok(()) => Ok(()),
         Err(error) => {
             files.remove(folder.as_str());
             Err(error)
         }
     }
+}
+
+/// Puts a file at `path`, and a folder for each slash of the path where nothing stood.
+pub(crate) fn put_at(
+    alloc: Global,
+    files: &mut TextMap<Place>,
+    path: &str,
+    bytes: &[u8],
+) -> Result<(), NoMemory>
+    ensures ok { OnOk result (files.new ≡ with_file files.old path.now bytes.now) }
+    ensures err { OnErr result (files.new ≡ files.old) }
+{
+    let folders = folders_of(alloc, path)?;
+    put_below(alloc, files, folders.as_slice(), path, bytes)
 }
 
 /// Copies the text from `offset` on to the front of `buf`, at most `piece` bytes of it.
@@ -160,10 +190,7 @@ impl MemoryDisk {
             (self.new ≡ record self.old { files = with_file self.old.files path.now bytes.now }) }
         ensures err { OnErr result (self.new ≡ self.old) }
     {
-        let folders = folders_of(self.alloc, path)?;
-        let key = Text::from_str(self.alloc, path)?;
-        let file = Place::File(List::from_vec(Vec::from_slice(self.alloc, bytes)?));
-        put_below(&mut self.files, folders.as_slice(), key, file)
+        put_at(self.alloc, &mut self.files, path, bytes)
     }
 
     /// Whether a file can be put at `path`: the path has the form of a file's, no folder stands at it,
@@ -172,25 +199,17 @@ impl MemoryDisk {
         ensures { IfOk result (λ takes. takes ≡ takes_file self.now.files path.now) }
     {
         let folders = folders_of(self.alloc, path)?;
-        Ok(is_path(path) && !self.is_folder(path) && !self.is_any_file(folders.as_slice()))
-    }
-
-    fn is_folder(&self, path: &str) -> bool
-        ensures { result ≡ is_folder (finite.get self.now.files path.now) }
-    {
-        matches!(self.files.get(path), Some(Place::Folder))
-    }
-
-    fn is_file(&self, path: &str) -> bool
-        ensures { result ≡ is_file (finite.get self.now.files path.now) }
-    {
-        matches!(self.files.get(path), Some(Place::File(_)))
+        Ok(
+            is_path(path)
+                && !is_folder_at(&self.files, path)
+                && !self.is_any_file(folders.as_slice()),
+        )
     }
 
     fn is_any_file(&self, paths: &[Text]) -> bool
         ensures { result ≡ list_any (λ path. is_file (finite.get self.now.files path)) paths.now }
     {
-        paths.iter().any(|path| self.is_file(path.as_str()))
+        paths.iter().any(|path| matches!(self.files.get(path.as_str()), Some(Place::File(_))))
     }
 
     /// From now on each call on `path` fails.
@@ -229,7 +248,7 @@ impl MemoryDisk {
     fn is_listing(&self, path: &str) -> bool
         ensures { result ≡ is_listing self.now path.now }
     {
-        !self.fails_next(path) && self.is_folder(path)
+        !self.fails_next(path) && is_folder_at(&self.files, path)
     }
 
     /// Whether each call on `path` is to fail.

@@ -8,8 +8,8 @@ ghost use Rattle.deny_outside.specs.SureDisk.{Sure, sure_seen};
 
 use crate::children::children_of;
 use crate::disk::{Call, DiskError, Entry, PackageFiles, Place};
-use crate::memory_disk::{copy_piece, folders_of, put_below};
-use deny_lists::{List, NoMemory, Text, TextMap};
+use crate::memory_disk::{copy_piece, put_at};
+use deny_lists::{List, NoMemory, TextMap};
 use std::alloc::Global;
 use std::marker::Model;
 
@@ -72,10 +72,7 @@ impl SureDisk {
             (self.new ≡ record self.old { files = with_file self.old.files path.now bytes.now }) }
         ensures err { OnErr result (self.new ≡ self.old) }
     {
-        let folders = folders_of(self.alloc, path)?;
-        let key = Text::from_str(self.alloc, path)?;
-        let file = Place::File(List::from_vec(Vec::from_slice(self.alloc, bytes)?));
-        put_below(&mut self.files, folders.as_slice(), key, file)
+        put_at(self.alloc, &mut self.files, path, bytes)
     }
 }
 
