@@ -4,6 +4,7 @@ pub mod ElementsLemmas
 pub mod FeaturesLemmas
 pub mod IndexLemmas
 pub mod PackageTextsLemmas
+pub mod PartsLemmas
 pub mod PrunedLemmas
 pub mod ReadingLemmas
 pub mod SourceLemmas

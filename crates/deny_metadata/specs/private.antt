@@ -1,3 +1,4 @@
 pub mod Borrowed
 pub mod Index
 pub mod Wanted
+pub mod Parts

@@ -2,6 +2,7 @@ ghost use Rattle.std.proofs.Common.{rules};
 ghost use Rattle.std.specs.Prelude.{◌≡◌, IfOk, true};
 ghost use Rattle.std.specs.Str.{is_utf8};
 ghost use Rattle.deny_metadata.specs.private.Borrowed.{members_view, sorted_view, view};
+ghost use Rattle.deny_metadata.specs.private.Parts.{identity_at, terms_at};
 ghost use Rattle.deny_metadata.specs.Document.{document_at, target_at, declaration_at, feature_at, features_from, features_member, package_at, kind_named, kind_member, needed_as_at, kinds_of, node_dependency_at, node_at, resolve_given, document_of};
 ghost use Rattle.deny_metadata.specs.Reading.{Gives};
 
@@ -110,23 +111,77 @@ pub struct Package {
 impl Element for Package {
     ghost read_at = { package_at };
 
-    #[tactic(auto, unfolding(crate::specs::Document::package_at))]
+    #[tactic(auto, using(crate::proofs::PartsLemmas::package_in_parts))]
     fn from_value(alloc: Global, path: &str, value: &Value<'_>) -> Result<Package, MetadataFault> {
-        object(alloc, path, value)?;
+        let identity = identity_in(alloc, path, value)?;
+        let terms = terms_in(alloc, path, value)?;
         Ok(Package {
-            name: text_of(alloc, path, value, Member::Name)?,
-            version: text_of(alloc, path, value, Member::Version)?,
-            id: text_of(alloc, path, value, Member::Id)?,
-            manifest_path: text_of(alloc, path, value, Member::ManifestPath)?,
-            source: optional_text_in(alloc, path, value, Member::Source)?,
-            license: optional_text_in(alloc, path, value, Member::License)?,
-            rust_version: optional_text_in(alloc, path, value, Member::RustVersion)?,
-            publish: optional_texts_in(alloc, path, value, Member::Publish)?,
+            name: identity.name,
+            version: identity.version,
+            id: identity.id,
+            manifest_path: identity.manifest_path,
+            source: terms.source,
+            license: terms.license,
+            rust_version: terms.rust_version,
+            publish: terms.publish,
             features: features_in(alloc, path, value)?,
             targets: each_given(alloc, path, value, Member::Targets)?,
             dependencies: each_given(alloc, path, value, Member::Dependencies)?,
         })
     }
+}
+
+// What a package is told from others by: the texts that each has.
+#[derive(Drop)]
+struct Identity {
+    name: Text,
+    version: Text,
+    id: Text,
+    manifest_path: Text,
+}
+
+// The identity of the package that a value is.
+#[tactic(auto, unfolding(crate::specs::private::Parts::identity_at))]
+fn identity_in(alloc: Global, path: &str, value: &Value<'_>) -> Result<Identity, MetadataFault>
+    ensures { Gives result (identity_at path.now (view value.now)) }
+{
+    object(alloc, path, value)?;
+    let name = text_of(alloc, path, value, Member::Name)?;
+    let version = text_of(alloc, path, value, Member::Version)?;
+    let id = text_of(alloc, path, value, Member::Id)?;
+    let manifest_path = text_of(alloc, path, value, Member::ManifestPath)?;
+    Ok(Identity {
+        name,
+        version,
+        id,
+        manifest_path,
+    })
+}
+
+// Where a package comes from, and on which terms it may be used: what not each package writes.
+#[derive(Drop)]
+struct Terms {
+    source: Option<Text>,
+    license: Option<Text>,
+    rust_version: Option<Text>,
+    publish: Option<List<Text>>,
+}
+
+// The terms of the package that a value is.
+#[tactic(auto, unfolding(crate::specs::private::Parts::terms_at))]
+fn terms_in(alloc: Global, path: &str, value: &Value<'_>) -> Result<Terms, MetadataFault>
+    ensures { Gives result (terms_at path.now (view value.now)) }
+{
+    let source = optional_text_in(alloc, path, value, Member::Source)?;
+    let license = optional_text_in(alloc, path, value, Member::License)?;
+    let rust_version = optional_text_in(alloc, path, value, Member::RustVersion)?;
+    let publish = optional_texts_in(alloc, path, value, Member::Publish)?;
+    Ok(Terms {
+        source,
+        license,
+        rust_version,
+        publish,
+    })
 }
 
 // The features of a package that may write none.
