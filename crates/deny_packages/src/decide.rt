@@ -17,7 +17,7 @@ use deny_tables::bans::cfg::BypassPath;
 use std::alloc::Global;
 
 /// What a rule asks of a file.
-#[derive(Debug, Clone, Copy)]
+#[derive(Clone, Copy)]
 pub(crate) enum Asks {
     Nothing,
     Sum,

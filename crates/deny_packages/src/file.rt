@@ -91,14 +91,10 @@ fn find<D: PackageFiles>(
 {
     match asks {
         Asks::Nothing => Ok(Found::Unasked),
-        Asks::Sum => {
-            let found = read_sum(alloc, disk, &krate.id, Purpose::Sum, path, unread)?;
-            Ok(found)
-        }
+        Asks::Sum => read_sum(alloc, disk, &krate.id, Purpose::Sum, path, unread),
         Asks::Header => {
             let no_archives = !config.include_archives;
-            let found = read_header(alloc, disk, &krate.id, no_archives, path, unread)?;
-            Ok(found)
+            read_header(alloc, disk, &krate.id, no_archives, path, unread)
         }
     }
 }

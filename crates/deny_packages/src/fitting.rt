@@ -36,10 +36,7 @@ fn fitting_in(
     ensures { IfOk result (AreFitting path.now (map (λ w. w.value) (map words_of globs.now.patterns))) }
 {
     match globs.matches(path, indices)? {
-        Some(patterns) => {
-            let texts = own_texts(alloc, patterns.as_slice())?;
-            Ok(texts)
-        }
+        Some(patterns) => own_texts(alloc, patterns.as_slice()),
         None => Ok(List::new(alloc)),
     }
 }
@@ -58,10 +55,7 @@ pub(crate) fn fitting_scripts(
         return Ok(List::new(alloc));
     }
     match globs.matches(path, indices)? {
-        Some(patterns) => {
-            let texts = extension_texts(alloc, patterns.as_slice())?;
-            Ok(texts)
-        }
+        Some(patterns) => extension_texts(alloc, patterns.as_slice()),
         None => Ok(List::new(alloc)),
     }
 }
@@ -71,17 +65,17 @@ fn own_texts(alloc: Global, patterns: &[&GlobPattern]) -> Result<List<Text>, NoM
 {
     let mut texts = List::new(alloc);
     for pattern in patterns {
-        texts.push(own_text(alloc, pattern)?)?;
+        texts.push(own_text(pattern).clone()?)?;
     }
     Ok(texts)
 }
 
-fn own_text(alloc: Global, pattern: &GlobPattern) -> Result<Text, NoMemory>
-    ensures { IfOk result (λ text. text ≡ own_text pattern.now) }
+fn own_text(pattern: &GlobPattern) -> &Text
+    ensures { result.now ≡ own_text pattern.now }
 {
     match pattern {
-        GlobPattern::Builtin((glob, _)) => Ok(glob.value.clone()?),
-        GlobPattern::User(glob) => Ok(glob.value.clone()?),
+        GlobPattern::Builtin((glob, _)) => &glob.value,
+        GlobPattern::User(glob) => &glob.value,
     }
 }
 

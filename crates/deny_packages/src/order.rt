@@ -11,7 +11,7 @@ use std::alloc::Global;
 use std::cmp::Ordering;
 
 /// The path of a file. Paths are ordered by their components.
-#[derive(Debug, Drop)]
+#[derive(Drop)]
 pub(crate) struct FilePath {
     pub path: Text,
 }

@@ -63,8 +63,7 @@ pub(crate) fn see_package<D: PackageFiles>(
         files: List::new(alloc),
     };
     if is_walked(by, place, krate, &package) {
-        let walked = walk(alloc, by.config, home, krate, package.script, disk, unread)?;
-        Ok(walked)
+        walk(alloc, by.config, home, krate, package.script, disk, unread)
     } else {
         Ok(package)
     }

@@ -40,14 +40,8 @@ pub(crate) fn read_sum<D: PackageFiles>(
 {
     match sha256_of_file(alloc, disk, path) {
         Ok(sum) => Ok(Found::Sum(sum)),
-        Err(CheckEnd::Fault) => {
-            let found = failed(alloc, krate, purpose, path, Failure::Unreadable, unread)?;
-            Ok(found)
-        }
-        Err(CheckEnd::Long) => {
-            let found = failed(alloc, krate, purpose, path, Failure::Long, unread)?;
-            Ok(found)
-        }
+        Err(CheckEnd::Fault) => failed(alloc, krate, purpose, path, Failure::Unreadable, unread),
+        Err(CheckEnd::Long) => failed(alloc, krate, purpose, path, Failure::Long, unread),
         Err(CheckEnd::Memory) => Err(NoMemory),
     }
 }
@@ -73,17 +67,14 @@ pub(crate) fn read_header<D: PackageFiles>(
 {
     match check_is_executable(alloc, disk, path, no_archives) {
         Ok(kind) => Ok(Found::Kind(kind)),
-        Err(CheckEnd::Fault) => {
-            let found = failed(
-                alloc,
-                krate,
-                Purpose::Header,
-                path,
-                Failure::Unreadable,
-                unread,
-            )?;
-            Ok(found)
-        }
+        Err(CheckEnd::Fault) => failed(
+            alloc,
+            krate,
+            Purpose::Header,
+            path,
+            Failure::Unreadable,
+            unread,
+        ),
         // No file is too long for its first bytes.
         Err(CheckEnd::Long) => Err(NoMemory),
         Err(CheckEnd::Memory) => Err(NoMemory),

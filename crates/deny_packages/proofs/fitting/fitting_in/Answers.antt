@@ -1,22 +1,23 @@
 use Rattle.std.proofs.Common.{◌≡◌, ℕ, List, None, Some, map, subst, sym}
 use Rattle.deny_build_cfg.specs.Globs.{own_text, patterns_at}
+use Rattle.deny_lists.proofs.Results.{if_ok_then}
 use Rattle.deny_packages.proofs.FittingLemmas.{fitting_matched, own_values, texts_given}
 use Rattle.deny_packages.proofs.fitting.fitting_in.Goals as goal
 use Rattle.deny_packages.specs.Globs.{AreFitting}
 
-pub returns-in_ok-texts-in-Some : goal.returns-in_ok-texts-in-Some
-returns-in_ok-texts-in-Some c =
+pub returns-in-Some : goal.returns-in-Some
+returns-in-Some c = if_ok_then c.own_texts.result c.own_texts.ensures (λ texts is.
     let globs = c.args.globs.now in
     let found = c.in_ok-patterns.ensures in
     let gives : Some (map (λ p. p.now) c.in-Some.patterns.items) ≡ patterns_at globs.patterns
     c.matches.new.indices.items = rw c.in-Some.is at found.patterns in
-    subst (λ (gs : List (List ℕ)). AreFitting c.args.path.now gs c.in_ok-texts-in-Some.texts)
+    subst (λ (gs : List (List ℕ)). AreFitting c.args.path.now gs texts)
     (sym (own_values globs.patterns))
     (subst (λ (ts : List (List ℕ)). AreFitting c.args.path.now (map own_text globs.patterns) ts)
-    (sym (texts_given own_text c.as_slice.result.now c.in-Some.patterns.items c.in_ok-texts-in-Some.texts
-    c.in_ok-texts-in-Some.ensures c.as_slice.ensures.value))
+    (sym (texts_given own_text c.as_slice.result.now c.in-Some.patterns.items texts
+    is c.as_slice.ensures.value))
     (fitting_matched own_text c.args.path.now globs.patterns globs.set c.matches.new.indices.items
-    (Some (map (λ p. p.now) c.in-Some.patterns.items)) c.requires found.ascending found.exact gives))
+    (Some (map (λ p. p.now) c.in-Some.patterns.items)) c.requires found.ascending found.exact gives)))
 
 pub returns-in-None : goal.returns-in-None
 returns-in-None c =

@@ -1,4 +1,5 @@
 use Rattle.std.proofs.Common.{Err, Some, refl}
+use Rattle.deny_lists.proofs.Results.{if_ok_then}
 use Rattle.deny_packages.proofs.ReadLemmas.{caused_long, sum_long, sum_unreadable}
 use Rattle.deny_packages.proofs.read.read_sum.Goals as goal
 use Rattle.deny_packages.specs.Seen.IsSumSeen.{taken}
@@ -6,29 +7,28 @@ use Rattle.deny_packages.specs.Seen.IsSumSeen.{taken}
 pub returns-in-Ok-clause-seen : goal.returns-in-Ok-clause-seen
 returns-in-Ok-clause-seen g c = λ folder. taken refl c.in-Ok.sum c.in-Ok.ensures.sum
 
-pub returns-in_ok-found-in-Err-Fault-clause-seen : goal.returns-in_ok-found-in-Err-Fault-clause-seen
-returns-in_ok-found-in-Err-Fault-clause-seen g c = λ folder.
+pub returns-in-Err-Fault-clause-seen : goal.returns-in-Err-Fault-clause-seen
+returns-in-Err-Fault-clause-seen g c = if_ok_then c.failed.result c.failed.ensures.found (λ found is folder.
     let seen = g.D.PackageFiles.seen in
     sum_unreadable folder (seen c.args.disk.now) (seen c.sha256_of_file.new.disk) (Some c.args.krate.now)
-    c.args.path.now c.args.purpose (seen c.args.disk.now).files c.in_ok-found-in-Err-Fault.found c.requires
-    (c.in-Err-Fault.ensures.fault (λ i. Err (c.in-Err-Fault.field-0-is i)))
-    c.in_ok-found-in-Err-Fault.ensures.found
+    c.args.path.now c.args.purpose (seen c.args.disk.now).files found c.requires
+    (c.in-Err-Fault.ensures.fault (λ i. Err (c.in-Err-Fault.field-0-is i))) is)
 
-pub returns-in_ok-found-in-Err-Long-clause-seen : goal.returns-in_ok-found-in-Err-Long-clause-seen
-returns-in_ok-found-in-Err-Long-clause-seen g c = λ folder.
+pub returns-in-Err-Long-clause-seen : goal.returns-in-Err-Long-clause-seen
+returns-in-Err-Long-clause-seen g c = if_ok_then c.failed-in-Err-Long.result
+    c.failed-in-Err-Long.ensures.found (λ found is folder.
     let seen = g.D.PackageFiles.seen in
     sum_long folder (seen c.args.disk.now) (seen c.sha256_of_file.new.disk) (Some c.args.krate.now)
-    c.args.path.now c.args.purpose (seen c.args.disk.now).files c.in_ok-found-in-Err-Long.found c.requires
+    c.args.path.now c.args.purpose (seen c.args.disk.now).files found c.requires
     (c.in-Err-Long.ensures.long_by_count (λ i. Err (c.in-Err-Long.field-0-is i)))
-    (c.in-Err-Long.ensures.long_by_text (λ i. Err (c.in-Err-Long.field-0-is i)))
-    c.in_ok-found-in-Err-Long.ensures.found
+    (c.in-Err-Long.ensures.long_by_text (λ i. Err (c.in-Err-Long.field-0-is i))) is)
 
-pub returns-in_ok-found-in-Err-Long-clause-caused : goal.returns-in_ok-found-in-Err-Long-clause-caused
-returns-in_ok-found-in-Err-Long-clause-caused g c = λ folder.
+pub returns-in-Err-Long-clause-caused : goal.returns-in-Err-Long-clause-caused
+returns-in-Err-Long-clause-caused g c = if_ok_then c.failed-in-Err-Long.result
+    c.failed-in-Err-Long.ensures.unread (λ found is folder.
     let seen = g.D.PackageFiles.seen in
     caused_long folder (seen c.args.disk.now) (seen c.sha256_of_file.new.disk) (Some c.args.krate.now)
     c.args.path.now c.args.purpose c.args.unread.now c.failed-in-Err-Long.new.unread c.requires
     c.sha256_of_file.ensures.later
     (c.in-Err-Long.ensures.long_by_count (λ i. Err (c.in-Err-Long.field-0-is i)))
-    (c.in-Err-Long.ensures.long_by_text (λ i. Err (c.in-Err-Long.field-0-is i)))
-    c.in_ok-found-in-Err-Long.ensures.unread
+    (c.in-Err-Long.ensures.long_by_text (λ i. Err (c.in-Err-Long.field-0-is i))) is)
