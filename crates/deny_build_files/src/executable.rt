@@ -57,17 +57,31 @@ fn executable_in(
 }
 
 /// The format that the first bytes of a file tell.
-#[tactic(auto, unfolding(crate::specs::Header::native_kind, crate::specs::Header::is_mach))]
+#[tactic(auto, unfolding(crate::specs::Header::native_kind))]
 fn native_kind(header: &[u8]) -> Option<NativeKind>
     ensures { result ≡ native_kind header.now }
 {
-    match header {
-        [0x7f, b'E', b'L', b'F', ..] => Some(NativeKind::Elf),
-        [b'M', b'Z', ..] => Some(NativeKind::Pe),
-        [0xfe, 0xed, 0xfa, 0xce | 0xcf, ..] => Some(NativeKind::Mach),
-        [0xce | 0xcf, 0xfa, 0xed, 0xfe, ..] => Some(NativeKind::Mach),
-        [0xca, 0xfe, 0xba, 0xbe, ..] => Some(NativeKind::Mach),
-        [b'!', b'<', b'a', b'r', b'c', b'h', b'>', b'\n', ..] => Some(NativeKind::Archive),
-        _ => None,
+    if header.starts_with(b"\x7fELF") {
+        Some(NativeKind::Elf)
+    } else if header.starts_with(b"MZ") {
+        Some(NativeKind::Pe)
+    } else if is_mach(header) {
+        Some(NativeKind::Mach)
+    } else if header.starts_with(b"!<arch>\n") {
+        Some(NativeKind::Archive)
+    } else {
+        None
     }
+}
+
+/// Whether it is Mach-O: of 32 or 64 bits, in either order of bytes, or several of these in one.
+#[tactic(auto, unfolding(crate::specs::Header::is_mach))]
+fn is_mach(header: &[u8]) -> bool
+    ensures { result ≡ is_mach header.now }
+{
+    header.starts_with(b"\xfe\xed\xfa\xce")
+        || header.starts_with(b"\xce\xfa\xed\xfe")
+        || header.starts_with(b"\xfe\xed\xfa\xcf")
+        || header.starts_with(b"\xcf\xfa\xed\xfe")
+        || header.starts_with(b"\xca\xfe\xba\xbe")
 }

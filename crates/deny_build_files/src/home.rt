@@ -31,7 +31,7 @@ pub fn home_path(
     }
     match shown_below(alloc, "$crate/", root, path)? {
         Some(shown) => Ok(shown),
-        None => Ok(Text::from_str(alloc, path)?),
+        None => Text::from_str(alloc, path),
     }
 }
 
