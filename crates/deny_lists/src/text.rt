@@ -91,7 +91,7 @@ impl PartialEq for Text {
     ghost laws = { partial_equiv_from_equiv nat_list_eq_equiv };
 
     fn eq(&self, other: &Self) -> bool {
-        self.string.as_bytes() == other.string.as_bytes()
+        self.string.as_str() == other.string.as_str()
     }
 }
 
@@ -119,7 +119,7 @@ impl Ord for Text {
     ghost matches_eq = { texts_ties };
 
     fn cmp(&self, other: &Self) -> Ordering {
-        self.string.as_bytes().cmp(other.string.as_bytes())
+        self.string.as_str().cmp(other.string.as_str())
     }
 }
 

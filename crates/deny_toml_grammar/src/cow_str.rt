@@ -69,7 +69,7 @@ impl PartialEq for CowStr<'_> {
     ghost laws = { partial_equiv_from_equiv nat_list_eq_equiv };
 
     fn eq(&self, other: &Self) -> bool {
-        self.as_str().as_bytes() == other.as_str().as_bytes()
+        self.as_str() == other.as_str()
     }
 }
 
@@ -97,6 +97,6 @@ impl Ord for CowStr<'_> {
     ghost matches_eq = { texts_ties };
 
     fn cmp(&self, other: &Self) -> Ordering {
-        self.as_str().as_bytes().cmp(other.as_str().as_bytes())
+        self.as_str().cmp(other.as_str())
     }
 }
