@@ -87,7 +87,7 @@ pub(crate) fn in_order(alloc: Global, paths: List<Text>) -> Result<List<FilePath
 fn files_at(alloc: Global, paths: List<Text>) -> Result<List<FilePath>, NoMemory>
     ensures { IfOk result (λ files. map (λ file. file.path) files ≡ paths) }
 {
-    let mut files = List::from_vec(Vec::with_capacity(alloc, paths.len())?);
+    let mut files = List::with_capacity(alloc, paths.len())?;
     'paths: for path in paths.vec {
         files.push(FilePath { path })?;
     }
