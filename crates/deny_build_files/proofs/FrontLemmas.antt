@@ -157,18 +157,6 @@ front_tells exclude_archives path front text (inr (is, enough)) =
     ∙ ap (executable_in exclude_archives path)
     (ap (λ bytes. bytes ++ rest) is ∙ take-append-drop (length front) text)
 
-pub whole_front : (known : Option Files) (path front : List ℕ)
-    → IfSome known (λ files. front ≡ bytes_at files path)
-    → IfSome known (λ files. IsFront front (bytes_at files path))
-whole_front None path front whole = search rules
-whole_front (Some files) path front whole = inl whole
-
-pub enough_front : (known : Option Files) (path front : List ℕ) → is_enough front ≡ true
-    → IfSome known (λ files. front ≡ take (length front) (bytes_at files path))
-    → IfSome known (λ files. IsFront front (bytes_at files path))
-enough_front None path front enough is = search rules
-enough_front (Some files) path front enough is = inr (is, enough)
-
 pub kind_told : (known : Option Files) (exclude_archives : Bool) (path front : List ℕ) (kind : Option ExecutableKind)
     → kind ≡ executable_in exclude_archives path front
     → IfSome known (λ files. IsFront front (bytes_at files path))

@@ -1,14 +1,12 @@
 -- The rest of a path that is written as a folder, a slash and a component.
 use Rattle.std.proofs.Common.{◌≡◌, ◌++◌, ◌∙◌, ℕ, arith, true, false, Bool, List, [], ◌∷◌, Bor, Option, Some, None}
-use Rattle.std.proofs.Common.{append-nil, length, refl, ap, sym, codes, cond, drop, suc, zero}
-use Rattle.std.specs.Prelude.{◌<◌, ◌==◌, ◌||◌, IfSome, filter, nat_eq, not, unwrap_or, if◌then◌else◌}
+use Rattle.std.proofs.Common.{append-nil, length, refl, ap, sym, codes, suc, zero}
+use Rattle.std.specs.Prelude.{◌<◌, ◌==◌, ◌||◌, IfSome, filter, not}
 use Rattle.std.specs.Cmp.Lexicographic.{bytes_decides}
 use Rattle.std.specs.List.{join_with_byte, onto_first, starts_with}
 use Rattle.std.proofs.lemmas.List.Elements.{filter-append}
 use Rattle.std.proofs.lemmas.List.Splits.{join_with_byte-slice_split, length-slice_split}
-use Rattle.std.proofs.lemmas.Bool.Decides.{Decides-eqb}
-use Rattle.std.proofs.lemmas.Option.{none-some}
-use Rattle.std.proofs.lemmas.Slice.Eq.{starts_is}
+use Rattle.deny_outside.proofs.ChildrenLemmas.{front_found}
 use Rattle.deny_outside.specs.Children.{text_behind}
 use Rattle.deny_build_model.specs.Paths.{components, is_component, is_slash, parts}
 use Rattle.deny_build_files.specs.Home.{is_absolute, lies_in, parts_behind, rest_below, same_name, same_start}
@@ -111,15 +109,6 @@ written (first ∷ folder) rest full plain =
     (parts_both (first ∷ folder) rest))
     ∙ (ap (λ (ps : List (List ℕ)). Some (joined ps)) (first_part rest plain)
     ∙ ap (λ (text : List ℕ). Some text) (joined_again rest))
-
-front_found : (front path rest : List ℕ) → Some rest ≡ text_behind front path → path ≡ front ++ rest
-unfolding text_behind
-front_found front path rest is = elim (starts_with nat_eq path front) as (λ b. starts_with nat_eq path front ≡ b
-    → Some rest ≡ cond b (Some (drop (length front) path)) None → path ≡ front ++ rest) [
-      | true ↦ λ begins found. (starts_is Decides-eqb path front _ refl).0 begins
-          ∙ ap (λ (o : Option (List ℕ)). front ++ unwrap_or o rest) (sym found)
-      | false ↦ λ _ found. absurd (none-some rest (sym found))
-    ] refl is
 
 written_so : (folder path slashed rest : List ℕ) → (length folder == 0) ≡ false → Some slashed ≡ text_behind folder path
     → Some rest ≡ text_behind (codes "/") slashed → begins_plainly rest ≡ true → rest_below folder path ≡ Some rest

@@ -1,7 +1,7 @@
 -- Orders: what a tie of two fields says, which orders tell all apart, and what lies below.
 use Rattle.std.proofs.Common.{List, None, Some, ap, arith, false, inl, inr, refl, subst, sym, true, ℕ, ◌∙◌, ◌≡◌, ◌≤◌}
 use Rattle.std.proofs.Common.{◌⊎◌, ◌&&◌, Bool, ◌==◌, [], ◌∷◌, ◌++◌}
-use Rattle.std.specs.Cmp.{IsTotalOrder, unsigned_ties, tied_itself, nat_cmp_total}
+use Rattle.std.specs.Cmp.{IsTotalOrder, unsigned_ties, tied_itself}
 use Rattle.std.specs.Cmp.Lexicographic.{nat_list_cmp_total, slice_cmp}
 use Rattle.std.specs.FinMap.{IsAntisymmetric, nat_cmp-IsAntisymmetric, slice_cmp-IsAntisymmetric}
 use Rattle.std.specs.List.Sorted.{IsNonDecreasingBy, IsPartitionedBy}
@@ -142,9 +142,10 @@ option_cmp-exact cmp exact None (Some b) e = cc e
 option_cmp-exact cmp exact (Some a) None e = cc e
 option_cmp-exact cmp exact (Some a) (Some b) e = ap (λ x. Some x) (exact a b e)
 
--- texts with one beginning compare as what follows it
-pub slice_cmp-append : (front a b : List ℕ) → slice_cmp nat_cmp (front ++ a) (front ++ b) ≡ slice_cmp nat_cmp a b
-slice_cmp-append [] a b = refl
-slice_cmp-append (x ∷ xs) a b =
-    ap (λ o. ordering_then o (slice_cmp nat_cmp (xs ++ a) (xs ++ b))) (tied_itself nat_cmp_total x)
-    ∙ slice_cmp-append xs a b
+-- lists with one beginning compare as what follows it
+pub slice_cmp-append : {A : Type 0} {R : A → A → Ordering} → IsTotalOrder R → (front a b : List A)
+    → slice_cmp R (front ++ a) (front ++ b) ≡ slice_cmp R a b
+slice_cmp-append total [] a b = refl
+slice_cmp-append {R = R} total (x ∷ xs) a b =
+    ap (λ o. ordering_then o (slice_cmp R (xs ++ a) (xs ++ b))) (tied_itself total x)
+    ∙ slice_cmp-append total xs a b

@@ -4,6 +4,7 @@ use Rattle.std.proofs.Common.{None, Some, Result, Ok, Err, T, refl, sym, ap, ◌
 use Rattle.std.specs.Prelude.{IfOk, IsTrue, MatchOption, codes, option_map, option_copied, nat_eq, unwrap_or}
 use Rattle.std.specs.Borrow.{Bor}
 use Rattle.std.specs.BTreeMap.{BTreeMap, IsOrdered}
+use Rattle.std.specs.Cmp.{nat_cmp_total}
 use Rattle.std.specs.Cmp.Lexicographic.{nat_list_cmp_total, slice_cmp}
 use Rattle.std.specs.FinMap as finite
 use Rattle.std.specs.FinMap.Entries.{below_all, is_sorted}
@@ -41,6 +42,16 @@ behind_is (Some x) front path strips =
     let begins : starts_with (λ a b. nat_eq a b) path front ≡ true = (starts_is Decides-eqb path front _ refl).1
     (drop strips.0 path) strips.1.1 in
     rw begins (ap (λ t. Some t) (strips.2 ∙ ap (λ n. drop n path) strips.1.0))
+
+-- a path behind whose front something stands is the two together
+pub front_found : (front path rest : List ℕ) → Some rest ≡ text_behind front path → path ≡ front ++ rest
+unfolding text_behind
+front_found front path rest is = elim (starts_with nat_eq path front) as (λ b. starts_with nat_eq path front ≡ b
+    → Some rest ≡ cond b (Some (drop (length front) path)) None → path ≡ front ++ rest) [
+      | true ↦ λ begins found. (starts_is Decides-eqb path front _ refl).0 begins
+          ∙ ap (λ (o : Option (List ℕ)). front ++ unwrap_or o rest) (sym found)
+      | false ↦ λ _ found. absurd (none-some rest (sym found))
+    ] refl is
 
 -- what stands behind two texts stands behind the second, in what stands behind the first
 behind_both : (front more path : List ℕ)
@@ -159,7 +170,7 @@ names_above front at first_entry (e ∷ es) here below =
     (map (λ entry. entry.name) (cons_option o others))) [
       | None ↦ λ _. further
       | Some entry ↦ λ is. (
-        sym (slice_cmp-append front first_entry.name entry.name)
+        sym (slice_cmp-append nat_cmp_total front first_entry.name entry.name)
             ∙ (λ i. slice_cmp nat_cmp (sym here i) (sym ((behind_of front e entry is).path) i))
             ∙ less _ (first _ _ below),
         further,

@@ -1,5 +1,5 @@
 //! Files in the order of the components of their paths.
-ghost use Rattle.std.specs.Prelude.{◌≡◌, Contains, IfOk, Some, map, refl};
+ghost use Rattle.std.specs.Prelude.{◌≡◌, ◌<◌, Contains, IfOk, IfSome, Some, length, map, refl};
 ghost use Rattle.std.specs.Cmp.{eq_by_cmp_equiv, partial_equiv_from_equiv, partial_order_from_total};
 ghost use Rattle.std.specs.Ordering.{eq_by_cmp};
 ghost use Rattle.deny_build_model.specs.Paths.{path_cmp, rank};
@@ -7,6 +7,7 @@ ghost use Rattle.deny_lists.specs.Ascending.{Lists};
 ghost use Rattle.deny_packages.specs.private.Order.{file_cmp, file_cmp_total};
 
 use deny_lists::{List, NoMemory, Text, put_in_order};
+use deny_outside::path_behind;
 use std::alloc::Global;
 use std::cmp::Ordering;
 
@@ -50,10 +51,7 @@ impl Ord for FilePath {
     ghost matches_eq = { λ a b. refl };
 
     fn cmp(&self, other: &Self) -> Ordering {
-        path_cmp(
-            self.path.as_str().as_bytes(),
-            other.path.as_str().as_bytes(),
-        )
+        path_cmp(self.path.as_str(), other.path.as_str())
     }
 }
 
@@ -63,7 +61,30 @@ fn rank(byte: u8) -> u16
     if byte == b'/' { 0 } else { u16::from(byte) + 1 }
 }
 
-fn path_cmp(a: &[u8], b: &[u8]) -> Ordering
+/// How many bytes are looked at together where paths begin alike.
+const PIECE: usize = 16;
+
+fn path_cmp(a: &str, b: &str) -> Ordering
+    ensures { result ≡ path_cmp a.now b.now }
+{
+    let mut rests = (a, b);
+    while let Some(next) = behind_piece(rests.0, rests.1) {
+        rests = next;
+    }
+    rest_cmp(rests.0.as_bytes(), rests.1.as_bytes())
+}
+
+/// What stands behind the first piece of both paths, where that is the same.
+fn behind_piece<'p>(a: &'p str, b: &'p str) -> Option<(&'p str, &'p str)>
+    ensures same { IfSome result (λ rests. path_cmp a.now b.now ≡ path_cmp rests.0.now rests.1.now) }
+    ensures shorter { IfSome result (λ rests. length rests.0.now < length a.now) }
+{
+    let (piece, rest) = a.split_at_checked(PIECE)?;
+    let other = path_behind(piece, b)?;
+    Some((rest, other))
+}
+
+fn rest_cmp(a: &[u8], b: &[u8]) -> Ordering
     ensures { result ≡ path_cmp a.now b.now }
 {
     let both = a.len().min(b.len());

@@ -235,20 +235,21 @@ path_cmp name names b c xs ys =
 
 longer-below : (name : List ℕ) (y : ℕ) (ys : List ℕ) → slice_cmp nat_cmp name (name ++ y ∷ ys) ≡ Less
 longer-below name y ys =
-    subst (λ xs. slice_cmp nat_cmp xs (name ++ y ∷ ys) ≡ Less) (append-nil name) (slice_cmp-append name [] (y ∷ ys))
+    subst (λ xs. slice_cmp nat_cmp xs (name ++ y ∷ ys) ≡ Less) (append-nil name)
+    (slice_cmp-append nat_cmp_total name [] (y ∷ ys))
 
 -- both empty: the one is of the value itself, or names a key, and the other of a value without a name
 empties-ascend : (name : List ℕ) (names b c : Bool) → bool_cmp b c ≡ Less → path_cmp name names b c [] [] ≡ Less
 empties-ascend name names true true below = cc below
 empties-ascend name names true false below = cc below
 empties-ascend name names false false below = cc below
-empties-ascend name true false true below = rw (slice_cmp-append name (46 ∷ []) (46 ∷ [])) refl
+empties-ascend name true false true below = rw (slice_cmp-append nat_cmp_total name (46 ∷ []) (46 ∷ [])) refl
 empties-ascend name false false true below = rw (longer-below name 46 []) refl
 
 -- an empty one comes before others
 empty-ascends : (name : List ℕ) (names b c : Bool) (y : ℕ) (ys : List ℕ) → path_cmp name names b c [] (y ∷ ys) ≡ Less
-empty-ascends name true b c y ys = rw (slice_cmp-append name (46 ∷ []) (46 ∷ y ∷ ys)) refl
-empty-ascends name false true c y ys = rw (slice_cmp-append name (46 ∷ []) (46 ∷ y ∷ ys)) refl
+empty-ascends name true b c y ys = rw (slice_cmp-append nat_cmp_total name (46 ∷ []) (46 ∷ y ∷ ys)) refl
+empty-ascends name false true c y ys = rw (slice_cmp-append nat_cmp_total name (46 ∷ []) (46 ∷ y ∷ ys)) refl
 empty-ascends name false false c y ys = rw (longer-below name 46 (y ∷ ys)) refl
 
 paths-ascend : (name : List ℕ) (names b c : Bool) (xs ys : List ℕ)
@@ -257,13 +258,14 @@ paths-ascend : (name : List ℕ) (names b c : Bool) (xs ys : List ℕ)
 paths-ascend name names b c [] [] below = empties-ascend name names b c below
 paths-ascend name names b c [] (y ∷ ys) below = empty-ascends name names b c y ys
 paths-ascend name names b c (x ∷ xs) [] below = cc below
-paths-ascend name names true true (x ∷ xs) (y ∷ ys) below = rw (slice_cmp-append name (46 ∷ x ∷ xs) (46 ∷ y ∷ ys)) below
+paths-ascend name names true true (x ∷ xs) (y ∷ ys) below =
+    rw (slice_cmp-append nat_cmp_total name (46 ∷ x ∷ xs) (46 ∷ y ∷ ys)) below
 paths-ascend name names true false (x ∷ xs) (y ∷ ys) below =
-    rw (slice_cmp-append name (46 ∷ x ∷ xs) (46 ∷ y ∷ ys)) below
+    rw (slice_cmp-append nat_cmp_total name (46 ∷ x ∷ xs) (46 ∷ y ∷ ys)) below
 paths-ascend name names false true (x ∷ xs) (y ∷ ys) below =
-    rw (slice_cmp-append name (46 ∷ x ∷ xs) (46 ∷ y ∷ ys)) below
+    rw (slice_cmp-append nat_cmp_total name (46 ∷ x ∷ xs) (46 ∷ y ∷ ys)) below
 paths-ascend name names false false (x ∷ xs) (y ∷ ys) below =
-    rw (slice_cmp-append name (46 ∷ x ∷ xs) (46 ∷ y ∷ ys)) below
+    rw (slice_cmp-append nat_cmp_total name (46 ∷ x ∷ xs) (46 ∷ y ∷ ys)) below
 
 then_less : (r s t u : Ordering) → ordering_then r (ordering_then s t) ≡ Less → (s ≡ Equal → t ≡ Less → u ≡ Less)
     → ordering_then r (ordering_then s u) ≡ Less

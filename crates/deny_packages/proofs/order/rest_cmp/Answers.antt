@@ -1,7 +1,7 @@
 use Rattle.std.proofs.Common.{◌∙◌, arith, refl, sym}
 use Rattle.std.specs.Ordering.{nat_cmp}
 use Rattle.deny_packages.proofs.OrderLemmas.{cmp_end, cmp_on, cmp_here}
-use Rattle.deny_packages.proofs.order.path_cmp.Goals as goal
+use Rattle.deny_packages.proofs.order.rest_cmp.Goals as goal
 
 pub loop-index-init : goal.loop-index-init
 loop-index-init c = refl
