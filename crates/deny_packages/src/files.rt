@@ -54,7 +54,7 @@ pub(crate) fn see_files<D: PackageFiles>(
     let allowed = Allowed::new(alloc, bypass)?;
     let root = krate.folder();
     let mut indices = Vec::new(alloc);
-    let mut files = List::new(alloc);
+    let mut files = List::with_capacity(alloc, paths.len())?;
     for path in paths {
         files.push(see_file(
             alloc,
