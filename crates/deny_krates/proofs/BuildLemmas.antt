@@ -2,7 +2,7 @@
 use Rattle.std.proofs.Common.{◌≡◌, ◌∙◌, sym, ℕ, List, Result, Ok, Err, refl, subst}
 use Rattle.std.specs.Prelude.{IfErr, IfOk}
 use Rattle.deny_model.specs.Graph.{Graph}
-use Rattle.deny_metadata.specs.Checked.{Resolved, checked, resolved}
+use Rattle.deny_resolve.specs.Checked.{Resolved, checked, resolved}
 use Rattle.deny_metadata.specs.Document.{document_at, document_of, value_at}
 use Rattle.deny_metadata.specs.Reading.{◌>>=◌, Fails, Gives}
 use Rattle.deny_krates.specs.Read.{IsGraph, IsGraphOf}

@@ -11,15 +11,15 @@ use Rattle.deny_lists.specs.Ascending.{Lists}
 use Rattle.deny_base.specs.Edge.{edge_cmp}
 use Rattle.deny_base.specs.declared.edge.DepKind.{DepKind}
 use Rattle.deny_base.specs.declared.edge.Edge.{Edge}
-use Rattle.deny_metadata.specs.Checked.{node_ids}
+use Rattle.deny_resolve.specs.Checked.{node_ids}
 use Rattle.deny_krates.specs.private.Graph.{IsInverse, IsKeptNode, edge_to, edges_from, kept_cmp, listed, no_package}
 use Rattle.deny_krates.specs.private.Graph.{place_at}
 use Rattle.deny_krates.specs.private.Numbered.{IsNumbered}
 use Rattle.deny_krates.specs.Packages.{package_cmp, rank_cmp, rank_of}
 use Rattle.deny_krates.specs.private.Reach.{Reaches, from_start, by_link, links_at}
 use Rattle.deny_krates.specs.Read.{IsCrate, IsEdge, IsMember, IsReached, IsTargetEdge, NeedsFor}
-use Rattle.deny_metadata.specs.declared.checked.Link.{Link}
-use Rattle.deny_metadata.specs.declared.checked.ResolvedNode.{ResolvedNode}
+use Rattle.deny_resolve.specs.declared.resolve.Link.{Link}
+use Rattle.deny_resolve.specs.declared.resolve.ResolvedNode.{ResolvedNode}
 use Rattle.deny_metadata.specs.declared.document.Document.{Document}
 use Rattle.deny_metadata.specs.declared.document.NeededAs.{NeededAs}
 use Rattle.deny_model.specs.TargetEdge.{edge_of, target_edge_cmp}

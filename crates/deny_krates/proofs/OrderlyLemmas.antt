@@ -14,7 +14,7 @@ use Rattle.deny_base.specs.Edge.{edge_cmp}
 use Rattle.deny_base.specs.declared.edge.Edge.{Edge}
 use Rattle.deny_model.specs.Graph.{Crate, Graph}
 use Rattle.deny_model.specs.TargetEdge.{edge_of, target_edge_cmp}
-use Rattle.deny_metadata.specs.Checked.{distinct, node_ids}
+use Rattle.deny_resolve.specs.Checked.{distinct, node_ids}
 use Rattle.deny_krates.specs.Crates.{crate_view, crates_from, graph_of}
 use Rattle.deny_krates.specs.private.Direct.{AreApart, id_in}
 use Rattle.deny_krates.specs.private.Graph.{IsInverse, IsKrateOf, edges_from, features_at, listed, place_at}
@@ -23,7 +23,7 @@ use Rattle.deny_krates.specs.private.Numbered.{HasVersion, IsNumbered}
 use Rattle.deny_krates.specs.Orderly.{IsOrderly}
 use Rattle.deny_krates.specs.Packages.{package_cmp}
 use Rattle.deny_krates.specs.Read.{IsEdge, IsGraph, IsMember}
-use Rattle.deny_metadata.specs.declared.checked.ResolvedNode.{ResolvedNode}
+use Rattle.deny_resolve.specs.declared.resolve.ResolvedNode.{ResolvedNode}
 use Rattle.deny_metadata.specs.declared.document.Document.{Document}
 use Rattle.deny_metadata.specs.declared.document.Node.{Node}
 use Rattle.deny_metadata.specs.declared.document.Package.{Package}

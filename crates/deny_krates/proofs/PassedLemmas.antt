@@ -7,7 +7,7 @@ use Rattle.semver.specs.declared.error.Error.{Error}
 use Rattle.deny_lists.proofs.Members.{Contains-by_cases, no_member}
 use Rattle.deny_krates.specs.private.Numbered.{HasVersion}
 use Rattle.deny_metadata.proofs.ReadingLemmas.{bound, err-ok}
-use Rattle.deny_metadata.specs.Checked.{packages_read, read_or, version_reads}
+use Rattle.deny_resolve.specs.Checked.{packages_read, read_or, version_reads}
 use Rattle.deny_metadata.specs.Reading.{each_passes}
 use Rattle.deny_metadata.specs.declared.document.Package.{Package}
 use Rattle.deny_metadata.specs.declared.fault.MetadataFault.{MetadataFault}

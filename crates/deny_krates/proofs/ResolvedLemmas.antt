@@ -10,15 +10,15 @@ use Rattle.std.proofs.lemmas.List.Elements.{Contains-append_cases, Contains-appe
 use Rattle.std.proofs.lemmas.Slice.Eq.{bytes_eq-Decides}
 use Rattle.deny_base.specs.declared.edge.DepKind.{DepKind}
 use Rattle.deny_model.specs.Text.{same_text}
-use Rattle.deny_metadata.specs.Checked.{Numbering, Resolved, distinct, distinct_after, known, links_of, links_to}
-use Rattle.deny_metadata.specs.Checked.{node_ids, node_numbers, number_in, number_or, package_ids, package_numbers}
-use Rattle.deny_metadata.specs.Checked.{packages_read, resolved, resolved_by, resolved_node}
+use Rattle.deny_resolve.specs.Checked.{Numbering, Resolved, distinct, distinct_after, known, links_of, links_to}
+use Rattle.deny_resolve.specs.Checked.{node_ids, node_numbers, number_in, number_or, package_ids, package_numbers}
+use Rattle.deny_resolve.specs.Checked.{packages_read, resolved, resolved_by, resolved_node}
 use Rattle.deny_krates.specs.private.Numbered.{IsResolved}
 use Rattle.deny_krates.specs.private.Reach.{Reaches, from_start, by_link, links_at}
 use Rattle.deny_krates.specs.Read.{IsReached, is_member, by_need, Needs, NeedsFor}
 use Rattle.deny_metadata.specs.Reading.{◌>>=◌, each}
-use Rattle.deny_metadata.specs.declared.checked.Link.{Link}
-use Rattle.deny_metadata.specs.declared.checked.ResolvedNode.{ResolvedNode}
+use Rattle.deny_resolve.specs.declared.resolve.Link.{Link}
+use Rattle.deny_resolve.specs.declared.resolve.ResolvedNode.{ResolvedNode}
 use Rattle.deny_metadata.specs.declared.document.NeededAs.{NeededAs}
 use Rattle.deny_metadata.specs.declared.document.NodeDependency.{NodeDependency}
 use Rattle.deny_metadata.specs.declared.document.Document.{Document}

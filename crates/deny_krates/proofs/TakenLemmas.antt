@@ -14,13 +14,13 @@ use Rattle.deny_krates.specs.Listed.{dependency_at, requirement_read}
 use Rattle.deny_krates.specs.private.Taken.{IsRead, IsWithout, dependency_with, requirement_held}
 use Rattle.deny_krates.specs.declared.crates.ReadPackage.{ReadPackage}
 use Rattle.deny_krates.specs.declared.graph.KeptPackage.{KeptPackage}
-use Rattle.deny_metadata.specs.PackageTexts.{AreTextsOf, requirement_said, requirement_view, requirements_said}
-use Rattle.deny_metadata.specs.PackageTexts.{rust_version_said, source_said, version_said}
+use Rattle.deny_resolve.specs.PackageTexts.{AreTextsOf, requirement_said, requirement_view, requirements_said}
+use Rattle.deny_resolve.specs.PackageTexts.{rust_version_said, source_said, version_said}
 use Rattle.deny_metadata.specs.declared.document.Declaration.{Declaration}
 use Rattle.deny_metadata.specs.declared.document.Package.{Package}
-use Rattle.deny_metadata.specs.declared.package_texts.PackageTexts.{PackageTexts}
-use Rattle.deny_metadata.specs.declared.package_texts.PackageVersions.{PackageVersions}
-use Rattle.deny_metadata.specs.declared.source.Source.{Source}
+use Rattle.deny_resolve.specs.declared.package_texts.PackageTexts.{PackageTexts}
+use Rattle.deny_resolve.specs.declared.package_texts.PackageVersions.{PackageVersions}
+use Rattle.deny_resolve.specs.declared.source.Source.{Source}
 use Rattle.deny_model.specs.Graph.{Dependency}
 
 -- what is of the crates from this place on stands where it stood

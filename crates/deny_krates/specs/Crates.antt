@@ -6,10 +6,10 @@ use Rattle.deny_base.specs.declared.edge.Edge.{Edge}
 use Rattle.deny_metadata.specs.declared.document.Target.{Target}
 use Rattle.deny_krates.specs.declared.krate.Dependency.{Dependency}
 use Rattle.deny_krates.specs.declared.krate.Krate.{Krate}
-use Rattle.deny_metadata.specs.declared.source.GitSpec.{GitSpec}
-use Rattle.deny_metadata.specs.declared.source.GitSpec.TheVariants.{Any, Branch, Tag, Rev}
-use Rattle.deny_metadata.specs.declared.source.Source.{Source}
-use Rattle.deny_metadata.specs.declared.source.Source.TheVariants.{CratesIo, Registry, Sparse, Git}
+use Rattle.deny_resolve.specs.declared.source.GitSpec.{GitSpec}
+use Rattle.deny_resolve.specs.declared.source.GitSpec.TheVariants.{Any, Branch, Tag, Rev}
+use Rattle.deny_resolve.specs.declared.source.Source.{Source}
+use Rattle.deny_resolve.specs.declared.source.Source.TheVariants.{CratesIo, Registry, Sparse, Git}
 use Rattle.deny_model.specs.Graph.{Crate, Graph}
 use Rattle.deny_model.specs.Graph as model
 use Rattle.deny_model.specs.declared.target_edge.TargetEdge.{TargetEdge}

@@ -1,11 +1,11 @@
-pub use Rattle.deny_metadata.specs.Checked
+pub use Rattle.deny_resolve.specs.Checked
 pub use Rattle.deny_metadata.specs.Document
 pub use Rattle.deny_metadata.specs.Reading
-pub use Rattle.deny_metadata.specs.Source
-pub use Rattle.deny_metadata.specs.Versions
+pub use Rattle.deny_resolve.specs.Source
+pub use Rattle.deny_resolve.specs.Versions
 pub use Rattle.deny_metadata.specs.declared.document
 pub use Rattle.deny_metadata.specs.declared.fault
-pub use Rattle.deny_metadata.specs.declared.source
+pub use Rattle.deny_resolve.specs.declared.source
 pub mod Bounds
 pub mod Crates
 pub mod Dependents

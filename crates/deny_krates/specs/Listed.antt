@@ -9,8 +9,8 @@ use Rattle.semver.specs.Parse.{Held, Parts, req_of, version_parts}
 use Rattle.deny_lists.specs.Ascending.{Lists}
 use Rattle.deny_lists.specs.TextMap.{TextFinMap}
 use Rattle.deny_krates.specs.Crates.{source_view, target_view}
-use Rattle.deny_metadata.specs.Source.{source_of}
-use Rattle.deny_metadata.specs.Versions.{rust_version_of}
+use Rattle.deny_resolve.specs.Source.{source_of}
+use Rattle.deny_resolve.specs.Versions.{rust_version_of}
 use Rattle.deny_metadata.specs.declared.document.Declaration.{Declaration}
 use Rattle.deny_metadata.specs.declared.document.Document.{Document}
 use Rattle.deny_metadata.specs.declared.document.Feature.{Feature}

@@ -8,7 +8,7 @@ use Rattle.deny_base.specs.declared.edge.Edge.{Edge}
 use Rattle.deny_model.specs.Graph.{Graph}
 use Rattle.deny_model.specs.TargetEdge.{target_edge_cmp}
 use Rattle.deny_model.specs.declared.target_edge.TargetEdge.{TargetEdge}
-use Rattle.deny_metadata.specs.Checked.{Resolved, checked}
+use Rattle.deny_resolve.specs.Checked.{Resolved, checked}
 use Rattle.deny_krates.specs.Listed.{AreCratesAt}
 use Rattle.deny_krates.specs.Packages.{package_cmp}
 use Rattle.deny_metadata.specs.declared.document.Document.{Document}

@@ -8,13 +8,14 @@ ghost use Rattle.deny_krates.specs.Crates.{crate_view, dependency_view};
 ghost use Rattle.deny_krates.specs.private.Graph.{IsKrateAs, IsKrateOf, no_package};
 ghost use Rattle.deny_krates.specs.private.Taken.{IsRead, IsWithout, dependency_with, requirement_held};
 ghost use Rattle.deny_krates.specs.Listed.{crate_at, dependency_at, features_of, requirement_read};
-ghost use Rattle.deny_metadata.specs.PackageTexts.{AreTextsOf};
+ghost use Rattle.deny_resolve.specs.PackageTexts.{AreTextsOf};
 
 use crate::graph::KeptPackage;
 use crate::krate::{Dependency, Krate};
 use deny_base::Kid;
 use deny_lists::{List, NoMemory, Text, TextMap, put_in_order};
-use deny_metadata::{Declaration, Feature, Node, Package, PackageTexts, PackageVersions, Source};
+use deny_metadata::{Declaration, Feature, Node, Package};
+use deny_resolve::{PackageTexts, PackageVersions, Source};
 use semver::{Version, VersionReq};
 use std::alloc::Global;
 use std::mem;

@@ -4,7 +4,8 @@ ghost use Rattle.deny_krates.specs.private.Reach.{links_at};
 
 use deny_base::{DepKind, Edge};
 use deny_lists::{List, NoMemory};
-use deny_metadata::{Link, NeededAs, ResolvedNode};
+use deny_metadata::NeededAs;
+use deny_resolve::{Link, ResolvedNode};
 use std::alloc::Global;
 
 /// For each crate, by its place, the links to the crates that it needs in another way than `kind`.

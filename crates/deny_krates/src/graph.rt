@@ -12,8 +12,9 @@ ghost use Rattle.deny_krates.specs.declared.graph.KeptPackage.{KeptPackage};
 
 use deny_base::{Edge, edge_order};
 use deny_lists::{List, NoMemory, Text, put_in_order};
-use deny_metadata::{Link, Package, ResolvedNode};
+use deny_metadata::Package;
 use deny_model::{TargetEdge, target_edge_order};
+use deny_resolve::{Link, ResolvedNode};
 use std::alloc::Global;
 
 /// What crates are ordered by: name, version text, source text (none first) and id.

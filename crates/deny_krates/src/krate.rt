@@ -7,7 +7,8 @@ ghost use Rattle.deny_model.specs.Text.{same_text};
 
 use deny_base::{DepKind, Kid};
 use deny_lists::{List, Text, TextMap};
-use deny_metadata::{Source, Target};
+use deny_metadata::Target;
+use deny_resolve::Source;
 use semver::{Version, VersionReq};
 use std::fmt;
 

@@ -19,7 +19,8 @@ mod resolution;
 mod resolved;
 
 pub use deny_base::DepKind;
-pub use deny_metadata::{GitSpec, MetadataFault, Source, Target, source_in};
+pub use deny_metadata::{MetadataFault, Target};
+pub use deny_resolve::{GitSpec, Source, source_in};
 pub use krate::{Dependency, DirectDependent, Krate};
 pub use krates::Krates;
 pub use nodes::{InEdge, NodeId};

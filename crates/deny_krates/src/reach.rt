@@ -2,7 +2,7 @@ ghost use Rattle.std.specs.Prelude.{◌≡◌, ◌<◌, ◌^◌, ℕ, IfOk, All,
 ghost use Rattle.deny_krates.specs.private.Reach.{AreReached, links_at};
 
 use deny_lists::{List, Neighbours, NoMemory};
-use deny_metadata::{Link, ResolvedNode};
+use deny_resolve::{Link, ResolvedNode};
 use std::alloc::Global;
 
 /// Nodes, each with the links that lead from it.

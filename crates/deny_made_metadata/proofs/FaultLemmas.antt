@@ -2,7 +2,7 @@
 use Rattle.std.proofs.Common.{◌≡◌, ◌<◌, ◌^◌, ℕ, Ok}
 use Rattle.deny_generator.specs.Made.{below}
 use Rattle.deny_generator.specs.MetadataText.{metadata_text}
-use Rattle.deny_metadata.specs.Checked.{checked}
+use Rattle.deny_resolve.specs.Checked.{checked}
 use Rattle.deny_metadata.specs.Document.{json_at, json_of, value_at, whole}
 use Rattle.deny_made_metadata.specs.Faults.{HasNoFault}
 use Rattle.deny_made_metadata.proofs.DocumentLemmas.{value-found}

@@ -14,15 +14,15 @@ use Rattle.deny_base.specs.declared.edge.DepKind.TheVariants.{Normal}
 use Rattle.deny_generator.specs.Made.{below, version_at}
 use Rattle.deny_generator.specs.MetadataText.{id_at, path_text, registry}
 use Rattle.deny_model.specs.Text.{same_text}
-use Rattle.deny_metadata.proofs.IndexLemmas.{is_new, no_more_ids}
-use Rattle.deny_metadata.specs.Checked.{Numbering, Resolved, distinct, distinct_after, known, links_of}
-use Rattle.deny_metadata.specs.Checked.{manifest_path_reads, node_ids, number_in, number_or, optional_reads}
-use Rattle.deny_metadata.specs.Checked.{package_ids, packages_read, read_or, requirement_reads, requirements_read}
-use Rattle.deny_metadata.specs.Checked.{resolved, resolved_by, resolved_node, source_reads, version_reads}
+use Rattle.deny_resolve.proofs.IndexLemmas.{is_new, no_more_ids}
+use Rattle.deny_resolve.specs.Checked.{Numbering, Resolved, distinct, distinct_after, known, links_of}
+use Rattle.deny_resolve.specs.Checked.{manifest_path_reads, node_ids, number_in, number_or, optional_reads}
+use Rattle.deny_resolve.specs.Checked.{package_ids, packages_read, read_or, requirement_reads, requirements_read}
+use Rattle.deny_resolve.specs.Checked.{resolved, resolved_by, resolved_node, source_reads, version_reads}
 use Rattle.deny_metadata.specs.Reading.{◌>>=◌, each, each_passes}
-use Rattle.deny_metadata.specs.Source.{crates_io_of, known_or, source_of}
-use Rattle.deny_metadata.specs.declared.checked.Link.{Link}
-use Rattle.deny_metadata.specs.declared.checked.ResolvedNode.{ResolvedNode}
+use Rattle.deny_resolve.specs.Source.{crates_io_of, known_or, source_of}
+use Rattle.deny_resolve.specs.declared.resolve.Link.{Link}
+use Rattle.deny_resolve.specs.declared.resolve.ResolvedNode.{ResolvedNode}
 use Rattle.deny_metadata.specs.declared.document.Declaration.{Declaration}
 use Rattle.deny_metadata.specs.declared.document.Document.{Document}
 use Rattle.deny_metadata.specs.declared.document.Node.{Node}

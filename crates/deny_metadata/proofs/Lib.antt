@@ -1,13 +1,8 @@
 pub mod BorrowedLemmas
-pub mod CheckedLemmas
 pub mod ElementsLemmas
 pub mod FeaturesLemmas
-pub mod IndexLemmas
-pub mod PackageTextsLemmas
 pub mod PartsLemmas
 pub mod PrunedLemmas
 pub mod ReadingLemmas
-pub mod SourceLemmas
-pub mod VersionsLemmas
 pub mod WantedLemmas
 pub mod WholeLemmas

@@ -1,4 +1,3 @@
 pub mod Borrowed
-pub mod Index
 pub mod Wanted
 pub mod Parts

@@ -3,11 +3,11 @@ use Rattle.std.specs.Prelude.{◌≡◌, ℕ, List, Bool, Contains, Ok}
 use Rattle.std.specs.List.{AllZip}
 use Rattle.semver.specs.Parse.{Parts, version_parts}
 use Rattle.deny_lists.specs.Ascending.{Lists}
-use Rattle.deny_metadata.specs.Checked.{distinct, known, node_ids, node_numbers, package_ids, package_numbers}
-use Rattle.deny_metadata.specs.Checked.{resolved_node}
+use Rattle.deny_resolve.specs.Checked.{distinct, known, node_ids, node_numbers, package_ids, package_numbers}
+use Rattle.deny_resolve.specs.Checked.{resolved_node}
 use Rattle.deny_krates.specs.private.Graph.{IsKeptNode, kept_cmp}
 use Rattle.deny_krates.specs.private.Reach.{AreReached}
-use Rattle.deny_metadata.specs.declared.checked.ResolvedNode.{ResolvedNode}
+use Rattle.deny_resolve.specs.declared.resolve.ResolvedNode.{ResolvedNode}
 use Rattle.deny_metadata.specs.declared.document.Document.{Document}
 use Rattle.deny_metadata.specs.declared.document.Package.{Package}
 use Rattle.deny_krates.specs.declared.graph.KeptPackage.{KeptPackage}

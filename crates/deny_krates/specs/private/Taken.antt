@@ -6,8 +6,8 @@ use Rattle.semver.specs.Parse.{Held}
 use Rattle.semver.specs.declared.VersionReq.{VersionReq}
 use Rattle.deny_krates.specs.Listed.{requirement_read, version_read}
 use Rattle.deny_krates.specs.declared.crates.ReadPackage.{ReadPackage}
-use Rattle.deny_metadata.specs.Source.{source_of}
-use Rattle.deny_metadata.specs.Versions.{rust_version_of}
+use Rattle.deny_resolve.specs.Source.{source_of}
+use Rattle.deny_resolve.specs.Versions.{rust_version_of}
 use Rattle.deny_metadata.specs.declared.document.Declaration.{Declaration}
 use Rattle.deny_model.specs.Graph as model
 

@@ -1,5 +1,5 @@
 use Rattle.std.proofs.Common.{◌∙◌}
-use Rattle.deny_metadata.specs.Checked.{checked, resolved}
+use Rattle.deny_resolve.specs.Checked.{checked, resolved}
 use Rattle.deny_krates.specs.Read.{IsGraphOf}
 use Rattle.deny_krates.proofs.BuildLemmas.{graph_is}
 use Rattle.deny_metadata.proofs.ReadingLemmas.{if_err_handed, if_err_through, if_ok_then}

@@ -1,8 +1,0 @@
-use Rattle.std.proofs.Common.{◌≡◌, drop}
-use Rattle.deny_metadata.specs.Checked.{manifest_path_reads}
-use Rattle.deny_metadata.specs.Reading.{each_passes}
-use Rattle.deny_metadata.proofs.checked.check_manifest_paths.Given as goal
-
-abbrev pub invariant-loop-listed : goal.invariant-loop-listed
-invariant-loop-listed l = each_passes manifest_path_reads l.packages ≡ each_passes manifest_path_reads
-    (drop l.listed-index l.packages)

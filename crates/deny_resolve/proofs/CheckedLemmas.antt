@@ -1,0 +1,64 @@
+-- The links of dependencies, from a place on.
+use Rattle.std.proofs.Common.{◌≡◌, ◌<◌, ◌≤◌, ◌+◌, ◌++◌, ℕ, List, [], Result, Ok, Err, length, drop, refl, sym, ap, ◌∙◌}
+use Rattle.std.proofs.Common.{add-one}
+use Rattle.std.specs.Prelude.{slice_index_or, MatchResult}
+use Rattle.std.specs.BTreeMap.{BTreeMap}
+use mathlib.Core.Path.{fun_ext}
+use Rattle.std.proofs.Math.ListN.{drop_of_length-le}
+use Rattle.std.proofs.Math.Seq.{drop-cons}
+use Rattle.deny_resolve.specs.Checked.{Numbering, Resolved, distinct, known, links_of, links_to, node_ids, package_ids}
+use Rattle.deny_resolve.specs.Checked.{resolved, resolved_by}
+use Rattle.deny_resolve.specs.private.Index.{IsIndex, number_by}
+use Rattle.deny_metadata.specs.Reading.{◌>>=◌, Fails}
+use Rattle.deny_resolve.specs.declared.resolve.Resolution.{Resolution}
+use Rattle.deny_metadata.specs.declared.document.NodeDependency.{NodeDependency}
+use Rattle.deny_metadata.specs.declared.document.Document.{Document}
+use Rattle.deny_metadata.specs.declared.fault.MetadataFault.{MetadataFault}
+use Rattle.deny_resolve.specs.declared.index.HashedId.{HashedId}
+use Rattle.deny_metadata.proofs.ReadingLemmas.{fails_through}
+
+pub next_links : (packages nodes : Numbering) (deps : List NodeDependency) (i : ℕ) (dep : NodeDependency)
+    → i < length deps → dep ≡ slice_index_or deps i dep
+    → links_of packages nodes (drop i deps)
+    ≡ known packages nodes dep.pkg
+    >>= (λ node. links_of packages nodes (drop (i + 1) deps) >>= (λ links. Ok (links_to node dep.kinds ++ links)))
+unfolding links_of
+next_links packages nodes deps i dep inside is = rw (drop-cons deps i dep inside, ← is, add-one) refl
+
+pub no_more_links : (packages nodes : Numbering) (deps : List NodeDependency) (i : ℕ) → length deps ≤ i
+    → links_of packages nodes (drop i deps) ≡ Ok []
+unfolding links_of
+no_more_links packages nodes deps i past = rw (drop_of_length-le deps past) refl
+
+same_numbering : (packages packages' nodes nodes' : Numbering) (doc : Document)
+    → ((id : List ℕ) → packages id ≡ packages' id) → ((id : List ℕ) → nodes id ≡ nodes' id)
+    → resolved_by packages nodes doc ≡ resolved_by packages' nodes' doc
+same_numbering packages packages' nodes nodes' doc p n = ap (λ (f : Numbering). resolved_by f nodes doc) (fun_ext p)
+    ∙ ap (λ (g : Numbering). resolved_by packages' g doc) (fun_ext n)
+
+-- with the ids apart, a document resolves by the indexes of its packages and nodes
+pub resolved_by_indexes : (packages nodes : BTreeMap HashedId ℕ) (doc : Document)
+    → distinct (package_ids doc) ≡ Ok tt → distinct (node_ids doc) ≡ Ok tt → IsIndex packages (package_ids doc)
+    → IsIndex nodes (node_ids doc)
+    → resolved doc ≡ resolved_by (number_by packages) (number_by nodes) doc
+unfolding resolved
+resolved_by_indexes packages nodes doc apart apart' p n =
+    rw (apart, apart') (same_numbering _ _ _ _ doc (λ id. sym (p.at id)) (λ id. sym (n.at id)))
+
+pub first_fails : (doc : Document) (e : MetadataFault) → distinct (package_ids doc) ≡ Err e → resolved doc ≡ Err e
+unfolding resolved
+first_fails doc e is = rw is refl
+
+pub second_fails : (doc : Document) (e : MetadataFault) → distinct (package_ids doc) ≡ Ok tt
+    → distinct (node_ids doc) ≡ Err e → resolved doc ≡ Err e
+unfolding resolved
+second_fails doc e apart is = rw (apart, is) refl
+
+-- what resolves by the indexes resolves
+pub resolves : (doc : Document) (by : Result Resolved MetadataFault) (result : Result Resolution MetadataFault)
+    → resolved doc ≡ by
+    → MatchResult result (λ r. by ≡ Ok (record { document = doc; starts = r.starts; rows = r.rows })) (λ e. Fails e by)
+    → MatchResult result (λ r. resolved doc ≡ Ok (record { document = doc; starts = r.starts; rows = r.rows }))
+    (λ e. Fails e (resolved doc))
+resolves doc by (Ok r) same h = same ∙ h
+resolves doc by (Err e) same h = fails_through e by (resolved doc) (λ f is. same ∙ is) h

@@ -1,0 +1,5 @@
+pub mod CheckedLemmas
+pub mod IndexLemmas
+pub mod PackageTextsLemmas
+pub mod SourceLemmas
+pub mod VersionsLemmas

@@ -1,0 +1,47 @@
+-- Steps of the loops that read what packages write.
+use Rattle.std.proofs.Common.{◌≡◌, ◌<◌, ◌+◌, ◌++◌, ◌∷◌, ℕ, List, [], Result, Ok, Err, length, map, refl}
+use Rattle.std.proofs.Common.{add-one, subst, sym, take}
+use Rattle.std.specs.Prelude.{IsErrAnd, slice_index_or}
+use Rattle.std.proofs.Math.Seq.{take-suc}
+use Rattle.std.proofs.lemmas.List.{map_push}
+use Rattle.deny_resolve.specs.Checked.{requirement_reads, requirements_read}
+use Rattle.deny_metadata.specs.Reading.{Fails, Passes, each_passes}
+use Rattle.deny_metadata.specs.declared.document.Declaration.{Declaration}
+use Rattle.deny_metadata.specs.declared.document.Package.{Package}
+use Rattle.deny_metadata.specs.declared.fault.MetadataFault.{MetadataFault}
+
+-- one more is read
+pub read_more : {A B C : Type 0} (view : B → C) (said : A → C) (read new : List B) (y : B) (xs : List A) (i : ℕ) (x : A)
+    → i < length xs → x ≡ slice_index_or xs i x → new ≡ read ++ y ∷ [] → map view read ≡ map said (take i xs)
+    → view y ≡ said x → map view new ≡ map said (take (i + 1) xs)
+read_more view said read new y xs i x inside is pushed so_far same =
+    rw (pushed, add-one, take-suc xs i x inside, ← is, map_push view read y, map_push said (take i xs) x, so_far, same)
+    refl
+
+-- what `?` hands on is a fault of the check
+pub fault_handed : {A : Type 0} (result : Result A MetadataFault) (e : MetadataFault)
+    (check : Result (Unit {0}) MetadataFault)
+    → IsErrAnd result (λ f. f ≡ e) → Fails e check → Passes result check
+fault_handed (Ok x) e check is fails = absurd is
+fault_handed (Err f) e check is fails = subst (λ (d : MetadataFault). Fails d check) (sym is) fails
+
+-- the same, where what is read is what stands
+pub read_pushed : {A C : Type 0} (said : A → C) (new read : List C) (y : C) (xs : List A) (i : ℕ) (x : A)
+    → i < length xs → x ≡ slice_index_or xs i x → new ≡ read ++ y ∷ [] → read ≡ map said (take i xs) → y ≡ said x
+    → new ≡ map said (take (i + 1) xs)
+read_pushed said new read y xs i x inside is pushed so_far same =
+    rw (pushed, add-one, take-suc xs i x inside, ← is, map_push said (take i xs) x, so_far, same) refl
+
+-- the requirements of a package pass as those of its declarations do
+pub requirements_pass : (p : Package) (declarations : List Declaration) → declarations ≡ p.dependencies
+    → each_passes (requirement_reads p.id) declarations ≡ Ok tt → requirements_read p ≡ Ok tt
+unfolding requirements_read
+requirements_pass p declarations same passes =
+    subst (λ (ds : List Declaration). each_passes (requirement_reads p.id) ds ≡ Ok tt) same passes
+
+pub requirements_fail : (p : Package) (declarations : List Declaration) (e : MetadataFault)
+    → declarations ≡ p.dependencies → Fails e (each_passes (requirement_reads p.id) declarations)
+    → Fails e (requirements_read p)
+unfolding requirements_read
+requirements_fail p declarations e same fails =
+    subst (λ (ds : List Declaration). Fails e (each_passes (requirement_reads p.id) ds)) same fails

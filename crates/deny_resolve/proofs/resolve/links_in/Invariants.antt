@@ -1,0 +1,11 @@
+use Rattle.std.proofs.Common.{◌≡◌, drop}
+use Rattle.deny_resolve.specs.Checked.{links_of}
+use Rattle.deny_resolve.specs.private.Index.{number_by}
+use Rattle.deny_metadata.proofs.ReadingLemmas.{with_prefix}
+use Rattle.deny_resolve.proofs.resolve.links_in.Given as goal
+
+abbrev pub invariant-loop-dep : goal.invariant-loop-dep
+invariant-loop-dep l =
+    links_of (number_by l.indexes.packages) (number_by l.indexes.nodes) l.deps
+    ≡ with_prefix l.links (links_of (number_by l.indexes.packages) (number_by l.indexes.nodes)
+    (drop l.dep-index l.deps))

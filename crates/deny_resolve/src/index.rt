@@ -1,0 +1,94 @@
+ghost use Rattle.std.specs.Prelude.{◌≡◌, ◌<◌, ◌^◌, ℕ, List, Ok, Err, IfOk, MatchResult, length, map};
+ghost use Rattle.deny_resolve.specs.Checked.{distinct, number_in};
+ghost use Rattle.deny_resolve.specs.private.Index.{IsIndex, hash_of, number_by};
+ghost use Rattle.deny_metadata.specs.Reading.{Fails, Gives};
+
+use deny_lists::Text;
+use deny_metadata::{MetadataFault, Node, Package};
+use std::alloc::Global;
+use std::collections::BTreeMap;
+
+/// An id with its hash. Ids are told apart by their hashes first, since those of one graph share
+/// long beginnings.
+#[derive(Clone, Copy, PartialEq, Eq, PartialOrd, Ord)]
+pub struct HashedId<'d> {
+    pub hash: u32,
+    pub id: &'d str,
+}
+
+/// An id with its hash.
+fn hashed(id: &str) -> HashedId<'_>
+    ensures hash { result.hash ≡ hash_of id.now }
+    ensures id { result.id.now ≡ id.now }
+{
+    HashedId {
+        hash: hash_of(id.as_bytes()),
+        id,
+    }
+}
+
+/// The hash of a text: that of equal texts is the same.
+fn hash_of(text: &[u8]) -> u32
+    ensures { result ≡ hash_of text.now }
+{
+    let mut hash: u32 = 0;
+    for byte in text {
+        hash = hash.wrapping_mul(31).wrapping_add(u32::from(*byte));
+    }
+    hash
+}
+
+/// The number of an id in an index.
+pub fn number_by<'d>(index: &BTreeMap<HashedId<'d>, u32>, id: &'d str) -> Option<u32>
+    ensures { result ≡ number_by index.now id.now }
+{
+    let key = hashed(id);
+    index.get(&key).copied()
+}
+
+/// What an id names.
+pub trait Named {
+    ghost id_of: { Self → List ℕ };
+
+    /// The id.
+    fn id(&self) -> &str
+        ensures { result.now ≡ id_of self.now };
+}
+
+impl Named for Package {
+    ghost id_of = { λ p. p.id };
+
+    fn id(&self) -> &str {
+        self.id.as_str()
+    }
+}
+
+impl Named for Node {
+    ghost id_of = { λ n. n.id };
+
+    fn id(&self) -> &str {
+        self.id.as_str()
+    }
+}
+
+/// The numbers of things by their ids, or the fault of the first id that stood before.
+pub fn index_of<'n, T: Named>(
+    alloc: Global,
+    things: &'n [T],
+) -> Result<BTreeMap<HashedId<'n>, u32>, MetadataFault>
+    requires { length things.now < 2 ^ 28 }
+    ensures index { IfOk result (λ index. IsIndex index (map T.id_of things.now)) }
+    ensures distinct { MatchResult result (λ _. distinct (map T.id_of things.now) ≡ Ok tt)
+        (λ e. Fails e (distinct (map T.id_of things.now))) }
+{
+    let mut index = BTreeMap::new(alloc);
+    for (number, thing) in things.iter().enumerate() {
+        let id = thing.id();
+        let key = hashed(id);
+        if index.contains_key(&key) {
+            return Err(MetadataFault::DuplicateId(Text::from_str(alloc, id)?));
+        }
+        index.insert(key, number as u32)?;
+    }
+    Ok(index)
+}

@@ -1,0 +1,13 @@
+//! What metadata comes to: what its versions, requirements and sources say, and its ids as numbers,
+//! or the first fault.
+#![tactic(auto)]
+
+mod index;
+mod package_texts;
+mod resolve;
+mod source;
+mod versions;
+
+pub use package_texts::{PackageTexts, PackageVersions};
+pub use resolve::{Link, Resolution, ResolvedNode, resolve};
+pub use source::{GitSpec, Source, source_in};
