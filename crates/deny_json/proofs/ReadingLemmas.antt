@@ -1,6 +1,5 @@
 -- A plain value is read back from its text.
-use Rattle.std.proofs.Common.{◌≡◌, ℕ, List, [], Option, Some, ap, ap₂, refl, sym, ◌∙◌, arith, append-nil, option_map}
-use Rattle.std.proofs.Common.{option_and_then, suc}
+use Rattle.std.proofs.Common.{◌≡◌, ℕ, List, Some, ap, ap₂, refl, sym, ◌∙◌, arith, option_map, option_and_then, suc}
 use Rattle.std.specs.Prelude.{max, ⊤}
 use Rattle.std.specs.Cmp.Lexicographic.{slice_cmp}
 use Rattle.std.specs.Ordering.{match_ordering, nat_cmp, ordering_reverse}
@@ -8,18 +7,13 @@ use Rattle.std.specs.declared.cmp.Ordering.{Ordering}
 use Rattle.std.specs.declared.cmp.Ordering.TheVariants.{Less, Greater}
 use Rattle.std.proofs.lemmas.Cmp.{nat_list_cmp_total}
 use Rattle.json.proofs.Printed.Decimals.{IsNumber-decimal}
-use Rattle.json.proofs.Printed.Tokens.{tokens-print}
-use Rattle.json.proofs.Printed.Trees.{ArePrintable-json_tokens, value-json_tokens}
-use Rattle.json.specs.Json as json
-use Rattle.json.specs.Lex.{tokens}
-use Rattle.json.specs.Token.{Token}
 use Rattle.json.specs.Tree as tree
 use Rattle.serde_json.proofs.Numbers.{number_of-decimal}
-use Rattle.serde_json.proofs.Texts.{print-outline}
 use Rattle.serde_json.specs.Data.{Data, null, boolean, number, string, array, object, unsigned, negative, float, Items}
 use Rattle.serde_json.specs.Data.{no_items, item, Members, no_members, member, put, depth, items_depth, members_depth}
-use Rattle.serde_json.specs.Read.{max_depth, of_items, of_json, of_members}
+use Rattle.serde_json.specs.Read.{of_items, of_json, of_members}
 use Rattle.serde_json.specs.Written.{compact_text, items_outline, members_outline, outline}
+use Rattle.deny_metadata.proofs.ReadBackLemmas.{read-compact_text, tokens-compact_text}
 use Rattle.deny_json.specs.Reading.{IsBeforeNext, IsJsonOf, IsPlain, ItemsArePlain, MembersArePlain}
 
 -- ---- its numbers are numbers of JSON
@@ -147,22 +141,11 @@ mutual
   same_members_depth no_members = refl
   same_members_depth (member key value others) = ap₂ max (same_depth value) (same_members_depth others)
 
-spelled : (value : Data) → IsPlain value → tokens (compact_text value) ≡ tree.json_tokens (outline value)
-spelled value is =
-    ap tokens (sym (print-outline value))
-    ∙ tokens-print (tree.json_tokens (outline value)) (ArePrintable-json_tokens (outline value) (numbers value is))
-
--- what the whole of some tokens is read as
-abbrev whole : Option (json.Json × List Token) → Option Data
-whole read = option_and_then of_json (option_and_then (λ p. json.if_last p.0 p.1) read)
-
 pub is_json : (value : Data) → IsPlain value → IsJsonOf (compact_text value) value
 is_json value is = record {
   tree = outline value;
-  spells = spelled value is;
+  spells = tokens-compact_text value (numbers value is);
   reads = value_read value is;
   reads_back = λ shallow.
-      ap whole (ap (json.value max_depth) (spelled value is ∙ sym (append-nil (tree.json_tokens (outline value))))
-      ∙ value-json_tokens (outline value) max_depth [] (omega (arith, same_depth value, shallow)))
-      ∙ value_read value is;
+      read-compact_text value (numbers value is) (omega (arith, same_depth value, shallow)) ∙ value_read value is;
 }

@@ -1,16 +1,11 @@
 -- The metadata that is made is read as the value.
-use Rattle.std.proofs.Common.{◌≡◌, ◌≤◌, ◌<◌, ◌^◌, ◌∙◌, ◌||◌, ℕ, Bool, false, List, [], ◌∷◌, Option, Some, ap, ap₂}
-use Rattle.std.proofs.Common.{append-nil, arith, option_and_then, option_map, refl, sym}
-use Rattle.json.proofs.Printed.Tokens.{tokens-print}
-use Rattle.json.proofs.Printed.Trees.{ArePrintable-json_tokens, value-json_tokens}
-use Rattle.json.specs.Json as json
-use Rattle.json.specs.Lex.{tokens}
-use Rattle.json.specs.Token.{Token}
+use Rattle.std.proofs.Common.{◌≡◌, ◌≤◌, ◌<◌, ◌^◌, ◌∙◌, ◌||◌, ℕ, Bool, false, List, [], ◌∷◌, Some, ap, ap₂, arith}
+use Rattle.std.proofs.Common.{option_and_then, option_map, refl, sym}
 use Rattle.json.specs.Tree as tree
-use Rattle.serde_json.proofs.Texts.{print-outline}
 use Rattle.serde_json.specs.Data.{Data, item, Items}
-use Rattle.serde_json.specs.Read.{max_depth, of_items, of_json, read}
-use Rattle.serde_json.specs.Written.{compact_text, has_float, items_have_float, items_outline, outline}
+use Rattle.serde_json.specs.Read.{of_items, of_json, read}
+use Rattle.serde_json.specs.Written.{has_float, items_have_float, items_outline, outline}
+use Rattle.deny_metadata.proofs.ReadBackLemmas.{read-compact_text}
 use Rattle.deny_generator.specs.Made.{below}
 use Rattle.deny_generator.specs.MetadataText.{metadata_text}
 use Rattle.deny_made_metadata.proofs.Values.{declaration, dep, each, node, nodes, package_read, package_written}
@@ -193,21 +188,8 @@ value-whole numbers = rw (
 
 -- ---- the whole
 
--- what the whole of some tokens is read as
-abbrev whole : Option (json.Json × List Token) → Option Data
-whole found = option_and_then of_json (option_and_then (λ p. json.if_last p.0 p.1) found)
-
-written-tokens : (numbers : List ℕ)
-    → tokens (compact_text (written numbers)) ≡ tree.json_tokens (outline (written numbers))
-written-tokens numbers =
-    ap tokens (sym (print-outline (written numbers)))
-    ∙ tokens-print (tree.json_tokens (outline (written numbers)))
-    (ArePrintable-json_tokens (outline (written numbers)) (written-numbers numbers))
-
 pub metadata-read : (crates : ℕ) → crates < 2 ^ 64 → read (metadata_text crates) ≡ Some (value (below crates))
 metadata-read crates few =
-    let tree_of = outline (written (below crates)) in
+    let numbers = below crates in
     ap read (sym (written-text crates few))
-    ∙ (ap whole (ap (json.value max_depth) (written-tokens (below crates) ∙ sym (append-nil (tree.json_tokens tree_of)))
-    ∙ value-json_tokens tree_of max_depth [] (written-depth (below crates)))
-    ∙ written-read (below crates))
+    ∙ (read-compact_text (written numbers) (written-numbers numbers) (written-depth numbers) ∙ written-read numbers)

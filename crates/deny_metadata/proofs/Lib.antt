@@ -3,6 +3,7 @@ pub mod ElementsLemmas
 pub mod FeaturesLemmas
 pub mod PartsLemmas
 pub mod PrunedLemmas
+pub mod ReadBackLemmas
 pub mod ReadingLemmas
 pub mod WantedLemmas
 pub mod WholeLemmas

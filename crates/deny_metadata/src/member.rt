@@ -2,7 +2,7 @@ ghost use Rattle.std.specs.Prelude.{◌≡◌};
 ghost use Rattle.deny_metadata.specs.Member.{name_of};
 
 /// A member of the metadata that is read.
-#[derive(Debug, Clone, Copy, PartialEq, Eq)]
+#[derive(Clone, Copy)]
 pub enum Member {
     Packages,
     WorkspaceMembers,

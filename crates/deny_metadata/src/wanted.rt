@@ -6,7 +6,7 @@ ghost use Rattle.deny_metadata.specs.private.Wanted.{declaration_member, resolve
 use crate::member::Member;
 
 /// What is read of a value. Of an array it is said of each of its elements.
-#[derive(Debug, Clone, Copy, PartialEq, Eq)]
+#[derive(Clone, Copy)]
 pub enum Wanted {
     All,
     Nothing,

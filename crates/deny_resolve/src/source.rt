@@ -37,7 +37,7 @@ pub enum Source {
 }
 
 /// The reference that a git address names.
-#[derive(Debug, Drop)]
+#[derive(Drop)]
 pub struct Reference {
     pub spec: GitSpec,
     pub value: Option<Text>,
