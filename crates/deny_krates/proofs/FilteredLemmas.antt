@@ -15,8 +15,8 @@ use Rattle.deny_model.specs.Graph.{Graph}
 use Rattle.deny_krates.specs.Filtered.{AreMarks}
 use Rattle.deny_krates.specs.private.OtherLinks.{AreWays, is_way, link_of, links_from}
 use Rattle.deny_krates.specs.private.Reach.{AreReached, Reaches, from_start, by_link, links_at}
-use Rattle.deny_resolve.specs.declared.resolve.Link.{Link}
-use Rattle.deny_resolve.specs.declared.resolve.ResolvedNode.{ResolvedNode}
+use Rattle.deny_resolve.specs.declared.checked.Link.{Link}
+use Rattle.deny_resolve.specs.declared.checked.ResolvedNode.{ResolvedNode}
 use Rattle.deny_lists.proofs.Members.{contains_map, filter_keeps, filtered, from_contains_map, from_there}
 use Rattle.deny_lists.proofs.Members.{passes_filter, there}
 

@@ -18,8 +18,8 @@ use Rattle.deny_krates.specs.private.Numbered.{IsNumbered}
 use Rattle.deny_krates.specs.Packages.{package_cmp, rank_cmp, rank_of}
 use Rattle.deny_krates.specs.private.Reach.{Reaches, from_start, by_link, links_at}
 use Rattle.deny_krates.specs.Read.{IsCrate, IsEdge, IsMember, IsReached, IsTargetEdge, NeedsFor}
-use Rattle.deny_resolve.specs.declared.resolve.Link.{Link}
-use Rattle.deny_resolve.specs.declared.resolve.ResolvedNode.{ResolvedNode}
+use Rattle.deny_resolve.specs.declared.checked.Link.{Link}
+use Rattle.deny_resolve.specs.declared.checked.ResolvedNode.{ResolvedNode}
 use Rattle.deny_metadata.specs.declared.document.Document.{Document}
 use Rattle.deny_metadata.specs.declared.document.NeededAs.{NeededAs}
 use Rattle.deny_model.specs.TargetEdge.{edge_of, target_edge_cmp}

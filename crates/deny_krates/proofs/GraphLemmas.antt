@@ -19,7 +19,7 @@ use Rattle.deny_krates.specs.private.Graph.{IsKeptNode, edge_to, edges_from, fea
 use Rattle.deny_krates.specs.Packages.{rank_of}
 use Rattle.deny_krates.specs.Filtered.{is_marked}
 use Rattle.deny_krates.specs.private.Reach.{links_at}
-use Rattle.deny_resolve.specs.declared.resolve.ResolvedNode.{ResolvedNode}
+use Rattle.deny_resolve.specs.declared.checked.ResolvedNode.{ResolvedNode}
 use Rattle.deny_metadata.specs.declared.document.Node.{Node}
 use Rattle.deny_metadata.specs.declared.document.Package.{Package}
 use Rattle.deny_krates.specs.declared.direct.IncomingEdge.{IncomingEdge}

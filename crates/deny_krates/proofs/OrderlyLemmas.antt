@@ -23,7 +23,7 @@ use Rattle.deny_krates.specs.private.Numbered.{HasVersion, IsNumbered}
 use Rattle.deny_krates.specs.Orderly.{IsOrderly}
 use Rattle.deny_krates.specs.Packages.{package_cmp}
 use Rattle.deny_krates.specs.Read.{IsEdge, IsGraph, IsMember}
-use Rattle.deny_resolve.specs.declared.resolve.ResolvedNode.{ResolvedNode}
+use Rattle.deny_resolve.specs.declared.checked.ResolvedNode.{ResolvedNode}
 use Rattle.deny_metadata.specs.declared.document.Document.{Document}
 use Rattle.deny_metadata.specs.declared.document.Node.{Node}
 use Rattle.deny_metadata.specs.declared.document.Package.{Package}

@@ -5,8 +5,8 @@ use Rattle.std.proofs.lemmas.List.Elements.{All-contains}
 use Rattle.deny_lists.specs.Walk.{AreMarks, Chain, IsLed, StaysBelow}
 use Rattle.deny_lists.proofs.Members.{contains_map, from_contains_map}
 use Rattle.deny_krates.specs.private.Reach.{AreReached, Reaches, by_link, from_start, link_leads, links_at}
-use Rattle.deny_resolve.specs.declared.resolve.Link.{Link}
-use Rattle.deny_resolve.specs.declared.resolve.ResolvedNode.{ResolvedNode}
+use Rattle.deny_resolve.specs.declared.checked.Link.{Link}
+use Rattle.deny_resolve.specs.declared.checked.ResolvedNode.{ResolvedNode}
 
 -- a chain that goes on by one step
 chain_on : (leads : ℕ → ℕ → Type 0) (a b c n : ℕ) → Chain leads a b n → leads b c → Chain leads a c (suc n)

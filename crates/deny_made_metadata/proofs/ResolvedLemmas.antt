@@ -21,8 +21,8 @@ use Rattle.deny_resolve.specs.Checked.{package_ids, packages_read, read_or, requ
 use Rattle.deny_resolve.specs.Checked.{resolved, resolved_by, resolved_node, source_reads, version_reads}
 use Rattle.deny_metadata.specs.Reading.{◌>>=◌, each, each_passes}
 use Rattle.deny_resolve.specs.Source.{crates_io_of, known_or, source_of}
-use Rattle.deny_resolve.specs.declared.resolve.Link.{Link}
-use Rattle.deny_resolve.specs.declared.resolve.ResolvedNode.{ResolvedNode}
+use Rattle.deny_resolve.specs.declared.checked.Link.{Link}
+use Rattle.deny_resolve.specs.declared.checked.ResolvedNode.{ResolvedNode}
 use Rattle.deny_metadata.specs.declared.document.Declaration.{Declaration}
 use Rattle.deny_metadata.specs.declared.document.Document.{Document}
 use Rattle.deny_metadata.specs.declared.document.Node.{Node}

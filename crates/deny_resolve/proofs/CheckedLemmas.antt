@@ -10,7 +10,7 @@ use Rattle.deny_resolve.specs.Checked.{Numbering, Resolved, distinct, known, lin
 use Rattle.deny_resolve.specs.Checked.{resolved, resolved_by}
 use Rattle.deny_resolve.specs.private.Index.{IsIndex, number_by}
 use Rattle.deny_metadata.specs.Reading.{◌>>=◌, Fails}
-use Rattle.deny_resolve.specs.declared.resolve.Resolution.{Resolution}
+use Rattle.deny_resolve.specs.declared.checked.Resolution.{Resolution}
 use Rattle.deny_metadata.specs.declared.document.NodeDependency.{NodeDependency}
 use Rattle.deny_metadata.specs.declared.document.Document.{Document}
 use Rattle.deny_metadata.specs.declared.fault.MetadataFault.{MetadataFault}

@@ -8,8 +8,8 @@ use Rattle.deny_metadata.specs.Document.{value_at, document_of}
 use Rattle.deny_metadata.specs.Reading.{◌>>=◌, each, each_passes}
 use Rattle.deny_resolve.specs.Source.{source_of}
 use Rattle.deny_resolve.specs.Versions.{rust_version_of}
-use Rattle.deny_resolve.specs.declared.resolve.Link.{Link}
-use Rattle.deny_resolve.specs.declared.resolve.ResolvedNode.{ResolvedNode}
+use Rattle.deny_resolve.specs.declared.checked.Link.{Link}
+use Rattle.deny_resolve.specs.declared.checked.ResolvedNode.{ResolvedNode}
 use Rattle.deny_metadata.specs.declared.document.Declaration.{Declaration}
 use Rattle.deny_metadata.specs.declared.document.Document.{Document}
 use Rattle.deny_metadata.specs.declared.document.NeededAs.{NeededAs}

@@ -2,12 +2,12 @@
 //! or the first fault.
 #![tactic(auto)]
 
+mod checked;
 mod index;
 mod package_texts;
-mod resolve;
 mod source;
 mod versions;
 
+pub use checked::{Link, Resolution, ResolvedNode, resolve};
 pub use package_texts::{PackageTexts, PackageVersions};
-pub use resolve::{Link, Resolution, ResolvedNode, resolve};
 pub use source::{GitSpec, Source, source_in};

@@ -11,8 +11,8 @@ use Rattle.deny_krates.specs.Listed.{crate_at}
 use Rattle.deny_krates.specs.Packages.{rank_cmp, rank_of}
 use Rattle.deny_krates.specs.Filtered.{is_marked}
 use Rattle.deny_krates.specs.private.Reach.{links_at}
-use Rattle.deny_resolve.specs.declared.resolve.Link.{Link}
-use Rattle.deny_resolve.specs.declared.resolve.ResolvedNode.{ResolvedNode}
+use Rattle.deny_resolve.specs.declared.checked.Link.{Link}
+use Rattle.deny_resolve.specs.declared.checked.ResolvedNode.{ResolvedNode}
 use Rattle.deny_metadata.specs.declared.document.Node.{Node}
 use Rattle.deny_metadata.specs.declared.document.Package.{Package}
 use Rattle.deny_krates.specs.declared.graph.KeptPackage.{KeptPackage}

@@ -7,7 +7,7 @@ use Rattle.deny_resolve.specs.Checked.{distinct, known, node_ids, node_numbers, 
 use Rattle.deny_resolve.specs.Checked.{resolved_node}
 use Rattle.deny_krates.specs.private.Graph.{IsKeptNode, kept_cmp}
 use Rattle.deny_krates.specs.private.Reach.{AreReached}
-use Rattle.deny_resolve.specs.declared.resolve.ResolvedNode.{ResolvedNode}
+use Rattle.deny_resolve.specs.declared.checked.ResolvedNode.{ResolvedNode}
 use Rattle.deny_metadata.specs.declared.document.Document.{Document}
 use Rattle.deny_metadata.specs.declared.document.Package.{Package}
 use Rattle.deny_krates.specs.declared.graph.KeptPackage.{KeptPackage}

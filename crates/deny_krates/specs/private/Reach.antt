@@ -2,8 +2,8 @@
 use Rattle.std.specs.Prelude.{◌≡◌, ℕ, List, [], Bool, true, length, map, Contains, slice_get}
 use Rattle.std.specs.Option.{option_map_or}
 use Rattle.deny_krates.specs.Filtered.{is_marked}
-use Rattle.deny_resolve.specs.declared.resolve.Link.{Link}
-use Rattle.deny_resolve.specs.declared.resolve.ResolvedNode.{ResolvedNode}
+use Rattle.deny_resolve.specs.declared.checked.Link.{Link}
+use Rattle.deny_resolve.specs.declared.checked.ResolvedNode.{ResolvedNode}
 
 abbrev pub links_at : List ResolvedNode → ℕ → List Link
 links_at rows node = option_map_or (λ row. row.links) (slice_get rows node) []

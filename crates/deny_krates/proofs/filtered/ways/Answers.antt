@@ -4,8 +4,8 @@ use Rattle.std.proofs.lemmas.Option.{slice_get-get_or}
 use Rattle.deny_lists.proofs.Places.{slice_get-read}
 use Rattle.deny_base.specs.declared.edge.DepKind.TheVariants.{Normal}
 use Rattle.deny_krates.specs.private.OtherLinks.{AreWays, link_of}
-use Rattle.deny_resolve.specs.declared.resolve.Link.{Link}
-use Rattle.deny_resolve.specs.declared.resolve.ResolvedNode.{ResolvedNode}
+use Rattle.deny_resolve.specs.declared.checked.Link.{Link}
+use Rattle.deny_resolve.specs.declared.checked.ResolvedNode.{ResolvedNode}
 use Rattle.deny_krates.proofs.FilteredLemmas.{just_of, not_of, ways_more, ways_skip}
 use Rattle.deny_krates.proofs.GraphLemmas.{links_of_row}
 use Rattle.deny_krates.proofs.filtered.ways.Goals.{then-ne+in_ok-push, else-ne}

@@ -3,8 +3,8 @@ use Rattle.std.specs.Prelude.{All}
 use Rattle.deny_lists.proofs.Places.{slice_get-read}
 use Rattle.deny_krates.specs.private.Graph.{edge_to}
 use Rattle.deny_krates.specs.private.Reach.{links_at}
-use Rattle.deny_resolve.specs.declared.resolve.Link.{Link}
-use Rattle.deny_resolve.specs.declared.resolve.ResolvedNode.{ResolvedNode}
+use Rattle.deny_resolve.specs.declared.checked.Link.{Link}
+use Rattle.deny_resolve.specs.declared.checked.ResolvedNode.{ResolvedNode}
 use Rattle.deny_krates.specs.declared.graph.KeptPackage.{KeptPackage}
 use Rattle.deny_krates.proofs.GraphLemmas.{edges_next, links_of_row}
 use Rattle.deny_krates.proofs.graph.all_edges.Goals as goal

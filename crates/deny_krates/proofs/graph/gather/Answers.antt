@@ -3,7 +3,7 @@ use Rattle.std.specs.Prelude.{slice_get}
 use Rattle.deny_lists.proofs.Places.{slice_get-read}
 use Rattle.deny_krates.specs.private.Graph.{IsKeptNode, listed}
 use Rattle.deny_krates.specs.Packages.{rank_of}
-use Rattle.deny_resolve.specs.declared.resolve.ResolvedNode.{ResolvedNode}
+use Rattle.deny_resolve.specs.declared.checked.ResolvedNode.{ResolvedNode}
 use Rattle.deny_metadata.specs.declared.document.Package.{Package}
 use Rattle.deny_krates.specs.declared.graph.KeptPackage.{KeptPackage}
 use Rattle.deny_krates.proofs.GraphLemmas.{IsGathered, gathered_more, gathered_skip, listed_is}

@@ -3,7 +3,7 @@ use Rattle.std.specs.Prelude.{All}
 use Rattle.deny_base.specs.declared.edge.Edge.{Edge}
 use Rattle.deny_krates.specs.private.OtherLinks.{AreWays}
 use Rattle.deny_krates.specs.private.Reach.{AreReached, links_at}
-use Rattle.deny_resolve.specs.declared.resolve.ResolvedNode.{ResolvedNode}
+use Rattle.deny_resolve.specs.declared.checked.ResolvedNode.{ResolvedNode}
 use Rattle.deny_krates.proofs.FilteredLemmas.{marks_are, ways_inside}
 use Rattle.deny_metadata.proofs.ReadingLemmas.{if_ok_then}
 use Rattle.deny_krates.proofs.krates.filtered.Goals as goal

@@ -1,7 +1,7 @@
 use Rattle.std.proofs.Common.{sym, ℕ, List, subst}
 use Rattle.deny_resolve.specs.Checked.{Resolved}
 use Rattle.deny_krates.specs.private.Numbered.{IsResolved}
-use Rattle.deny_resolve.specs.declared.resolve.ResolvedNode.{ResolvedNode}
+use Rattle.deny_resolve.specs.declared.checked.ResolvedNode.{ResolvedNode}
 use Rattle.deny_krates.proofs.ResolvedLemmas.{resolved_is}
 use Rattle.deny_krates.proofs.krates.graph_in.Goals as goal
 

@@ -6,7 +6,7 @@ use Rattle.deny_metadata.specs.declared.document.Node.{Node}
 use Rattle.deny_metadata.specs.declared.document.Package.{Package}
 use Rattle.deny_resolve.proofs.CheckedLemmas.{first_fails, second_fails, resolved_by_indexes, resolves}
 use Rattle.deny_metadata.proofs.ReadingLemmas.{fails_through, handed_fault}
-use Rattle.deny_resolve.proofs.resolve.resolve.Goals as goal
+use Rattle.deny_resolve.proofs.checked.resolve.Goals as goal
 
 pub returns-in_err-packages-clause-numbers : goal.returns-in_err-packages-clause-numbers
 returns-in_err-packages-clause-numbers c =

@@ -4,7 +4,7 @@ use Rattle.deny_resolve.specs.private.Index.{number_by}
 use Rattle.deny_metadata.specs.Reading.{Fails}
 use Rattle.deny_resolve.proofs.CheckedLemmas.{next_links, no_more_links}
 use Rattle.deny_metadata.proofs.ReadingLemmas.{goes_on_by, fails_here_by, handed_on, all_read}
-use Rattle.deny_resolve.proofs.resolve.links_in.Goals as goal
+use Rattle.deny_resolve.proofs.checked.links_in.Goals as goal
 
 pub returns-in_err-node : goal.returns-in_err-node
 returns-in_err-node c =

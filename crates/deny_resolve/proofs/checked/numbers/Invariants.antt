@@ -3,7 +3,7 @@ use Rattle.deny_resolve.specs.Checked.{known}
 use Rattle.deny_resolve.specs.private.Index.{number_by}
 use Rattle.deny_metadata.specs.Reading.{each}
 use Rattle.deny_metadata.proofs.ReadingLemmas.{with_prefix}
-use Rattle.deny_resolve.proofs.resolve.numbers.Given as goal
+use Rattle.deny_resolve.proofs.checked.numbers.Given as goal
 
 abbrev pub invariant-loop-member : goal.invariant-loop-member
 invariant-loop-member l =

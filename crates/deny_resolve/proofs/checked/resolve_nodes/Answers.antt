@@ -3,7 +3,7 @@ use Rattle.deny_resolve.specs.Checked.{resolved_node}
 use Rattle.deny_resolve.specs.private.Index.{number_by}
 use Rattle.deny_metadata.specs.Reading.{Fails}
 use Rattle.deny_metadata.proofs.ReadingLemmas.{goes_on, fails_here, handed_on, next_each, no_more_each, all_read}
-use Rattle.deny_resolve.proofs.resolve.resolve_nodes.Goals as goal
+use Rattle.deny_resolve.proofs.checked.resolve_nodes.Goals as goal
 
 pub returns-in_err-resolve_node : goal.returns-in_err-resolve_node
 returns-in_err-resolve_node c =

@@ -1,7 +1,7 @@
 use Rattle.std.proofs.Common.{◌≡◌, drop}
 use Rattle.deny_resolve.specs.Checked.{manifest_path_reads}
 use Rattle.deny_metadata.specs.Reading.{each_passes}
-use Rattle.deny_resolve.proofs.resolve.check_manifest_paths.Given as goal
+use Rattle.deny_resolve.proofs.checked.check_manifest_paths.Given as goal
 
 abbrev pub invariant-loop-listed : goal.invariant-loop-listed
 invariant-loop-listed l = each_passes manifest_path_reads l.packages ≡ each_passes manifest_path_reads

@@ -1,7 +1,7 @@
 use Rattle.std.proofs.Common.{◌∙◌, arith}
 use Rattle.deny_resolve.specs.Checked.{manifest_path_reads}
 use Rattle.deny_metadata.proofs.ReadingLemmas.{passes_on, stops_here, handed_on, next_passes, no_more_passes}
-use Rattle.deny_resolve.proofs.resolve.check_manifest_paths.Goals as goal
+use Rattle.deny_resolve.proofs.checked.check_manifest_paths.Goals as goal
 
 pub returns-in_err-check_manifest_path : goal.returns-in_err-check_manifest_path
 returns-in_err-check_manifest_path c =
