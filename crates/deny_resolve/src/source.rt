@@ -70,7 +70,7 @@ fn decoded(alloc: Global, part: &[u8]) -> Result<Text, NoMemory>
 {
     let bytes = spaced(alloc, part)?;
     match percent_decode(bytes.as_slice()).decode_utf8(alloc) {
-        Ok(text) => Ok(Text::from_str(alloc, text.as_str())?),
+        Ok(text) => Text::from_str(alloc, text.as_str()),
         Err(DecodeError::Utf8(_)) => Ok(Text::from_string(String::from_utf8_lossy(alloc, part)?)),
         Err(DecodeError::OutOfMemory) => Err(NoMemory),
     }
