@@ -22,7 +22,7 @@ use Rattle.deny_entries.specs.SpecView.{spec_view}
 use Rattle.deny_entries.specs.declared.package_spec.PackageSpec.{PackageSpec}
 use Rattle.deny_krates.specs.Crates.{crate_view, target_view}
 use Rattle.deny_krates.specs.declared.Target.{Target}
-use Rattle.deny_krates.specs.declared.krate.Krate.{Krate}
+use Rattle.deny_krates.specs.krate.Krate.{Krate}
 use Rattle.deny_lists.proofs.Filters.{find-map, some-filter, any-map}
 use Rattle.deny_lists.proofs.Options.{is_some-option_map, option_map-now}
 use Rattle.deny_lists.proofs.Finding.{found_member}

@@ -9,7 +9,7 @@ use Rattle.deny_lists.specs.TextMap.{TextFinMap}
 use Rattle.deny_base.specs.declared.key.Key.{Key}
 use Rattle.deny_base.specs.declared.span.Span.{Span}
 use Rattle.deny_krates.specs.Dependents.{AreDirectDependents}
-use Rattle.deny_krates.specs.declared.krate.DirectDependent.{DirectDependent}
+use Rattle.deny_krates.specs.krate.DirectDependent.{DirectDependent}
 use Rattle.deny_model.specs.Graph.{Crate, Graph, dependents}
 use Rattle.deny_model.specs.Keys.{dependent_key}
 use Rattle.deny_model.specs.Wrappers.{same_span}

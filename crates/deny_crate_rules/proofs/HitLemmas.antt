@@ -21,7 +21,7 @@ use Rattle.deny_base.specs.declared.entry.Witness.TheVariants.{Krate, Parent}
 use Rattle.deny_lists.specs.TextMap.{TextFinMap}
 use Rattle.deny_base.specs.declared.span.Span.{Span}
 use Rattle.deny_krates.specs.Dependents.{AreDirectDependents}
-use Rattle.deny_krates.specs.declared.krate.DirectDependent.{DirectDependent}
+use Rattle.deny_krates.specs.krate.DirectDependent.{DirectDependent}
 use Rattle.deny_lists.proofs.Members.{Contains-first, Contains-rest, from_contains_map}
 use Rattle.deny_model.specs.Bans.{concerns, wrapper_of}
 use Rattle.deny_model.specs.Facts.{Facts}

@@ -11,7 +11,7 @@ use Rattle.deny_lists.proofs.WalkLemmas.{chain_more}
 use Rattle.deny_base.specs.declared.edge.Edge.{Edge}
 use Rattle.deny_krates.specs.Dependents.{AreDirectDependents}
 use Rattle.deny_krates.specs.Orderly.{IsOrderly}
-use Rattle.deny_krates.specs.declared.krate.DirectDependent.{DirectDependent}
+use Rattle.deny_krates.specs.krate.DirectDependent.{DirectDependent}
 use Rattle.deny_model.specs.Counting.{Chain}
 use Rattle.deny_model.specs.Graph.{Graph}
 use Rattle.deny_facts.specs.Placed.{ArePlaced}

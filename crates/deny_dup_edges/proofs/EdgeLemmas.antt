@@ -13,7 +13,7 @@ use Rattle.deny_base.specs.declared.edge.DepKind.TheVariants.{Normal, Dev, Build
 use Rattle.deny_base.specs.declared.edge.Edge.{Edge}
 use Rattle.deny_krates.specs.Dependents.{AreDirectDependents}
 use Rattle.deny_krates.specs.Orderly.{IsOrderly}
-use Rattle.deny_krates.specs.declared.krate.DirectDependent.{DirectDependent}
+use Rattle.deny_krates.specs.krate.DirectDependent.{DirectDependent}
 use Rattle.deny_model.specs.Graph.{Graph}
 use Rattle.deny_dup_edges.specs.Above.{AreAbove}
 use Rattle.deny_dup_edges.specs.DupEdges.{IsAboveOne}

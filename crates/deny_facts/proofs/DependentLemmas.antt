@@ -11,8 +11,8 @@ use Rattle.deny_lists.specs.TextMap.{TextFinMap}
 use Rattle.deny_base.specs.declared.span.Span.{Span}
 use Rattle.deny_krates.specs.Crates.{crate_view, crates_from}
 use Rattle.deny_krates.specs.Dependents.{AreDirectDependents}
-use Rattle.deny_krates.specs.declared.krate.DirectDependent.{DirectDependent}
-use Rattle.deny_krates.specs.declared.krate.Krate.{Krate}
+use Rattle.deny_krates.specs.krate.DirectDependent.{DirectDependent}
+use Rattle.deny_krates.specs.krate.Krate.{Krate}
 use Rattle.deny_model.specs.Graph.{Crate, Graph, dependents}
 use Rattle.deny_model.specs.Groups.{has_name}
 use Rattle.deny_model.specs.Told.{crate_at}

@@ -4,7 +4,7 @@ use Rattle.std.specs.Prelude.{◌↔◌, Contains}
 use Rattle.std.specs.List.{list_any}
 use Rattle.deny_krates.specs.Dependents.{AreDirectDependents}
 use Rattle.deny_krates.specs.Orderly.{IsOrderly}
-use Rattle.deny_krates.specs.declared.krate.DirectDependent.{DirectDependent}
+use Rattle.deny_krates.specs.krate.DirectDependent.{DirectDependent}
 use Rattle.deny_lists.proofs.Members.{Contains-filter, Contains-from_filter}
 use Rattle.deny_lists.specs.Walk as walk
 use Rattle.deny_model.specs.Counting.{Chain}

@@ -1,7 +1,7 @@
 -- The run of a key in a list that is in order of it.
 use Rattle.deny_lists.proofs.Orders.{is_equal, not_both, not_equal_above, not_equal_below}
-use Rattle.std.proofs.Common.{inl, inr, add-zero, ◌+◌, zero, suc, take, drop, ◌≡◌, ◌≤◌, ◌<◌, ℕ, List, [], ◌∷◌, Option}
-use Rattle.std.proofs.Common.{Some, None, true, false, length, refl, sym, arith, ◌∙◌, ap}
+use Rattle.std.proofs.Common.{inl, inr, ◌+◌, zero, suc, take, drop, ◌≡◌, ◌≤◌, ◌<◌, ℕ, List, [], ◌∷◌, Option, Some, None}
+use Rattle.std.proofs.Common.{true, false, length, refl, sym, arith, ◌∙◌, ap}
 use Rattle.std.specs.Prelude.{slice_index_or, filter, option_map, slice_get}
 use Rattle.std.specs.Option.{option_map_or}
 use Rattle.std.proofs.lemmas.Option.{same_Some, slice_get-get_or, slice_get_within}
@@ -13,8 +13,8 @@ use Rattle.deny_model.specs.Groups.{has_name}
 use Rattle.deny_model.specs.Resolution.{passes_at}
 use Rattle.deny_model.specs.Text.{same_text}
 use Rattle.deny_krates.proofs.ResolutionLemmas.{crates-at}
-use Rattle.deny_krates.specs.Crates.{crate_view, crates_from}
-use Rattle.deny_krates.specs.declared.krate.Krate.{Krate}
+use Rattle.deny_crates.specs.Crates.{crate_view, crates_from}
+use Rattle.deny_crates.specs.declared.krate.Krate.{Krate}
 
 same_there : (a b : List ℕ) → is_lt (slice_cmp nat_cmp a b) ≡ false → is_le (slice_cmp nat_cmp a b) ≡ true
     → same_text a b ≡ true
@@ -47,27 +47,6 @@ named_run name place (k ∷ ks) (suc s) n room below from upto above =
     (named_run name (place + 1) ks s n (omega (arith, room)) (λ i d h. below (suc i) d (omega (arith, h)))
     (λ i d a b. from (suc i) d (omega (arith, a)) (omega (arith, b))) (λ i d h. upto (suc i) d (omega (arith, h)))
     (λ i d a b. above (suc i) d (omega (arith, a)) (omega (arith, b))))
-
--- a part of the crates, each at its place
-pub crates_from-part : (place : ℕ) (ks : List Krate) (s n : ℕ) → s ≤ length ks
-    → crates_from (place + s) (take n (drop s ks)) ≡ take n (drop s (crates_from place ks))
-crates_from-part place [] s n room = rw (drop-nil, drop-nil, take-nil, take-nil)
-crates_from-part place (k ∷ ks) zero zero room = refl
-crates_from-part place (k ∷ ks) zero (suc n) room =
-    rw add-zero (ap (λ rest. crate_view place k ∷ rest) (part_of_rest place ks n))
-  where
-    part_of_rest : (place : ℕ) (ks : List Krate) (n : ℕ)
-        → crates_from (place + 1) (take n ks) ≡ take n (crates_from (place + 1) ks)
-    part_of_rest place [] n = rw (take-nil, take-nil)
-    part_of_rest place (k ∷ ks) zero = refl
-    part_of_rest place (k ∷ ks) (suc n) = ap (λ rest. crate_view (place + 1) k ∷ rest) (part_of_rest (place + 1) ks n)
-crates_from-part place (k ∷ ks) (suc s) n room =
-    let same : place + suc s ≡ (place + 1) + s = omega arith in
-    rw same (crates_from-part (place + 1) ks s n (omega (arith, room)))
-
-pub length-crates_from : (place : ℕ) (ks : List Krate) → length (crates_from place ks) ≡ length ks
-length-crates_from place [] = refl
-length-crates_from place (k ∷ ks) = ap suc (length-crates_from (place + 1) ks)
 
 -- the first above a name does not come before the first that is not below it
 pub upward : (name : List ℕ) (ks : List Krate) (s e : ℕ) → s ≤ length ks

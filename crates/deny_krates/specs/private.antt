@@ -1,11 +1,4 @@
-pub mod Direct
-pub mod Graph
-pub mod IdEntries
 pub mod Kept
 pub mod NodeNumbers
-pub mod Numbered
-pub mod OtherLinks
-pub mod Reach
 pub mod Resolved
 pub mod Sources
-pub mod Taken

@@ -1,43 +1,33 @@
-ghost use Rattle.std.specs.Prelude.{Bool, List, ℕ, Ok, Some, None, ◌↔◌, IsTrue, All, Contains, MatchOption, option_copied, option_map, ◌≡◌, ◌≤◌, ◌<◌, ◌^◌, ◌-◌, ◌≢◌, true, false, length, take, drop, filter, IfOk, IfErr};
+ghost use Rattle.std.specs.Prelude.{List, ℕ, Ok, Some, None, ◌↔◌, IsTrue, Contains, MatchOption, option_copied, option_map, ◌≡◌, ◌≤◌, ◌<◌, ◌^◌, ◌-◌, length, take, drop, filter, IfOk, IfErr};
 ghost use Rattle.std.specs.Cmp.Lexicographic.{slice_cmp};
-ghost use Rattle.std.specs.List.Sorted.{IsSortedByKey, IsStrictlySortedBy};
+ghost use Rattle.std.specs.List.Sorted.{IsStrictlySortedBy};
 ghost use Rattle.std.specs.Option.{option_and_then};
 ghost use Rattle.std.specs.Ordering.{nat_cmp};
 ghost use Rattle.deny_model.specs.Groups.{has_name};
-ghost use Rattle.deny_krates.specs.Bounds.{lock_length, node_count};
-ghost use Rattle.deny_krates.specs.Crates.{crate_view, crates_from, graph_of};
-ghost use Rattle.deny_krates.specs.private.Numbered.{IsNumbered, IsResolved};
-ghost use Rattle.deny_krates.specs.Orderly.{IsOrderly};
+ghost use Rattle.deny_crates.specs.Bounds.{lock_length, node_count};
+ghost use Rattle.deny_crates.specs.Crates.{crate_view, crates_from, graph_of};
+ghost use Rattle.deny_crates.specs.Orderly.{IsOrderly};
 ghost use Rattle.deny_krates.specs.private.NodeNumbers.{first_features_of};
 ghost use Rattle.deny_krates.specs.private.Resolved.{AreBetween};
-ghost use Rattle.deny_resolve.specs.Checked.{Resolved, checked, resolved};
-ghost use Rattle.deny_resolve.specs.PackageTexts.{AreTextsOf};
-ghost use Rattle.deny_krates.specs.Read.{IsGraph, IsGraphOf};
+ghost use Rattle.deny_resolve.specs.Checked.{checked};
+ghost use Rattle.deny_crates.specs.Read.{IsGraphOf, IsSound, graph_read};
 ghost use Rattle.deny_metadata.specs.Reading.{Fails};
-ghost use Rattle.deny_krates.specs.Dependents.{AreDirectDependencies, AreDirectDependents};
-ghost use Rattle.deny_krates.specs.Filtered.{AreMarks};
-ghost use Rattle.deny_krates.specs.Ids.{crate_of};
+ghost use Rattle.deny_crates.specs.Dependents.{AreDirectDependencies, AreDirectDependents};
+ghost use Rattle.deny_crates.specs.Filtered.{AreMarks};
+ghost use Rattle.deny_crates.specs.Ids.{crate_of};
 ghost use Rattle.deny_base.specs.Edge.{edge_cmp};
 ghost use Rattle.deny_model.specs.Graph.{Graph};
 ghost use Rattle.deny_model.specs.Resolution.{declaration_at, resolution};
 
-use crate::bounds::check_bounds;
-use crate::crates::krates_of;
-use crate::direct::{dependencies_of, dependents_of};
-use crate::filtered::ways;
-use crate::graph::{KeptPackage, edges_of, kept_of, members_of, places_in, target_edges_of};
-use crate::ids::{Entry, ids_of, place_of, ranks_of};
-use crate::krate::{DirectDependent, Krate};
 use crate::names::run_of;
 use crate::numbers::first_features;
-use crate::reach::reach;
 use crate::resolution::{declared, resolution};
 use crate::resolved::{ResolvedAt, resolved_between, resolved_of};
 use deny_base::{DepKind, Edge, Kid, edge_order};
+use deny_crates::{CrateGraph, DirectDependent, Entry, Krate, graph_at, place_of, reached_without};
 use deny_lists::{List, NoMemory, Text};
-use deny_metadata::{Document, MetadataFault};
+use deny_metadata::MetadataFault;
 use deny_model::TargetEdge;
-use deny_resolve::{PackageTexts, Resolution, ResolvedNode, resolve};
 use std::alloc::Global;
 use std::marker::Model;
 use std::ops::Range;
@@ -70,7 +60,7 @@ impl Model for Krates {
 
     ghost coded = { Prim.hlevel (codes, finite.code {R = slice_cmp nat_cmp} (coded_list coded_ℕ) (coded_list (coded_list coded_ℕ))) };
 
-    ghost use Rattle.deny_krates.specs.Crates.{graph_of};
+    ghost use Rattle.deny_crates.specs.Crates.{graph_of};
     ghost use Rattle.deny_krates.specs.private.Kept.{IsKept};
 
     ghost view = { λ k. graph_of k.target_edges k.root k.krates k.members k.edges };
@@ -93,8 +83,8 @@ impl Krates {
         ensures ok { IfOk result (IsGraphOf bytes.now) }
         ensures err { IfErr result (λ e. Fails e (checked bytes.now)) }
     {
-        let document = document_at(alloc, bytes)?;
-        graph_in(alloc, document)
+        let graph = graph_at(alloc, bytes)?;
+        Ok(finish(alloc, graph)?)
     }
 
     /// The crates in order. Their lock text and their nodes, a crate and its enabled features, are within
@@ -232,7 +222,7 @@ impl Krates {
     pub fn krates_filtered(&self, alloc: Global, kind: DepKind) -> Result<Vec<bool>, NoMemory>
         ensures { IfOk result (λ marks. AreMarks kind self.now marks.items) }
     {
-        let marks = filtered(
+        let marks = reached_without(
             alloc,
             self.members.as_slice(),
             self.edges.as_slice(),
@@ -243,121 +233,26 @@ impl Krates {
     }
 }
 
-// More packages or nodes than any text of fewer bytes holds.
-const MANY: usize = 1 << 28;
-
-// The metadata of a text.
-fn document_at(alloc: Global, bytes: &[u8]) -> Result<Document, MetadataFault>
-    ensures ok { IfOk result (λ d. checked bytes.now ≡ resolved d) }
-    ensures err { IfErr result (λ e. Fails e (checked bytes.now)) }
+// A graph with what is kept of its crates' features and declarations.
+fn finish(alloc: Global, graph: CrateGraph) -> Result<Krates, NoMemory>
+    requires { IsSound graph }
+    ensures { IfOk result (λ g. g ≡ graph_read graph) }
 {
-    deny_metadata::document_at(alloc, bytes)
-}
-
-// The graph of a document, or its first fault.
-fn graph_in(alloc: Global, document: Document) -> Result<Krates, MetadataFault>
-    ensures ok { IfOk result (λ g. (r : Resolved) × (resolved document ≡ Ok r) × IsGraph document g) }
-    ensures err { IfErr result (λ e. Fails e (resolved document)) }
-{
-    if document.packages.len() >= MANY || document.nodes.len() >= MANY {
-        return Err(MetadataFault::Memory);
-    }
-    let Resolution {
-        starts,
-        rows,
-        texts,
-    } = resolve(alloc, &document)?;
-    Ok(put_together(alloc, document, starts.as_slice(), rows.as_slice(), texts)?)
-}
-
-// The graph of a document without fault.
-fn put_together(
-    alloc: Global,
-    document: Document,
-    starts: &[u32],
-    rows: &[ResolvedNode],
-    texts: PackageTexts,
-) -> Result<Krates, NoMemory>
-    requires few { length document.nodes < 2 ^ 28 }
-    requires resolved { IsResolved document starts.now rows.now }
-    requires texts { AreTextsOf document.packages texts }
-    ensures { IfOk result (IsGraph document) }
-{
-    let marks = reach(alloc, rows, starts)?;
-    let kept = kept_of(alloc, document.packages.as_slice(), rows, marks.as_slice())?;
-    join(alloc, document, starts, rows, texts, kept.as_slice())
-}
-
-// The graph of the packages that are kept.
-fn join(
-    alloc: Global,
-    document: Document,
-    starts: &[u32],
-    rows: &[ResolvedNode],
-    texts: PackageTexts,
-    kept: &[KeptPackage],
-) -> Result<Krates, NoMemory>
-    requires few { length kept.now < 2 ^ 28 }
-    requires numbered { (marks : List Bool) × IsNumbered document starts.now rows.now marks kept.now }
-    requires texts { AreTextsOf document.packages texts }
-    ensures { IfOk result (IsGraph document) }
-{
-    let places = places_in(alloc, kept, rows.len())?;
-    let members = members_of(alloc, starts, places.as_slice())?;
-    let target_edges = target_edges_of(alloc, kept, rows, places.as_slice())?;
-    let edges = edges_of(alloc, target_edges.as_slice())?;
-    let krates = krates_of(
+    let starts = first_features(alloc, graph.krates.as_slice())?;
+    let resolved = resolved_of(
         alloc,
-        document.packages,
-        texts,
-        document.nodes.as_slice(),
-        kept,
+        graph.krates.as_slice(),
+        graph.target_edges.as_slice(),
     )?;
-    finish(
-        alloc,
-        document.workspace_root,
-        krates,
-        members,
-        edges,
-        target_edges,
-    )
-}
-
-// A graph with what is kept of its crates' neighbours and ids.
-fn finish(
-    alloc: Global,
-    root: Text,
-    krates: List<Krate>,
-    members: List<u32>,
-    edges: List<Edge>,
-    target_edges: List<TargetEdge>,
-) -> Result<Krates, NoMemory>
-    requires few { length krates < 2 ^ 28 }
-    requires names { IsSortedByKey (λ k. k.name) (slice_cmp nat_cmp) krates }
-    requires orderly { IsOrderly (graph_of target_edges root krates members edges) }
-    ensures { IfOk result (λ g. g ≡ graph_of target_edges root krates members edges) }
-{
-    let ids = ids_of(alloc, krates.as_slice())?;
-    let ranks = ranks_of(alloc, krates.as_slice(), ids.as_slice())?;
-    let dependents = dependents_of(alloc, krates.as_slice(), ranks.as_slice(), edges.as_slice())?;
-    let dependencies = dependencies_of(
-        alloc,
-        krates.as_slice(),
-        ranks.as_slice(),
-        edges.as_slice(),
-    )?;
-    check_bounds(alloc, krates.as_slice())?;
-    let starts = first_features(alloc, krates.as_slice())?;
-    let resolved = resolved_of(alloc, krates.as_slice(), target_edges.as_slice())?;
     Ok(Krates {
-        root,
-        krates,
-        members,
-        edges,
-        target_edges,
-        dependents,
-        dependencies,
-        ids,
+        root: graph.root,
+        krates: graph.krates,
+        members: graph.members,
+        edges: graph.edges,
+        target_edges: graph.target_edges,
+        dependents: graph.dependents,
+        dependencies: graph.dependencies,
+        ids: graph.ids,
         starts,
         resolved,
     })
@@ -370,23 +265,4 @@ fn has(edges: &[Edge], edge: &Edge) -> bool
 {
     edge_order();
     edges.binary_search(edge).is_ok()
-}
-
-// Marks for the crates that a member reaches by edges of other kinds.
-fn filtered(
-    alloc: Global,
-    members: &[u32],
-    edges: &[Edge],
-    crates: usize,
-    kind: DepKind,
-) -> Result<List<bool>, NoMemory>
-    requires few { crates < 2 ^ 28 }
-    requires members { All (λ place. place < crates) members.now }
-    requires parents { All (λ e. e.parent < crates) edges.now }
-    requires children { All (λ e. e.child < crates) edges.now }
-    ensures { IfOk result (λ marks.
-        (g : Graph) → g.members ≡ members.now → g.edges ≡ edges.now → length g.crates ≡ crates → AreMarks kind g marks) }
-{
-    let rows = ways(alloc, edges, crates, kind)?;
-    reach(alloc, rows.as_slice(), members)
 }

@@ -5,14 +5,14 @@ ghost use Rattle.std.specs.Cmp.Lexicographic.{slice_cmp};
 ghost use Rattle.std.specs.FinMap.{IsAntisymmetric};
 ghost use Rattle.std.specs.List.Sorted.{IsPartitionPoint, IsSortedByKey, IsStrictlySortedBy};
 ghost use Rattle.std.specs.Ordering.{nat_cmp};
-ghost use Rattle.deny_krates.specs.Crates.{crates_from, dependency_view};
+ghost use Rattle.deny_crates.specs.Crates.{crates_from, dependency_view};
 ghost use Rattle.deny_krates.specs.private.Resolved.{AreBetween, AreResolved, is_before, resolved_cmp, resolved_from, resolved_in};
 ghost use Rattle.deny_krates.specs.declared.resolved.ResolvedAt.{ResolvedAt};
 ghost use Rattle.deny_model.specs.Graph.{Graph};
 ghost use Rattle.deny_model.specs.TargetEdge.{target_edge_cmp};
 
-use crate::krate::{Dependency, Krate};
 use crate::resolution::{is_before, resolution};
+use deny_crates::{Dependency, Krate};
 use deny_lists::{List, NoMemory, put_in_order};
 use deny_model::TargetEdge;
 use std::alloc::Global;

@@ -6,7 +6,7 @@ use Rattle.std.specs.Option.{option_or}
 use Rattle.deny_lists.proofs.Agreement.{flat_map_on, map_on}
 use Rattle.deny_spdx.specs.declared.requirement.Requirement.{Requirement}
 use Rattle.deny_krates.specs.Crates.{crate_view}
-use Rattle.deny_krates.specs.declared.krate.Krate.{Krate}
+use Rattle.deny_krates.specs.krate.Krate.{Krate}
 use Rattle.deny_codes.specs.Licences.{asked_of, exception_of, is_granted}
 use Rattle.deny_cfg.specs.LicensingView.{licensing_view}
 use Rattle.deny_licenses.specs.declared.answers.Answers.{Answers}

@@ -15,7 +15,7 @@ use Rattle.deny_spdx.specs.Reads.{BadAt, Read, Reading, reading_in}
 use Rattle.deny_spdx.specs.declared.expression.Expression.{Expression}
 use Rattle.deny_spdx.specs.declared.requirement.Requirement.{Requirement}
 use Rattle.deny_krates.specs.Crates.{crate_view}
-use Rattle.deny_krates.specs.declared.krate.Krate.{Krate}
+use Rattle.deny_krates.specs.krate.Krate.{Krate}
 use Rattle.deny_model.specs.Graph.{Crate, Graph}
 use Rattle.deny_model.specs.Told.{crate_at}
 use Rattle.deny_model.specs.Licensing.{Licensing}

@@ -15,7 +15,7 @@ use Rattle.deny_spdx.specs.declared.requirement.Requirement.{Requirement}
 use Rattle.deny_cfg.specs.LicensesConfig.{Config}
 use Rattle.deny_cfg.specs.LicensesException.{Exception}
 use Rattle.deny_krates.specs.Crates.{crate_view}
-use Rattle.deny_krates.specs.declared.krate.Krate.{Krate}
+use Rattle.deny_krates.specs.krate.Krate.{Krate}
 use Rattle.deny_model.specs.Graph.{Crate}
 use Rattle.deny_model.specs.Licensing as model
 use Rattle.deny_model.specs.Match.{matches}

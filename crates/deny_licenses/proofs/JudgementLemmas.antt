@@ -14,7 +14,7 @@ use Rattle.deny_spdx.specs.declared.error.SpdxError.TheVariants as error
 use Rattle.deny_spdx.specs.declared.expression.Expression.{Expression}
 use Rattle.deny_spdx.specs.declared.requirement.Requirement.{Requirement}
 use Rattle.deny_krates.specs.Crates.{crate_view}
-use Rattle.deny_krates.specs.declared.krate.Krate.{Krate}
+use Rattle.deny_krates.specs.krate.Krate.{Krate}
 use Rattle.deny_model.specs.Graph.{Crate}
 use Rattle.deny_model.specs.Licensing.{Licensing}
 use Rattle.deny_model.specs.Match.{matches}

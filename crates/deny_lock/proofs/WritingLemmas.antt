@@ -15,7 +15,7 @@ use Rattle.std.proofs.lemmas.Option.{get_or_from_slice_get, none-some, same_Some
 use Rattle.std.proofs.lemmas.Option.{slice_get_read, slice_get_within}
 use Rattle.deny_krates.specs.Bounds.{lock_length, lock_line_length}
 use Rattle.deny_krates.specs.Crates.{crate_view, crates_from}
-use Rattle.deny_krates.specs.declared.krate.Krate.{Krate}
+use Rattle.deny_krates.specs.krate.Krate.{Krate}
 use Rattle.deny_krates.proofs.ResolutionLemmas.{crates_from-at}
 use Rattle.deny_lists.proofs.Members.{at_member, from_there, no_member, some_at, there}
 use Rattle.deny_lock.proofs.OrderLemmas.{moved-in_lock_order, strict-in_lock_order}

@@ -16,8 +16,8 @@ use Rattle.std.proofs.lemmas.List.{map-append}
 use Rattle.std.proofs.lemmas.List.Elements.{All-append, All-nil}
 use Rattle.std.proofs.lemmas.Option.{get_or_from_slice_get, slice_get_within}
 use Rattle.deny_krates.specs.Crates.{crate_view, dependency_view}
-use Rattle.deny_krates.specs.declared.krate.Dependency.{Dependency as Own}
-use Rattle.deny_krates.specs.declared.krate.Krate.{Krate}
+use Rattle.deny_krates.specs.krate.Dependency.{Dependency as Own}
+use Rattle.deny_krates.specs.krate.Krate.{Krate}
 use Rattle.deny_lists.proofs.Each.{all_found, all_mapped, all_from_members}
 use Rattle.deny_lists.proofs.Members.{map_at, passes_filter}
 use Rattle.deny_lists.proofs.Places.{slice_get-read}

@@ -12,7 +12,7 @@ use Rattle.std.proofs.lemmas.Option.{slice_get_past}
 use Rattle.deny_lists.proofs.Filters.{first-filter}
 use Rattle.deny_krates.specs.Crates.{crate_view, crates_from}
 use Rattle.deny_krates.specs.Ids.{crate_of}
-use Rattle.deny_krates.specs.declared.krate.Krate.{Krate}
+use Rattle.deny_krates.specs.krate.Krate.{Krate}
 use Rattle.deny_manifests.specs.Ignored.{is_among}
 use Rattle.deny_manifests.specs.Manifest.{IsOwn, without}
 use Rattle.deny_manifests.specs.declared.declarations.ManifestDep.{ManifestDep}

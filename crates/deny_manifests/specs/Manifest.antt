@@ -3,7 +3,7 @@ use Rattle.std.specs.Prelude.{ℕ, ◌≡◌, All, Bool, IfSome, List, None, Som
 use Rattle.deny_base.specs.declared.edge.DepKind.{DepKind}
 use Rattle.deny_krates.specs.Crates.{crate_view, dependency_view}
 use Rattle.deny_krates.specs.Ids.{crate_of}
-use Rattle.deny_krates.specs.declared.krate.Krate.{Krate}
+use Rattle.deny_krates.specs.krate.Krate.{Krate}
 use Rattle.deny_manifests.specs.Agreement.{TellsAgreement}
 use Rattle.deny_manifests.specs.Declarations.{declared_in}
 use Rattle.deny_manifests.specs.Found.{held_spanned}

@@ -6,9 +6,9 @@ use Rattle.std.proofs.Math.Seq.{take-nil}
 use Rattle.std.proofs.lemmas.List.{length-take}
 use Rattle.std.proofs.lemmas.Option.{get_or_from_slice_get, none-some, same_Some, slice_get_within}
 use Rattle.deny_krates.proofs.ResolutionLemmas.{crates-at}
-use Rattle.deny_krates.proofs.Runs.{length-crates_from}
+use Rattle.deny_krates.proofs.CratesLemmas.{length-crates_from}
 use Rattle.deny_krates.specs.Crates.{crate_view, crates_from}
-use Rattle.deny_krates.specs.declared.krate.Krate.{Krate}
+use Rattle.deny_krates.specs.krate.Krate.{Krate}
 use Rattle.deny_lists.proofs.Members.{there}
 use Rattle.deny_model.specs.Graph.{Crate, Graph}
 

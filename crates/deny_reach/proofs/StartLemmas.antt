@@ -4,7 +4,7 @@ use Rattle.std.specs.List.{list_any}
 use Rattle.deny_lists.proofs.Filters.{any-map}
 use Rattle.deny_model.specs.Graph.{Crate}
 use Rattle.deny_krates.specs.Crates.{crate_view, crates_from, target_view}
-use Rattle.deny_krates.specs.declared.krate.Krate.{Krate}
+use Rattle.deny_krates.specs.krate.Krate.{Krate}
 use Rattle.deny_reach.specs.Reached.{executes_at_build_time}
 use Rattle.deny_reach.specs.private.Executing.{has_executed_kind, places_executing}
 

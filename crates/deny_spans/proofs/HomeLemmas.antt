@@ -12,9 +12,9 @@ use Rattle.std.proofs.lemmas.Option.{slice_get_past}
 use Rattle.std.proofs.lemmas.List.{length-map}
 use Rattle.std.proofs.lemmas.Str.{is_utf8-from_IsUtf8}
 use Rattle.deny_base.specs.declared.files.File.{File}
-use Rattle.deny_krates.proofs.Runs.{length-crates_from}
+use Rattle.deny_krates.proofs.CratesLemmas.{length-crates_from}
 use Rattle.deny_krates.specs.Crates.{crate_view, crates_from, source_view}
-use Rattle.deny_krates.specs.declared.krate.Krate.{Krate}
+use Rattle.deny_krates.specs.krate.Krate.{Krate}
 use Rattle.deny_lists.proofs.Members.{from_there, map_at, some_at}
 use Rattle.deny_model.specs.Graph.{Crate, Graph}
 use Rattle.deny_model.specs.Text.{same_text}

@@ -9,7 +9,7 @@ use Rattle.std.proofs.lemmas.Slice.Eq.{bytes_eq-Decides}
 use Rattle.deny_krates.proofs.ResolutionLemmas.{crates-at}
 use Rattle.deny_krates.specs.Crates.{crate_view, crates_from}
 use Rattle.deny_krates.specs.Ids.{crate_of}
-use Rattle.deny_krates.specs.declared.krate.Krate.{Krate}
+use Rattle.deny_krates.specs.krate.Krate.{Krate}
 use Rattle.deny_lists.proofs.Members.{there}
 use Rattle.deny_lists.proofs.Finding.{found_member}
 use Rattle.deny_manifests.specs.Manifest.{IsOwn}

@@ -7,7 +7,7 @@ use Rattle.deny_lists.proofs.Texts.{is_utf8-false}
 use Rattle.deny_base.specs.declared.files.File.{File}
 use Rattle.deny_krates.specs.Crates.{crate_view}
 use Rattle.deny_krates.specs.Ids.{crate_of}
-use Rattle.deny_krates.specs.declared.krate.Krate.{Krate}
+use Rattle.deny_krates.specs.krate.Krate.{Krate}
 use Rattle.deny_manifests.specs.Fault.{HasNoTree}
 use Rattle.deny_manifests.specs.Manifest.{HasNoNode, IsManifestBy, IsManifestOf, IsOfGraph, dep_view, deps_in}
 use Rattle.deny_manifests.specs.Manifest.{ignored_by}

@@ -16,7 +16,7 @@ use Rattle.deny_lists.proofs.Members.{contains_map, map_at, no_member, some_at}
 use Rattle.deny_lists.specs.Ascending.{Lists}
 use Rattle.deny_krates.proofs.NumberLemmas.{slice_get-right}
 use Rattle.deny_krates.specs.Crates.{crates_from}
-use Rattle.deny_krates.specs.declared.krate.Krate.{Krate}
+use Rattle.deny_krates.specs.krate.Krate.{Krate}
 use Rattle.deny_lock.specs.Text.{IsLineOf, lock_span_at, lock_text}
 use Rattle.deny_lock.specs.declared.line.LockSpan.{LockSpan}
 use Rattle.deny_manifests.proofs.AgreementLaw.{agree_so, tells_agreement}

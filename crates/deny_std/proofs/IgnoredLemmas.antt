@@ -13,7 +13,7 @@ use Rattle.deny_cfg.specs.SpecView.{spec_view}
 use Rattle.deny_codes.specs.FirstMatch.{first_of}
 use Rattle.deny_codes.specs.StdReplacements.{ignore_range, ignores}
 use Rattle.deny_krates.specs.Crates.{crate_view}
-use Rattle.deny_krates.specs.declared.krate.Krate.{Krate}
+use Rattle.deny_krates.specs.krate.Krate.{Krate}
 use Rattle.deny_model.specs.Match.{matches, speaks_of}
 use Rattle.deny_model.specs.Policy.{Entry}
 use Rattle.deny_model.specs.Text.{same_text}

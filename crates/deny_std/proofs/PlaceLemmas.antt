@@ -14,7 +14,7 @@ use Rattle.deny_lists.proofs.Booleans.{tests_agree}
 use Rattle.deny_lists.proofs.Members.{Contains-from_map, any_from, any_passes, some_at}
 use Rattle.deny_lists.proofs.Numbers.{range_with_len-ascends}
 use Rattle.deny_krates.specs.Dependents.{AreDirectDependents}
-use Rattle.deny_krates.specs.declared.krate.DirectDependent.{DirectDependent}
+use Rattle.deny_krates.specs.krate.DirectDependent.{DirectDependent}
 use Rattle.deny_krates.specs.Placed.{ArePlaced}
 use Rattle.deny_krates.proofs.NeighbourLemmas.{dependent_stands}
 use Rattle.deny_model.specs.Graph.{Crate, Graph, dependents}

@@ -24,8 +24,8 @@ use Rattle.deny_lists.proofs.Sorted.{ascends_map}
 use Rattle.deny_krates.specs.Crates.{crates_from}
 use Rattle.deny_krates.specs.Dependents.{AreDirectDependents, IsLeastKind, by_id, id_at}
 use Rattle.deny_krates.specs.Nodes.{Incoming, Node, from_crate, has_edge, incoming_at, incoming_cmp, node_at}
-use Rattle.deny_krates.specs.declared.krate.DirectDependent.{DirectDependent}
-use Rattle.deny_krates.specs.declared.krate.Krate.{Krate}
+use Rattle.deny_krates.specs.krate.DirectDependent.{DirectDependent}
+use Rattle.deny_krates.specs.krate.Krate.{Krate}
 use Rattle.deny_krates.proofs.InOrderLemmas.{in_order_is}
 use Rattle.deny_krates.proofs.NodeLemmas.{crate_within, node_of_crate, placed}
 use Rattle.deny_krates.proofs.SourceLemmas.{edge_asked, incoming_from-is}

@@ -6,8 +6,8 @@ use Rattle.std.proofs.Math.Seq.{drop-cons}
 use Rattle.std.proofs.Math.ListN.{drop_of_length-le}
 use Rattle.semver.specs.Parse.{Held}
 use Rattle.deny_krates.specs.Crates.{crate_view, crates_from}
-use Rattle.deny_krates.specs.declared.krate.Krate.{Krate}
-use Rattle.deny_krates.proofs.Runs.{crates_from-part}
+use Rattle.deny_krates.specs.krate.Krate.{Krate}
+use Rattle.deny_krates.proofs.CratesLemmas.{crates_from-part}
 use Rattle.deny_lists.proofs.Filters.{find-filter}
 use Rattle.deny_model.specs.Graph.{Crate, Graph}
 use Rattle.deny_model.specs.Groups.{has_name}

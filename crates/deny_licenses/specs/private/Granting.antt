@@ -3,7 +3,7 @@ use Rattle.std.specs.Prelude.{ℕ, Bool, List, [], slice_get, if◌then◌else�
 use Rattle.std.specs.Option.{option_map_or}
 use Rattle.semver.specs.Identifiers.{parts_of}
 use Rattle.deny_cfg.specs.LicensesException.{Exception}
-use Rattle.deny_krates.specs.declared.krate.Krate.{Krate}
+use Rattle.deny_krates.specs.krate.Krate.{Krate}
 use Rattle.deny_cfg.specs.SpecView.{spec_view}
 use Rattle.deny_model.specs.Match.{speaks_of}
 use Rattle.deny_cfg.specs.LicensingView.{exception_view}

@@ -4,7 +4,7 @@ use Rattle.std.specs.Prelude.{is_none, is_some, length, map, option_map, slice_g
 use Rattle.std.specs.Option.{option_and_then, option_flatten}
 use Rattle.deny_outside.specs.Disk.{Files}
 use Rattle.deny_base.specs.declared.files.File.{File}
-use Rattle.deny_krates.specs.declared.krate.Krate.{Krate}
+use Rattle.deny_krates.specs.krate.Krate.{Krate}
 use Rattle.deny_model.specs.Graph.{Graph}
 use Rattle.deny_model.specs.Text.{same_text}
 use Rattle.deny_spans.specs.Look.{IsReadAt, ReadsAs, Reading, home_in, kept_as, number_of, tree_of}

@@ -6,7 +6,7 @@ use Rattle.deny_base.specs.declared.span.Span.{Span}
 use Rattle.deny_cfg.specs.PackageSpecOrExtended.{PackageSpecOrExtended}
 use Rattle.deny_cfg.specs.Reason.{Reason}
 use Rattle.deny_cfg.specs.SpecView.{spec_view}
-use Rattle.deny_krates.specs.declared.krate.Krate.{Krate}
+use Rattle.deny_krates.specs.krate.Krate.{Krate}
 use Rattle.deny_model.specs.Match.{speaks_of}
 
 abbrev pub entry_name : PackageSpecOrExtended Reason → List ℕ

@@ -6,7 +6,7 @@ use Rattle.std.specs.List.{list_any}
 use Rattle.std.specs.BTreeMap.{is_at}
 use Rattle.std.specs.Ordering.{nat_cmp}
 use Rattle.deny_krates.specs.Nodes.{Incoming, Node, incoming_at, node_at, nodes_of}
-use Rattle.deny_krates.specs.declared.krate.DirectDependent.{DirectDependent}
+use Rattle.deny_krates.specs.krate.DirectDependent.{DirectDependent}
 use Rattle.deny_krates.specs.declared.nodes.InEdge.{InEdge}
 use Rattle.deny_model.specs.Graph.{Graph}
 use Rattle.deny_trees.specs.Tree.{GrownTrees, all_levels, grow, grow_each, inner_of, is_met, no_trees, node_with}

@@ -1,6 +1,6 @@
 use Rattle.std.proofs.Common.{refl, arith}
 use Rattle.std.specs.Prelude.{filter_map}
-use Rattle.deny_krates.specs.declared.krate.DirectDependent.{DirectDependent}
+use Rattle.deny_krates.specs.krate.DirectDependent.{DirectDependent}
 use Rattle.deny_facts.specs.Wrappers.{range_at}
 use Rattle.deny_lists.proofs.Loops.{pushed_all}
 use Rattle.deny_crate_rules.proofs.DependentKeyLemmas.{hits_are}

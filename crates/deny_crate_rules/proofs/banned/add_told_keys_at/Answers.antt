@@ -1,5 +1,5 @@
 use Rattle.std.proofs.Common.{map, refl, arith}
-use Rattle.deny_krates.specs.declared.krate.DirectDependent.{DirectDependent}
+use Rattle.deny_krates.specs.krate.DirectDependent.{DirectDependent}
 use Rattle.deny_lists.proofs.Loops.{pushed_all}
 use Rattle.deny_crate_rules.proofs.DependentKeyLemmas.{key_at, told_are}
 use Rattle.deny_crate_rules.proofs.banned.add_told_keys_at.Goals as goal

@@ -1,7 +1,7 @@
 use Rattle.std.proofs.Common.{◌<◌, is_some, get_or, length, sym, ◌∙◌, arith}
 use Rattle.std.proofs.lemmas.List.{get_or_default}
 use Rattle.deny_base.specs.declared.edge.DepKind.TheVariants.{Normal}
-use Rattle.deny_krates.specs.declared.krate.DirectDependent.{DirectDependent}
+use Rattle.deny_krates.specs.krate.DirectDependent.{DirectDependent}
 use Rattle.deny_facts.specs.Wrappers.{range_at}
 use Rattle.deny_crate_rules.proofs.DependentKeyLemmas.{lifted-is}
 use Rattle.deny_lists.proofs.Loops.{all_passed, all_stopped}

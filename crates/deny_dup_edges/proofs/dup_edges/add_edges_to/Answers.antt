@@ -1,7 +1,7 @@
 use Rattle.std.proofs.Common.{get_or}
 use Rattle.std.proofs.lemmas.List.{get_or_default}
 use Rattle.deny_base.specs.declared.edge.DepKind.TheVariants.{Normal}
-use Rattle.deny_krates.specs.declared.krate.DirectDependent.{DirectDependent}
+use Rattle.deny_krates.specs.krate.DirectDependent.{DirectDependent}
 use Rattle.deny_dup_edges.proofs.EdgeLemmas.{from_more, from_all}
 use Rattle.deny_krates.proofs.PlaceLemmas.{are_placed}
 use Rattle.deny_dup_edges.proofs.AboveLemmas.{each_dependent_stands}

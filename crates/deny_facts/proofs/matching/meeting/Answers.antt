@@ -3,7 +3,7 @@ use Rattle.std.proofs.Common.{◌∙◌, arith, ℕ}
 use Rattle.std.proofs.lemmas.List.{append-nil, map-append}
 use Rattle.deny_cfg.specs.SpecView.{spec_view}
 use Rattle.deny_krates.specs.Crates.{crate_view, crates_from}
-use Rattle.deny_krates.specs.declared.krate.Krate.{Krate}
+use Rattle.deny_krates.specs.krate.Krate.{Krate}
 use Rattle.deny_model.specs.Graph.{Crate}
 use Rattle.deny_model.specs.Match.{meets}
 use Rattle.semver.specs.Identifiers.{parts_of}

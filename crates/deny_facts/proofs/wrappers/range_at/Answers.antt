@@ -1,7 +1,7 @@
 use Rattle.std.proofs.Common.{Some, None, Bor, option_map, sym, ap, ◌∙◌}
 use Rattle.std.specs.FinMap as finite
 use Rattle.deny_krates.specs.Crates.{crate_view}
-use Rattle.deny_krates.specs.declared.krate.Krate.{Krate}
+use Rattle.deny_krates.specs.krate.Krate.{Krate}
 use Rattle.deny_facts.proofs.DependentLemmas.{range-got}
 use Rattle.deny_facts.proofs.wrappers.range_at.Goals as goal
 

@@ -1,7 +1,7 @@
 use Rattle.std.proofs.Common.{Bor, Bool, option_map, sym, ap, ◌∙◌, subst}
 use Rattle.std.proofs.lemmas.Result.{IfOk-weaker}
 use Rattle.deny_krates.specs.Crates.{crate_view}
-use Rattle.deny_krates.specs.declared.krate.Krate.{Krate}
+use Rattle.deny_krates.specs.krate.Krate.{Krate}
 use Rattle.deny_lists.specs.TextMap.{TextFinMap}
 use Rattle.deny_features.specs.private.Reached.{AreReached, AreReachedAt}
 use Rattle.deny_features.proofs.ReachedAtLemmas.{reached_nowhere, reached_there}

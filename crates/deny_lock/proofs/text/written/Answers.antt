@@ -1,5 +1,5 @@
 use Rattle.std.proofs.Common.{◌≡◌, ℕ, ◌∙◌, ◌+◌, ◌++◌, List, length, slice_set, ap, subst, sym, arith}
-use Rattle.deny_krates.proofs.Runs.{length-crates_from}
+use Rattle.deny_krates.proofs.CratesLemmas.{length-crates_from}
 use Rattle.deny_lock.proofs.WritingLemmas.{AreOwn, IsWriting, are_own, line_here, place_within, room_at, writing_done}
 use Rattle.deny_lock.proofs.WritingLemmas.{all_written, writing_more, writing_none}
 use Rattle.deny_lock.specs.Line.{line_span}

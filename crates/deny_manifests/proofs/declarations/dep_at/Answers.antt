@@ -5,7 +5,7 @@ use Rattle.std.specs.Option.{option_and_then}
 use Rattle.deny_krates.proofs.GetLemmas.{got}
 use Rattle.deny_krates.proofs.ResolutionLemmas.{crate_got}
 use Rattle.deny_krates.specs.Crates.{crate_view, dependency_view}
-use Rattle.deny_krates.specs.declared.krate.Krate.{Krate}
+use Rattle.deny_krates.specs.krate.Krate.{Krate}
 use Rattle.deny_manifests.proofs.DeclarationLemmas.{declared_parts, not_written, resolved_place, unresolved, written_so}
 use Rattle.deny_model.specs.Resolution.{resolution}
 use Rattle.deny_manifests.proofs.declarations.dep_at.Goals as goal

@@ -3,7 +3,7 @@ use Rattle.std.proofs.lemmas.List.{take_all}
 use Rattle.deny_cfg.specs.PolicyView.{replacing_view}
 use Rattle.deny_codes.specs.Saying.{said_in}
 use Rattle.deny_codes.specs.StdReplacements.{is_replaced}
-use Rattle.deny_krates.proofs.Runs.{length-crates_from}
+use Rattle.deny_krates.proofs.CratesLemmas.{length-crates_from}
 use Rattle.deny_model.specs.Graph.{Crate}
 use Rattle.deny_std.proofs.PlaceLemmas.{places-more}
 use Rattle.deny_std.proofs.replaced.replaced_places.Goals as goal

@@ -1,6 +1,6 @@
 use Rattle.std.proofs.Common.{◌<◌, ◌∙◌, ap, length, subst, sym}
 use borrow.Author.Tests.{ltb-true}
-use Rattle.deny_krates.proofs.Runs.{length-crates_from}
+use Rattle.deny_krates.proofs.CratesLemmas.{length-crates_from}
 use Rattle.deny_tests.proofs.krates.is_place.Goals as goal
 
 pub returns : goal.returns

@@ -6,8 +6,8 @@ use Rattle.deny_base.specs.declared.edge.DepKind.TheVariants.{Normal}
 use Rattle.deny_krates.specs.Crates.{crates_from}
 use Rattle.deny_krates.specs.Dependents.{AreDirectDependents}
 use Rattle.deny_krates.specs.Nodes.{incoming_at}
-use Rattle.deny_krates.specs.declared.krate.DirectDependent.{DirectDependent}
-use Rattle.deny_krates.specs.declared.krate.Krate.{Krate}
+use Rattle.deny_krates.specs.krate.DirectDependent.{DirectDependent}
+use Rattle.deny_krates.specs.krate.Krate.{Krate}
 use Rattle.deny_krates.specs.declared.nodes.InEdge.{InEdge}
 use Rattle.deny_krates.proofs.DependentsLemmas.{crate_place}
 use Rattle.deny_krates.proofs.NodeLemmas.{as_many}

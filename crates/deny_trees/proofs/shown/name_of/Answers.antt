@@ -1,6 +1,6 @@
 use Rattle.std.proofs.Common.{◌∙◌, ◌<◌, [], Option, ap, arith, length, sym}
 use Rattle.std.specs.Option.{option_map_or}
-use Rattle.deny_krates.specs.declared.krate.Krate.{Krate}
+use Rattle.deny_krates.specs.krate.Krate.{Krate}
 use Rattle.deny_model.specs.Graph.{Crate}
 use Rattle.deny_krates.proofs.NodeLemmas.{as_many, crate_read}
 use Rattle.deny_trees.proofs.shown.name_of.Goals as goal

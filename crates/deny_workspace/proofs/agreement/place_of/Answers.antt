@@ -2,7 +2,7 @@ use Rattle.std.proofs.Common.{◌∙◌, ◌≡◌, ◌≤◌, ◌+◌, ◌-◌,
 use Rattle.std.specs.Prelude.{◌&&◌, IfOk, IfSome, None, Option, Some, filter, find, option_map, take}
 use Rattle.std.proofs.lemmas.List.{length-drop, length-take}
 use Rattle.std.proofs.lemmas.Result.{IfOk-weaker}
-use Rattle.deny_krates.proofs.Runs.{length-crates_from}
+use Rattle.deny_krates.proofs.CratesLemmas.{length-crates_from}
 use Rattle.deny_krates.specs.Crates.{crates_from}
 use Rattle.deny_manifests.specs.Found.{requirement_read}
 use Rattle.deny_model.specs.Groups.{has_name}

@@ -1,5 +1,5 @@
 use Rattle.std.proofs.Common.{arith, ap, length, refl}
-use Rattle.deny_krates.proofs.Runs.{length-crates_from}
+use Rattle.deny_krates.proofs.CratesLemmas.{length-crates_from}
 use Rattle.deny_krates.proofs.PlaceLemmas.{krate_at}
 use Rattle.deny_workspace.proofs.workspace.put.Goals as goal
 

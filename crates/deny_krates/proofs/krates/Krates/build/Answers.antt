@@ -1,25 +1,15 @@
-use Rattle.std.proofs.Common.{◌∙◌}
-use Rattle.deny_resolve.specs.Checked.{checked, resolved}
-use Rattle.deny_krates.specs.Read.{IsGraphOf}
-use Rattle.deny_krates.proofs.BuildLemmas.{graph_is}
-use Rattle.deny_metadata.proofs.ReadingLemmas.{if_err_handed, if_err_through, if_ok_then}
+use Rattle.std.proofs.Common.{sym, subst}
+use Rattle.deny_crates.specs.Read.{IsGraphOf}
+use Rattle.deny_metadata.proofs.ReadingLemmas.{if_err_handed}
+use Rattle.deny_model.specs.Graph.{Graph}
+use Rattle.deny_resolve.specs.Checked.{checked}
 use Rattle.deny_krates.proofs.krates.Krates.build.Goals as goal
 
-pub returns-in_err-document-clause-err : goal.returns-in_err-document-clause-err
-returns-in_err-document-clause-err c =
-    if_err_handed _ c.in_err-document.field-0.0 (checked c.args.bytes.now) c.from_residual.ensures.1
-    c.in_err-document.ensures.err
+pub returns-in_err-graph-clause-err : goal.returns-in_err-graph-clause-err
+returns-in_err-graph-clause-err c =
+    if_err_handed _ c.in_err-graph.field-0.0 (checked c.args.bytes.now) c.from_residual.ensures.1
+    c.in_err-graph.ensures.err
 
 pub returns-clause-ok : goal.returns-clause-ok
 returns-clause-ok c =
-    let bytes = c.args.bytes.now in
-    let doc = c.in_ok-document.document in
-    if_ok_then _ (IsGraphOf bytes) c.graph_in.result c.graph_in.ensures.ok
-    (λ g is. graph_is bytes doc g c.in_ok-document.ensures.ok is)
-
-pub returns-clause-err : goal.returns-clause-err
-returns-clause-err c =
-    let bytes = c.args.bytes.now in
-    let doc = c.in_ok-document.document in
-    if_err_through c.graph_in.result (resolved doc) (checked bytes) (λ f is. c.in_ok-document.ensures.ok ∙ is)
-    c.graph_in.ensures.err
+    subst (λ (g : Graph). IsGraphOf c.args.bytes.now g) (sym c.in_ok-finish.ensures) c.in_ok-graph.ensures.ok

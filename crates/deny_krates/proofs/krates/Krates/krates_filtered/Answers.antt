@@ -1,29 +1,29 @@
 use Rattle.std.proofs.Common.{◌<◌, ◌∙◌, ℕ, List, Bool, sym, subst}
 use Rattle.std.specs.Prelude.{All}
 use Rattle.deny_base.specs.declared.edge.Edge.{Edge}
-use Rattle.deny_krates.specs.Crates.{graph_of}
-use Rattle.deny_krates.specs.Filtered.{AreMarks}
+use Rattle.deny_crates.specs.Crates.{graph_of}
+use Rattle.deny_crates.specs.Filtered.{AreMarks}
 use Rattle.deny_model.specs.Graph.{Graph}
-use Rattle.deny_krates.proofs.OrderlyLemmas.{children_inside, members_inside, parents_inside}
-use Rattle.deny_krates.proofs.Runs.{length-crates_from}
+use Rattle.deny_crates.proofs.OrderlyLemmas.{children_inside, members_inside, parents_inside}
+use Rattle.deny_crates.proofs.CratesLemmas.{length-crates_from}
 use Rattle.deny_krates.proofs.krates.Krates.krates_filtered.Goals as goal
 
-pub filtered-requires-clause-members : goal.filtered-requires-clause-members
-filtered-requires-clause-members c =
+pub reached_without-requires-clause-members : goal.reached_without-requires-clause-members
+reached_without-requires-clause-members c =
     let k = c.self.inside in
     subst (λ (ms : List ℕ). All (λ place. place < c.len.result) ms) (sym c.as_slice.ensures)
     (subst (λ (n : ℕ). All (λ place. place < n) k.members) (sym c.len.ensures)
     (members_inside k.target_edges k.root k.krates k.members k.edges c.self.invariant.orderly))
 
-pub filtered-requires-clause-parents : goal.filtered-requires-clause-parents
-filtered-requires-clause-parents c =
+pub reached_without-requires-clause-parents : goal.reached_without-requires-clause-parents
+reached_without-requires-clause-parents c =
     let k = c.self.inside in
     subst (λ (es : List Edge). All (λ e. e.parent < c.len.result) es) (sym c.as_slice-2.ensures)
     (subst (λ (n : ℕ). All (λ e. e.parent < n) k.edges) (sym c.len.ensures)
     (parents_inside k.target_edges k.root k.krates k.members k.edges c.self.invariant.orderly))
 
-pub filtered-requires-clause-children : goal.filtered-requires-clause-children
-filtered-requires-clause-children c =
+pub reached_without-requires-clause-children : goal.reached_without-requires-clause-children
+reached_without-requires-clause-children c =
     let k = c.self.inside in
     subst (λ (es : List Edge). All (λ e. e.child < c.len.result) es) (sym c.as_slice-2.ensures)
     (subst (λ (n : ℕ). All (λ e. e.child < n) k.edges) (sym c.len.ensures)

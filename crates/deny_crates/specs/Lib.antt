@@ -1,0 +1,13 @@
+pub use Rattle.deny_resolve.specs.Checked
+pub use Rattle.deny_metadata.specs.Reading
+pub mod Bounds
+pub mod Crates
+pub mod Dependents
+pub mod Filtered
+pub mod IdEntries
+pub mod Ids
+pub mod Listed
+pub mod Orderly
+pub mod Packages
+pub mod Read
+pub mod private

@@ -1,0 +1,6 @@
+pub mod Direct
+pub mod Graph
+pub mod Numbered
+pub mod OtherLinks
+pub mod Reach
+pub mod Taken
