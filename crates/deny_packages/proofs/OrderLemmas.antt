@@ -1,6 +1,6 @@
 -- The order of paths by their components.
-use Rattle.std.proofs.Common.{◌≡◌, ◌∙◌, ◌+◌, ◌<◌, [], ◌∷◌, ℕ, Ordering, List, ap, arith, drop, length, map}
-use Rattle.std.proofs.Common.{false, nat_cmp, refl, slice_index_or, subst, suc, sym, true, zero}
+use Rattle.std.proofs.Common.{◌≡◌, ◌∙◌, ◌+◌, ◌++◌, ◌<◌, [], ◌∷◌, ℕ, Ordering, List, Some, ap, arith, drop, length}
+use Rattle.std.proofs.Common.{false, map, nat_cmp, refl, slice_index_or, subst, suc, sym, take, true, zero}
 use Rattle.std.specs.Prelude.{◌&&◌, Contains, min, nat_eq}
 use Rattle.std.specs.Cmp.{IsTotalOrder, nat_cmp_is, nat_cmp_total, on_total}
 use Rattle.std.specs.Cmp.Lexicographic.{lists_total, pointwise}
@@ -10,9 +10,13 @@ use Rattle.std.specs.declared.cmp.Ordering.TheVariants.{Less, Equal, Greater}
 use Rattle.std.specs.FinMap.{IsAntisymmetric, nat_cmp-IsAntisymmetric, slice_cmp-IsAntisymmetric}
 use Rattle.std.specs.Ordering.{is_eq, ordering_then}
 use Rattle.std.proofs.lemmas.Bool.{eqb-true}
+use Rattle.std.proofs.lemmas.List.{take-append-drop}
 use Rattle.deny_build_model.specs.Paths.{path_cmp, rank}
 use Rattle.deny_lists.proofs.Members.{Contains-from_map, contains_map}
+use Rattle.deny_lists.proofs.Orders.{slice_cmp-append}
 use Rattle.deny_lists.specs.Ascending.{Lists}
+use Rattle.deny_outside.proofs.ChildrenLemmas.{front_found}
+use Rattle.deny_outside.specs.Children.{text_behind}
 use Rattle.deny_packages.specs.declared.order.FilePath.{FilePath}
 use Rattle.deny_packages.specs.private.Order.{file_cmp}
 
@@ -75,6 +79,15 @@ cmp_end (x ∷ xs) [] (suc index) is = absurd (omega (arith, is))
 cmp_end (x ∷ xs) (y ∷ ys) zero is = absurd (omega (arith, is))
 cmp_end (x ∷ xs) (y ∷ ys) (suc index) is =
     cmp_end xs ys index (omega (arith, is)) ∙ cmp_longer (length xs) (length ys)
+
+-- what stands behind the first piece of two paths decides, where that piece is the same
+pub behind_same : (piece a b rest other : List ℕ) (at : ℕ) → piece ≡ take at a → rest ≡ drop at a
+    → Some other ≡ text_behind piece b → path_cmp a b ≡ path_cmp rest other
+behind_same piece a b rest other at is_piece is_rest found =
+    let whole : a ≡ piece ++ rest = sym (ap (λ p. p ++ rest) is_piece ∙ ap (λ r. take at a ++ r) is_rest
+        ∙ take-append-drop at a) in
+    ap (λ p. path_cmp p b) whole ∙ ap (λ q. path_cmp (piece ++ rest) q) (front_found piece b other found)
+    ∙ slice_cmp-append (on_total rank nat_cmp_total) piece rest other
 
 other_bytes : (x y : ℕ) → nat_eq x y ≡ false → x ≡ y → ⊥
 other_bytes x y other is = grind (arith, other, is)
