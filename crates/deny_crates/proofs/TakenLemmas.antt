@@ -1,5 +1,5 @@
 -- What is left where the packages of the first crates were taken out, and what was taken.
-use Rattle.std.proofs.Common.{◌≡◌, ◌<◌, ◌≤◌, ◌+◌, ◌∷◌, ◌∙◌, ℕ, List, [], Option, Some, ap, length, map, refl, sym}
+use Rattle.std.proofs.Common.{◌≡◌, ◌≤◌, ◌+◌, ◌∷◌, ◌∙◌, ℕ, List, [], Option, Some, ap, length, map, refl, sym}
 use Rattle.std.proofs.Common.{subst, arith}
 use Rattle.std.specs.Prelude.{◌≢◌, AllPairs, option_map, slice_get, unwrap_or}
 use Rattle.std.specs.List.{zip}

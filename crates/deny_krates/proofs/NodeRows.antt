@@ -10,8 +10,7 @@ use Rattle.deny_base.specs.declared.edge.DepKind.TheVariants.{Normal, Dev, Build
 use Rattle.deny_base.specs.declared.edge.Edge.{Edge}
 use Rattle.deny_krates.specs.InOrder.{in_order}
 use Rattle.deny_krates.specs.Nodes.{Incoming, Node, asked, asks_for, asks_in_vain, declared, declares, entries_of}
-use Rattle.deny_krates.specs.Nodes.{feature_leads, has_edge, holds_plain, incoming_in, is_called}
-use Rattle.deny_crates.specs.private.Direct.{incoming_cmp}
+use Rattle.deny_krates.specs.Nodes.{feature_leads, has_edge, holds_plain, incoming_cmp, incoming_in, is_called}
 use Rattle.deny_krates.specs.Nodes.{is_enabled, is_plain, leads_by_asking, leads_in_vain, leads_over, leads_undeclared}
 use Rattle.deny_krates.specs.Nodes.{manifest_name, node_in, node_named, nodes_of, of_parents, own_features, own_leading}
 use Rattle.deny_krates.specs.Nodes.{resolves_to, sources_at, sources_of_crate, sources_of_feature}

@@ -23,8 +23,7 @@ use Rattle.deny_base.specs.Edge.{kind_cmp, kind_number}
 use Rattle.deny_base.specs.declared.edge.DepKind.{DepKind}
 use Rattle.deny_base.specs.declared.edge.Edge.{Edge}
 use Rattle.deny_crates.specs.Dependents.{AreDirectDependents, id_at}
-use Rattle.deny_krates.specs.Nodes.{Incoming, Node, declared, has_edge, incoming_in, of_parents}
-use Rattle.deny_crates.specs.private.Direct.{incoming_cmp}
+use Rattle.deny_krates.specs.Nodes.{Incoming, Node, declared, has_edge, incoming_cmp, incoming_in, of_parents}
 use Rattle.deny_krates.specs.Nodes.{resolves_to, sources_at, all_kinds}
 use Rattle.deny_krates.specs.private.Resolved.{AreBetween, IsResolvedAt, resolved_to}
 use Rattle.deny_krates.specs.private.Sources.{parent_cmp, parent_of, passes_there, source_of}

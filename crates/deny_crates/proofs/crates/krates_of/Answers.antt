@@ -1,13 +1,12 @@
-use Rattle.std.proofs.Common.{◌≡◌, ◌<◌, ◌+◌, ◌∙◌, ℕ, List, [], ap, length, map, sym, subst, arith}
+use Rattle.std.proofs.Common.{◌≡◌, ◌<◌, ◌∙◌, ℕ, List, [], length, sym, subst, arith}
 use Rattle.std.specs.List.{AllZip}
-use Rattle.std.proofs.lemmas.List.{length-map}
 use Rattle.deny_lists.proofs.Places.{slice_get-read}
 use Rattle.deny_crates.specs.private.Graph.{IsKrateAs, IsKrateOf, features_at, listed}
 use Rattle.deny_metadata.specs.declared.document.Package.{Package}
 use Rattle.deny_crates.specs.declared.graph.KeptPackage.{KeptPackage}
 use Rattle.deny_crates.specs.declared.krate.Krate.{Krate}
 use Rattle.deny_crates.proofs.GraphLemmas.{features_are, listed_is, zip_more}
-use Rattle.deny_crates.proofs.TakenLemmas.{AreLeft, all_left, left_after, taken_reads, texts_long}
+use Rattle.deny_crates.proofs.TakenLemmas.{all_left, left_after, taken_reads, texts_long}
 use Rattle.deny_crates.proofs.crates.krates_of.Goals as goal
 
 pub loop-each-init : goal.loop-each-init
