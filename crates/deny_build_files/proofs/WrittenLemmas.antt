@@ -1,7 +1,7 @@
 -- The rest of a path that is written as a folder, a slash and a component.
 use Rattle.std.proofs.Common.{◌≡◌, ◌++◌, ◌∙◌, ℕ, arith, true, false, Bool, List, [], ◌∷◌, Bor, Option, Some, None}
-use Rattle.std.proofs.Common.{append-nil, length, refl, ap, sym, codes, suc, zero}
-use Rattle.std.specs.Prelude.{◌<◌, ◌==◌, ◌||◌, IfSome, filter, not}
+use Rattle.std.proofs.Common.{append-nil, length, refl, ap, codes, suc, zero}
+use Rattle.std.specs.Prelude.{◌<◌, ◌==◌, ◌||◌, IfSome, filter, not, if◌then◌else◌}
 use Rattle.std.specs.Cmp.Lexicographic.{bytes_decides}
 use Rattle.std.specs.List.{join_with_byte, onto_first, starts_with}
 use Rattle.std.proofs.lemmas.List.Elements.{filter-append}
