@@ -1,4 +1,4 @@
-use Rattle.std.proofs.Common.{◌∙◌, [], Bor, List, Option, ap, map, option_map, subst, sym}
+use Rattle.std.proofs.Common.{◌≡◌, ◌++◌, ◌∙◌, [], Bor, List, Option, ap, map, option_map, subst, sym}
 use Rattle.std.specs.List.{AllZip}
 use Rattle.std.specs.Option.{option_copied}
 use Rattle.std.proofs.lemmas.List.{take_all}
@@ -11,7 +11,7 @@ use Rattle.deny_packages.proofs.files.see_files.Goals as goal
 use Rattle.deny_packages.specs.Seen.{IsFileSeen}
 use Rattle.deny_packages.specs.Why.{IsBecause}
 use Rattle.deny_packages.specs.declared.order.FilePath.{FilePath}
-use Rattle.deny_packages.specs.private.Entries.{gaps_of}
+use Rattle.deny_packages.specs.private.Entries.{entries_of_all, gaps_of}
 use Rattle.deny_packages.specs.private.Reading.{AreOwnRead}
 use Rattle.deny_unread.proofs.AddedLemmas.{longer_is}
 use Rattle.deny_unread.proofs.Later.{later_later}
@@ -62,3 +62,11 @@ returns-clause-seen g c = λ place folder.
     (seen a.disk.now).files (building_view a.config.now) (option_copied a.home) (gaps_of file)
     (crate_view place a.krate.now) path file) (map (λ (p : FilePath). p.path) ps) l.files)
     (take_all l.path-index a.paths.now c.loop-path-test.false) (l.invariant.seen place folder)
+
+pub returns-clause-noted : goal.returns-clause-noted
+returns-clause-noted g c = λ place.
+    let a = c.args in
+    let l = c.loop-path in
+    subst (λ (ps : List FilePath). l.unread ≡ a.unread.now ++ entries_of_all (building_view a.config.now)
+    (crate_view place a.krate.now) (map (λ (p : FilePath). p.path) ps) l.files)
+    (take_all l.path-index a.paths.now c.loop-path-test.false) (l.invariant.noted place)
