@@ -85,7 +85,7 @@ pub behind_same : (piece a b rest other : List ℕ) (at : ℕ) → piece ≡ tak
     → Some other ≡ text_behind piece b → path_cmp a b ≡ path_cmp rest other
 behind_same piece a b rest other at is_piece is_rest found =
     let whole : a ≡ piece ++ rest = sym (ap (λ p. p ++ rest) is_piece ∙ ap (λ r. take at a ++ r) is_rest
-        ∙ take-append-drop at a) in
+    ∙ take-append-drop at a) in
     ap (λ p. path_cmp p b) whole ∙ ap (λ q. path_cmp (piece ++ rest) q) (front_found piece b other found)
     ∙ slice_cmp-append (on_total rank nat_cmp_total) piece rest other
 
