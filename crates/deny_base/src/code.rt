@@ -1,9 +1,12 @@
 ghost use Rattle.std.specs.Prelude.{◌≡◌, ◌+◌, ◌==◌, Some, refl};
 ghost use Rattle.std.specs.Ordering.{nat_cmp, on};
-ghost use Rattle.std.specs.Cmp.{IsTotalOrder, nat_cmp_total, on_total, on_per, on_equiv, nat_eq_equiv, partial_equiv_from_equiv, partial_order_from_own_ties, partial_order_from_total, unsigned_ties};
+ghost use Rattle.std.specs.Cmp.{IsTotalOrder, nat_cmp_total, on_total, on_per};
+ghost use Rattle.std.specs.Cmp.{on_equiv, nat_eq_equiv, partial_equiv_from_equiv};
+ghost use Rattle.std.specs.Cmp.{partial_order_from_own_ties, partial_order_from_total, unsigned_ties};
 ghost use Rattle.std.proofs.Common.{rules};
 ghost use Rattle.std.specs.FinMap.{IsAntisymmetric};
-ghost use Rattle.deny_base.specs.Code.{code_name, code_number, code_cmp, diagnostic_code_name, diagnostic_code_number, diagnostic_code_cmp};
+ghost use Rattle.deny_base.specs.Code.{code_name, code_number, code_cmp, diagnostic_code_name};
+ghost use Rattle.deny_base.specs.Code.{diagnostic_code_number, diagnostic_code_cmp};
 ghost use Rattle.deny_base.specs.Code.{bans_unused_kind, bans_is_of_path, unused_kind, is_of_path};
 ghost use Rattle.deny_base.specs.LicenseCode.{license_code_cmp};
 ghost use Rattle.deny_base.specs.declared.code.Code.{Code};
@@ -229,7 +232,8 @@ impl Eq for Code {
 impl PartialOrd for Code {
     ghost partial_cmp = { λ a b. Some (code_cmp a b) };
 
-    ghost laws = { partial_order_from_own_ties (partial_order_from_total (on_total code_number nat_cmp_total)) (λ a b. unsigned_ties (code_number a) (code_number b)) };
+    ghost laws = { partial_order_from_own_ties (partial_order_from_total (on_total code_number nat_cmp_total))
+        (λ a b. unsigned_ties (code_number a) (code_number b)) };
 
     fn partial_cmp(&self, other: &Self) -> Option<Ordering> {
         Some(self.cmp(other))
@@ -338,7 +342,9 @@ impl Eq for DiagnosticCode {
 impl PartialOrd for DiagnosticCode {
     ghost partial_cmp = { λ a b. Some (diagnostic_code_cmp a b) };
 
-    ghost laws = { partial_order_from_own_ties (partial_order_from_total (on_total diagnostic_code_number nat_cmp_total)) (λ a b. unsigned_ties (diagnostic_code_number a) (diagnostic_code_number b)) };
+    ghost laws = { partial_order_from_own_ties
+        (partial_order_from_total (on_total diagnostic_code_number nat_cmp_total))
+        (λ a b. unsigned_ties (diagnostic_code_number a) (diagnostic_code_number b)) };
 
     fn partial_cmp(&self, other: &Self) -> Option<Ordering> {
         Some(self.cmp(other))

@@ -1,6 +1,8 @@
 ghost use Rattle.std.specs.Prelude.{◌≡◌, ◌==◌, Some, refl};
 ghost use Rattle.std.specs.Ordering.{nat_cmp, on};
-ghost use Rattle.std.specs.Cmp.{IsTotalOrder, nat_cmp_total, on_total, on_per, on_equiv, nat_eq_equiv, partial_equiv_from_equiv, partial_order_from_own_ties, partial_order_from_total, unsigned_ties};
+ghost use Rattle.std.specs.Cmp.{IsTotalOrder, nat_cmp_total, on_total, on_per};
+ghost use Rattle.std.specs.Cmp.{on_equiv, nat_eq_equiv, partial_equiv_from_equiv};
+ghost use Rattle.std.specs.Cmp.{partial_order_from_own_ties, partial_order_from_total, unsigned_ties};
 ghost use Rattle.std.proofs.Common.{rules};
 ghost use Rattle.std.specs.FinMap.{IsAntisymmetric};
 ghost use Rattle.deny_base.specs.Edge.{kind_number, kind_cmp, edge_cmp};
@@ -52,7 +54,8 @@ impl Eq for DepKind {
 impl PartialOrd for DepKind {
     ghost partial_cmp = { λ a b. Some (kind_cmp a b) };
 
-    ghost laws = { partial_order_from_own_ties (partial_order_from_total (on_total kind_number nat_cmp_total)) (λ a b. unsigned_ties (kind_number a) (kind_number b)) };
+    ghost laws = { partial_order_from_own_ties (partial_order_from_total (on_total kind_number nat_cmp_total))
+        (λ a b. unsigned_ties (kind_number a) (kind_number b)) };
 
     fn partial_cmp(&self, other: &Self) -> Option<Ordering> {
         Some(self.cmp(other))

@@ -1,8 +1,10 @@
 ghost use Rattle.std.specs.Prelude.{◌≡◌, ◌==◌, Some, refl};
 ghost use Rattle.std.specs.Ordering.{nat_cmp, on};
-ghost use Rattle.std.specs.Cmp.{nat_cmp_total, on_total, on_per, on_equiv, nat_eq_equiv, partial_equiv_from_equiv, partial_order_from_own_ties, partial_order_from_total, unsigned_ties};
+ghost use Rattle.std.specs.Cmp.{nat_cmp_total, on_total, on_per, on_equiv, nat_eq_equiv, partial_equiv_from_equiv};
+ghost use Rattle.std.specs.Cmp.{partial_order_from_own_ties, partial_order_from_total, unsigned_ties};
 ghost use Rattle.std.proofs.Common.{rules};
-ghost use Rattle.deny_base.specs.LicenseCode.{license_code_name, license_code_number, license_code_cmp, license_unused_kind};
+ghost use Rattle.deny_base.specs.LicenseCode.{license_code_name, license_code_number};
+ghost use Rattle.deny_base.specs.LicenseCode.{license_code_cmp, license_unused_kind};
 
 use crate::entry::EntryKind;
 use deny_lists::Plain;
@@ -91,7 +93,8 @@ impl Eq for LicenseCode {
 impl PartialOrd for LicenseCode {
     ghost partial_cmp = { λ a b. Some (license_code_cmp a b) };
 
-    ghost laws = { partial_order_from_own_ties (partial_order_from_total (on_total license_code_number nat_cmp_total)) (λ a b. unsigned_ties (license_code_number a) (license_code_number b)) };
+    ghost laws = { partial_order_from_own_ties (partial_order_from_total (on_total license_code_number nat_cmp_total))
+        (λ a b. unsigned_ties (license_code_number a) (license_code_number b)) };
 
     fn partial_cmp(&self, other: &Self) -> Option<Ordering> {
         Some(self.cmp(other))

@@ -8,7 +8,8 @@ ghost use Rattle.deny_build_cfg.specs.BuildingView.{bypass_view, path_view};
 ghost use Rattle.deny_codes.specs.PackageFiles.{leaves_to_globs, path_of_used};
 ghost use Rattle.deny_lists.specs.First.{GainsEntry};
 ghost use Rattle.deny_model.specs.Text.{same_text};
-ghost use Rattle.deny_build.specs.private.Met.{IsFirstAt, all_met, meets_glob, meets_path, met_by, met_view, number_at, same_range};
+ghost use Rattle.deny_build.specs.private.Met.{IsFirstAt, all_met, meets_glob, meets_path};
+ghost use Rattle.deny_build.specs.private.Met.{met_by, met_view, number_at, same_range};
 
 use deny_base::{Kid, Span};
 use deny_build_model::PackageFile;
@@ -62,8 +63,8 @@ pub fn meet<'a>(
     files: &'a [PackageFile],
     all: &mut Vec<Met<'a>>,
 ) -> Result<(), NoMemory>
-    ensures { OnOk result (map met_view all.new.items
-        ≡ map met_view all.old.items ++ all_met (option_map (λ y. bypass_view y.now) allowed.now.bypass) kid.now files.now) }
+    ensures { OnOk result (map met_view all.new.items ≡ map met_view all.old.items
+        ++ all_met (option_map (λ y. bypass_view y.now) allowed.now.bypass) kid.now files.now) }
 {
     for file in files {
         all.push(meet_one(alloc, allowed, kid, file)?)?;

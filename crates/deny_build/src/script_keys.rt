@@ -3,7 +3,8 @@ ghost use Rattle.std.specs.Prelude.{◌≡◌, ◌++◌, ◌∷◌, [], IfOk, On
 ghost use Rattle.deny_base.specs.declared.code.Code.TheVariants.{ChecksumMismatch};
 ghost use Rattle.deny_build_cfg.specs.BuildingView.{checksum_view};
 ghost use Rattle.deny_codes.specs.BuildScripts.{required_enabled, used};
-ghost use Rattle.deny_codes.specs.Packages.{denied_script_keys, features_enabled_keys, path_key, right_script_keys, script_keys, script_shown, sum_keys};
+ghost use Rattle.deny_codes.specs.Packages.{denied_script_keys, features_enabled_keys, path_key};
+ghost use Rattle.deny_codes.specs.Packages.{right_script_keys, script_keys, script_shown, sum_keys};
 ghost use Rattle.deny_model.specs.Keys.{crate_key};
 ghost use Rattle.deny_build.specs.private.Looked.{krate_of, looking_at};
 

@@ -108,7 +108,8 @@ fn gather_some(
     globs: &[BuiltinGlob<'_>],
     all: &mut Gathered,
 ) -> Result<(), NoMemory>
-    ensures { OnOk result (GathersMore extension_text (map (builtin_of file) globs.now) all.old.patterns all.old.set all.new.patterns all.new.set) }
+    ensures { OnOk result (GathersMore extension_text (map (builtin_of file) globs.now)
+        all.old.patterns all.old.set all.new.patterns all.new.set) }
 {
     for glob in globs {
         all.gather(alloc, builtin_of(alloc, file, glob)?, glob.text)?;
@@ -123,7 +124,8 @@ pub(crate) fn gather_builtin(
     file: FileId,
     all: &mut Gathered,
 ) -> Result<(), NoMemory>
-    ensures { OnOk result (GathersMore extension_text (builtin_patterns file) all.old.patterns all.old.set all.new.patterns all.new.set) }
+    ensures { OnOk result (GathersMore extension_text (builtin_patterns file)
+        all.old.patterns all.old.set all.new.patterns all.new.set) }
 {
     gather_some(alloc, file, &BUILTIN_GLOBS, all)
 }

@@ -16,7 +16,8 @@ pub(crate) fn patterns_at<'s>(
     patterns: &'s [GlobPattern],
     indices: &[usize],
 ) -> Result<Vec<&'s GlobPattern>, NoMemory>
-    ensures { IfOk result (λ all. map (λ pattern. pattern.now) all.items ≡ filter_map (slice_get patterns.now) indices.now) }
+    ensures { IfOk result (λ all. map (λ pattern. pattern.now) all.items
+        ≡ filter_map (slice_get patterns.now) indices.now) }
 {
     let mut all = Vec::new(alloc);
     for index in indices {

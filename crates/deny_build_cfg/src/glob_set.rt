@@ -38,8 +38,10 @@ impl ValidGlobSet {
         indices: &mut Vec<usize>,
     ) -> Result<Option<Vec<&'s GlobPattern>>, NoMemory>
         ensures ascending { IfOk result (λ found. IsStrictlyIncreasing indices.new.items) }
-        ensures exact { IfOk result (λ found. (i : ℕ) → Contains indices.new.items i ↔ FitsAt self.now.set i (chars path.now)) }
-        ensures patterns { IfOk result (λ found. option_map (λ all. map (λ pattern. pattern.now) all.items) found ≡ patterns_at self.now.patterns indices.new.items) }
+        ensures exact { IfOk result (λ found. (i : ℕ) → Contains indices.new.items i
+            ↔ FitsAt self.now.set i (chars path.now)) }
+        ensures patterns { IfOk result (λ found. option_map (λ all. map (λ pattern. pattern.now) all.items) found
+            ≡ patterns_at self.now.patterns indices.new.items) }
     {
         self.set.matches(path, indices)?;
         if indices.is_empty() {

@@ -1,7 +1,8 @@
 //! The table `build`, and its entries of `bypass`, as rules take them.
 ghost use Rattle.std.specs.Prelude.{◌≡◌, ◌<◌, ◌^◌, ◌++◌, IfOk, OnErr, OnOk, length, map};
 ghost use Rattle.std.specs.List.{AllZip};
-ghost use Rattle.deny_build_cfg.specs.Build.{HasFiles, IsBuildOf, IsBypassOf, IsMadeOf, build_by, builtin_if, files_of, number_of, of_scripts, older_key_by};
+ghost use Rattle.deny_build_cfg.specs.Build.{HasFiles, IsBuildOf, IsBypassOf, IsMadeOf, build_by};
+ghost use Rattle.deny_build_cfg.specs.Build.{builtin_if, files_of, number_of, of_scripts, older_key_by};
 ghost use Rattle.deny_build_cfg.specs.Globs.{GathersMore, IsSetOf, OfBoth, extension_text, own_text};
 ghost use Rattle.deny_build_cfg.specs.declared.pattern.GlobPattern.TheVariants.{User};
 
@@ -113,7 +114,8 @@ fn gather_builtin_if(
     file: Option<FileId>,
     all: &mut Gathered,
 ) -> Result<(), NoMemory>
-    ensures { OnOk result (GathersMore extension_text (builtin_if file) all.old.patterns all.old.set all.new.patterns all.new.set) }
+    ensures { OnOk result (GathersMore extension_text (builtin_if file)
+        all.old.patterns all.old.set all.new.patterns all.new.set) }
 {
     match file {
         Some(file) => gather_builtin(alloc, file, all),

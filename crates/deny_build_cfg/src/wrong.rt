@@ -1,10 +1,13 @@
 //! What is wrong in a table `build`.
-ghost use Rattle.std.specs.Prelude.{◌≡◌, ◌<◌, ◌≤◌, ◌-◌, ◌++◌, ℕ, [], IfOk, None, OnOk, Some, filter_map, length, option_map};
+ghost use Rattle.std.specs.Prelude.{◌≡◌, ◌<◌, ◌≤◌, ◌-◌, ◌++◌, ℕ, []};
+ghost use Rattle.std.specs.Prelude.{IfOk, None, OnOk, Some, filter_map, length, option_map};
 ghost use Rattle.std.specs.List.{cons_option, flat_map, list_all, position};
 ghost use Rattle.deny_lists.specs.Ascending.{Adds};
 ghost use Rattle.deny_build_cfg.specs.Build.{listed};
 ghost use Rattle.deny_build_cfg.specs.Wrong as spec;
-ghost use Rattle.deny_build_cfg.specs.Wrong.{IsGlobFault, IsGlobFaultOf, IsOfAny, IsWrong, bad_at, bad_place, byte_range, extension_fault, faults_by_text, is_ascii_text, line_end, path_fault, path_faults, written_at};
+ghost use Rattle.deny_build_cfg.specs.Wrong.{IsGlobFault, IsGlobFaultOf, IsOfAny, IsWrong, bad_at};
+ghost use Rattle.deny_build_cfg.specs.Wrong.{bad_place, byte_range, extension_fault, faults_by_text};
+ghost use Rattle.deny_build_cfg.specs.Wrong.{is_ascii_text, line_end, path_fault, path_faults, written_at};
 ghost use Rattle.deny_build_cfg.specs.declared.wrong.BuildFault as fault;
 
 use deny_base::{Span, Spanned};

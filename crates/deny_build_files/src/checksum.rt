@@ -1,4 +1,5 @@
-ghost use Rattle.std.specs.Prelude.{◌≡◌, ◌↔◌, ◌+◌, ◌≤◌, ◌<◌, ◌^◌, true, false, length, IfOk, IfSome, IsErrOf, IsOk, IsTrue, Ok};
+ghost use Rattle.std.specs.Prelude.{◌≡◌, ◌↔◌, ◌+◌, ◌≤◌, ◌<◌, ◌^◌, true, false};
+ghost use Rattle.std.specs.Prelude.{length, IfOk, IfSome, IsErrOf, IsOk, IsTrue, Ok};
 ghost use Rattle.sha2.specs.Sha256.{sha256};
 ghost use Rattle.deny_outside.specs.Count.{RoseBy};
 ghost use Rattle.deny_outside.specs.Disk.{Disk, IsLater, FailedAt, bytes_at};

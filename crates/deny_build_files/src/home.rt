@@ -1,9 +1,11 @@
 //! Paths as they are shown: below the home of cargo, below the folder of a crate, or as they are.
-ghost use Rattle.std.specs.Prelude.{◌≡◌, ◌≤◌, ◌++◌, true, codes, drop, length, map, option_map, option_copied, IfOk, IfSome, Some};
+ghost use Rattle.std.specs.Prelude.{◌≡◌, ◌≤◌, ◌++◌, true, codes, drop, length, map};
+ghost use Rattle.std.specs.Prelude.{option_map, option_copied, IfOk, IfSome, Some};
 ghost use Rattle.std.specs.List.{join_by};
 ghost use Rattle.deny_build_model.specs.Paths.{is_component, parts};
 ghost use Rattle.deny_outside.specs.Children.{text_behind};
-ghost use Rattle.deny_build_files.specs.Home.{below_home, home_path, is_absolute, parts_behind, rest_below, same_name, same_start};
+ghost use Rattle.deny_build_files.specs.Home.{below_home, home_path, is_absolute};
+ghost use Rattle.deny_build_files.specs.Home.{parts_behind, rest_below, same_name, same_start};
 ghost use Rattle.deny_build_files.specs.private.Home.{begins_plainly, parts_after, parts_below, parts_past};
 
 use crate::parts::parts_of;

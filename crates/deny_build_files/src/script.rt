@@ -1,7 +1,8 @@
 //! The interpreter that the first line of a script names.
 ghost use Rattle.std.specs.Prelude.{◌≡◌, ◌==◌, ◌<◌, ◌≤◌, length, map, option_map, option_copied, take, IfOk, IfSome};
 ghost use Rattle.std.specs.List.{position, slice_split};
-ghost use Rattle.deny_build_files.specs.Script.{interpreter_in, interpreter_by, first_line, is_newline, is_rust_path, last_part, named_by, named_in, interpreter_of_text};
+ghost use Rattle.deny_build_files.specs.Script.{interpreter_in, interpreter_by, first_line, is_newline};
+ghost use Rattle.deny_build_files.specs.Script.{is_rust_path, last_part, named_by, named_in, interpreter_of_text};
 
 use crate::parts::parts_of;
 use deny_lists::{NoMemory, Text};

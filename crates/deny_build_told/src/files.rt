@@ -7,7 +7,8 @@ ghost use Rattle.deny_build_told.specs.AtHand.{IsAtHand};
 ghost use Rattle.deny_build_told.specs.private.Found.{found_or_unasked};
 ghost use Rattle.deny_codes.specs.PackagesTold.{bypassed_by_glob_told, denied_by_extension_told, detected_told};
 ghost use Rattle.deny_codes.specs.PackagesTold.{extension_labels, failure_notes, file_of_key, found_at, glob_labels};
-ghost use Rattle.deny_codes.specs.PackagesTold.{folder_shown, found_of_file, kind_notes, package_of_key, path_bypassed_told, script_told};
+ghost use Rattle.deny_codes.specs.PackagesTold.{folder_shown, found_of_file, kind_notes};
+ghost use Rattle.deny_codes.specs.PackagesTold.{package_of_key, path_bypassed_told, script_told};
 ghost use Rattle.deny_codes.specs.PackagesTold.{told_of_build, unable_to_check_told};
 ghost use Rattle.deny_told.specs.Told.{told_from};
 

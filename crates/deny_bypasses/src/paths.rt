@@ -1,5 +1,6 @@
 //! The files that a bypass lets pass, found by the components of their paths.
-ghost use Rattle.std.specs.Prelude.{◌≡◌, ◌++◌, IfOk, OnOk, codes, filter, find, map, option_and_then, option_map, slice_get};
+ghost use Rattle.std.specs.Prelude.{◌≡◌, ◌++◌, IfOk, OnOk, codes, filter, find};
+ghost use Rattle.std.specs.Prelude.{map, option_and_then, option_map, slice_get};
 ghost use Rattle.std.specs.Option.{option_copied};
 ghost use Rattle.deny_build_cfg.specs.BuildingView.{bypass_view, path_view};
 ghost use Rattle.deny_build_model.specs.Paths.{components, is_component, parts};

@@ -1,7 +1,8 @@
 //! What a crate's build script lets pass by its checksum, and what follows of it.
 ghost use Rattle.std.specs.Prelude.{◌≡◌, ℕ, Contains};
 ghost use Rattle.deny_build_cfg.specs.BuildingView.{building_view};
-ghost use Rattle.deny_codes.specs.BuildScripts.{has_sum, is_script_denied, is_script_right, is_walked, passes_by_script, script_found};
+ghost use Rattle.deny_codes.specs.BuildScripts.{has_sum, is_script_denied, is_script_right};
+ghost use Rattle.deny_codes.specs.BuildScripts.{is_walked, passes_by_script, script_found};
 ghost use Rattle.deny_krates.specs.Crates.{crate_view};
 ghost use Rattle.deny_bypasses.specs.Marks.{reached_by};
 
@@ -62,8 +63,8 @@ pub fn passes_by_script(
 #[tactic(auto, unfolding(deny_codes::specs::BuildScripts::is_script_denied))]
 pub fn is_script_denied(by: &Checking<'_>, place: u32, krate: &Krate, contents: &Package) -> bool
     ensures { Contains by.now.krates.now.crates (crate_view place krate.now) → result
-        ≡ is_script_denied (building_view by.now.config.now) by.now.krates.now (reached_by by.now.marks.now) contents.now
-        (crate_view place krate.now) }
+        ≡ is_script_denied (building_view by.now.config.now) by.now.krates.now (reached_by by.now.marks.now)
+        contents.now (crate_view place krate.now) }
 {
     is_checked(by, place, krate)
         && !is_script_ok(by.config, krate)

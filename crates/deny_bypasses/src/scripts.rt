@@ -33,7 +33,8 @@ fn first_script(targets: &[Target]) -> Option<&Target>
 
 /// The build script of a crate: the first of its targets that is one.
 pub fn script_of(krate: &Krate) -> Option<&Target>
-    ensures { (place : ℕ) → option_map (λ target. target_view target.now) result ≡ script_of (crate_view place krate.now) }
+    ensures { (place : ℕ) → option_map (λ target. target_view target.now) result
+        ≡ script_of (crate_view place krate.now) }
 {
     first_script(krate.targets.as_slice())
 }

@@ -1,7 +1,8 @@
 //! Entries of a policy that contradict each other, and what is wrong in its table `build`.
 ghost use Rattle.std.specs.Prelude.{◌≡◌, ◌==◌, Some, refl};
 ghost use Rattle.std.specs.Ordering.{nat_cmp};
-ghost use Rattle.std.specs.Cmp.{nat_cmp_total, on_total, on_per, on_equiv, nat_eq_equiv, partial_equiv_from_equiv, partial_order_from_own_ties, partial_order_from_total, unsigned_ties};
+ghost use Rattle.std.specs.Cmp.{nat_cmp_total, on_total, on_per, on_equiv, nat_eq_equiv, partial_equiv_from_equiv};
+ghost use Rattle.std.specs.Cmp.{partial_order_from_own_ties, partial_order_from_total, unsigned_ties};
 ghost use Rattle.std.specs.FinMap.{IsAntisymmetric};
 ghost use Rattle.deny_cfg.specs.Clashes.{build_clash, clash_cmp, kind_cmp, kind_number, two_places};
 ghost use Rattle.deny_cfg.specs.declared.clash.Clash.{Clash};
@@ -70,7 +71,8 @@ impl Eq for ClashKind {
 impl PartialOrd for ClashKind {
     ghost partial_cmp = { λ a b. Some (kind_cmp a b) };
 
-    ghost laws = { partial_order_from_own_ties (partial_order_from_total (on_total kind_number nat_cmp_total)) (λ a b. unsigned_ties (kind_number a) (kind_number b)) };
+    ghost laws = { partial_order_from_own_ties (partial_order_from_total (on_total kind_number nat_cmp_total))
+        (λ a b. unsigned_ties (kind_number a) (kind_number b)) };
 
     fn partial_cmp(&self, other: &Self) -> Option<Ordering> {
         Some(self.cmp(other))

@@ -3,7 +3,8 @@ ghost use Rattle.std.specs.Prelude.{◌≡◌, ◌∷◌, [], ◌++◌, IfOk, On
 ghost use Rattle.std.specs.Fmt.{decimal};
 ghost use Rattle.deny_base.specs.declared.label.LabelStyle.TheVariants.{Secondary};
 ghost use Rattle.deny_cfg.specs.Clashes as spec;
-ghost use Rattle.deny_cfg.specs.Clashes.{clash_labels, clash_message, clash_told, extension_labels, label_of, marks, one_label};
+ghost use Rattle.deny_cfg.specs.Clashes.{clash_labels, clash_message, clash_told};
+ghost use Rattle.deny_cfg.specs.Clashes.{extension_labels, label_of, marks, one_label};
 ghost use Rattle.deny_lists.specs.Prefix.{GainsPrefix};
 
 use crate::clash::{Clash, ClashKind};
@@ -12,7 +13,8 @@ use deny_lists::{List, NoMemory, Text};
 use std::alloc::Global;
 
 fn extension_message(ascii: bool) -> &'static str
-    ensures { result.now ≡ (if ascii then codes "invalid file extension provided" else codes "non-ascii file extension provided") }
+    ensures { result.now
+        ≡ (if ascii then codes "invalid file extension provided" else codes "non-ascii file extension provided") }
 {
     if ascii {
         "invalid file extension provided"

@@ -1,8 +1,10 @@
 //! Which entries of a policy clash, and what is wrong in its table `build`.
-ghost use Rattle.std.specs.Prelude.{◌≡◌, ◌++◌, [], IfOk, None, OnOk, Some, if◌then◌else◌, filter, filter_map, map, option_map};
+ghost use Rattle.std.specs.Prelude.{◌≡◌, ◌++◌, [], IfOk, None, OnOk, Some};
+ghost use Rattle.std.specs.Prelude.{if◌then◌else◌, filter, filter_map, map, option_map};
 ghost use Rattle.std.specs.List.{cons_option, flat_map};
 ghost use Rattle.deny_lists.specs.Ascending.{Adds, Lists};
-ghost use Rattle.deny_cfg.specs.Clashes.{IsBuildClash, IsClash, build_clash, clash_cmp, clash_with, clashes_in, feature_clashes};
+ghost use Rattle.deny_cfg.specs.Clashes.{IsBuildClash, IsClash, build_clash, clash_cmp};
+ghost use Rattle.deny_cfg.specs.Clashes.{clash_with, clashes_in, feature_clashes};
 ghost use Rattle.deny_cfg.specs.Clashes.{is_ban, specs_of, two_places, wrappers_clash, wrappers_clash_by};
 ghost use Rattle.deny_cfg.specs.Clashes as spec;
 ghost use Rattle.deny_cfg.specs.FirstPlaces.{place_in, plain_wording, spec_wording};
@@ -94,7 +96,8 @@ fn clash_with(
     others: &FirstPlaces,
     spec: &PackageSpec,
 ) -> Result<Option<Clash>, NoMemory>
-    ensures { IfOk result (λ clash. clash ≡ option_map (two_places kind spec.now.name.span) (place_in others.now (spec_wording spec.now))) }
+    ensures { IfOk result (λ clash. clash
+        ≡ option_map (two_places kind spec.now.name.span) (place_in others.now (spec_wording spec.now))) }
 {
     match others.find(&Wording::of_spec(spec)?) {
         Some(place) => Ok(Some(Clash::of(kind, spec.name.span, place))),
@@ -108,7 +111,9 @@ fn ban_clash(
     others: &FirstPlaces,
     entry: &CrateBan,
 ) -> Result<Option<Clash>, NoMemory>
-    ensures { IfOk result (λ clash. clash ≡ (if is_ban entry.now then option_map (two_places kind entry.now.spec.name.span) (place_in others.now (spec_wording entry.now.spec)) else None)) }
+    ensures { IfOk result (λ clash. clash ≡ (if is_ban entry.now
+        then option_map (two_places kind entry.now.spec.name.span) (place_in others.now (spec_wording entry.now.spec))
+        else None)) }
 {
     if is_ban(entry) {
         clash_with(kind, others, &entry.spec)
@@ -125,7 +130,8 @@ fn put_ban_clashes(
     others: &[SpecAndReason],
     clashes: &mut List<Clash>,
 ) -> Result<(), NoMemory>
-    ensures { OnOk result (clashes.new ≡ clashes.old ++ filter_map (clash_with kind (specs_of others.now)) (specs_of (filter is_ban deny.now))) }
+    ensures { OnOk result (clashes.new
+        ≡ clashes.old ++ filter_map (clash_with kind (specs_of others.now)) (specs_of (filter is_ban deny.now))) }
 {
     let others = FirstPlaces::of_specs(alloc, others)?;
     for entry in deny {
@@ -141,7 +147,8 @@ fn put_allow_clashes(
     skip: &[SpecAndReason],
     clashes: &mut List<Clash>,
 ) -> Result<(), NoMemory>
-    ensures { OnOk result (clashes.new ≡ clashes.old ++ filter_map (clash_with ClashKind.AllowAndSkip (specs_of skip.now)) (specs_of allow.now)) }
+    ensures { OnOk result (clashes.new
+        ≡ clashes.old ++ filter_map (clash_with ClashKind.AllowAndSkip (specs_of skip.now)) (specs_of allow.now)) }
 {
     let skip = FirstPlaces::of_specs(alloc, skip)?;
     for entry in allow {
@@ -159,7 +166,8 @@ fn feature_clash(
     denied: &FirstPlaces,
     allowed: &Spanned<Text>,
 ) -> Result<Option<Clash>, NoMemory>
-    ensures { IfOk result (λ clash. clash ≡ option_map (spec.feature_at name allowed.now) (place_in denied.now (plain_wording allowed.now.value))) }
+    ensures { IfOk result (λ clash. clash
+        ≡ option_map (spec.feature_at name allowed.now) (place_in denied.now (plain_wording allowed.now.value))) }
 {
     match denied.find(&Wording::of_word(&allowed.value)?) {
         Some(place) => Ok(Some(Clash {

@@ -1,7 +1,8 @@
 //! Places by what stands there, of equal things the first.
 ghost use Rattle.std.specs.Prelude.{◌≡◌, [], IfOk, OnOk, is_some, map, not};
 ghost use Rattle.deny_lists.specs.First.{FindsFirst, GainsEntry};
-ghost use Rattle.deny_cfg.specs.FirstPlaces.{entry_place, place_in, plain_wording, same_wording, spec_wording, word_place};
+ghost use Rattle.deny_cfg.specs.FirstPlaces.{entry_place, place_in, plain_wording};
+ghost use Rattle.deny_cfg.specs.FirstPlaces.{same_wording, spec_wording, word_place};
 
 use deny_base::{Span, Spanned};
 use deny_entries::PackageSpec;

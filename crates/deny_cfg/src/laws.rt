@@ -29,8 +29,10 @@ pub fn one_policy()
 pub fn one_refusal()
     ensures faults { (text : List ℕ) → (xs ys : List ConfigFault) → ListsFaults text xs → ListsFaults text ys
         → (xs ≡ ys)
-        ⊎ (((place : Span) × (xs ≡ fault_at Grammar [] place ∷ [])) × ((place : Span) × (ys ≡ fault_at Grammar [] place ∷ []))) }
-    ensures clashes { (text : List ℕ) → (file : ℕ) → (xs ys : List Diagnostic) → TellsClashes text file xs → TellsClashes text file ys → xs ≡ ys }
+        ⊎ (((place : Span) × (xs ≡ fault_at Grammar [] place ∷ []))
+        × ((place : Span) × (ys ≡ fault_at Grammar [] place ∷ []))) }
+    ensures clashes { (text : List ℕ) → (file : ℕ) → (xs ys : List Diagnostic) → TellsClashes text file xs
+        → TellsClashes text file ys → xs ≡ ys }
     ensures faults_alone { (text : List ℕ) → (file : ℕ) → (faults : List ConfigFault) → (told : List Diagnostic)
         → ListsFaults text faults → TellsClashes text file told → ⊥ }
     ensures no_policy_with_faults { (text : List ℕ) → (file : ℕ) → (faults : List ConfigFault) → (policy : Policy)

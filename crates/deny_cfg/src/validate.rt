@@ -45,8 +45,10 @@ pub trait UnvalidatedConfig: Sized {
         ensures valid { IfOk result (is_valid_of self ctx.entry.cfg_id (length ctx.entry.files.now)) }
         ensures files { OnOk result ((files_left ctx.exit).now ≡ ctx.entry.files.now ++ files_asked self) }
         ensures files_too { OnErr result (HasFiles (files_asked self) ctx.entry.files.now (files_left ctx.exit).now) }
-        ensures told { OnOk result (Gains (are_told self (source_in ctx.entry.files.now ctx.entry.cfg_id) ctx.entry.cfg_id)
+        ensures told { OnOk result (Gains
+            (are_told self (source_in ctx.entry.files.now ctx.entry.cfg_id) ctx.entry.cfg_id)
             ctx.entry.diagnostics.now (diagnostics_left ctx.exit).now) }
-        ensures told_in_part { OnErr result (GainsPrefixOf (are_told self (source_in ctx.entry.files.now ctx.entry.cfg_id) ctx.entry.cfg_id)
+        ensures told_in_part { OnErr result (GainsPrefixOf
+            (are_told self (source_in ctx.entry.files.now ctx.entry.cfg_id) ctx.entry.cfg_id)
             ctx.entry.diagnostics.now (diagnostics_left ctx.exit).now) };
 }

@@ -2,7 +2,8 @@
 ghost use Rattle.std.specs.Prelude.{◌≡◌, ◌<◌, ◌^◌, ◌++◌, All, IfOk, OnOk};
 ghost use Rattle.std.specs.List.{flat_map};
 ghost use Rattle.serde_json.specs.View.{view};
-ghost use Rattle.deny_cli.specs.Lines.{dead_line, finding_line, lines, malformed_line, unread_line, verdict_line, verdict_value, verdict_word};
+ghost use Rattle.deny_cli.specs.Lines.{dead_line, finding_line, lines, malformed_line};
+ghost use Rattle.deny_cli.specs.Lines.{unread_line, verdict_line, verdict_value, verdict_word};
 ghost use Rattle.deny_cli.specs.Outcome.{bits_of};
 ghost use Rattle.deny_cli.specs.Told.{HasNumbers, IsCounted, told};
 ghost use Rattle.deny_json.specs.Reading.{IsPlain};

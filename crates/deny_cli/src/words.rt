@@ -3,7 +3,8 @@ ghost use Rattle.std.specs.Char.{is_ascii_digit};
 ghost use Rattle.std.specs.List.{list_all};
 ghost use Rattle.deny_cli.specs.Commands.{command_view, form_view, so_far_view};
 ghost use Rattle.deny_cli.specs.Registries.{registries_in, registry_of};
-ghost use Rattle.deny_cli.specs.Words.{count_of, is_plain, leads_with_zero, home_added, names_file, texts, Asks, IsUsageAt, command_of, option_added, path_added, step};
+ghost use Rattle.deny_cli.specs.Words.{count_of, is_plain, leads_with_zero, home_added, names_file};
+ghost use Rattle.deny_cli.specs.Words.{texts, Asks, IsUsageAt, command_of, option_added, path_added, step};
 
 use crate::home::home_of;
 use crate::registries::registry_of;

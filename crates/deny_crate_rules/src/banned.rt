@@ -1,5 +1,6 @@
 //! What stands of the entries that ban crates.
-ghost use Rattle.std.specs.Prelude.{◌≡◌, ◌++◌, ◌<◌, All, Contains, IfOk, IsTrue, OnOk, filter, is_some, length, map, not};
+ghost use Rattle.std.specs.Prelude.{◌≡◌, ◌++◌, ◌<◌, All, Contains, IfOk, IsTrue};
+ghost use Rattle.std.specs.Prelude.{OnOk, filter, is_some, length, map, not};
 ghost use Rattle.std.specs.Cmp.{IsTotalOrder};
 ghost use Rattle.std.specs.FinMap.{IsAntisymmetric};
 ghost use Rattle.std.specs.List.{flat_map};
@@ -14,7 +15,8 @@ ghost use Rattle.deny_model.specs.Keys.{unused_key};
 ghost use Rattle.deny_model.specs.Policy.{Policy};
 ghost use Rattle.deny_facts.specs.Matches.{IsBanMatch, ban_of};
 ghost use Rattle.deny_facts.specs.Wrappers.{range_at};
-ghost use Rattle.deny_crate_rules.specs.private.Banned.{hits_at, is_hit, is_lifted_at, keys_of_ban, told_code, told_keys_at};
+ghost use Rattle.deny_crate_rules.specs.private.Banned.{hits_at, is_hit, is_lifted_at};
+ghost use Rattle.deny_crate_rules.specs.private.Banned.{keys_of_ban, told_code, told_keys_at};
 
 use crate::crate_keys::{add_crate_keys, dependent_key, unused_key};
 use deny_base::{Code, Key, Span, Spanned};

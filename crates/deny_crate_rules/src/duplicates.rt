@@ -7,7 +7,9 @@ ghost use Rattle.deny_krates.specs.Crates.{crates_from};
 ghost use Rattle.deny_model.specs.Duplicates.{IsDuplicate};
 ghost use Rattle.deny_model.specs.Keys.{duplicate_key};
 ghost use Rattle.deny_model.specs.VersionOrder.{version_cmp};
-ghost use Rattle.deny_crate_rules.specs.private.Duplicates.{AddsKey, IsKeyOfCrates, IsDuplicatePolicy, is_unmarked, is_unmarked_at, key_of_group, level_at, same_id, placed_view};
+ghost use Rattle.deny_crate_rules.specs.private.Duplicates.{AddsKey, IsKeyOfCrates, IsDuplicatePolicy};
+ghost use Rattle.deny_crate_rules.specs.private.Duplicates.{is_unmarked, is_unmarked_at, key_of_group};
+ghost use Rattle.deny_crate_rules.specs.private.Duplicates.{level_at, same_id, placed_view};
 ghost use Rattle.deny_facts.specs.Marks.{facts_of};
 
 use deny_base::{Code, DiagnosticCode, Key, LintLevel, Section, Span};

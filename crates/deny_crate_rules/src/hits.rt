@@ -8,7 +8,8 @@ ghost use Rattle.deny_model.specs.Policy.{Policy};
 ghost use Rattle.deny_facts.specs.Marks.{facts_of};
 ghost use Rattle.deny_facts.specs.Matches.{IsBanMatch, ban_of};
 ghost use Rattle.deny_crate_rules.specs.private.EntryHits.{entry_hit};
-ghost use Rattle.deny_crate_rules.specs.private.WrappedEdges.{LeadToFirsts, hit_at, hit_by, wrapped_edge_at, wrapped_edges_at, wrapper_hits};
+ghost use Rattle.deny_crate_rules.specs.private.WrappedEdges.{LeadToFirsts, hit_at, hit_by, wrapped_edge_at};
+ghost use Rattle.deny_crate_rules.specs.private.WrappedEdges.{wrapped_edges_at, wrapper_hits};
 
 use deny_base::{EntryId, EntryKind, Hit, Span, Spanned, Witness};
 use deny_facts::{BanMatch, EntryMatch, Matches, are_placed, krate_at, range_at, wrappers_of};

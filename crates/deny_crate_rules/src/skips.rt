@@ -204,7 +204,8 @@ fn add_unnecessary_skips(
     keys: &mut List<Key>,
 ) -> Result<(), NoMemory>
     ensures { OnOk result (keys.new ≡ keys.old ++ map (λ m. unused_key code.UnnecessarySkip m.range)
-        (filter (is_needless_by (policy_view found.now.cfg.now) found.now.krates.now (facts_of found.now.marks)) skips.now)) }
+        (filter (is_needless_by (policy_view found.now.cfg.now) found.now.krates.now (facts_of found.now.marks))
+        skips.now)) }
 {
     for skip in skips {
         if is_needless(found, skip) {

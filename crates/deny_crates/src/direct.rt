@@ -1,8 +1,10 @@
-ghost use Rattle.std.specs.Prelude.{◌≡◌, ◌<◌, ℕ, List, IfOk, OnOk, All, Contains, [], fold, replicate, length, map, slice_index_or};
+ghost use Rattle.std.specs.Prelude.{◌≡◌, ◌<◌, ℕ, List, IfOk, OnOk, All, Contains};
+ghost use Rattle.std.specs.Prelude.{[], fold, replicate, length, map, slice_index_or};
 ghost use Rattle.std.specs.Cmp.{IsTotalOrder};
 ghost use Rattle.std.specs.FinMap.{IsAntisymmetric};
 ghost use Rattle.deny_lists.specs.Ascending.{Lists};
-ghost use Rattle.deny_crates.specs.private.Direct.{incoming_of, incoming_cmp, with_dependent, with_incoming, is_last, reversed, AreDependencies, AreDependents, AreRanks};
+ghost use Rattle.deny_crates.specs.private.Direct.{incoming_of, incoming_cmp, with_dependent, with_incoming};
+ghost use Rattle.deny_crates.specs.private.Direct.{is_last, reversed, AreDependencies, AreDependents, AreRanks};
 ghost use Rattle.deny_crates.specs.declared.direct.IncomingEdge.{IncomingEdge};
 
 use crate::krate::{DirectDependent, Krate};

@@ -1,7 +1,8 @@
 ghost use Rattle.std.specs.Prelude.{◌≡◌, ℕ, Some};
 ghost use Rattle.std.specs.List.{list_all, list_any};
 ghost use Rattle.deny_crates.specs.Crates.{crate_view};
-ghost use Rattle.deny_model.specs.Crates.{is_git_source, is_registry, is_crates_io, is_private, folder, folder_of, or_root};
+ghost use Rattle.deny_model.specs.Crates.{is_git_source, is_registry, is_crates_io};
+ghost use Rattle.deny_model.specs.Crates.{is_private, folder, folder_of, or_root};
 ghost use Rattle.deny_model.specs.Graph.{crate_text};
 ghost use Rattle.deny_model.specs.Text.{same_text};
 

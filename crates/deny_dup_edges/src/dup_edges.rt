@@ -6,7 +6,8 @@ ghost use Rattle.deny_lists.specs.Ascending.{Adds, Lists};
 ghost use Rattle.deny_base.specs.Edge.{edge_cmp};
 ghost use Rattle.deny_cfg.specs.PolicyView.{policy_view};
 ghost use Rattle.deny_lists.specs.Walk.{AreUnset};
-ghost use Rattle.deny_dup_edges.specs.DupEdges.{AreEdgesOf, IsAboveOne, IsSetOf, IsSimplest, ShowsEach, Simplest, edge_count, is_of_duplicate};
+ghost use Rattle.deny_dup_edges.specs.DupEdges.{AreEdgesOf, IsAboveOne, IsSetOf, IsSimplest};
+ghost use Rattle.deny_dup_edges.specs.DupEdges.{ShowsEach, Simplest, edge_count, is_of_duplicate};
 ghost use Rattle.deny_dup_edges.specs.private.EdgeLists.{IsBetween, IsEdge, IsReachedNumber, IsTo, IsToOne};
 
 use crate::above::{reach_above, unset_distances};

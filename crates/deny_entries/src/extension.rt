@@ -2,7 +2,8 @@
 ghost use Rattle.std.specs.Prelude.{◌≡◌, [], true, List, Option, IfOk, IfErr, OnOk};
 ghost use Rattle.deny_toml.specs.Faults.{Reports};
 ghost use Rattle.deny_entries.specs.Entry.{ReadsPair, entry_fields};
-ghost use Rattle.deny_entries.specs.Table.{DependsOn, Entries, Field, ReadsTable, are_apart, after_all, faults_of_fields, faults_of_table, state_of};
+ghost use Rattle.deny_entries.specs.Table.{DependsOn, Entries, Field, ReadsTable, are_apart};
+ghost use Rattle.deny_entries.specs.Table.{after_all, faults_of_fields, faults_of_table, state_of};
 
 use crate::package_spec::PackageSpec;
 use crate::spec::read_spec;
@@ -20,7 +21,8 @@ pub trait Extension: Sized + Drop {
     /// Takes the keys out of the table and reads them. The helper keeps their faults.
     fn read_keys(alloc: Global, helper: &mut TableHelper<'_>) -> Result<Option<Self>, NoMemory>
         ensures next { OnOk result (state_of helper.new ≡ after_all fields (state_of helper.old)) }
-        ensures read { IfOk result (λ x. faults_of_fields fields helper.old.span helper.old.entries ≡ [] → reads_in helper.old.entries x) };
+        ensures read { IfOk result (λ x. faults_of_fields fields helper.old.span helper.old.entries ≡ []
+            → reads_in helper.old.entries x) };
 
     ghost apart: { (entries : Entries) → are_apart (entry_fields fields entries) ≡ true };
 
@@ -32,7 +34,8 @@ pub fn read_entry<T: Extension>(
     alloc: Global,
     value: &mut Value<'_>,
 ) -> Result<(PackageSpec, Option<T>), DeserError>
-    ensures ok { IfOk result (λ x. (faults_of_table (entry_fields T.fields) value.old ≡ []) × ReadsTable (ReadsPair T.reads_in) value.old x) }
+    ensures ok { IfOk result (λ x. (faults_of_table (entry_fields T.fields) value.old ≡ [])
+        × ReadsTable (ReadsPair T.reads_in) value.old x) }
     ensures faults { IfErr result (Reports (faults_of_table (entry_fields T.fields) value.old)) }
 {
     let mut helper = TableHelper::new(alloc, value)?;

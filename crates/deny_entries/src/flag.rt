@@ -11,7 +11,8 @@ use deny_toml::TableHelper;
 /// Reads a key that may hold a boolean; one that is left out is false.
 pub fn is_set(helper: &mut TableHelper<'_>, key: PolicyKey) -> Result<bool, NoMemory>
     ensures next { OnOk result (state_of helper.new ≡ after (spec.optional key faults_of_bool) (state_of helper.old)) }
-    ensures read { IfOk result (λ x. ReadAt (spec.optional key faults_of_bool) (state_of helper.old) (λ v. ReadsOr false ReadsBool v x)) }
+    ensures read { IfOk result (λ x. ReadAt (spec.optional key faults_of_bool) (state_of helper.old)
+        (λ v. ReadsOr false ReadsBool v x)) }
 {
     table::optional_or(helper, key, false)
 }

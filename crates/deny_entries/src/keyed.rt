@@ -1,7 +1,8 @@
 //! Types that are read from the keys of a table.
 ghost use Rattle.std.specs.Prelude.{◌≡◌, [], true, List, IfOk, IfErr, OnOk};
 ghost use Rattle.deny_toml.specs.Faults.{Reports};
-ghost use Rattle.deny_entries.specs.Table.{Entries, Field, Gives, ReadsTable, are_apart, after_all, faults_of_fields, faults_of_table, state_of};
+ghost use Rattle.deny_entries.specs.Table.{Entries, Field, Gives, ReadsTable, are_apart};
+ghost use Rattle.deny_entries.specs.Table.{after_all, faults_of_fields, faults_of_table, state_of};
 
 use deny_lists::NoMemory;
 use deny_toml::{DeserError, TableHelper, Value};
@@ -18,14 +19,16 @@ pub trait Keyed: Sized + Drop {
     /// are some the answer may be None.
     fn read_keys(alloc: Global, helper: &mut TableHelper<'_>) -> Result<Option<Self>, NoMemory>
         ensures next { OnOk result (state_of helper.new ≡ after_all fields (state_of helper.old)) }
-        ensures read { IfOk result (λ x. faults_of_fields fields helper.old.span helper.old.entries ≡ [] → Gives (reads_in helper.old.entries) x) };
+        ensures read { IfOk result (λ x. faults_of_fields fields helper.old.span helper.old.entries ≡ []
+            → Gives (reads_in helper.old.entries) x) };
 
     ghost apart: { are_apart fields ≡ true };
 }
 
 /// Reads a value that is to be a table of these keys alone.
 pub fn read_table<T: Keyed>(alloc: Global, value: &mut Value<'_>) -> Result<T, DeserError>
-    ensures ok { IfOk result (λ x. (faults_of_table (λ entries. T.fields) value.old ≡ []) × ReadsTable T.reads_in value.old x) }
+    ensures ok { IfOk result (λ x. (faults_of_table (λ entries. T.fields) value.old ≡ [])
+        × ReadsTable T.reads_in value.old x) }
     ensures faults { IfErr result (Reports (faults_of_table (λ entries. T.fields) value.old)) }
 {
     let mut helper = TableHelper::new(alloc, value)?;

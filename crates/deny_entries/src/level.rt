@@ -52,8 +52,10 @@ pub fn level_or(
     key: PolicyKey,
     default: LintLevel,
 ) -> Result<LintLevel, NoMemory>
-    ensures next { OnOk result (state_of helper.new ≡ after (spec.optional key (faults_as level_of)) (state_of helper.old)) }
-    ensures read { IfOk result (λ x. ReadAt (spec.optional key (faults_as level_of)) (state_of helper.old) (λ v. ReadsOr default (ReadsAs level_of) v x)) }
+    ensures next { OnOk result (state_of helper.new
+        ≡ after (spec.optional key (faults_as level_of)) (state_of helper.old)) }
+    ensures read { IfOk result (λ x. ReadAt (spec.optional key (faults_as level_of)) (state_of helper.old)
+        (λ v. ReadsOr default (ReadsAs level_of) v x)) }
 {
     match table::optional::<Level>(helper, key)? {
         Some(level) => Ok(level.0),
@@ -66,8 +68,10 @@ pub fn level_if_set(
     helper: &mut TableHelper<'_>,
     key: PolicyKey,
 ) -> Result<Option<Spanned<LintLevel>>, NoMemory>
-    ensures next { OnOk result (state_of helper.new ≡ after (spec.optional key (faults_as level_of)) (state_of helper.old)) }
-    ensures read { IfOk result (λ x. ReadAt (spec.optional key (faults_as level_of)) (state_of helper.old) (λ v. ReadsIfThere (λ w s. (s.span ≡ span_in w) × ReadsAs level_of w s.value) v x)) }
+    ensures next { OnOk result (state_of helper.new
+        ≡ after (spec.optional key (faults_as level_of)) (state_of helper.old)) }
+    ensures read { IfOk result (λ x. ReadAt (spec.optional key (faults_as level_of)) (state_of helper.old)
+        (λ v. ReadsIfThere (λ w s. (s.span ≡ span_in w) × ReadsAs level_of w s.value) v x)) }
 {
     match table::optional::<Spanned<Level>>(helper, key)? {
         Some(level) => Ok(Some(Spanned {

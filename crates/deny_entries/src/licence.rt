@@ -64,8 +64,10 @@ pub fn licences_if_there(
     helper: &mut TableHelper<'_>,
     key: PolicyKey,
 ) -> Result<List<Spanned<Requirement>>, NoMemory>
-    ensures next { OnOk result (state_of helper.new ≡ after (spec.optional key faults_of_licences) (state_of helper.old)) }
-    ensures read { IfOk result (λ x. ReadAt (spec.optional key faults_of_licences) (state_of helper.old) (λ v. ReadsOr [] ReadsLicences v x)) }
+    ensures next { OnOk result (state_of helper.new
+        ≡ after (spec.optional key faults_of_licences) (state_of helper.old)) }
+    ensures read { IfOk result (λ x. ReadAt (spec.optional key faults_of_licences) (state_of helper.old)
+        (λ v. ReadsOr [] ReadsLicences v x)) }
 {
     let licences = table::optional_list(alloc, helper, key)?;
     let requirements = requirements_of(alloc, licences)?;
@@ -79,8 +81,10 @@ pub fn licences(
     helper: &mut TableHelper<'_>,
     key: PolicyKey,
 ) -> Result<Option<List<Spanned<Requirement>>>, NoMemory>
-    ensures next { OnOk result (state_of helper.new ≡ after (spec.required key faults_of_licences) (state_of helper.old)) }
-    ensures read { IfOk result (λ x. ReadAt (spec.required key faults_of_licences) (state_of helper.old) (λ v. Gives (ReadsThere ReadsLicences v) x)) }
+    ensures next { OnOk result (state_of helper.new
+        ≡ after (spec.required key faults_of_licences) (state_of helper.old)) }
+    ensures read { IfOk result (λ x. ReadAt (spec.required key faults_of_licences) (state_of helper.old)
+        (λ v. Gives (ReadsThere ReadsLicences v) x)) }
 {
     let Some(licences) = table::required(helper, key)? else {
         return Ok(None);

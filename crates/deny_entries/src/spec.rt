@@ -1,5 +1,6 @@
 //! Specs as they are read.
-ghost use Rattle.std.specs.Prelude.{◌≡◌, ◌≤◌, ◌+◌, ℕ, true, [], Some, None, IfOk, IfErr, IfSome, OnOk, option_map, is_some, length};
+ghost use Rattle.std.specs.Prelude.{◌≡◌, ◌≤◌, ◌+◌, ℕ, true, [], Some, None, IfOk};
+ghost use Rattle.std.specs.Prelude.{IfErr, IfSome, OnOk, option_map, is_some, length};
 ghost use Rattle.deny_toml.specs.Faults.{Reports};
 ghost use Rattle.std.specs.List.{list_any};
 ghost use Rattle.deny_toml.specs.Calls.{has_name, text_in};
@@ -7,8 +8,11 @@ ghost use Rattle.deny_toml.specs.Value.{span_of};
 ghost use Rattle.deny_entries.specs.PolicyKey.{name_of};
 ghost use Rattle.deny_entries.specs.Requirement.{IsReadIn, requirement_text};
 ghost use Rattle.deny_entries.specs.Spec as spec;
-ghost use Rattle.deny_entries.specs.Spec.{parts_in, divided, name_in, spec_in, name_span, ReadsSpecText, ReadsSpecKeys, ReadsSpec, ReadsName, crate_fields, name_field, name_fields, spec_fields, faults_of_spec};
-ghost use Rattle.deny_entries.specs.Table.{Gives, ReadAt, ReadsThere, ReadsTable, after, after_all, faults_of_table, faults_of_fields, state_of, at_key};
+ghost use Rattle.deny_entries.specs.Spec.{parts_in, divided, name_in, spec_in, name_span, ReadsSpecText};
+ghost use Rattle.deny_entries.specs.Spec.{ReadsSpecKeys, ReadsSpec, ReadsName, crate_fields};
+ghost use Rattle.deny_entries.specs.Spec.{name_field, name_fields, spec_fields, faults_of_spec};
+ghost use Rattle.deny_entries.specs.Table.{Gives, ReadAt, ReadsThere, ReadsTable, after, after_all};
+ghost use Rattle.deny_entries.specs.Table.{faults_of_table, faults_of_fields, state_of, at_key};
 ghost use Rattle.deny_entries.specs.Words.{faults_as, ReadsAs, ReadsSpanned};
 ghost use Rattle.deny_entries.specs.declared.policy_key.PolicyKey.TheVariants as key;
 
@@ -163,7 +167,8 @@ fn name_in(alloc: Global, text: &str) -> Result<Option<Text>, NoMemory>
 fn read_crate(helper: &mut TableHelper<'_>) -> Result<Option<PackageSpec>, NoMemory>
     requires there { is_some (at_key key.Crate helper.old.entries) ≡ true }
     ensures next { OnOk result (state_of helper.new ≡ after_all crate_fields (state_of helper.old)) }
-    ensures read { IfOk result (λ x. faults_of_fields crate_fields helper.old.span helper.old.entries ≡ [] → Gives (ReadsSpecKeys helper.old.entries) x) }
+    ensures read { IfOk result (λ x. faults_of_fields crate_fields helper.old.span helper.old.entries ≡ []
+        → Gives (ReadsSpecKeys helper.old.entries) x) }
 {
     match table::optional::<SpecText>(helper, PolicyKey::Crate)? {
         Some(read) => Ok(Some(read.0)),
@@ -174,7 +179,8 @@ fn read_crate(helper: &mut TableHelper<'_>) -> Result<Option<PackageSpec>, NoMem
 /// Reads the key `name`.
 fn read_name_key(helper: &mut TableHelper<'_>) -> Result<Option<Spanned<Text>>, NoMemory>
     ensures next { OnOk result (state_of helper.new ≡ after name_field (state_of helper.old)) }
-    ensures read { IfOk result (λ x. ReadAt name_field (state_of helper.old) (λ v. Gives (ReadsThere (ReadsSpanned (ReadsAs name_in)) v) x)) }
+    ensures read { IfOk result (λ x. ReadAt name_field (state_of helper.old)
+        (λ v. Gives (ReadsThere (ReadsSpanned (ReadsAs name_in)) v) x)) }
 {
     match table::required::<Spanned<SpecName>>(helper, PolicyKey::Name)? {
         Some(name) => Ok(Some(Spanned {
@@ -188,7 +194,8 @@ fn read_name_key(helper: &mut TableHelper<'_>) -> Result<Option<Spanned<Text>>, 
 /// Reads the keys `name` and `version`.
 fn read_name(helper: &mut TableHelper<'_>) -> Result<Option<PackageSpec>, NoMemory>
     ensures next { OnOk result (state_of helper.new ≡ after_all name_fields (state_of helper.old)) }
-    ensures read { IfOk result (λ x. faults_of_fields name_fields helper.old.span helper.old.entries ≡ [] → Gives (ReadsName helper.old.entries) x) }
+    ensures read { IfOk result (λ x. faults_of_fields name_fields helper.old.span helper.old.entries ≡ []
+        → Gives (ReadsName helper.old.entries) x) }
 {
     let name = read_name_key(helper)?;
     let version = table::optional::<WrittenRequirement>(helper, PolicyKey::Version)?;
@@ -232,8 +239,11 @@ fn has_crate(helper: &TableHelper<'_>) -> bool
 /// Reads the keys of a spec. The helper keeps their faults; where there are some the answer may be
 /// None.
 pub(crate) fn read_spec(helper: &mut TableHelper<'_>) -> Result<Option<PackageSpec>, NoMemory>
-    ensures next { OnOk result (state_of helper.new ≡ after_all (spec_fields helper.old.entries) (state_of helper.old)) }
-    ensures read { IfOk result (λ x. faults_of_fields (spec_fields helper.old.entries) helper.old.span helper.old.entries ≡ [] → Gives (ReadsSpecKeys helper.old.entries) x) }
+    ensures next { OnOk result (state_of helper.new
+        ≡ after_all (spec_fields helper.old.entries) (state_of helper.old)) }
+    ensures read { IfOk result (λ x.
+        faults_of_fields (spec_fields helper.old.entries) helper.old.span helper.old.entries ≡ []
+        → Gives (ReadsSpecKeys helper.old.entries) x) }
 {
     if has_crate(helper) {
         read_crate(helper)
@@ -244,7 +254,8 @@ pub(crate) fn read_spec(helper: &mut TableHelper<'_>) -> Result<Option<PackageSp
 
 /// Reads a value that is to be a table of the keys of a spec alone.
 fn read_spec_table(alloc: Global, value: &mut Value<'_>) -> Result<PackageSpec, DeserError>
-    ensures ok { IfOk result (λ x. (faults_of_table spec_fields value.old ≡ []) × ReadsTable ReadsSpecKeys value.old x) }
+    ensures ok { IfOk result (λ x. (faults_of_table spec_fields value.old ≡ [])
+        × ReadsTable ReadsSpecKeys value.old x) }
     ensures faults { IfErr result (Reports (faults_of_table spec_fields value.old)) }
 {
     let mut helper = TableHelper::new(alloc, value)?;
@@ -262,7 +273,8 @@ pub(crate) fn read_spec_text(
     value: &Value<'_>,
 ) -> Result<Option<PackageSpec>, DeserError>
     ensures text { IfOk result (λ read. is_some read ≡ is_some (text_in value.now)) }
-    ensures ok { IfOk result (λ read. IfSome read (λ spec. (faults_as spec_in value.now ≡ []) × ReadsSpecText value.now spec)) }
+    ensures ok { IfOk result (λ read. IfSome read (λ spec.
+        (faults_as spec_in value.now ≡ []) × ReadsSpecText value.now spec)) }
     ensures faults { IfErr result (λ e. is_some (text_in value.now) ≡ true × Reports (faults_as spec_in value.now) e) }
 {
     let Some(text) = value.as_str() else {

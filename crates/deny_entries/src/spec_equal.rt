@@ -12,7 +12,9 @@ use crate::package_spec::PackageSpec;
 impl PartialEq for PackageSpec {
     ghost eq = { same_spec };
 
-    ghost laws = { partial_equiv_from_equiv (and_equiv (on_equiv (λ (spec : PackageSpec). spec.name.value) nat_list_eq_equiv) (on_equiv (λ (spec : PackageSpec). spec.req_text) (options_equiv nat_list_eq_equiv))) };
+    ghost laws = { partial_equiv_from_equiv
+        (and_equiv (on_equiv (λ (spec : PackageSpec). spec.name.value) nat_list_eq_equiv)
+        (on_equiv (λ (spec : PackageSpec). spec.req_text) (options_equiv nat_list_eq_equiv))) };
 
     fn eq(&self, other: &Self) -> bool {
         self.name.value == other.name.value && self.req_text == other.req_text
@@ -20,10 +22,12 @@ impl PartialEq for PackageSpec {
 }
 
 impl Eq for PackageSpec {
-    ghost laws = { and_equiv (on_equiv (λ (spec : PackageSpec). spec.name.value) nat_list_eq_equiv) (on_equiv (λ (spec : PackageSpec). spec.req_text) (options_equiv nat_list_eq_equiv)) };
+    ghost laws = { and_equiv (on_equiv (λ (spec : PackageSpec). spec.name.value) nat_list_eq_equiv)
+        (on_equiv (λ (spec : PackageSpec). spec.req_text) (options_equiv nat_list_eq_equiv)) };
 }
 
 /// Equal specs speak of the same crates.
 pub fn equal_specs_match_alike()
-    ensures { (a b : PackageSpec) → same_spec a b ≡ true → (c : Crate) → matches (spec_view a) c ≡ matches (spec_view b) c }
+    ensures { (a b : PackageSpec) → same_spec a b ≡ true → (c : Crate)
+        → matches (spec_view a) c ≡ matches (spec_view b) c }
 {}

@@ -18,7 +18,8 @@ pub fn optional<T: Deserialize>(
     key: PolicyKey,
 ) -> Result<Option<T>, NoMemory>
     ensures next { OnOk result (state_of helper.new ≡ after (spec.optional key T.faults_of) (state_of helper.old)) }
-    ensures read { IfOk result (λ x. ReadAt (spec.optional key T.faults_of) (state_of helper.old) (λ v. ReadsIfThere T.reads v x)) }
+    ensures read { IfOk result (λ x. ReadAt (spec.optional key T.faults_of) (state_of helper.old)
+        (λ v. ReadsIfThere T.reads v x)) }
 {
     helper.optional(key.name())
 }
@@ -30,7 +31,8 @@ pub fn optional_or<T: Deserialize + Drop>(
     default: T,
 ) -> Result<T, NoMemory>
     ensures next { OnOk result (state_of helper.new ≡ after (spec.optional key T.faults_of) (state_of helper.old)) }
-    ensures read { IfOk result (λ x. ReadAt (spec.optional key T.faults_of) (state_of helper.old) (λ v. ReadsOr default T.reads v x)) }
+    ensures read { IfOk result (λ x. ReadAt (spec.optional key T.faults_of) (state_of helper.old)
+        (λ v. ReadsOr default T.reads v x)) }
 {
     match optional(helper, key)? {
         Some(read) => Ok(read),
@@ -45,7 +47,8 @@ pub fn required<T: Deserialize>(
     key: PolicyKey,
 ) -> Result<Option<T>, NoMemory>
     ensures next { OnOk result (state_of helper.new ≡ after (spec.required key T.faults_of) (state_of helper.old)) }
-    ensures read { IfOk result (λ x. ReadAt (spec.required key T.faults_of) (state_of helper.old) (λ v. Gives (ReadsThere T.reads v) x)) }
+    ensures read { IfOk result (λ x. ReadAt (spec.required key T.faults_of) (state_of helper.old)
+        (λ v. Gives (ReadsThere T.reads v) x)) }
 {
     match helper.required(key.name()) {
         Ok(read) => Ok(Some(read)),
@@ -63,8 +66,10 @@ pub fn optional_list<T: Deserialize + Drop>(
     helper: &mut TableHelper<'_>,
     key: PolicyKey,
 ) -> Result<List<T>, NoMemory>
-    ensures next { OnOk result (state_of helper.new ≡ after (spec.optional key (faults_of_list T.faults_of)) (state_of helper.old)) }
-    ensures read { IfOk result (λ x. ReadAt (spec.optional key (faults_of_list T.faults_of)) (state_of helper.old) (λ v. ReadsOr [] (ReadsList T.reads) v x)) }
+    ensures next { OnOk result (state_of helper.new
+        ≡ after (spec.optional key (faults_of_list T.faults_of)) (state_of helper.old)) }
+    ensures read { IfOk result (λ x. ReadAt (spec.optional key (faults_of_list T.faults_of)) (state_of helper.old)
+        (λ v. ReadsOr [] (ReadsList T.reads) v x)) }
 {
     match optional::<List<T>>(helper, key)? {
         Some(read) => Ok(read),

@@ -6,7 +6,8 @@ ghost use Rattle.deny_cfg.specs.SpecView.{spec_view};
 ghost use Rattle.deny_model.specs.Graph.{Graph, dependents};
 ghost use Rattle.deny_model.specs.Groups.{has_name};
 ghost use Rattle.deny_model.specs.Match.{matches};
-ghost use Rattle.deny_facts.specs.Groups.{AddsLeft, AreGroups, IsReducedLength, all_bear, bears, is_left, is_left_at, may_stand_at};
+ghost use Rattle.deny_facts.specs.Groups.{AddsLeft, AreGroups, IsReducedLength, all_bear};
+ghost use Rattle.deny_facts.specs.Groups.{bears, is_left, is_left_at, may_stand_at};
 ghost use Rattle.deny_facts.specs.Marks.{AddsMarks, HaveBesides, facts_of, mark_at, marked};
 ghost use Rattle.deny_facts.specs.Matches.{skip_match};
 

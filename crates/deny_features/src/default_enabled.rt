@@ -7,7 +7,8 @@ ghost use Rattle.deny_facts.specs.Marks.{AddsMarks};
 ghost use Rattle.deny_model.specs.Match.{matches};
 ghost use Rattle.deny_model.specs.Text.{same_text};
 ghost use Rattle.deny_features.specs.private.FeatureMatches.{AreFeatureMatches, IsFeatureMatch, said_of};
-ghost use Rattle.deny_features.specs.private.Keys.{default_keys_at, is_default_enabled_at, is_left_at, leaves_open, minds};
+ghost use Rattle.deny_features.specs.private.Keys.{default_keys_at, is_default_enabled_at};
+ghost use Rattle.deny_features.specs.private.Keys.{is_left_at, leaves_open, minds};
 
 use crate::crates::{crate_key, default_level_at, enabled_at, is_default};
 use crate::feature_match::FeatureMatch;

@@ -1,7 +1,9 @@
 //! The metadata that is made.
 ghost use Rattle.std.specs.Prelude.{◌≡◌, ◌++◌, IfOk, OnOk, codes, flat_map};
-ghost use Rattle.deny_generator.specs.MetadataText.{declaration_text, dep_text, metadata_text, naming_text, node_text, nodes_text};
-ghost use Rattle.deny_generator.specs.MetadataText.{member_text, package_text, packages_text, path_text, placing_text, workspace_text};
+ghost use Rattle.deny_generator.specs.MetadataText.{declaration_text, dep_text, metadata_text};
+ghost use Rattle.deny_generator.specs.MetadataText.{naming_text, node_text, nodes_text};
+ghost use Rattle.deny_generator.specs.MetadataText.{member_text, package_text, packages_text};
+ghost use Rattle.deny_generator.specs.MetadataText.{path_text, placing_text, workspace_text};
 
 use crate::made::{below, divided, push_id_at, push_name_at, registry, version_at};
 use deny_lists::{NoMemory, Text};

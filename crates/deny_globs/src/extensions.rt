@@ -1,7 +1,9 @@
-ghost use Rattle.std.specs.Prelude.{ℕ, List, nat_eq, slice_index, ◌-◌, ◌≡◌, ◌<◌, ◌≤◌, ◌+◌, ◌^◌, ◌∷◌, ◌++◌, [], length, drop, insert, OnOk, OnErr, IfOk, IfErr, IfSome, IfNone, None, Some};
+ghost use Rattle.std.specs.Prelude.{ℕ, List, nat_eq, slice_index, ◌-◌, ◌≡◌, ◌<◌, ◌≤◌, ◌+◌, ◌^◌, ◌∷◌, ◌++◌, []};
+ghost use Rattle.std.specs.Prelude.{length, drop, insert, OnOk, OnErr, IfOk, IfErr, IfSome, IfNone, None, Some};
 ghost use Rattle.std.specs.List.{list_all};
 ghost use Rattle.std.specs.Char.{is_ascii_alphanumeric};
-ghost use Rattle.deny_globs.specs.Index.{behind_last_dot, Ascend, IsNamedAt, IsBetween, IsGap, IsHalved, IsNumbered, IsExtended};
+ghost use Rattle.deny_globs.specs.Index.{behind_last_dot, Ascend, IsNamedAt, IsBetween};
+ghost use Rattle.deny_globs.specs.Index.{IsGap, IsHalved, IsNumbered, IsExtended};
 ghost use Rattle.std.specs.Cmp.Lexicographic.{slice_cmp};
 ghost use Rattle.std.specs.Ordering.{nat_cmp};
 ghost use Rattle.deny_globs.specs.Characters.{dot};
@@ -163,7 +165,8 @@ fn insert_extension(
     number: usize,
 ) -> Result<(), NoMemory>
     requires { place ≤ length extensions.old.items }
-    ensures ok { OnOk result (extensions.new.items ≡ insert extensions.old.items place (record { name = name.now; globs = number ∷ [] })) }
+    ensures ok { OnOk result (extensions.new.items
+        ≡ insert extensions.old.items place (record { name = name.now; globs = number ∷ [] })) }
     ensures err { OnErr result (extensions.new.items ≡ extensions.old.items) }
 {
     let alloc = *extensions.allocator();

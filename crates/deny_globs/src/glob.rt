@@ -1,4 +1,5 @@
-ghost use Rattle.std.specs.Prelude.{ℕ, ◌≡◌, ◌∷◌, ◌++◌, ◌↔◌, [], List, OnOk, OnErr, Contains, IsSomeAnd, slice_get, IfOk, Err, length, take, encode_utf8_all, ◌+◌, ◌<◌, ◌^◌};
+ghost use Rattle.std.specs.Prelude.{ℕ, ◌≡◌, ◌∷◌, ◌++◌, ◌↔◌, [], List, OnOk, OnErr, Contains, IsSomeAnd};
+ghost use Rattle.std.specs.Prelude.{slice_get, IfOk, Err, length, take, encode_utf8_all, ◌+◌, ◌<◌, ◌^◌};
 ghost use Rattle.std.specs.Str.{chars};
 ghost use Rattle.deny_globs.specs.Faults.{IsBadAt};
 ghost use Rattle.deny_globs.specs.Patterns.{characters_of, tokens_of};
@@ -45,7 +46,8 @@ impl Glob {
     /// there, the first `{` or `[` that is not closed.
     pub fn parse(alloc: Global, text: &str) -> Result<Glob, GlobError>
         ensures ok { IfOk result (λ glob. IsGlob (chars text.now) (tokens_of glob)) }
-        ensures only { IfOk result (λ glob. (other : List Token) → IsGlob (chars text.now) other → other ≡ tokens_of glob) }
+        ensures only { IfOk result (λ glob. (other : List Token) → IsGlob (chars text.now) other
+            → other ≡ tokens_of glob) }
         ensures characters { IfOk result (λ glob. characters_of glob ≡ chars text.now) }
         ensures bad { (byte : ℕ) → result ≡ Err (GlobError.Bad byte) → IsBadAt text.now byte }
         ensures first { (byte : ℕ) → result ≡ Err (GlobError.Bad byte) →

@@ -1,4 +1,5 @@
-ghost use Rattle.std.specs.Prelude.{ℕ, ◌≡◌, ◌<◌, ◌≤◌, ◌+◌, [], length, OnOk, IfOk, get_or, slice_index, true, false, Contains};
+ghost use Rattle.std.specs.Prelude.{ℕ, ◌≡◌, ◌<◌, ◌≤◌, ◌+◌, [], length, OnOk, IfOk};
+ghost use Rattle.std.specs.Prelude.{get_or, slice_index, true, false, Contains};
 ghost use Rattle.deny_globs.specs.Marked.{Marks, MarksIf};
 
 use deny_lists::{NoMemory, Steps};

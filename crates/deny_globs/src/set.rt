@@ -1,8 +1,10 @@
-ghost use Rattle.std.specs.Prelude.{ℕ, List, ◌≡◌, ◌<◌, ◌≤◌, ◌+◌, ◌*◌, ◌^◌, ◌↔◌, ◌∷◌, ◌++◌, [], length, OnOk, OnErr, Contains, IfOk};
+ghost use Rattle.std.specs.Prelude.{ℕ, List, ◌≡◌, ◌<◌, ◌≤◌, ◌+◌, ◌*◌, ◌^◌, ◌↔◌, ◌∷◌, ◌++◌, []};
+ghost use Rattle.std.specs.Prelude.{length, OnOk, OnErr, Contains, IfOk};
 ghost use Rattle.std.specs.List.Sorted.{IsStrictlyIncreasing};
 ghost use Rattle.std.specs.Str.{chars};
 ghost use Rattle.deny_globs.specs.Compiled.{IsProgram, Grows, AddsStates};
-ghost use Rattle.deny_globs.specs.Index.{Ascend, IsIndexed, AreCompiled, NotesNamed, NotesSimple, BoundsNamed, BoundsSimple, Indexes};
+ghost use Rattle.deny_globs.specs.Index.{Ascend, IsIndexed, AreCompiled, NotesNamed};
+ghost use Rattle.deny_globs.specs.Index.{NotesSimple, BoundsNamed, BoundsSimple, Indexes};
 ghost use Rattle.deny_globs.specs.Sets.{FitsAt, KeepsBound, AreFitting, AreFirstFitting};
 ghost use Rattle.deny_globs.specs.Starts.{AreStarts, KeepsStarts};
 ghost use Rattle.deny_globs.specs.Walk.{Notes};
@@ -173,7 +175,8 @@ fn index_glob(
     requires ascend { Ascend extensions.old.items }
     requires program { IsProgram states.old.items }
     requires starts { AreStarts starts.old }
-    ensures ok { OnOk result (Indexes glob.now number extensions.old.items states.old.items starts.old extensions.new.items states.new.items starts.new) }
+    ensures ok { OnOk result (Indexes glob.now number extensions.old.items states.old.items starts.old
+        extensions.new.items states.new.items starts.new) }
     ensures extensions { OnErr result (extensions.new.items ≡ extensions.old.items) }
     ensures states { OnErr result (states.new.items ≡ states.old.items) }
     ensures starts { OnErr result (KeepsStarts starts.old starts.new) }

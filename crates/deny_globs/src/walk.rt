@@ -1,4 +1,5 @@
-ghost use Rattle.std.specs.Prelude.{ℕ, ◌≡◌, ◌<◌, ◌≤◌, ◌+◌, ◌*◌, [], length, OnOk, IfOk, true, Some, Contains, nat_eq, slice_get};
+ghost use Rattle.std.specs.Prelude.{ℕ, ◌≡◌, ◌<◌, ◌≤◌, ◌+◌, ◌*◌, [], length, OnOk};
+ghost use Rattle.std.specs.Prelude.{IfOk, true, Some, Contains, nat_eq, slice_get};
 ghost use Rattle.std.specs.List.{list_any};
 ghost use Rattle.deny_globs.specs.Class.{in_range, class_takes};
 ghost use Rattle.deny_globs.specs.Compiled.{IsProgram};
@@ -79,7 +80,8 @@ fn step_over<L: Ledger>(
     ensures next { next.new.1 ≡ next.old.1 }
     ensures now_bound { length now.new.0 ≤ now.new.1 }
     ensures next_bound { length next.new.0 ≤ next.new.1 }
-    ensures steps { steps.new + length now.old.0 + length next.old.0 ≡ steps.old + length now.new.0 + length next.new.0 }
+    ensures steps { steps.new + length now.old.0 + length next.old.0
+        ≡ steps.old + length now.new.0 + length next.new.0 }
 {
     match &states[number] {
         State::End(_glob) => Ok(()),
@@ -198,7 +200,8 @@ pub fn walk<L: Ledger>(
 ) -> Result<(), NoMemory>
     requires program { IsProgram states.now }
     requires within { (number : ℕ) → Contains starts.now number → number < length states.now }
-    ensures notes { OnOk result (Notes (λ glob. SomeLeads states.now starts.now glob path.now) fitting.old fitting.new) }
+    ensures notes { OnOk result (Notes (λ glob. SomeLeads states.now starts.now glob path.now)
+        fitting.old fitting.new) }
     ensures steps { steps.new ≤ steps.old + (length path.now + 1) * length states.now }
 {
     if starts.is_empty() {

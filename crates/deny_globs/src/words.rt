@@ -1,7 +1,8 @@
 ghost use Rattle.std.specs.Prelude.{ℕ, ◌≡◌, ◌<◌, ◌↔◌, ◌⊎◌, length, Contains, OnOk, OnErr, IfOk};
 ghost use Rattle.std.specs.BTreeMap.{get};
 ghost use Rattle.std.specs.Ordering.{nat_cmp};
-ghost use Rattle.deny_globs.specs.Words.{IsTree, IsEdge, HasNoEdge, AddsBare, PutsEdge, PutsNoEdge, PutsNumber, Keeps, AddsWord, Finds, next_of};
+ghost use Rattle.deny_globs.specs.Words.{IsTree, IsEdge, HasNoEdge, AddsBare, PutsEdge};
+ghost use Rattle.deny_globs.specs.Words.{PutsNoEdge, PutsNumber, Keeps, AddsWord, Finds, next_of};
 
 use deny_lists::{List, NoMemory};
 use std::alloc::Global;

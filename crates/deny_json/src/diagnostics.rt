@@ -2,7 +2,8 @@
 ghost use Rattle.std.specs.Prelude.{◌≡◌, IfOk, OnOk, codes, map};
 ghost use Rattle.serde_json.specs.Data.{member, no_members, object, string};
 ghost use Rattle.serde_json.specs.View.{members_view, view};
-ghost use Rattle.deny_json.specs.Diagnostics.{diagnostic_value, fields_after_code, fields_after_labels, fields_of, notes_of, severity_word};
+ghost use Rattle.deny_json.specs.Diagnostics.{diagnostic_value, fields_after_code};
+ghost use Rattle.deny_json.specs.Diagnostics.{fields_after_labels, fields_of, notes_of, severity_word};
 ghost use Rattle.deny_json.specs.Reading.{AreCounted};
 
 use crate::labels::label_values;

@@ -5,7 +5,8 @@ ghost use Rattle.serde_json.specs.View.{view};
 ghost use Rattle.serde_json.specs.Written.{compact_text, has_float};
 ghost use Rattle.deny_json.specs.Graphs.{graph_value};
 ghost use Rattle.deny_json.specs.private.Weight.{weight};
-ghost use Rattle.deny_json.specs.private.Writing.{all_text, end_text, graphs_text, head_text, waiting_text, waiting_weight};
+ghost use Rattle.deny_json.specs.private.Writing.{all_text, end_text, graphs_text};
+ghost use Rattle.deny_json.specs.private.Writing.{head_text, waiting_text, waiting_weight};
 
 use crate::graphs::{feature_value, krate_value};
 use deny_lists::{NoMemory, Text};

@@ -4,9 +4,11 @@ ghost use Rattle.std.specs.Prelude.{◌≡◌, ◌+◌, ◌<◌, ◌≤◌, IfOk
 ghost use Rattle.serde_json.specs.Data.{no_members};
 ghost use Rattle.serde_json.specs.View.{members_view, view};
 ghost use Rattle.deny_trees.specs.declared.node.GraphNode.{out-GraphNode};
-ghost use Rattle.deny_json.specs.Graphs.{feature_value, graph_value, inner_member, krate_value, parents_member, repeat_member};
+ghost use Rattle.deny_json.specs.Graphs.{feature_value, graph_value, inner_member};
+ghost use Rattle.deny_json.specs.Graphs.{krate_value, parents_member, repeat_member};
 ghost use Rattle.deny_json.specs.private.Weight.{weight};
-ghost use Rattle.deny_json.specs.private.Making.{making_value, making_weight, turn_value, turn_weight, value_with, whole_value};
+ghost use Rattle.deny_json.specs.private.Making.{making_value, making_weight, turn_value};
+ghost use Rattle.deny_json.specs.private.Making.{turn_weight, value_with, whole_value};
 
 use deny_base::DepKind;
 use deny_lists::NoMemory;
@@ -128,8 +130,10 @@ fn step<'g>(
     top: Making<'g>,
     below: &mut Vec<Making<'g>>,
 ) -> Result<Turn<'g>, NoMemory>
-    ensures whole { IfOk result (λ turn. turn_value below.new.items turn ≡ whole_value below.old.items (making_value top.entry)) }
-    ensures less { IfOk result (λ turn. turn_weight below.new.items turn < sum_by making_weight below.old.items + making_weight top.entry) }
+    ensures whole { IfOk result (λ turn. turn_value below.new.items turn
+        ≡ whole_value below.old.items (making_value top.entry)) }
+    ensures less { IfOk result (λ turn. turn_weight below.new.items turn
+        < sum_by making_weight below.old.items + making_weight top.entry) }
 {
     match top.rest.split_first() {
         Some((parent, rest)) => {

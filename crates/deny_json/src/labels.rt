@@ -3,7 +3,8 @@ ghost use Rattle.std.specs.Prelude.{◌≡◌, ◌<◌, ◌^◌, IsTrue, IfOk, O
 ghost use Rattle.std.specs.Str.{IsCharBoundary};
 ghost use Rattle.serde_json.specs.View.{view};
 ghost use Rattle.deny_base.specs.Files.{is_boundary, location_in};
-ghost use Rattle.deny_json.specs.Labels.{column_of, label_value, line_of, marked, range_in, trimmed, without_end, without_front};
+ghost use Rattle.deny_json.specs.Labels.{column_of, label_value, line_of, marked};
+ghost use Rattle.deny_json.specs.Labels.{range_in, trimmed, without_end, without_front};
 ghost use Rattle.deny_json.specs.Reading.{AreCounted, IsCounted};
 
 use deny_base::{Files, Label, Location, Span};

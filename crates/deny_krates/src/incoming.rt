@@ -1,5 +1,6 @@
 //! Where the edges that end at a node come from.
-ghost use Rattle.std.specs.Prelude.{◌≡◌, if◌then◌else◌, ◌||◌, ◌++◌, ◌∷◌, ◌<◌, ◌↔◌, [], IfOk, OnOk, Some, None, Contains, filter, length, map, not, slice_get};
+ghost use Rattle.std.specs.Prelude.{◌≡◌, if◌then◌else◌, ◌||◌, ◌++◌, ◌∷◌, ◌<◌, ◌↔◌, []};
+ghost use Rattle.std.specs.Prelude.{IfOk, OnOk, Some, None, Contains, filter, length, map, not, slice_get};
 ghost use Rattle.std.specs.Cmp.{IsTotalOrder};
 ghost use Rattle.std.specs.FinMap.{IsAntisymmetric};
 ghost use Rattle.std.specs.List.{flat_map, list_any};
@@ -7,8 +8,11 @@ ghost use Rattle.std.specs.List.Sorted.{IsStrictlySortedBy};
 ghost use Rattle.std.specs.Cmp.Lexicographic.{slice_cmp};
 ghost use Rattle.std.specs.Ordering.{nat_cmp};
 ghost use Rattle.deny_crates.specs.Crates.{crate_view, dependency_view};
-ghost use Rattle.deny_krates.specs.Nodes.{all_kinds, asks_in_vain, feature_leads, is_of_kind, holds_plain, leads_by_asking, leads_in_vain, leads_undeclared, sources_at, sources_of_crate, sources_of_feature};
-ghost use Rattle.deny_krates.specs.private.Sources.{any_there, is_led_over, passes_there, parent_cmp, parent_in, parent_of};
+ghost use Rattle.deny_krates.specs.Nodes.{all_kinds, asks_in_vain, feature_leads, is_of_kind};
+ghost use Rattle.deny_krates.specs.Nodes.{holds_plain, leads_by_asking, leads_in_vain, leads_undeclared};
+ghost use Rattle.deny_krates.specs.Nodes.{sources_at, sources_of_crate, sources_of_feature};
+ghost use Rattle.deny_krates.specs.private.Sources.{any_there, is_led_over, passes_there};
+ghost use Rattle.deny_krates.specs.private.Sources.{parent_cmp, parent_in, parent_of};
 ghost use Rattle.deny_krates.specs.declared.incoming.Parent.{Parent};
 ghost use Rattle.deny_model.specs.Graph.{Crate};
 
@@ -230,7 +234,8 @@ fn leaves_crate(
     krate: &Krate,
 ) -> bool
     requires { IsStrictlySortedBy (slice_cmp nat_cmp) krate.now.enabled }
-    ensures { result ≡ (any_there (map dependency_view declarations.now) kind (asks_in_vain (crate_view 0 krate.now)) run.now
+    ensures { result ≡ (any_there (map dependency_view declarations.now) kind
+        (asks_in_vain (crate_view 0 krate.now)) run.now
         || not (list_any (passes_there (map dependency_view declarations.now) (is_of_kind kind)) run.now)) }
 {
     any_asks_in_vain(run, declarations, kind, krate) || !is_declared(run, declarations, kind)

@@ -1,4 +1,5 @@
-ghost use Rattle.std.specs.Prelude.{List, ℕ, Ok, Some, None, ◌↔◌, IsTrue, Contains, MatchOption, option_copied, option_map, ◌≡◌, ◌≤◌, ◌<◌, ◌^◌, ◌-◌, length, take, drop, filter, IfOk, IfErr};
+ghost use Rattle.std.specs.Prelude.{List, ℕ, Ok, Some, None, ◌↔◌, IsTrue, Contains, MatchOption, option_copied};
+ghost use Rattle.std.specs.Prelude.{option_map, ◌≡◌, ◌≤◌, ◌<◌, ◌^◌, ◌-◌, length, take, drop, filter, IfOk, IfErr};
 ghost use Rattle.std.specs.Cmp.Lexicographic.{slice_cmp};
 ghost use Rattle.std.specs.List.Sorted.{IsStrictlySortedBy};
 ghost use Rattle.std.specs.Option.{option_and_then};
@@ -58,15 +59,16 @@ impl Model for Krates {
 
     ghost Value = { Graph };
 
-    ghost coded = { Prim.hlevel (codes, finite.code {R = slice_cmp nat_cmp} (coded_list coded_ℕ) (coded_list (coded_list coded_ℕ))) };
+    ghost coded = { Prim.hlevel
+        (codes, finite.code {R = slice_cmp nat_cmp} (coded_list coded_ℕ) (coded_list (coded_list coded_ℕ))) };
 
     ghost use Rattle.deny_crates.specs.Crates.{graph_of};
     ghost use Rattle.deny_krates.specs.private.Kept.{IsKept};
 
     ghost view = { λ k. graph_of k.target_edges k.root k.krates k.members k.edges };
 
-    ghost invariant = { λ k. IsKept k.target_edges k.root k.krates k.members k.edges k.dependents k.dependencies k.ids k.starts
-        k.resolved };
+    ghost invariant = { λ k. IsKept k.target_edges k.root k.krates k.members k.edges k.dependents k.dependencies k.ids
+        k.starts k.resolved };
 }
 
 impl Krates {

@@ -1,5 +1,6 @@
 //! The nodes of the graph, which are its crates and their enabled features, and the edges that end at one.
-ghost use Rattle.std.specs.Prelude.{◌≡◌, ◌≢◌, ◌<◌, ◌↔◌, Contains, Some, None, IfOk, IfSome, IfNone, All, AllPairs, length, map, slice_get};
+ghost use Rattle.std.specs.Prelude.{◌≡◌, ◌≢◌, ◌<◌, ◌↔◌, Contains, Some, None, IfOk};
+ghost use Rattle.std.specs.Prelude.{IfSome, IfNone, All, AllPairs, length, map, slice_get};
 ghost use Rattle.std.specs.Option.{option_copied};
 ghost use Rattle.deny_krates.specs.Nodes.{incoming_at, incoming_in, node_at, node_named, nodes_of, sources_at};
 ghost use Rattle.deny_krates.specs.private.Sources.{IsThere, node_here, parent_of, source_of};

@@ -1,12 +1,14 @@
 //! The declarations that resolve to a crate of the graph.
-ghost use Rattle.std.specs.Prelude.{◌≡◌, ◌++◌, ◌&&◌, ◌<◌, ◌≤◌, ◌^◌, ◌+◌, true, false, not, IfOk, OnOk, Contains, filter, length, map};
+ghost use Rattle.std.specs.Prelude.{◌≡◌, ◌++◌, ◌&&◌, ◌<◌, ◌≤◌, ◌^◌, ◌+◌};
+ghost use Rattle.std.specs.Prelude.{true, false, not, IfOk, OnOk, Contains, filter, length, map};
 ghost use Rattle.std.specs.Cmp.{IsTotalOrder};
 ghost use Rattle.std.specs.Cmp.Lexicographic.{slice_cmp};
 ghost use Rattle.std.specs.FinMap.{IsAntisymmetric};
 ghost use Rattle.std.specs.List.Sorted.{IsPartitionPoint, IsSortedByKey, IsStrictlySortedBy};
 ghost use Rattle.std.specs.Ordering.{nat_cmp};
 ghost use Rattle.deny_crates.specs.Crates.{crates_from, dependency_view};
-ghost use Rattle.deny_krates.specs.private.Resolved.{AreBetween, AreResolved, is_before, resolved_cmp, resolved_from, resolved_in};
+ghost use Rattle.deny_krates.specs.private.Resolved.{AreBetween, AreResolved, is_before};
+ghost use Rattle.deny_krates.specs.private.Resolved.{resolved_cmp, resolved_from, resolved_in};
 ghost use Rattle.deny_krates.specs.declared.resolved.ResolvedAt.{ResolvedAt};
 ghost use Rattle.deny_model.specs.Graph.{Graph};
 ghost use Rattle.deny_model.specs.TargetEdge.{target_edge_cmp};

@@ -5,7 +5,8 @@ ghost use Rattle.deny_krates.specs.Crates.{crate_view};
 ghost use Rattle.deny_spdx.specs.Reads.{reading_in};
 ghost use Rattle.deny_cfg.specs.LicensingView.{licensing_view};
 ghost use Rattle.deny_licenses.specs.private.Answers.{AreAnswers};
-ghost use Rattle.deny_licenses.specs.private.Judgements.{code_of, granters_in, judgement_of, of_expression, of_reading, unread_of};
+ghost use Rattle.deny_licenses.specs.private.Judgements.{code_of, granters_in, judgement_of};
+ghost use Rattle.deny_licenses.specs.private.Judgements.{of_expression, of_reading, unread_of};
 
 use crate::answers::answers_to;
 use crate::granter::Granter;

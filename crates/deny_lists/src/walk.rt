@@ -1,6 +1,8 @@
 //! Breadth-first search.
-ghost use Rattle.std.specs.Prelude.{◌≡◌, ◌<◌, ◌≤◌, ◌+◌, ◌^◌, All, IfOk, OnOk, fold, is_some, length, map, slice_index_or, unwrap_or};
-ghost use Rattle.deny_lists.specs.Walk.{AreDistances, AreMarks, AreThose, AreUnset, StaysBelow, TakesInStep, TakesInStepWithReached, distance_at, has_distance};
+ghost use Rattle.std.specs.Prelude.{◌≡◌, ◌<◌, ◌≤◌, ◌+◌, ◌^◌, All, IfOk, OnOk, fold};
+ghost use Rattle.std.specs.Prelude.{is_some, length, map, slice_index_or, unwrap_or};
+ghost use Rattle.deny_lists.specs.Walk.{AreDistances, AreMarks, AreThose, AreUnset, StaysBelow};
+ghost use Rattle.deny_lists.specs.Walk.{TakesInStep, TakesInStepWithReached, distance_at, has_distance};
 ghost use Rattle.deny_lists.specs.private.Reaching.{reached};
 
 use crate::list::List;

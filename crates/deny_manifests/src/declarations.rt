@@ -1,5 +1,6 @@
 //! The declarations of a crate that its manifest writes.
-ghost use Rattle.std.specs.Prelude.{◌≡◌, ◌++◌, [], ℕ, Bool, List, IfOk, IfSome, OnOk, All, Some, map, option_map, slice_get};
+ghost use Rattle.std.specs.Prelude.{◌≡◌, ◌++◌, [], ℕ, Bool, List, IfOk, IfSome};
+ghost use Rattle.std.specs.Prelude.{OnOk, All, Some, map, option_map, slice_get};
 ghost use Rattle.std.specs.List.{cons_option};
 ghost use Rattle.deny_krates.specs.Crates.{crate_view, dependency_view};
 ghost use Rattle.deny_manifests.specs.Agreement.{TellsAgreement};

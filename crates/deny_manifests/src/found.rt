@@ -2,7 +2,8 @@
 ghost use Rattle.std.specs.Prelude.{◌≡◌, IfOk, IsTrue, option_copied, option_map};
 ghost use Rattle.semver.specs.Parse.{memory_error};
 ghost use Rattle.deny_toml.specs.Calls.{below_name};
-ghost use Rattle.deny_manifests.specs.Found.{held_spanned, rename_of, requirement_in, requirement_read, versioned, version_of, workspace_of};
+ghost use Rattle.deny_manifests.specs.Found.{held_spanned, rename_of, requirement_in};
+ghost use Rattle.deny_manifests.specs.Found.{requirement_read, versioned, version_of, workspace_of};
 
 use deny_base::Spanned;
 use deny_lists::{NoMemory, Text};

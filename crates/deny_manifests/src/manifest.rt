@@ -1,11 +1,13 @@
 //! The manifest of a crate.
-ghost use Rattle.std.specs.Prelude.{◌≡◌, ◌<◌, ◌^◌, IfNone, IfOk, IfSome, Err, None, Some, length, not, position, slice_get, if◌then◌else◌};
+ghost use Rattle.std.specs.Prelude.{◌≡◌, ◌<◌, ◌^◌, IfNone, IfOk, IfSome, Err, None, Some};
+ghost use Rattle.std.specs.Prelude.{length, not, position, slice_get, if◌then◌else◌};
 ghost use Rattle.std.specs.Iterator.{YieldsFirstRef, item_count};
 ghost use Rattle.deny_krates.specs.Crates.{crate_view};
 ghost use Rattle.deny_krates.specs.Ids.{crate_of};
 ghost use Rattle.deny_manifests.specs.Fault.{HasNoTree};
 ghost use Rattle.deny_manifests.specs.Ignored.{is_among};
-ghost use Rattle.deny_manifests.specs.Manifest.{HasNoNode, IsManifestBy, IsManifestOf, IsOwn, deps_in, deps_left, ignored_by, without};
+ghost use Rattle.deny_manifests.specs.Manifest.{HasNoNode, IsManifestBy, IsManifestOf, IsOwn};
+ghost use Rattle.deny_manifests.specs.Manifest.{deps_in, deps_left, ignored_by, without};
 
 use crate::declarations::{ManifestDep, deps_of};
 use crate::fault::ManifestFault;

@@ -4,7 +4,8 @@ ghost use Rattle.std.specs.Option.{option_copied};
 ghost use Rattle.deny_krates.specs.Crates.{dependency_view};
 ghost use Rattle.deny_manifests.specs.Agreement.{TellsAgreement};
 ghost use Rattle.deny_manifests.specs.Written.{entries_at, found_in, key_name, section_name};
-ghost use Rattle.deny_manifests.specs.private.Sections.{FindsPlaced, IsIndexOf, Placed, kind_placed, placed_at, sections_placed, targets_placed};
+ghost use Rattle.deny_manifests.specs.private.Sections.{FindsPlaced, IsIndexOf, Placed, kind_placed};
+ghost use Rattle.deny_manifests.specs.private.Sections.{placed_at, sections_placed, targets_placed};
 ghost use Rattle.deny_manifests.specs.private.Targets.{NumbersTargets, number_of};
 ghost use Rattle.deny_toml.specs.declared.value.Value.{Value};
 

@@ -14,9 +14,9 @@ use Rattle.deny_metadata.specs.Document.{declaration_at, document_at, document_o
 use Rattle.deny_metadata.specs.Document.{kind_given, kind_member, needed_as_at, node_at, node_dependency_at}
 use Rattle.deny_metadata.specs.Document.{package_at, resolve_given, target_at}
 use Rattle.deny_metadata.specs.Elements.{array_member, each_member, each_optional, elements_from, flag_given}
-use Rattle.deny_metadata.specs.Elements.{flag_member, given, object_at, object_itself, object_member, optional_items, optional_text}
-use Rattle.deny_metadata.specs.Elements.{optional_text_of, optional_texts, part_of, path_to, required, text_at}
-use Rattle.deny_metadata.specs.Elements.{text_member, texts_given}
+use Rattle.deny_metadata.specs.Elements.{flag_member, given, object_at, object_itself, object_member, optional_items}
+use Rattle.deny_metadata.specs.Elements.{optional_text, optional_text_of, optional_texts, part_of, path_to, required}
+use Rattle.deny_metadata.specs.Elements.{text_at, text_member, texts_given}
 use Rattle.deny_metadata.specs.Member.{name_of}
 use Rattle.deny_metadata.specs.Reading.{◌>>=◌}
 use Rattle.deny_metadata.specs.declared.document.Document.{Document}

@@ -3,7 +3,9 @@ ghost use Rattle.std.specs.Prelude.{◌≡◌, IfOk, true};
 ghost use Rattle.std.specs.Str.{is_utf8};
 ghost use Rattle.deny_metadata.specs.private.Borrowed.{members_view, sorted_view, view};
 ghost use Rattle.deny_metadata.specs.private.Parts.{identity_at, terms_at};
-ghost use Rattle.deny_metadata.specs.Document.{document_at, target_at, declaration_at, feature_at, features_from, features_member, package_at, kind_named, kind_member, needed_as_at, kinds_of, node_dependency_at, node_at, resolve_given, document_of};
+ghost use Rattle.deny_metadata.specs.Document.{document_at, target_at, declaration_at, feature_at, features_from};
+ghost use Rattle.deny_metadata.specs.Document.{features_member, package_at, kind_named, kind_member, needed_as_at};
+ghost use Rattle.deny_metadata.specs.Document.{kinds_of, node_dependency_at, node_at, resolve_given, document_of};
 ghost use Rattle.deny_metadata.specs.Reading.{Gives};
 
 use crate::borrowed::{items_in, members_in, text_in};

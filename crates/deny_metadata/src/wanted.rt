@@ -1,7 +1,8 @@
 ghost use Rattle.std.specs.Prelude.{◌≡◌};
 ghost use Rattle.deny_metadata.specs.private.Wanted.{all_if, is_nothing, member_wanted};
 ghost use Rattle.deny_metadata.specs.private.Wanted.{metadata_member, package_member, target_member};
-ghost use Rattle.deny_metadata.specs.private.Wanted.{declaration_member, resolve_member, node_member, dependency_member};
+ghost use Rattle.deny_metadata.specs.private.Wanted.{declaration_member, resolve_member};
+ghost use Rattle.deny_metadata.specs.private.Wanted.{node_member, dependency_member};
 
 use crate::member::Member;
 

@@ -2,7 +2,8 @@ ghost use Rattle.std.specs.Prelude.{◌≡◌, ◌==◌, ◌<◌, IsTrue, false,
 ghost use Rattle.json.specs.Value.{value_view, items_view, members_view};
 ghost use Rattle.fast_float.specs.Text.{minus};
 ghost use Rattle.serde_json.specs.Read.{number_from};
-ghost use Rattle.deny_metadata.specs.private.Borrowed.{are_items_whole, are_members_whole, is_number_whole, is_whole, is_whole_number};
+ghost use Rattle.deny_metadata.specs.private.Borrowed.{are_items_whole, are_members_whole};
+ghost use Rattle.deny_metadata.specs.private.Borrowed.{is_number_whole, is_whole, is_whole_number};
 
 use fast_float::Numeral;
 use json::Value;

@@ -5,7 +5,8 @@ ghost use Rattle.std.specs.List.{ends_with, filter_map, list_any};
 ghost use Rattle.std.specs.Option.{option_copied};
 ghost use Rattle.std.specs.String.{string_cmp};
 ghost use Rattle.deny_lists.specs.TextMap.{with_bytes};
-ghost use Rattle.deny_outside.specs.Children.{child, children, entry_behind, front_of, is_child_name, name_behind, text_behind};
+ghost use Rattle.deny_outside.specs.Children.{child, children, entry_behind, front_of};
+ghost use Rattle.deny_outside.specs.Children.{is_child_name, name_behind, text_behind};
 ghost use Rattle.deny_outside.specs.Disk.{is_folder};
 ghost use Rattle.deny_outside.specs.Paths.{is_slash};
 

@@ -1,11 +1,15 @@
-ghost use Rattle.std.specs.Prelude.{◌≡◌, ◌-◌, ◌<◌, ◌≤◌, ◌++◌, ◌∷◌, [], ◌↔◌, false, length, min, slice_index, Option, Ok, Err, Some, None, IfOk, IsSomeAnd, IsErrOf, IsTrue, OnOk, OnErr, MatchOption, MatchResult};
+ghost use Rattle.std.specs.Prelude.{◌≡◌, ◌-◌, ◌<◌, ◌≤◌, ◌++◌, ◌∷◌, [], ◌↔◌, false, length, min};
+ghost use Rattle.std.specs.Prelude.{slice_index, Option, Ok, Err, Some, None, IfOk, IsSomeAnd};
+ghost use Rattle.std.specs.Prelude.{IsErrOf, IsTrue, OnOk, OnErr, MatchOption, MatchResult};
 ghost use Rattle.std.specs.Option.{option_copied};
 ghost use Rattle.std.specs.List.{list_any};
 ghost use Rattle.std.specs.FinMap as finite;
 ghost use Rattle.deny_outside.specs.Count.{counted};
 ghost use Rattle.deny_outside.specs.Children.{AreListed, children};
 ghost use Rattle.deny_outside.specs.Disk.{IsLater, FailedAt, IsPieceOf, bytes_at};
-ghost use Rattle.deny_outside.specs.MemoryDisk.{Memory, memory_seen, called, failed_by, fails_next, is_failing, is_failing_call, is_listing, text_to_read, folder_before, folders_of, with_folders, with_file, is_file, takes_file};
+ghost use Rattle.deny_outside.specs.MemoryDisk.{Memory, memory_seen, called, failed_by, fails_next, is_failing};
+ghost use Rattle.deny_outside.specs.MemoryDisk.{is_failing_call, is_listing, text_to_read, folder_before};
+ghost use Rattle.deny_outside.specs.MemoryDisk.{folders_of, with_folders, with_file, is_file, takes_file};
 ghost use Rattle.deny_outside.specs.declared.disk.Place.TheVariants.{File};
 
 use crate::children::{children_of, is_folder_at};

@@ -1,4 +1,5 @@
-ghost use Rattle.std.specs.Prelude.{◌≡◌, ◌-◌, ◌<◌, ◌≤◌, ◌↔◌, ◌++◌, [], length, take, min, Some, IsErr, IfOk, OnOk, OnErr, MatchResult};
+ghost use Rattle.std.specs.Prelude.{◌≡◌, ◌-◌, ◌<◌, ◌≤◌, ◌↔◌, ◌++◌, [], length, take};
+ghost use Rattle.std.specs.Prelude.{min, Some, IsErr, IfOk, OnOk, OnErr, MatchResult};
 ghost use Rattle.deny_outside.specs.Count.{Rose, counted};
 ghost use Rattle.deny_outside.specs.Out.{Appends, AppendsFront};
 

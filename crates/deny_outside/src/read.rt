@@ -1,4 +1,5 @@
-ghost use Rattle.std.specs.Prelude.{◌≡◌, ◌+◌, ◌<◌, ◌≤◌, ◌^◌, length, IfOk, IfSome, IsErrOf, OnErr, true, false, IsOk, Ok};
+ghost use Rattle.std.specs.Prelude.{◌≡◌, ◌+◌, ◌<◌, ◌≤◌, ◌^◌, length, IfOk};
+ghost use Rattle.std.specs.Prelude.{IfSome, IsErrOf, OnErr, true, false, IsOk, Ok};
 ghost use Rattle.deny_outside.specs.Count.{RoseBy};
 ghost use Rattle.deny_outside.specs.Disk.{Disk, IsLater, FailedAt, bytes_at};
 ghost use Rattle.deny_outside.specs.Read.{GaveOnce, IsReading, IsWhole};

@@ -1,5 +1,8 @@
-ghost use Rattle.std.specs.Prelude.{◌≡◌, ◌≤◌, ◌<◌, ◌^◌, ◌++◌, ℕ, List, Ok, Err, Some, OnOk, MatchResult, IfOk, length, map};
-ghost use Rattle.deny_resolve.specs.Checked.{Resolved, resolved, resolved_by, number_or, number_in, known, links_to, links_of, resolved_node, manifest_path_reads, packages_read, package_ids, node_ids, distinct};
+ghost use Rattle.std.specs.Prelude.{◌≡◌, ◌≤◌, ◌<◌, ◌^◌, ◌++◌, ℕ, List, Ok, Err};
+ghost use Rattle.std.specs.Prelude.{Some, OnOk, MatchResult, IfOk, length, map};
+ghost use Rattle.deny_resolve.specs.Checked.{Resolved, resolved, resolved_by, number_or, number_in, known};
+ghost use Rattle.deny_resolve.specs.Checked.{links_to, links_of, resolved_node, manifest_path_reads};
+ghost use Rattle.deny_resolve.specs.Checked.{packages_read, package_ids, node_ids, distinct};
 ghost use Rattle.deny_resolve.specs.private.Index.{IsIndex, number_by};
 ghost use Rattle.deny_resolve.specs.PackageTexts.{AreTextsOf};
 ghost use Rattle.deny_metadata.specs.Reading.{Fails, Gives, Passes, each, each_passes};
@@ -191,7 +194,8 @@ fn resolve_by<'d>(
     indexes: &Indexes<'d>,
     document: &'d Document,
 ) -> Result<Resolution, MetadataFault>
-    ensures numbers { MatchResult result (λ r. resolved_by (number_by indexes.now.packages) (number_by indexes.now.nodes) document.now
+    ensures numbers { MatchResult result (λ r.
+        resolved_by (number_by indexes.now.packages) (number_by indexes.now.nodes) document.now
         ≡ Ok (record { document = document.now; starts = r.starts; rows = r.rows }))
         (λ e. Fails e (resolved_by (number_by indexes.now.packages) (number_by indexes.now.nodes) document.now)) }
     ensures texts { IfOk result (λ r. AreTextsOf document.now.packages r.texts) }

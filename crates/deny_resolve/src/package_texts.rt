@@ -1,7 +1,9 @@
 ghost use Rattle.std.specs.Prelude.{◌≡◌, IfOk, Some, map, option_map};
 ghost use Rattle.semver.specs.Identifiers.{parts_of};
-ghost use Rattle.deny_resolve.specs.Checked.{optional_reads, requirement_reads, requirements_read, source_reads, version_reads};
-ghost use Rattle.deny_resolve.specs.PackageTexts.{requirement_said, requirement_view, requirements_said, rust_version_said, source_said, version_said};
+ghost use Rattle.deny_resolve.specs.Checked.{optional_reads, requirement_reads};
+ghost use Rattle.deny_resolve.specs.Checked.{requirements_read, source_reads, version_reads};
+ghost use Rattle.deny_resolve.specs.PackageTexts.{requirement_said, requirement_view, requirements_said};
+ghost use Rattle.deny_resolve.specs.PackageTexts.{rust_version_said, source_said, version_said};
 ghost use Rattle.deny_metadata.specs.Reading.{Passes, each_passes};
 ghost use Rattle.deny_resolve.specs.Versions.{rust_version_of};
 

@@ -2,7 +2,8 @@ ghost use Rattle.std.specs.Prelude.{◌≡◌, ◌<◌, [], All, IfOk, None, map
 ghost use Rattle.std.specs.Result.{result_ok};
 ghost use Rattle.form_urlencoded.specs.Form.{plus_to_space, raw_pairs};
 ghost use Rattle.url.specs.Parser.{parse_url};
-ghost use Rattle.deny_resolve.specs.Source.{after, form_text, spec_of, reference_in, git_source, crates_io_of, addressed, source_of};
+ghost use Rattle.deny_resolve.specs.Source.{after, form_text, spec_of, reference_in};
+ghost use Rattle.deny_resolve.specs.Source.{git_source, crates_io_of, addressed, source_of};
 
 use deny_lists::{NoMemory, Text};
 use form_urlencoded::raw_pairs;

@@ -1,11 +1,13 @@
 //! The manifests of crates, as they are read one after another.
-ghost use Rattle.std.specs.Prelude.{◌≡◌, ◌<◌, ◌≤◌, ◌-◌, ◌^◌, ◌++◌, ◌∷◌, [], ◌&&◌, IfOk, IfSome, OnOk, Some, is_none, length, option_map, slice_get};
+ghost use Rattle.std.specs.Prelude.{◌≡◌, ◌<◌, ◌≤◌, ◌-◌, ◌^◌, ◌++◌, ◌∷◌, [], ◌&&◌};
+ghost use Rattle.std.specs.Prelude.{IfOk, IfSome, OnOk, Some, is_none, length, option_map, slice_get};
 ghost use Rattle.std.specs.List.{sum_by};
 ghost use Rattle.deny_outside.specs.Disk.{IsLater};
 ghost use Rattle.deny_outside.specs.Read.{GaveAtMost};
 ghost use Rattle.deny_krates.specs.Crates.{crate_view};
 ghost use Rattle.deny_manifests.specs.Manifest.{deps_in, ignored_by};
-ghost use Rattle.deny_spans.specs.private.Gathered.{IsGathered, IsKept, IsLookedAt, IsManifestRead, IsReadLocally, broken_if};
+ghost use Rattle.deny_spans.specs.private.Gathered.{IsGathered, IsKept, IsLookedAt};
+ghost use Rattle.deny_spans.specs.private.Gathered.{IsManifestRead, IsReadLocally, broken_if};
 ghost use Rattle.deny_spans.specs.Wanted.{bytes_of};
 ghost use Rattle.deny_unread.specs.Added.{added};
 ghost use Rattle.deny_unread.specs.Bound.{Folders};

@@ -1,5 +1,6 @@
 //! Where the crates of a graph stand in texts.
-ghost use Rattle.std.specs.Prelude.{◌≡◌, ◌++◌, ◌∷◌, [], ◌<◌, ◌≤◌, ◌^◌, IfNone, IfOk, IfSome, MatchOption, None, OnOk, Some, length, map, option_copied, option_map, slice_get};
+ghost use Rattle.std.specs.Prelude.{◌≡◌, ◌++◌, ◌∷◌, [], ◌<◌, ◌≤◌, ◌^◌, IfNone, IfOk, IfSome, MatchOption};
+ghost use Rattle.std.specs.Prelude.{None, OnOk, Some, length, map, option_copied, option_map, slice_get};
 ghost use Rattle.std.specs.List.{AllZip};
 ghost use Rattle.std.specs.Option.{option_and_then, option_flatten};
 ghost use Rattle.deny_outside.specs.Disk.{IsLater};

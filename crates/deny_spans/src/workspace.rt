@@ -1,11 +1,13 @@
 //! The manifest of the workspace.
-ghost use Rattle.std.specs.Prelude.{◌≡◌, ◌<◌, ◌-◌, ◌^◌, ◌++◌, [], List, Option, IfOk, IfSome, is_none, length, option_map, position};
+ghost use Rattle.std.specs.Prelude.{◌≡◌, ◌<◌, ◌-◌, ◌^◌, ◌++◌, [], List, Option, IfOk};
+ghost use Rattle.std.specs.Prelude.{IfSome, is_none, length, option_map, position};
 ghost use Rattle.deny_outside.specs.Disk.{IsLater};
 ghost use Rattle.deny_outside.specs.Read.{GaveAtMost, GaveOnce};
 ghost use Rattle.deny_spans.specs.Look.{home_in};
 ghost use Rattle.deny_spans.specs.Paths.{workspace_path};
 ghost use Rattle.deny_spans.specs.private.Gathered.{broken_if};
-ghost use Rattle.deny_spans.specs.private.Workspace.{AreShared, AreSharedIf, AreSharedIn, AreSharedOf, IsKeptAlone, IsReadAlone, IsShortAt, IsWorkspaceIn, is_home, text_at};
+ghost use Rattle.deny_spans.specs.private.Workspace.{AreShared, AreSharedIf, AreSharedIn, AreSharedOf, IsKeptAlone};
+ghost use Rattle.deny_spans.specs.private.Workspace.{IsReadAlone, IsShortAt, IsWorkspaceIn, is_home, text_at};
 ghost use Rattle.deny_spans.specs.Wanted.{bytes_alone};
 ghost use Rattle.deny_toml.specs.declared.value.Value.{Value};
 ghost use Rattle.deny_unread.specs.Added.{added};

@@ -1,4 +1,5 @@
-ghost use Rattle.std.specs.Prelude.{◌≡◌, ◌≢◌, ◌∷◌, [], ℕ, length, false, slice_get, unwrap_or, IfOk, MatchResult, Ok, Err};
+ghost use Rattle.std.specs.Prelude.{◌≡◌, ◌≢◌, ◌∷◌, [], ℕ, length, false, slice_get};
+ghost use Rattle.std.specs.Prelude.{unwrap_or, IfOk, MatchResult, Ok, Err};
 ghost use Rattle.std.specs.List.{list_any, list_all};
 ghost use Rattle.deny_spdx.specs.Truth.{truth};
 ghost use Rattle.deny_spdx.specs.Grammar.{IsExpression, all_of, any_of};
@@ -39,7 +40,8 @@ impl Expression {
         ensures spelled { (e : Expression) → Spells IsExpression text.now e → Answers SpdxError.Memory (Ok e) result }
 
         ensures refused { (place : ℕ) → result ≡ Err (SpdxError.Bad place) → IsBadAt IsExpression text.now place }
-        ensures bad { (place : ℕ) → IsBadAt IsExpression text.now place → Answers SpdxError.Memory (Err (SpdxError.Bad place)) result }
+        ensures bad { (place : ℕ) → IsBadAt IsExpression text.now place
+            → Answers SpdxError.Memory (Err (SpdxError.Bad place)) result }
         ensures meaning { IsReading text.now result }
     {
         read_expression(alloc, text)

@@ -1,5 +1,6 @@
 ghost use Rattle.std.specs.Prelude.{◌≡◌, IfOk};
-ghost use Rattle.deny_spdx.specs.Reader.{start, settled, with_requirement, word_step, with_step, open_step, and_step, or_step, close_step, step, whole};
+ghost use Rattle.deny_spdx.specs.Reader.{start, settled, with_requirement, word_step, with_step};
+ghost use Rattle.deny_spdx.specs.Reader.{open_step, and_step, or_step, close_step, step, whole};
 
 use crate::expression::{Expression, Tree, any_of};
 use crate::level::Level;

@@ -31,7 +31,8 @@ impl Requirement {
         ensures spelled { (r : Requirement) → Spells IsRequirement text.now r → Answers SpdxError.Memory (Ok r) result }
 
         ensures refused { (place : ℕ) → result ≡ Err (SpdxError.Bad place) → IsBadAt IsRequirement text.now place }
-        ensures bad { (place : ℕ) → IsBadAt IsRequirement text.now place → Answers SpdxError.Memory (Err (SpdxError.Bad place)) result }
+        ensures bad { (place : ℕ) → IsBadAt IsRequirement text.now place
+            → Answers SpdxError.Memory (Err (SpdxError.Bad place)) result }
         ensures meaning { IsMeaning text.now result }
     {
         read_requirement(alloc, text)

@@ -1,5 +1,6 @@
 //! Names of one hash, in their order, each once and with its numbers.
-ghost use Rattle.std.specs.Prelude.{ℕ, List, ◌≡◌, ◌<◌, ◌≤◌, ◌+◌, ◌^◌, ◌∷◌, [], length, insert, OnOk, OnErr, IfOk, IfErr};
+ghost use Rattle.std.specs.Prelude.{ℕ, List, ◌≡◌, ◌<◌, ◌≤◌, ◌+◌, ◌^◌, ◌∷◌, []};
+ghost use Rattle.std.specs.Prelude.{length, insert, OnOk, OnErr, IfOk, IfErr};
 ghost use Rattle.std.specs.Cmp.Lexicographic.{slice_cmp};
 ghost use Rattle.std.specs.Ordering.{nat_cmp};
 ghost use Rattle.deny_lists.specs.Prefix.{IsPrefix};
@@ -110,7 +111,8 @@ fn insert_name(
     number: usize,
 ) -> Result<(), NoMemory>
     requires { place ≤ length bucket.old }
-    ensures ok { OnOk result (bucket.new ≡ insert bucket.old place (record { name = name.now; numbers = number ∷ [] })) }
+    ensures ok { OnOk result (bucket.new
+        ≡ insert bucket.old place (record { name = name.now; numbers = number ∷ [] })) }
     ensures err { OnErr result (bucket.new ≡ bucket.old) }
 {
     let name = List::from_vec(Vec::from_slice(alloc, name)?);

@@ -5,7 +5,8 @@ ghost use Rattle.std.specs.Str.{is_utf8};
 ghost use Rattle.deny_std_table.specs.Place.{contents};
 ghost use Rattle.deny_std_table.specs.Reading.{next_of, many};
 ghost use Rattle.deny_std_table.specs.Width.{width_of};
-ghost use Rattle.deny_std_table.specs.Region.{bounds, byte, text, api, replacement, note_of, group_head, group, counts, counted_items, items};
+ghost use Rattle.deny_std_table.specs.Region.{bounds, byte, text, api, replacement, note_of};
+ghost use Rattle.deny_std_table.specs.Region.{group_head, group, counts, counted_items, items};
 
 use crate::error::ReplacementError;
 use crate::place::{ApiPlace, Counts, GroupHead, Read, ReplacementPlace, TextPlace};

@@ -1,6 +1,7 @@
 //! The replacement table.
 
-ghost use Rattle.std.specs.Prelude.{◌≡◌, ◌≢◌, ◌↔◌, ◌≤◌, ◌^◌, ℕ, List, length, Ok, Err, IfOk, IfErr, OnErr, MatchResult, option_map};
+ghost use Rattle.std.specs.Prelude.{◌≡◌, ◌≢◌, ◌↔◌, ◌≤◌, ◌^◌, ℕ, List, length, Ok};
+ghost use Rattle.std.specs.Prelude.{Err, IfOk, IfErr, OnErr, MatchResult, option_map};
 ghost use Rattle.deny_std_table.specs.Entries.{Entry};
 ghost use Rattle.deny_std_table.specs.Width.{width_of};
 ghost use Rattle.deny_std_table.specs.Layout.{IsTable};

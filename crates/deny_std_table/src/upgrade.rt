@@ -1,6 +1,7 @@
 //! A table in the second version of the format, without what is ignored.
 
-ghost use Rattle.std.specs.Prelude.{◌≡◌, ◌++◌, ◌↔◌, ◌≤◌, ◌<◌, ◌+◌, List, [], ◌∷◌, length, map, flat_map, Ok, Err, Some, None, IsOk, IfOk, option_map};
+ghost use Rattle.std.specs.Prelude.{◌≡◌, ◌++◌, ◌↔◌, ◌≤◌, ◌<◌, ◌+◌, List, [], ◌∷◌};
+ghost use Rattle.std.specs.Prelude.{length, map, flat_map, Ok, Err, Some, None, IsOk, IfOk, option_map};
 ghost use Rattle.deny_std_table.specs.declared.place.ReplacementPlace.{ReplacementPlace};
 ghost use Rattle.deny_std_table.specs.declared.place.TextPlace.{TextPlace};
 ghost use Rattle.deny_std_table.specs.declared.place.ApiPlace.{ApiPlace};
@@ -11,7 +12,9 @@ ghost use Rattle.deny_std_table.specs.Region.{bounds, Group, Items, api, replace
 ghost use Rattle.deny_std_table.specs.Entries.{Entry, entry};
 ghost use Rattle.deny_std_table.specs.Place.{contents, IsTextIn, IsApiIn, IsReplacementIn};
 ghost use Rattle.deny_std_table.specs.Table.{IsRead, read_entries};
-ghost use Rattle.deny_std_table.specs.Spelling.{SaysTheSame, api_text, replacement_text, group_text, items_text, entry_text, texts_of, api_bytes, note_bytes, replacement_bytes, group_bytes, items_bytes, entry_bytes, table_bytes, number_bytes};
+ghost use Rattle.deny_std_table.specs.Spelling.{SaysTheSame, api_text, replacement_text, group_text, items_text};
+ghost use Rattle.deny_std_table.specs.Spelling.{entry_text, texts_of, api_bytes, note_bytes, replacement_bytes};
+ghost use Rattle.deny_std_table.specs.Spelling.{group_bytes, items_bytes, entry_bytes, table_bytes, number_bytes};
 ghost use Rattle.deny_std_table.specs.Draft.{Writes};
 
 use crate::draft::Draft;

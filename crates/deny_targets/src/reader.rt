@@ -1,5 +1,7 @@
 ghost use Rattle.std.specs.Prelude.{◌≡◌, ◌∷◌, [], IfOk, MatchOption, slice_get};
-ghost use Rattle.deny_targets.specs.private.Reader.{start, at_key, inside, at_head, at_expression, closed, at_argument, next_argument, at_whole, at_name, at_value, step, is_done, is_empty, accepts};
+ghost use Rattle.deny_targets.specs.private.Reader.{start, at_key, inside, at_head, at_expression};
+ghost use Rattle.deny_targets.specs.private.Reader.{closed, at_argument, next_argument, at_whole};
+ghost use Rattle.deny_targets.specs.private.Reader.{at_name, at_value, step, is_done, is_empty, accepts};
 
 use crate::token::Token;
 use deny_lists::NoMemory;

@@ -1,6 +1,8 @@
-ghost use Rattle.std.specs.Prelude.{◌≡◌, ◌<◌, ◌≤◌, ℕ, IfOk, IfSome, option_map, take, drop, length, slice_index, slice_get, Some};
+ghost use Rattle.std.specs.Prelude.{◌≡◌, ◌<◌, ◌≤◌, ℕ, IfOk, IfSome, option_map};
+ghost use Rattle.std.specs.Prelude.{take, drop, length, slice_index, slice_get, Some};
 ghost use Rattle.std.specs.List.{prefix_len};
-ghost use Rattle.deny_targets.specs.Tokens.{is_blank, is_name_start, is_name_byte, is_quote, word_token, word_first, quoted_first, mark_token, mark_first, first_token};
+ghost use Rattle.deny_targets.specs.Tokens.{is_blank, is_name_start, is_name_byte, is_quote, word_token};
+ghost use Rattle.deny_targets.specs.Tokens.{word_first, quoted_first, mark_token, mark_first, first_token};
 ghost use Rattle.deny_targets.specs.private.Tokens.{AreAll, is_comma};
 
 use deny_lists::{List, NoMemory, Text};

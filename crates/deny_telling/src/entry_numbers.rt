@@ -60,7 +60,8 @@ impl Eq for EntryList {
 impl PartialOrd for EntryList {
     ghost partial_cmp = { λ a b. Some (list_cmp a b) };
 
-    ghost laws = { partial_order_from_own_ties (partial_order_from_total (on_total list_number nat_cmp_total)) (λ a b. unsigned_ties (list_number a) (list_number b)) };
+    ghost laws = { partial_order_from_own_ties (partial_order_from_total (on_total list_number nat_cmp_total))
+        (λ a b. unsigned_ties (list_number a) (list_number b)) };
 
     fn partial_cmp(&self, other: &Self) -> Option<Ordering> {
         Some(self.cmp(other))

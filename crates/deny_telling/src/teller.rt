@@ -113,7 +113,8 @@ impl<'c> Teller<'c> {
     /// The skipped tree of a range.
     pub fn root(&self, range: Span) -> &'c PackageSpecOrExtended<TreeSkipExtended>
         requires { IsTrue (is_some (root_at (policy_view self.now.told.cfg.now) range)) }
-        ensures { (number : ℕ) × (root_at (policy_view self.now.told.cfg.now) range ≡ Some (root_view number result.now)) }
+        ensures { (number : ℕ)
+            × (root_at (policy_view self.now.told.cfg.now) range ≡ Some (root_view number result.now)) }
     {
         let roots = self.told.cfg.tree_skipped.as_slice();
         self.numbers.first(EntryList::SkipTree, roots, range)

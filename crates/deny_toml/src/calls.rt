@@ -1,9 +1,11 @@
 //! What is asked of values and tables.
-ghost use Rattle.std.specs.Prelude.{◌≡◌, ◌≤◌, ◌+◌, ◌-◌, ◌*◌, ◌<◌, ◌==◌, ◌∷◌, [], true, length, IfSome, IfNone, IfOk, IfErr, Some, None, is_some, nat_eq, position};
+ghost use Rattle.std.specs.Prelude.{◌≡◌, ◌≤◌, ◌+◌, ◌-◌, ◌*◌, ◌<◌, ◌==◌, ◌∷◌, [], true, length, IfSome};
+ghost use Rattle.std.specs.Prelude.{IfNone, IfOk, IfErr, Some, None, is_some, nat_eq, position};
 ghost use Rattle.std.specs.Cmp.Lexicographic.{pointwise};
 ghost use Rattle.std.specs.Option.{option_copied, option_map};
 ghost use Rattle.deny_toml.specs.Value.{entries_in};
-ghost use Rattle.deny_toml.specs.Calls.{IsPast, table_in, array_in, text_in, bool_in, integer_in, below_name, has_name, below, layer_in, value_below, value_at_path, parts_of, is_decimal_digit};
+ghost use Rattle.deny_toml.specs.Calls.{IsPast, table_in, array_in, text_in, bool_in, integer_in, below_name, has_name};
+ghost use Rattle.deny_toml.specs.Calls.{below, layer_in, value_below, value_at_path, parts_of, is_decimal_digit};
 ghost use Rattle.deny_toml.specs.Calls as spec;
 ghost use Rattle.deny_toml.specs.Faults.{Reports};
 ghost use Rattle.deny_toml.specs.Deserialize.{faults_of_kind};
@@ -147,7 +149,8 @@ impl<'t> Table<'t> {
 
     /// The key of that name, with its value.
     pub fn get_key_value(&self, name: &str) -> Option<(&Key<'t>, &Value<'t>)>
-        ensures { option_map (λ entry. (entry.0.now, entry.1.now)) result ≡ spec.entry_at name.now (entries_in self.now) }
+        ensures { option_map (λ entry. (entry.0.now, entry.1.now)) result
+            ≡ spec.entry_at name.now (entries_in self.now) }
     {
         let entry = entry_at(self.entries.as_slice(), name.as_bytes())?;
         Some((&entry.0, &entry.1))

@@ -1,7 +1,9 @@
 //! The first clash of a document: a segment of a header or of a key that may not stand at its place.
-ghost use Rattle.std.specs.Prelude.{◌≡◌, ℕ, ◌+◌, ◌==◌, ◌&&◌, List, [], map, option_map, Option, Some, None, Result, OnOk, IfOk, if◌then◌else◌};
+ghost use Rattle.std.specs.Prelude.{◌≡◌, ℕ, ◌+◌, ◌==◌, ◌&&◌, List, [], map, option_map};
+ghost use Rattle.std.specs.Prelude.{Option, Some, None, Result, OnOk, IfOk, if◌then◌else◌};
 ghost use Rattle.std.specs.Str.{bytes_eq};
-ghost use Rattle.deny_toml.specs.Clash.{Segment, stand, walk, walk_header, walk_key, clash_in, first_of, member_line, clash_after, clash};
+ghost use Rattle.deny_toml.specs.Clash.{Segment, stand, walk, walk_header, walk_key};
+ghost use Rattle.deny_toml.specs.Clash.{clash_in, first_of, member_line, clash_after, clash};
 ghost use Rattle.deny_toml.specs.private.Places.{Tells, Takes, TakesKey, Finds, standing_at, standing_after, admits};
 ghost use Rattle.deny_toml_grammar.specs.Expression.{assigned_path, assigned_value};
 
@@ -131,7 +133,9 @@ impl<'n> Places<'n> {
 
     fn put(&mut self, place: Place<'n>, standing: Standing) -> Result<(), NoMemory>
         ensures count { OnOk result (self.new.segments ≡ self.old.segments) }
-        ensures each { OnOk result ((table : ℕ) (name : List ℕ) → standing_at self.new table name ≡ (if (place.entry.table == table) && bytes_eq place.entry.name.now name then Some standing else standing_at self.old table name)) }
+        ensures each { OnOk result ((table : ℕ) (name : List ℕ) → standing_at self.new table name
+            ≡ (if (place.entry.table == table) && bytes_eq place.entry.name.now name then Some standing
+            else standing_at self.old table name)) }
     {
         self.standing.insert(place, standing)?;
         Ok(())
@@ -139,7 +143,8 @@ impl<'n> Places<'n> {
 
     /// Gives a segment its place in a table. The answer is the number of the table there.
     fn take(&mut self, table: u64, key: &'n Key<'_>, role: Role) -> Result<u64, Refusal>
-        ensures { (before : List Segment) → Tells self.old before → Takes result self.new (stand before table role key.now) }
+        ensures { (before : List Segment) → Tells self.old before
+            → Takes result self.new (stand before table role key.now) }
     {
         let place = Place {
             table,
@@ -166,7 +171,8 @@ impl<'n> Places<'n> {
         passing: Role,
         last: Role,
     ) -> Result<u64, Refusal>
-        ensures { (before : List Segment) → Tells self.old before → Takes result self.new (walk before from passing last path.now) }
+        ensures { (before : List Segment) → Tells self.old before
+            → Takes result self.new (walk before from passing last path.now) }
     {
         let mut table = from;
         for (part, key) in path.iter().enumerate() {
@@ -182,7 +188,8 @@ impl<'n> Places<'n> {
 
     /// Gives the segments of a header their places. The answer is the number of its table.
     fn take_header(&mut self, header: &'n Header<'_>) -> Result<u64, Refusal>
-        ensures { (before : List Segment) → Tells self.old before → Takes result self.new (walk_header before header.now) }
+        ensures { (before : List Segment) → Tells self.old before
+            → Takes result self.new (walk_header before header.now) }
     {
         let last = if header.is_array {
             Role::ArrayNames
@@ -201,7 +208,9 @@ fn take_key<'n>(
     table: u64,
     key: &'n Assignment<'_>,
 ) -> Result<(), Refusal>
-    ensures { (before : List Segment) → Tells places.old before → TakesKey result places.new (walk_key before table (assigned_path key.now)) (clash_in (assigned_value key.now)) }
+    ensures { (before : List Segment) → Tells places.old before
+        → TakesKey result places.new (walk_key before table (assigned_path key.now))
+        (clash_in (assigned_value key.now)) }
 {
     places.take_path(table, key.path.as_slice(), Role::KeyPasses, Role::KeySets)?;
     check_value(alloc, &key.value)

@@ -6,7 +6,8 @@ ghost use Rattle.deny_toml.specs.Value.{span_in};
 ghost use Rattle.deny_toml.specs.Calls.{array_in, text_in, bool_in, integer_in};
 ghost use Rattle.deny_toml.specs.Faults.{Reports, under, in_order};
 ghost use Rattle.std.specs.Fmt.{decimal};
-ghost use Rattle.deny_toml.specs.Deserialize.{faults_of_kind, faults_of_small, faults_of_array, small_number, ReadsArray, ReadsEach, Adds, faults_from};
+ghost use Rattle.deny_toml.specs.Deserialize.{faults_of_kind, faults_of_small, faults_of_array};
+ghost use Rattle.deny_toml.specs.Deserialize.{small_number, ReadsArray, ReadsEach, Adds, faults_from};
 
 use crate::error::{ConfigFault, DeserError};
 use crate::faults::{keep_faults, put_faults_in_order, put_under};
@@ -133,7 +134,8 @@ fn read_elements<T: Deserialize + Drop>(
     alloc: Global,
     elements: List<Value<'_>>,
 ) -> Result<List<T>, DeserError>
-    ensures ok { IfOk result (λ items. (in_order (faults_from T.faults_of 0 elements.entry) ≡ []) × ReadsEach T.reads elements.entry items) }
+    ensures ok { IfOk result (λ items. (in_order (faults_from T.faults_of 0 elements.entry) ≡ [])
+        × ReadsEach T.reads elements.entry items) }
     ensures faults { IfErr result (Reports (in_order (faults_from T.faults_of 0 elements.entry))) }
 {
     let (items, mut faults) = read_each(alloc, elements)?;

@@ -2,9 +2,12 @@
 ghost use Rattle.std.proofs.Common.{rules};
 ghost use Rattle.std.specs.Prelude.{◌≡◌, ◌==◌, ◌∷◌, ◌++◌, [], IfOk, OnOk, Some, refl};
 ghost use Rattle.std.specs.Ordering.{nat_cmp, on};
-ghost use Rattle.std.specs.Cmp.{IsTotalOrder, nat_cmp_total, on_total, on_per, on_equiv, nat_eq_equiv, partial_equiv_from_equiv, partial_order_from_own_ties, partial_order_from_total, unsigned_ties};
+ghost use Rattle.std.specs.Cmp.{IsTotalOrder, nat_cmp_total, on_total, on_per};
+ghost use Rattle.std.specs.Cmp.{on_equiv, nat_eq_equiv, partial_equiv_from_equiv};
+ghost use Rattle.std.specs.Cmp.{partial_order_from_own_ties, partial_order_from_total, unsigned_ties};
 ghost use Rattle.std.specs.FinMap.{IsAntisymmetric};
-ghost use Rattle.deny_toml.specs.Faults.{kind_number, kind_cmp, fault_cmp, fault_at, in_order, is_of_itself, names_key, path_under, under, Reports};
+ghost use Rattle.deny_toml.specs.Faults.{kind_number, kind_cmp, fault_cmp, fault_at, in_order};
+ghost use Rattle.deny_toml.specs.Faults.{is_of_itself, names_key, path_under, under, Reports};
 ghost use Rattle.deny_toml.specs.Faults as spec;
 ghost use Rattle.deny_toml.specs.declared.error.ConfigFault.{ConfigFault};
 
@@ -56,7 +59,8 @@ impl Eq for FaultKind {
 impl PartialOrd for FaultKind {
     ghost partial_cmp = { λ a b. Some (kind_cmp a b) };
 
-    ghost laws = { partial_order_from_own_ties (partial_order_from_total (on_total kind_number nat_cmp_total)) (λ a b. unsigned_ties (kind_number a) (kind_number b)) };
+    ghost laws = { partial_order_from_own_ties (partial_order_from_total (on_total kind_number nat_cmp_total))
+        (λ a b. unsigned_ties (kind_number a) (kind_number b)) };
 
     fn partial_cmp(&self, other: &Self) -> Option<Ordering> {
         Some(self.cmp(other))

@@ -3,7 +3,8 @@ ghost use Rattle.deny_toml.specs.Value.{span_in, table_with};
 ghost use Rattle.deny_toml.specs.Calls.{table_in, entry_at, value_at, without};
 ghost use Rattle.deny_toml.specs.Faults.{Reports, under, fault_at};
 ghost use Rattle.deny_toml.specs.Deserialize.{faults_of_kind};
-ghost use Rattle.deny_toml.specs.TableHelper.{required_faults, optional_faults, ReadsRequired, ReadsOptional, table_faults, unknown};
+ghost use Rattle.deny_toml.specs.TableHelper.{required_faults, optional_faults, ReadsRequired};
+ghost use Rattle.deny_toml.specs.TableHelper.{ReadsOptional, table_faults, unknown};
 
 use crate::calls::place_of;
 use crate::deserialize::Deserialize;
@@ -62,7 +63,8 @@ impl<'t> TableHelper<'t> {
     /// missing key is `Missing` at the table, and the faults of the value stand under the key.
     pub fn required<T: Deserialize>(&mut self, name: &str) -> Result<T, DeserError>
         ensures ok { IfOk result (ReadsRequired T.faults_of T.reads (value_at name.now self.old.entries)) }
-        ensures faults { IfErr result (Reports (required_faults T.faults_of self.old.span name.now (value_at name.now self.old.entries))) }
+        ensures faults { IfErr result (Reports
+            (required_faults T.faults_of self.old.span name.now (value_at name.now self.old.entries))) }
         ensures left { self.new ≡ record self.old { entries = without name.now self.old.entries } }
     {
         match self.take(name) {
@@ -73,8 +75,10 @@ impl<'t> TableHelper<'t> {
 
     /// The same, with the place of the value.
     pub fn required_s<T: Deserialize>(&mut self, name: &str) -> Result<Spanned<T>, DeserError>
-        ensures ok { IfOk result (ReadsRequired T.faults_of (λ v x. (x.span ≡ span_in v) × T.reads v x.value) (value_at name.now self.old.entries)) }
-        ensures faults { IfErr result (Reports (required_faults T.faults_of self.old.span name.now (value_at name.now self.old.entries))) }
+        ensures ok { IfOk result (ReadsRequired T.faults_of
+            (λ v x. (x.span ≡ span_in v) × T.reads v x.value) (value_at name.now self.old.entries)) }
+        ensures faults { IfErr result (Reports
+            (required_faults T.faults_of self.old.span name.now (value_at name.now self.old.entries))) }
         ensures left { self.new ≡ record self.old { entries = without name.now self.old.entries } }
     {
         self.required::<Spanned<T>>(name)
@@ -84,7 +88,10 @@ impl<'t> TableHelper<'t> {
     /// not there, and where its value has faults: these are kept, under the key.
     pub fn optional<T: Deserialize>(&mut self, name: &str) -> Result<Option<T>, NoMemory>
         ensures ok { IfOk result (ReadsOptional T.faults_of T.reads (value_at name.now self.old.entries)) }
-        ensures kept { OnOk result (self.new ≡ record self.old { entries = without name.now self.old.entries; faults = self.old.faults ++ optional_faults T.faults_of name.now (value_at name.now self.old.entries) }) }
+        ensures kept { OnOk result (self.new ≡ record self.old {
+          entries = without name.now self.old.entries;
+          faults = self.old.faults ++ optional_faults T.faults_of name.now (value_at name.now self.old.entries);
+        }) }
     {
         let Some((_, mut value)) = self.take(name) else {
             return Ok(None);
@@ -101,8 +108,12 @@ impl<'t> TableHelper<'t> {
 
     /// The same, with the place of the value.
     pub fn optional_s<T: Deserialize>(&mut self, name: &str) -> Result<Option<Spanned<T>>, NoMemory>
-        ensures ok { IfOk result (ReadsOptional T.faults_of (λ v x. (x.span ≡ span_in v) × T.reads v x.value) (value_at name.now self.old.entries)) }
-        ensures kept { OnOk result (self.new ≡ record self.old { entries = without name.now self.old.entries; faults = self.old.faults ++ optional_faults T.faults_of name.now (value_at name.now self.old.entries) }) }
+        ensures ok { IfOk result (ReadsOptional T.faults_of
+            (λ v x. (x.span ≡ span_in v) × T.reads v x.value) (value_at name.now self.old.entries)) }
+        ensures kept { OnOk result (self.new ≡ record self.old {
+          entries = without name.now self.old.entries;
+          faults = self.old.faults ++ optional_faults T.faults_of name.now (value_at name.now self.old.entries);
+        }) }
     {
         self.optional::<Spanned<T>>(name)
     }

@@ -1,5 +1,6 @@
 //! The tree of a document: the value that its headers and assignments write.
-ghost use Rattle.std.specs.Prelude.{◌≡◌, ◌<◌, ◌^◌, ◌∷◌, ◌++◌, [], IfOk, OnOk, MatchOption, is_some, None, List, map, ℕ, ◌≤◌};
+ghost use Rattle.std.specs.Prelude.{◌≡◌, ◌<◌, ◌^◌, ◌∷◌, ◌++◌, [], IfOk, OnOk};
+ghost use Rattle.std.specs.Prelude.{MatchOption, is_some, None, List, map, ℕ, ◌≤◌};
 ghost use Rattle.deny_base.specs.declared.span.Span.{Span};
 ghost use Rattle.deny_toml_grammar.specs.declared.expression.Expression.{Expression};
 ghost use Rattle.deny_toml.specs.Tree as spec;

@@ -15,7 +15,8 @@ pub fn read_document<'t>(alloc: Global, text: &'t str) -> Result<List<Expression
     ensures found { IfOk result (λ es. IsDocument text.now es) }
     ensures only { IfOk result (λ es. (others : List Expression) → IsDocument text.now others → others ≡ es) }
     ensures stand { IfOk result (AllStand text.now) }
-    ensures refused { (left : ℕ) → result ≡ Err (ReadError.Grammar left) → (es : List Expression) → IsDocument text.now es → ⊥ }
+    ensures refused { (left : ℕ) → result ≡ Err (ReadError.Grammar left) → (es : List Expression)
+        → IsDocument text.now es → ⊥ }
 {
     expressions(alloc, text)
 }

@@ -97,7 +97,8 @@ fn array<'t>(
 ) -> Result<(List<Written<'t>>, &'t str), ReadError>
     requires within { length text.now ≤ total }
     requires small { total < 2 ^ 28 }
-    ensures value { (n : ℕ) → length text.now < n → Reads result (spec.elements (spec.value depth total) n [] text.now) }
+    ensures value { (n : ℕ) → length text.now < n
+        → Reads result (spec.elements (spec.value depth total) n [] text.now) }
     ensures shorter { Shortens text.now result }
 {
     let mut found = List::new(alloc);
@@ -158,7 +159,8 @@ fn members<'t>(
 ) -> Result<(List<Assignment<'t>>, &'t str), ReadError>
     requires within { length text.now ≤ total }
     requires small { total < 2 ^ 28 }
-    ensures value { (n : ℕ) → length text.now < n → Reads result (spec.members (spec.value depth total) n total [] text.now) }
+    ensures value { (n : ℕ) → length text.now < n
+        → Reads result (spec.members (spec.value depth total) n total [] text.now) }
     ensures shorter { Shortens text.now result }
 {
     let mut found = List::new(alloc);

@@ -1,5 +1,6 @@
 //! The tree of a node, grown depth first.
-ghost use Rattle.std.specs.Prelude.{◌≡◌, ◌≢◌, ◌<◌, ◌≤◌, ◌++◌, ◌∷◌, [], AllPairs, IfOk, IfSome, MatchOption, OnOk, Option, ℕ, length, true, vec_capacity, vec_len};
+ghost use Rattle.std.specs.Prelude.{◌≡◌, ◌≢◌, ◌<◌, ◌≤◌, ◌++◌, ◌∷◌, [], AllPairs, IfOk, IfSome};
+ghost use Rattle.std.specs.Prelude.{MatchOption, OnOk, Option, ℕ, length, true, vec_capacity, vec_len};
 ghost use Rattle.deny_model.specs.Graph.{Graph};
 ghost use Rattle.deny_krates.specs.Nodes.{incoming_at, node_at, nodes_of};
 ghost use Rattle.deny_trees.specs.Tree.{inner_of, node_with, tree_of};

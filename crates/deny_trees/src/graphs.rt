@@ -1,5 +1,6 @@
 //! The trees that a finding shows.
-ghost use Rattle.std.specs.Prelude.{◌≡◌, ◌≢◌, ◌<◌, ◌++◌, AllPairs, IfOk, OnOk, Some, filter_map, length, ok_or, option_copied};
+ghost use Rattle.std.specs.Prelude.{◌≡◌, ◌≢◌, ◌<◌, ◌++◌, AllPairs, IfOk, OnOk};
+ghost use Rattle.std.specs.Prelude.{Some, filter_map, length, ok_or, option_copied};
 ghost use Rattle.std.specs.Option.{option_to_list};
 ghost use Rattle.deny_lists.specs.Reader.{Answers};
 ghost use Rattle.deny_krates.specs.Nodes.{node_at, nodes_of};

@@ -1,6 +1,7 @@
 ghost use Rattle.std.specs.Prelude.{◌≡◌, ◌==◌, Some, refl};
 ghost use Rattle.std.specs.Ordering.{nat_cmp, on};
-ghost use Rattle.std.specs.Cmp.{nat_cmp_total, on_total, on_per, on_equiv, nat_eq_equiv, partial_equiv_from_equiv, partial_order_from_own_ties, partial_order_from_total, unsigned_ties};
+ghost use Rattle.std.specs.Cmp.{nat_cmp_total, on_total, on_per, on_equiv, nat_eq_equiv, partial_equiv_from_equiv};
+ghost use Rattle.std.specs.Cmp.{partial_order_from_own_ties, partial_order_from_total, unsigned_ties};
 ghost use Rattle.std.proofs.Common.{rules};
 ghost use Rattle.deny_unread.specs.Purpose.{purpose_number, purpose_cmp};
 
@@ -59,7 +60,8 @@ impl Eq for Purpose {
 impl PartialOrd for Purpose {
     ghost partial_cmp = { λ a b. Some (purpose_cmp a b) };
 
-    ghost laws = { partial_order_from_own_ties (partial_order_from_total (on_total purpose_number nat_cmp_total)) (λ a b. unsigned_ties (purpose_number a) (purpose_number b)) };
+    ghost laws = { partial_order_from_own_ties (partial_order_from_total (on_total purpose_number nat_cmp_total))
+        (λ a b. unsigned_ties (purpose_number a) (purpose_number b)) };
 
     fn partial_cmp(&self, other: &Self) -> Option<Ordering> {
         Some(self.cmp(other))

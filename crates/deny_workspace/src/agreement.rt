@@ -3,7 +3,8 @@ ghost use Rattle.std.specs.Prelude.{◌≡◌, ◌&&◌, ◌+◌, ◌<◌, ◌^�
 ghost use Rattle.deny_krates.specs.Crates.{crate_view, crates_from, source_view};
 ghost use Rattle.deny_model.specs.Groups.{has_name};
 ghost use Rattle.deny_model.specs.Match.{meets};
-ghost use Rattle.deny_workspace.specs.Agreement.{comes_from, fits, home_by_name, home_of, is_folder, is_of_registry, is_registered};
+ghost use Rattle.deny_workspace.specs.Agreement.{comes_from, fits, home_by_name, home_of};
+ghost use Rattle.deny_workspace.specs.Agreement.{is_folder, is_of_registry, is_registered};
 ghost use Rattle.deny_manifests.specs.Found.{requirement_read};
 
 use crate::entry_key::EntryKey;
@@ -101,7 +102,8 @@ pub fn is_of_registry(origin: &Origin) -> bool
 
 // Whether the version of a crate meets a requirement; without one every version does.
 fn meets(requirement: Option<&VersionReq>, krate: &Krate) -> bool
-    ensures { result ≡ meets (option_map (λ r. requirement_read r.now) requirement.entry) (crate_view 0 krate.now).version }
+    ensures { result
+        ≡ meets (option_map (λ r. requirement_read r.now) requirement.entry) (crate_view 0 krate.now).version }
 {
     match requirement {
         Some(requirement) => requirement.matches(&krate.version),

@@ -3,7 +3,8 @@ ghost use Rattle.std.specs.Prelude.{◌≡◌, IfOk, map, option_copied, option_
 ghost use Rattle.deny_toml.specs.Calls.{entry_at};
 ghost use Rattle.deny_toml.specs.TreeOrder.{NamesAscend};
 ghost use Rattle.deny_toml.specs.Value.{entries_in};
-ghost use Rattle.deny_workspace.specs.Entries.{Ascends, entries_of, entry_of, entry_view, keys_in, may_be_patched, patch_of, patch_view, patched_entry, table_below};
+ghost use Rattle.deny_workspace.specs.Entries.{Ascends, entries_of, entry_of, entry_view, keys_in};
+ghost use Rattle.deny_workspace.specs.Entries.{may_be_patched, patch_of, patch_view, patched_entry, table_below};
 ghost use Rattle.deny_workspace.specs.Wanted.{wanted_view};
 
 use crate::entry_key::EntryKey;
@@ -91,7 +92,8 @@ fn entry_of<'t>(
     value: &Value<'_>,
 ) -> Result<Option<Entry>, NoMemory>
     requires { Ascends (option_copied patches) }
-    ensures { IfOk result (λ entry. option_map entry_view entry ≡ entry_of (keys_in (option_copied patches.entry)) (key.now, value.now)) }
+    ensures { IfOk result (λ entry. option_map entry_view entry
+        ≡ entry_of (keys_in (option_copied patches.entry)) (key.now, value.now)) }
 {
     match wanted_in(alloc, value)? {
         Some(wanted) => Ok(Some(patched_entry(alloc, patches, key, value.span, wanted)?)),

@@ -1,6 +1,7 @@
 //! Where an entry says that its crate comes from.
 ghost use Rattle.std.specs.Prelude.{◌≡◌, IfOk, None, Some, is_some, option_and_then, option_copied, option_map};
-ghost use Rattle.deny_workspace.specs.Origin.{address_of, has, origin_in, reference_in, refers_to, repository_in, text_at, unnamed_registry, value_at_key};
+ghost use Rattle.deny_workspace.specs.Origin.{address_of, has, origin_in, reference_in, refers_to};
+ghost use Rattle.deny_workspace.specs.Origin.{repository_in, text_at, unnamed_registry, value_at_key};
 
 use crate::entry_key::EntryKey;
 use deny_krates::GitSpec;

@@ -1,7 +1,8 @@
 //! The registries that are handed in, and the sources of crates that they are.
 ghost use Rattle.std.specs.Prelude.{◌≡◌, IfOk, find, option_and_then, option_copied};
 ghost use Rattle.deny_krates.specs.Crates.{source_view};
-ghost use Rattle.deny_workspace.specs.Registries.{begins_with, has_prefix, has_registry_name, is_same_source, source_at, source_of_registry, source_text_of};
+ghost use Rattle.deny_workspace.specs.Registries.{begins_with, has_prefix, has_registry_name, is_same_source};
+ghost use Rattle.deny_workspace.specs.Registries.{source_at, source_of_registry, source_text_of};
 
 use deny_krates::{Source, source_in};
 use deny_lists::{NoMemory, Text};

@@ -3,7 +3,8 @@ ghost use Rattle.std.specs.Prelude.{◌≡◌, IfOk, option_copied};
 ghost use Rattle.std.specs.Option.{option_eq};
 ghost use Rattle.deny_model.specs.Text.{same_text};
 ghost use Rattle.deny_krates.specs.Crates.{git_spec_view, source_view};
-ghost use Rattle.deny_workspace.specs.Repositories.{host_of, is_at_address, is_master, is_repository, is_same_kind, is_same_place, refers_alike, without_git};
+ghost use Rattle.deny_workspace.specs.Repositories.{host_of, is_at_address, is_master, is_repository};
+ghost use Rattle.deny_workspace.specs.Repositories.{is_same_kind, is_same_place, refers_alike, without_git};
 
 use crate::origin::{Reference, address_in};
 use deny_krates::{GitSpec, Source};

@@ -176,8 +176,10 @@ fn valid_build_of(
 ) -> Result<Option<ValidBuildConfig>, NoMemory>
     requires few { length files.old < 2 ^ 31 }
     ensures valid { IfOk result (OfBoth (λ build. IsBuildOf build (length files.old) older_key) build) }
-    ensures files { OnOk result (files.new ≡ files.old ++ option_map_or (λ build. files_of build.enable_builtin_globs) build []) }
-    ensures files_too { OnErr result (HasFiles (option_map_or (λ build. files_of build.enable_builtin_globs) build []) files.old files.new) }
+    ensures files { OnOk result (files.new
+        ≡ files.old ++ option_map_or (λ build. files_of build.enable_builtin_globs) build []) }
+    ensures files_too { OnErr result (HasFiles
+        (option_map_or (λ build. files_of build.enable_builtin_globs) build []) files.old files.new) }
 {
     match build {
         Some(build) => Ok(Some(valid_build(alloc, build, older_key, files)?)),

@@ -1,5 +1,6 @@
 ghost use Rattle.deny_tables.specs.Apart.{bypass_path-apart, bypass_entry-apart};
-ghost use Rattle.deny_tables.specs.Build.{bypass_path_fields, ReadsBypassPath, faults_of_bypass_path, bypass_fields, ReadsBypassKeys, faults_of_bypass, ReadsBypass};
+ghost use Rattle.deny_tables.specs.Build.{bypass_path_fields, ReadsBypassPath, faults_of_bypass_path};
+ghost use Rattle.deny_tables.specs.Build.{bypass_fields, ReadsBypassKeys, faults_of_bypass, ReadsBypass};
 ghost use Rattle.deny_tables.specs.Depends.{bypass-depends};
 ghost use Rattle.deny_entries.specs.Table.{Gives, ReadsTable};
 

@@ -59,8 +59,10 @@ fn allowed(
     alloc: Global,
     helper: &mut TableHelper<'_>,
 ) -> Result<Spanned<List<Spanned<Text>>>, NoMemory>
-    ensures next { OnOk result (state_of helper.new ≡ after (spec.optional key.Allow faults_of_texts) (state_of helper.old)) }
-    ensures read { IfOk result (λ x. ReadAt (spec.optional key.Allow faults_of_texts) (state_of helper.old) (λ v. ReadsOr (nowhere []) (ReadsSpanned ReadsTexts) v x)) }
+    ensures next { OnOk result (state_of helper.new
+        ≡ after (spec.optional key.Allow faults_of_texts) (state_of helper.old)) }
+    ensures read { IfOk result (λ x. ReadAt (spec.optional key.Allow faults_of_texts) (state_of helper.old)
+        (λ v. ReadsOr (nowhere []) (ReadsSpanned ReadsTexts) v x)) }
 {
     match table::optional::<Spanned<List<Spanned<Text>>>>(helper, PolicyKey::Allow)? {
         Some(read) => Ok(read),
@@ -70,8 +72,10 @@ fn allowed(
 
 /// Reads the key `exact`.
 fn exact(helper: &mut TableHelper<'_>) -> Result<Spanned<bool>, NoMemory>
-    ensures next { OnOk result (state_of helper.new ≡ after (spec.optional key.Exact faults_of_bool) (state_of helper.old)) }
-    ensures read { IfOk result (λ x. ReadAt (spec.optional key.Exact faults_of_bool) (state_of helper.old) (λ v. ReadsOr (nowhere false) (ReadsSpanned ReadsBool) v x)) }
+    ensures next { OnOk result (state_of helper.new
+        ≡ after (spec.optional key.Exact faults_of_bool) (state_of helper.old)) }
+    ensures read { IfOk result (λ x. ReadAt (spec.optional key.Exact faults_of_bool) (state_of helper.old)
+        (λ v. ReadsOr (nowhere false) (ReadsSpanned ReadsBool) v x)) }
 {
     match table::optional::<Spanned<bool>>(helper, PolicyKey::Exact)? {
         Some(read) => Ok(read),

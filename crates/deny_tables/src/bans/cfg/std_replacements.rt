@@ -33,8 +33,10 @@ pub struct StdReplacementConfig {
 
 /// Reads the key `rust-version`.
 fn rust_version(helper: &mut TableHelper<'_>) -> Result<Option<Version>, NoMemory>
-    ensures next { OnOk result (state_of helper.new ≡ after (spec.optional key.RustVersion (faults_as rust_version_in)) (state_of helper.old)) }
-    ensures read { IfOk result (λ x. ReadAt (spec.optional key.RustVersion (faults_as rust_version_in)) (state_of helper.old) (λ v. ReadsIfThere ReadsRustVersion v x)) }
+    ensures next { OnOk result (state_of helper.new
+        ≡ after (spec.optional key.RustVersion (faults_as rust_version_in)) (state_of helper.old)) }
+    ensures read { IfOk result (λ x. ReadAt (spec.optional key.RustVersion (faults_as rust_version_in))
+        (state_of helper.old) (λ v. ReadsIfThere ReadsRustVersion v x)) }
 {
     match table::optional::<RustVersion>(helper, PolicyKey::RustVersion)? {
         Some(version) => Ok(Some(version.0)),

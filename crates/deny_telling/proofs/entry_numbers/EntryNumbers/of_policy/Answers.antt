@@ -28,7 +28,8 @@ returns c =
           (number_at one Allow r) (put_two Allow r) (put_one Allow r ∙ held_none Allow r) c.as_slice.ensures));
       skip = λ r. put_five Skip r ∙ (put_four Skip r
           ∙ numbered (λ e. e.spec.name.span) r c.as_slice-2.result.now cfg.skipped (number_at three Skip r)
-          (number_at two Skip r) (put_three Skip r) (put_two Skip r ∙ (put_one Skip r ∙ held_none Skip r)) c.as_slice-2.ensures);
+          (number_at two Skip r) (put_three Skip r) (put_two Skip r ∙ (put_one Skip r ∙ held_none Skip r))
+          c.as_slice-2.ensures);
       skip_tree = λ r. put_five SkipTree r
           ∙ numbered (λ e. e.spec.name.span) r c.as_slice-3.result.now cfg.tree_skipped (number_at four SkipTree r)
           (number_at three SkipTree r) (put_four SkipTree r)
