@@ -13,11 +13,11 @@ use Rattle.deny_lists.proofs.Loops.{appended}
 use Rattle.deny_lists.proofs.Members.{Contains-by_cases, Contains-filter, Contains-first, Contains-flat_map}
 use Rattle.deny_lists.proofs.Members.{Contains-from_filter, Contains-from_flat_map, Contains-rest, from_there}
 use Rattle.deny_lists.proofs.Members.{no_member, there}
-use Rattle.deny_crates.specs.Crates.{crates_from, dependency_view}
+use Rattle.deny_crate_graph.specs.Crates.{crates_from, dependency_view}
 use Rattle.deny_krates.specs.private.Resolved.{AreBetween, AreResolved, IsResolvedAt, is_before, resolved_from}
 use Rattle.deny_krates.specs.private.Resolved.{resolved_in, resolved_to}
-use Rattle.deny_crates.specs.declared.krate.Dependency.{Dependency as Declared}
-use Rattle.deny_crates.specs.declared.krate.Krate.{Krate}
+use Rattle.deny_crate_graph.specs.declared.krate.Dependency.{Dependency as Declared}
+use Rattle.deny_crate_graph.specs.declared.krate.Krate.{Krate}
 use Rattle.deny_krates.specs.declared.resolved.ResolvedAt.{ResolvedAt}
 use Rattle.deny_krates.proofs.BeforeLemmas.{from_before, to_before}
 use Rattle.deny_krates.proofs.NumberLemmas.{ArePlaced, next_crate}

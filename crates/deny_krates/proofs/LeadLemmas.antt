@@ -15,7 +15,7 @@ use Rattle.deny_lists.proofs.Booleans.{tests_agree, or-false}
 use Rattle.deny_lists.proofs.Members.{any_from, any_passes, from_there}
 use Rattle.deny_lists.proofs.Orders.{not_below_itself, text_cmp-exact}
 use Rattle.deny_krates.specs.Nodes.{asked, default_feature, is_called, is_slash, leads_over}
-use Rattle.deny_crates.proofs.SearchLemmas.{not_above_itself}
+use Rattle.deny_crate_graph.proofs.SearchLemmas.{not_above_itself}
 use Rattle.deny_model.specs.Graph.{Dependency}
 use Rattle.deny_model.specs.Text.{same_text}
 

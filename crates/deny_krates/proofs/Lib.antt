@@ -1,10 +1,10 @@
-pub use Rattle.deny_crates.proofs.CratesLemmas
-pub use Rattle.deny_crates.proofs.DependentsLemmas
-pub use Rattle.deny_crates.proofs.GraphLemmas
-pub use Rattle.deny_crates.proofs.OrderLemmas
-pub use Rattle.deny_crates.proofs.OrderlyLemmas
-pub use Rattle.deny_crates.proofs.ResolvedLemmas
-pub use Rattle.deny_crates.proofs.SearchLemmas
+pub use Rattle.deny_crate_graph.proofs.CratesLemmas
+pub use Rattle.deny_crate_graph.proofs.DependentsLemmas
+pub use Rattle.deny_crate_graph.proofs.GraphLemmas
+pub use Rattle.deny_crate_graph.proofs.OrderLemmas
+pub use Rattle.deny_crate_graph.proofs.OrderlyLemmas
+pub use Rattle.deny_crate_graph.proofs.ResolvedLemmas
+pub use Rattle.deny_crate_graph.proofs.SearchLemmas
 pub mod BeforeLemmas
 pub mod DeclaredLemmas
 pub mod GetLemmas

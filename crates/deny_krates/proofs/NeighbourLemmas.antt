@@ -10,9 +10,9 @@ use Rattle.std.proofs.lemmas.Bool.{and_parts, eq-eqb, eqb-true}
 use Rattle.std.proofs.lemmas.List.{length-map}
 use Rattle.std.proofs.lemmas.List.Elements.{All-contains}
 use Rattle.deny_base.specs.declared.edge.Edge.{Edge}
-use Rattle.deny_crates.specs.Dependents.{AreDirectDependencies, by_id, id_at}
-use Rattle.deny_crates.specs.Orderly.{IsOrderly}
-use Rattle.deny_crates.specs.declared.krate.DirectDependent.{DirectDependent}
+use Rattle.deny_crate_graph.specs.Dependents.{AreDirectDependencies, by_id, id_at}
+use Rattle.deny_crate_graph.specs.Orderly.{IsOrderly}
+use Rattle.deny_crate_graph.specs.declared.krate.DirectDependent.{DirectDependent}
 use Rattle.deny_lists.proofs.Members.{Contains-filter, Contains-from_filter, Contains-from_map, any_from, any_passes}
 use Rattle.deny_lists.proofs.Members.{contains_map, from_there}
 use Rattle.deny_lists.proofs.Sorted.{ascends_map, length-ascending}

@@ -13,20 +13,20 @@ use Rattle.std.proofs.lemmas.Slice.Eq.{bytes_eq-Decides}
 use Rattle.deny_lists.proofs.Members.{any_from, from_there, some_at, there}
 use Rattle.deny_lists.proofs.Finding.{found_member}
 use Rattle.deny_base.specs.declared.edge.DepKind.{DepKind}
-use Rattle.deny_crates.specs.Bounds.{node_count}
-use Rattle.deny_crates.specs.Crates.{crate_view, crates_from}
-use Rattle.deny_crates.specs.Dependents.{id_at}
-use Rattle.deny_crates.specs.Ids.{crate_of}
+use Rattle.deny_crate_graph.specs.Bounds.{node_count}
+use Rattle.deny_crate_graph.specs.Crates.{crate_view, crates_from}
+use Rattle.deny_crate_graph.specs.Dependents.{id_at}
+use Rattle.deny_crate_graph.specs.Ids.{crate_of}
 use Rattle.deny_krates.specs.Nodes.{Incoming, Node, crate_node, feature_node, incoming_at, is_enabled, node_at, node_in}
 use Rattle.deny_krates.specs.Nodes.{node_named, nodes_of}
 use Rattle.deny_krates.specs.private.NodeNumbers.{IsLastUpTo, features_from, first_features_of}
 use Rattle.deny_krates.specs.private.Sources.{node_here}
-use Rattle.deny_crates.specs.declared.krate.Krate.{Krate}
+use Rattle.deny_crate_graph.specs.declared.krate.Krate.{Krate}
 use Rattle.deny_krates.specs.declared.nodes.InEdge.{InEdge}
 use Rattle.deny_krates.proofs.NumberLemmas.{ArePlaced, crate_node_at, feature_count, feature_inside, feature_node_at}
 use Rattle.deny_krates.proofs.NumberLemmas.{length-first_features, length-nodes, node_count-is}
 use Rattle.deny_krates.proofs.ResolutionLemmas.{crates-at}
-use Rattle.deny_crates.proofs.CratesLemmas.{length-crates_from}
+use Rattle.deny_crate_graph.proofs.CratesLemmas.{length-crates_from}
 use Rattle.deny_model.specs.Graph.{Crate, Graph}
 use Rattle.deny_model.specs.Text.{same_text}
 

@@ -18,12 +18,12 @@ use Rattle.deny_lists.proofs.Orders.{not_below_itself}
 use Rattle.deny_lists.proofs.Sorted.{ascends_at}
 use Rattle.deny_lists.proofs.Places.{slice_get-append_left}
 use Rattle.deny_model.specs.Graph.{Crate, Graph}
-use Rattle.deny_crates.specs.Bounds.{node_count}
-use Rattle.deny_crates.specs.Crates.{crate_view, crates_from}
+use Rattle.deny_crate_graph.specs.Bounds.{node_count}
+use Rattle.deny_crate_graph.specs.Crates.{crate_view, crates_from}
 use Rattle.deny_krates.specs.Nodes.{Node, crate_node, feature_node, feature_nodes, nodes_of}
 use Rattle.deny_krates.specs.private.NodeNumbers.{IsLastUpTo, features_from, first_features_of}
-use Rattle.deny_crates.specs.declared.krate.Krate.{Krate}
-use Rattle.deny_crates.proofs.CratesLemmas.{length-crates_from}
+use Rattle.deny_crate_graph.specs.declared.krate.Krate.{Krate}
+use Rattle.deny_crate_graph.proofs.CratesLemmas.{length-crates_from}
 
 abbrev pub feature_count : List Crate → ℕ
 feature_count [] = 0

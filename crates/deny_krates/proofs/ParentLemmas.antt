@@ -7,8 +7,8 @@ use Rattle.std.proofs.lemmas.List.{map-append}
 use Rattle.std.proofs.lemmas.Option.{same_Some}
 use Rattle.deny_base.specs.declared.edge.DepKind.{DepKind}
 use Rattle.deny_base.specs.declared.edge.DepKind.TheVariants.{Normal, Dev, Build}
-use Rattle.deny_crates.specs.Crates.{crate_view, dependency_view}
-use Rattle.deny_crates.specs.Dependents.{id_at}
+use Rattle.deny_crate_graph.specs.Crates.{crate_view, dependency_view}
+use Rattle.deny_crate_graph.specs.Dependents.{id_at}
 use Rattle.deny_krates.specs.Nodes.{Incoming, all_kinds, asks_for, asks_in_vain, declares, entries_of, feature_leads}
 use Rattle.deny_krates.specs.Nodes.{from_crate, from_feature, from_own, has_edge, holds_plain, is_enabled, is_of_kind}
 use Rattle.deny_krates.specs.Nodes.{leads_by_asking, leads_in_vain, leads_over, leads_undeclared, own_features}
@@ -16,8 +16,8 @@ use Rattle.deny_krates.specs.Nodes.{own_leading, sources_of_crate, sources_of_fe
 use Rattle.deny_krates.specs.private.Resolved.{AreBetween}
 use Rattle.deny_krates.specs.private.Sources.{any_there, is_led_over, parent_in, parent_of, passes_there}
 use Rattle.deny_krates.specs.declared.incoming.Parent.{Parent}
-use Rattle.deny_crates.specs.declared.krate.Dependency.{Dependency as Declared}
-use Rattle.deny_crates.specs.declared.krate.Krate.{Krate}
+use Rattle.deny_crate_graph.specs.declared.krate.Dependency.{Dependency as Declared}
+use Rattle.deny_crate_graph.specs.declared.krate.Krate.{Krate}
 use Rattle.deny_krates.specs.declared.resolved.ResolvedAt.{ResolvedAt}
 use Rattle.deny_krates.proofs.NodeLemmas.{id_of_place}
 use Rattle.deny_krates.proofs.NumberLemmas.{ArePlaced}

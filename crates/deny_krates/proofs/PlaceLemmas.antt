@@ -3,11 +3,11 @@ use Rattle.std.proofs.Common.{◌≡◌, ◌+◌, ◌<◌, ℕ, List, [], ◌∷
 use Rattle.std.proofs.Common.{option_map, slice_get, refl, sym, ap, ◌∙◌, subst, arith, ◌++◌}
 use Rattle.std.specs.List.{range_with_len, flat_map}
 use Rattle.std.proofs.lemmas.Option.{none-some, same_Some, slice_get-get_or, slice_get_within}
-use Rattle.deny_crates.specs.Crates.{crate_view, crates_from}
-use Rattle.deny_crates.specs.declared.krate.Krate.{Krate}
+use Rattle.deny_crate_graph.specs.Crates.{crate_view, crates_from}
+use Rattle.deny_crate_graph.specs.declared.krate.Krate.{Krate}
 use Rattle.deny_lists.proofs.Members.{some_at, there, Contains-first, Contains-rest}
 use Rattle.deny_krates.proofs.ResolutionLemmas.{crates_from-at}
-use Rattle.deny_crates.proofs.CratesLemmas.{length-crates_from}
+use Rattle.deny_crate_graph.proofs.CratesLemmas.{length-crates_from}
 use Rattle.deny_model.specs.Graph.{Crate, Graph}
 use Rattle.deny_krates.specs.Placed.{ArePlaced}
 

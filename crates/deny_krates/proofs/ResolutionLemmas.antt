@@ -13,11 +13,11 @@ use Rattle.deny_model.specs.Groups.{has_name}
 use Rattle.deny_model.specs.Resolution.{agreeing, is_wanted, passes_at, resolution, suits}
 use Rattle.deny_model.specs.Text.{same_text}
 use Rattle.deny_model.specs.declared.target_edge.TargetEdge.{TargetEdge}
-use Rattle.deny_crates.specs.Crates.{crate_view, crates_from, dependency_view}
+use Rattle.deny_crate_graph.specs.Crates.{crate_view, crates_from, dependency_view}
 use Rattle.deny_krates.specs.private.Resolved.{is_before}
 use Rattle.deny_krates.proofs.BeforeLemmas.{from_before, to_before}
-use Rattle.deny_crates.specs.declared.krate.Dependency.{Dependency as Declared}
-use Rattle.deny_crates.specs.declared.krate.Krate.{Krate}
+use Rattle.deny_crate_graph.specs.declared.krate.Dependency.{Dependency as Declared}
+use Rattle.deny_crate_graph.specs.declared.krate.Krate.{Krate}
 
 -- ---- the first of a parent's edges
 

@@ -9,11 +9,11 @@ use Rattle.std.proofs.lemmas.List.Elements.{All-contains}
 use Rattle.deny_lists.proofs.Loops.{flat-step, pushed_all}
 use Rattle.deny_lists.proofs.Members.{Contains-from_map}
 use Rattle.deny_base.specs.declared.edge.DepKind.{DepKind}
-use Rattle.deny_crates.specs.Dependents.{AreDirectDependents}
+use Rattle.deny_crate_graph.specs.Dependents.{AreDirectDependents}
 use Rattle.deny_krates.specs.Nodes.{Incoming, of_parents}
 use Rattle.deny_krates.specs.private.Sources.{parent_of}
 use Rattle.deny_krates.specs.declared.incoming.Parent.{Parent}
-use Rattle.deny_crates.specs.declared.krate.DirectDependent.{DirectDependent}
+use Rattle.deny_crate_graph.specs.declared.krate.DirectDependent.{DirectDependent}
 use Rattle.deny_krates.proofs.NumberLemmas.{ArePlaced}
 use Rattle.deny_krates.proofs.SourceLemmas.{by_kinds, dependent_at, gathered_are, of_row}
 use Rattle.deny_model.specs.Graph.{Crate, Graph, dependents}

@@ -13,8 +13,8 @@ use Rattle.deny_model.specs.Groups.{has_name}
 use Rattle.deny_model.specs.Resolution.{passes_at}
 use Rattle.deny_model.specs.Text.{same_text}
 use Rattle.deny_krates.proofs.ResolutionLemmas.{crates-at}
-use Rattle.deny_crates.specs.Crates.{crate_view, crates_from}
-use Rattle.deny_crates.specs.declared.krate.Krate.{Krate}
+use Rattle.deny_crate_graph.specs.Crates.{crate_view, crates_from}
+use Rattle.deny_crate_graph.specs.declared.krate.Krate.{Krate}
 
 same_there : (a b : List ℕ) → is_lt (slice_cmp nat_cmp a b) ≡ false → is_le (slice_cmp nat_cmp a b) ≡ true
     → same_text a b ≡ true

@@ -22,13 +22,13 @@ use Rattle.deny_base.proofs.EdgeEqual.{kind_cmp-exact, edge_from, edge_from-is}
 use Rattle.deny_base.specs.Edge.{kind_cmp, kind_number}
 use Rattle.deny_base.specs.declared.edge.DepKind.{DepKind}
 use Rattle.deny_base.specs.declared.edge.Edge.{Edge}
-use Rattle.deny_crates.specs.Dependents.{AreDirectDependents, id_at}
+use Rattle.deny_crate_graph.specs.Dependents.{AreDirectDependents, id_at}
 use Rattle.deny_krates.specs.Nodes.{Incoming, Node, declared, has_edge, incoming_cmp, incoming_in, of_parents}
 use Rattle.deny_krates.specs.Nodes.{resolves_to, sources_at, all_kinds}
 use Rattle.deny_krates.specs.private.Resolved.{AreBetween, IsResolvedAt, resolved_to}
 use Rattle.deny_krates.specs.private.Sources.{parent_cmp, parent_of, passes_there, source_of}
 use Rattle.deny_krates.specs.declared.incoming.Parent.{Parent}
-use Rattle.deny_crates.specs.declared.krate.DirectDependent.{DirectDependent}
+use Rattle.deny_crate_graph.specs.declared.krate.DirectDependent.{DirectDependent}
 use Rattle.deny_krates.specs.declared.resolved.ResolvedAt.{ResolvedAt}
 use Rattle.deny_krates.proofs.InOrderLemmas.{in_order_is}
 use Rattle.deny_krates.proofs.NumberLemmas.{ArePlaced}

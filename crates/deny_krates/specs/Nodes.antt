@@ -10,8 +10,8 @@ use Rattle.std.specs.declared.cmp.Ordering.{Ordering}
 use Rattle.deny_base.specs.Edge.{kind_cmp, kind_number}
 use Rattle.deny_base.specs.declared.edge.DepKind.{DepKind}
 use Rattle.deny_base.specs.declared.edge.DepKind.TheVariants.{Normal, Dev, Build}
-use Rattle.deny_crates.specs.Dependents.{id_at}
-use Rattle.deny_crates.specs.Ids.{crate_of}
+use Rattle.deny_crate_graph.specs.Dependents.{id_at}
+use Rattle.deny_crate_graph.specs.Ids.{crate_of}
 use Rattle.deny_krates.specs.InOrder.{in_order}
 use Rattle.deny_krates.specs.declared.nodes.InEdge.{InEdge}
 use Rattle.deny_model.specs.Graph.{Crate, Dependency, Graph, dependents, leads}

@@ -7,7 +7,7 @@ ghost use Rattle.std.specs.List.{flat_map, list_any};
 ghost use Rattle.std.specs.List.Sorted.{IsStrictlySortedBy};
 ghost use Rattle.std.specs.Cmp.Lexicographic.{slice_cmp};
 ghost use Rattle.std.specs.Ordering.{nat_cmp};
-ghost use Rattle.deny_crates.specs.Crates.{crate_view, dependency_view};
+ghost use Rattle.deny_crate_graph.specs.Crates.{crate_view, dependency_view};
 ghost use Rattle.deny_krates.specs.Nodes.{all_kinds, asks_in_vain, feature_leads, is_of_kind};
 ghost use Rattle.deny_krates.specs.Nodes.{holds_plain, leads_by_asking, leads_in_vain, leads_undeclared};
 ghost use Rattle.deny_krates.specs.Nodes.{sources_at, sources_of_crate, sources_of_feature};
@@ -20,7 +20,7 @@ use crate::krates::Krates;
 use crate::leads::{any_asks_for, any_asks_in_vain, any_led_over, holds_plain, is_declared};
 use crate::resolved::ResolvedAt;
 use deny_base::{DepKind, edge_order};
-use deny_crates::{Dependency, Krate};
+use deny_crate_graph::{Dependency, Krate};
 use deny_lists::{List, NoMemory, Text};
 use std::alloc::Global;
 

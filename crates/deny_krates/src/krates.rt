@@ -5,17 +5,17 @@ ghost use Rattle.std.specs.List.Sorted.{IsStrictlySortedBy};
 ghost use Rattle.std.specs.Option.{option_and_then};
 ghost use Rattle.std.specs.Ordering.{nat_cmp};
 ghost use Rattle.deny_model.specs.Groups.{has_name};
-ghost use Rattle.deny_crates.specs.Bounds.{lock_length, node_count};
-ghost use Rattle.deny_crates.specs.Crates.{crate_view, crates_from, graph_of};
-ghost use Rattle.deny_crates.specs.Orderly.{IsOrderly};
+ghost use Rattle.deny_crate_graph.specs.Bounds.{lock_length, node_count};
+ghost use Rattle.deny_crate_graph.specs.Crates.{crate_view, crates_from, graph_of};
+ghost use Rattle.deny_crate_graph.specs.Orderly.{IsOrderly};
 ghost use Rattle.deny_krates.specs.private.NodeNumbers.{first_features_of};
 ghost use Rattle.deny_krates.specs.private.Resolved.{AreBetween};
 ghost use Rattle.deny_resolve.specs.Checked.{checked};
-ghost use Rattle.deny_crates.specs.Read.{IsGraphOf, IsSound, graph_read};
+ghost use Rattle.deny_crate_graph.specs.Read.{IsGraphOf, IsSound, graph_read};
 ghost use Rattle.deny_metadata.specs.Reading.{Fails};
-ghost use Rattle.deny_crates.specs.Dependents.{AreDirectDependencies, AreDirectDependents};
-ghost use Rattle.deny_crates.specs.Filtered.{AreMarks};
-ghost use Rattle.deny_crates.specs.Ids.{crate_of};
+ghost use Rattle.deny_crate_graph.specs.Dependents.{AreDirectDependencies, AreDirectDependents};
+ghost use Rattle.deny_crate_graph.specs.Filtered.{AreMarks};
+ghost use Rattle.deny_crate_graph.specs.Ids.{crate_of};
 ghost use Rattle.deny_base.specs.Edge.{edge_cmp};
 ghost use Rattle.deny_model.specs.Graph.{Graph};
 ghost use Rattle.deny_model.specs.Resolution.{declaration_at, resolution};
@@ -25,7 +25,9 @@ use crate::numbers::first_features;
 use crate::resolution::{declared, resolution};
 use crate::resolved::{ResolvedAt, resolved_between, resolved_of};
 use deny_base::{DepKind, Edge, Kid, edge_order};
-use deny_crates::{CrateGraph, DirectDependent, Entry, Krate, graph_at, place_of, reached_without};
+use deny_crate_graph::{
+    CrateGraph, DirectDependent, Entry, Krate, graph_at, place_of, reached_without,
+};
 use deny_lists::{List, NoMemory, Text};
 use deny_metadata::MetadataFault;
 use deny_model::TargetEdge;
@@ -62,7 +64,7 @@ impl Model for Krates {
     ghost coded = { Prim.hlevel
         (codes, finite.code {R = slice_cmp nat_cmp} (coded_list coded_ℕ) (coded_list (coded_list coded_ℕ))) };
 
-    ghost use Rattle.deny_crates.specs.Crates.{graph_of};
+    ghost use Rattle.deny_crate_graph.specs.Crates.{graph_of};
     ghost use Rattle.deny_krates.specs.private.Kept.{IsKept};
 
     ghost view = { λ k. graph_of k.target_edges k.root k.krates k.members k.edges };

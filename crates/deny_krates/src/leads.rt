@@ -4,7 +4,7 @@ ghost use Rattle.std.specs.Cmp.Lexicographic.{slice_cmp};
 ghost use Rattle.std.specs.List.{list_any};
 ghost use Rattle.std.specs.List.Sorted.{IsStrictlySortedBy};
 ghost use Rattle.std.specs.Ordering.{nat_cmp};
-ghost use Rattle.deny_crates.specs.Crates.{crate_view, dependency_view};
+ghost use Rattle.deny_crate_graph.specs.Crates.{crate_view, dependency_view};
 ghost use Rattle.deny_krates.specs.Nodes.{asks_for, asks_in_vain, entries_of, holds_plain};
 ghost use Rattle.deny_krates.specs.Nodes.{is_called, is_of_kind, is_plain, leads_over, manifest_name};
 ghost use Rattle.deny_krates.specs.private.Sources.{any_there, asks_for_none, is_led_over, passes_there};
@@ -12,7 +12,7 @@ ghost use Rattle.deny_model.specs.Text.{same_text};
 
 use crate::resolved::ResolvedAt;
 use deny_base::DepKind;
-use deny_crates::{Dependency, Krate};
+use deny_crate_graph::{Dependency, Krate};
 use deny_lists::Text;
 
 /// Where a text stands in a list that ascends.

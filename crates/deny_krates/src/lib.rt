@@ -11,7 +11,7 @@ mod resolution;
 mod resolved;
 
 pub use deny_base::DepKind;
-pub use deny_crates::{Dependency, DirectDependent, Krate};
+pub use deny_crate_graph::{Dependency, DirectDependent, Krate};
 pub use deny_metadata::{MetadataFault, Target};
 pub use deny_resolve::{GitSpec, Source, source_in};
 pub use krates::Krates;

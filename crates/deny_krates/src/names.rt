@@ -3,11 +3,11 @@ ghost use Rattle.std.specs.Prelude.{◌≡◌, ◌≤◌, ◌<◌, ◌^◌, ◌-
 ghost use Rattle.std.specs.Cmp.Lexicographic.{slice_cmp};
 ghost use Rattle.std.specs.List.Sorted.{IsPartitionPoint, IsSortedByKey};
 ghost use Rattle.std.specs.Ordering.{nat_cmp, is_lt, is_le};
-ghost use Rattle.deny_crates.specs.Crates.{crates_from};
+ghost use Rattle.deny_crate_graph.specs.Crates.{crates_from};
 ghost use Rattle.deny_model.specs.Groups.{has_name};
 ghost use Rattle.deny_model.specs.Resolution.{passes_at};
 
-use deny_crates::Krate;
+use deny_crate_graph::Krate;
 use std::ops::Range;
 
 /// The places of the crates of a name, in a list that is in order of names.

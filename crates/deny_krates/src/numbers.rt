@@ -2,12 +2,12 @@
 //! their enabled features.
 ghost use Rattle.std.specs.Prelude.{◌≡◌, ◌<◌, ◌≤◌, ◌^◌, ℕ, List, IfOk, true, false, length, nat_le, slice_index_or};
 ghost use Rattle.std.specs.List.Sorted.{IsPartitionPoint};
-ghost use Rattle.deny_crates.specs.Bounds.{node_count};
-ghost use Rattle.deny_crates.specs.Crates.{crates_from};
+ghost use Rattle.deny_crate_graph.specs.Bounds.{node_count};
+ghost use Rattle.deny_crate_graph.specs.Crates.{crates_from};
 ghost use Rattle.deny_krates.specs.private.NodeNumbers.{IsLastUpTo, features_from};
 ghost use Rattle.deny_model.specs.Graph.{Crate};
 
-use deny_crates::Krate;
+use deny_crate_graph::Krate;
 use deny_lists::{List, NoMemory};
 use std::alloc::Global;
 

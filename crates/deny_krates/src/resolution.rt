@@ -4,7 +4,7 @@ ghost use Rattle.std.specs.Cmp.Lexicographic.{slice_cmp};
 ghost use Rattle.std.specs.Option.{option_and_then};
 ghost use Rattle.std.specs.List.Sorted.{IsPartitionPoint, IsSortedByKey, IsStrictlySortedBy};
 ghost use Rattle.std.specs.Ordering.{nat_cmp};
-ghost use Rattle.deny_crates.specs.Crates.{crate_view, crates_from, dependency_view};
+ghost use Rattle.deny_crate_graph.specs.Crates.{crate_view, crates_from, dependency_view};
 ghost use Rattle.deny_krates.specs.private.Resolved.{is_before};
 ghost use Rattle.deny_model.specs.Graph.{Graph};
 ghost use Rattle.deny_model.specs.Groups.{has_name};
@@ -12,7 +12,7 @@ ghost use Rattle.deny_model.specs.Resolution.{is_wanted, passes_at, resolution, 
 ghost use Rattle.deny_model.specs.TargetEdge.{target_edge_cmp};
 
 use crate::names::run_of;
-use deny_crates::{Dependency, Krate};
+use deny_crate_graph::{Dependency, Krate};
 use deny_lists::Text;
 use deny_model::TargetEdge;
 

@@ -6,7 +6,7 @@ ghost use Rattle.std.specs.Cmp.Lexicographic.{slice_cmp};
 ghost use Rattle.std.specs.FinMap.{IsAntisymmetric};
 ghost use Rattle.std.specs.List.Sorted.{IsPartitionPoint, IsSortedByKey, IsStrictlySortedBy};
 ghost use Rattle.std.specs.Ordering.{nat_cmp};
-ghost use Rattle.deny_crates.specs.Crates.{crates_from, dependency_view};
+ghost use Rattle.deny_crate_graph.specs.Crates.{crates_from, dependency_view};
 ghost use Rattle.deny_krates.specs.private.Resolved.{AreBetween, AreResolved, is_before};
 ghost use Rattle.deny_krates.specs.private.Resolved.{resolved_cmp, resolved_from, resolved_in};
 ghost use Rattle.deny_krates.specs.declared.resolved.ResolvedAt.{ResolvedAt};
@@ -14,7 +14,7 @@ ghost use Rattle.deny_model.specs.Graph.{Graph};
 ghost use Rattle.deny_model.specs.TargetEdge.{target_edge_cmp};
 
 use crate::resolution::{is_before, resolution};
-use deny_crates::{Dependency, Krate};
+use deny_crate_graph::{Dependency, Krate};
 use deny_lists::{List, NoMemory, put_in_order};
 use deny_model::TargetEdge;
 use std::alloc::Global;

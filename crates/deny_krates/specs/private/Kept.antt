@@ -4,17 +4,17 @@ use Rattle.std.specs.Cmp.Lexicographic.{slice_cmp}
 use Rattle.std.specs.List.Sorted.{IsSortedByKey}
 use Rattle.std.specs.Ordering.{nat_cmp}
 use Rattle.deny_base.specs.declared.edge.Edge.{Edge}
-use Rattle.deny_crates.specs.Bounds.{lock_length, node_count}
-use Rattle.deny_crates.specs.Crates.{crates_from, graph_of}
-use Rattle.deny_crates.specs.Dependents.{AreDirectDependencies, AreDirectDependents, AreRows}
-use Rattle.deny_crates.specs.IdEntries.{AreIds}
-use Rattle.deny_crates.specs.Orderly.{IsOrderly}
+use Rattle.deny_crate_graph.specs.Bounds.{lock_length, node_count}
+use Rattle.deny_crate_graph.specs.Crates.{crates_from, graph_of}
+use Rattle.deny_crate_graph.specs.Dependents.{AreDirectDependencies, AreDirectDependents, AreRows}
+use Rattle.deny_crate_graph.specs.IdEntries.{AreIds}
+use Rattle.deny_crate_graph.specs.Orderly.{IsOrderly}
 use Rattle.deny_krates.specs.private.NodeNumbers.{first_features_of}
 use Rattle.deny_krates.specs.private.Resolved.{AreResolved}
-use Rattle.deny_crates.specs.declared.ids.Entry.{Entry}
+use Rattle.deny_crate_graph.specs.declared.ids.Entry.{Entry}
 use Rattle.deny_krates.specs.declared.resolved.ResolvedAt.{ResolvedAt}
-use Rattle.deny_crates.specs.declared.krate.DirectDependent.{DirectDependent}
-use Rattle.deny_crates.specs.declared.krate.Krate.{Krate}
+use Rattle.deny_crate_graph.specs.declared.krate.DirectDependent.{DirectDependent}
+use Rattle.deny_crate_graph.specs.declared.krate.Krate.{Krate}
 use Rattle.deny_model.specs.declared.target_edge.TargetEdge.{TargetEdge}
 
 -- the crates are in order and few, their lock text and nodes too, and what is kept of the crates' neighbours,

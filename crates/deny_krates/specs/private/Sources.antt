@@ -7,11 +7,11 @@ use Rattle.std.specs.Ordering.{nat_cmp, on, then_cmp}
 use Rattle.std.specs.declared.cmp.Ordering.{Ordering}
 use Rattle.deny_base.specs.Edge.{kind_cmp}
 use Rattle.deny_base.specs.declared.edge.DepKind.{DepKind}
-use Rattle.deny_crates.specs.Crates.{crate_view, dependency_view}
-use Rattle.deny_crates.specs.Dependents.{id_at}
+use Rattle.deny_crate_graph.specs.Crates.{crate_view, dependency_view}
+use Rattle.deny_crate_graph.specs.Dependents.{id_at}
 use Rattle.deny_krates.specs.Nodes.{Incoming, Node, asked, entries_of, is_of_kind, leads_over, node_in}
 use Rattle.deny_krates.specs.declared.incoming.Parent.{Parent}
-use Rattle.deny_crates.specs.declared.krate.Krate.{Krate}
+use Rattle.deny_crate_graph.specs.declared.krate.Krate.{Krate}
 use Rattle.deny_krates.specs.declared.resolved.ResolvedAt.{ResolvedAt}
 use Rattle.deny_model.specs.Graph.{Crate, Dependency, Graph}
 use Rattle.deny_model.specs.Text.{same_text}

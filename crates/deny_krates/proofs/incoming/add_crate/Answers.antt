@@ -1,6 +1,6 @@
 use Rattle.std.proofs.Common.{◌≡◌, ◌<◌, ◌∙◌, ◌++◌, ◌∷◌, [], None, Some, arith, length, subst, sym}
 use Rattle.std.proofs.lemmas.Option.{same_Some}
-use Rattle.deny_crates.specs.Crates.{crate_view}
+use Rattle.deny_crate_graph.specs.Crates.{crate_view}
 use Rattle.deny_krates.specs.private.Sources.{parent_in}
 use Rattle.deny_krates.proofs.NodeLemmas.{as_many, crate_read}
 use Rattle.deny_krates.proofs.incoming.add_crate.Goals as goal

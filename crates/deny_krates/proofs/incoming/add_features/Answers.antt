@@ -1,7 +1,7 @@
 use Rattle.std.proofs.Common.{◌≡◌, ◌<◌, ◌∙◌, ◌++◌, ℕ, List, Some, ap, arith, filter, length, map, refl, subst, sym}
 use Rattle.std.proofs.lemmas.Option.{same_Some}
 use Rattle.deny_lists.proofs.Members.{some_at}
-use Rattle.deny_crates.specs.Crates.{crate_view}
+use Rattle.deny_crate_graph.specs.Crates.{crate_view}
 use Rattle.deny_krates.specs.Nodes.{feature_leads}
 use Rattle.deny_krates.specs.private.Sources.{is_led_over, parent_in}
 use Rattle.deny_krates.proofs.NodeLemmas.{as_many, crate_of_krate, crate_read}

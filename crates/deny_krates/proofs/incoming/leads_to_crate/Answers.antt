@@ -1,9 +1,9 @@
 use Rattle.std.proofs.Common.{◌≡◌, ◌<◌, ◌∙◌, Some, true, ap, arith, length, refl, subst, sym}
 use Rattle.std.specs.Prelude.{◌||◌}
 use Rattle.std.proofs.lemmas.Option.{same_Some, slice_get-get_or}
-use Rattle.deny_crates.specs.Crates.{crate_view}
+use Rattle.deny_crate_graph.specs.Crates.{crate_view}
 use Rattle.deny_krates.specs.Nodes.{has_edge, leads_in_vain, leads_undeclared}
-use Rattle.deny_crates.specs.declared.krate.Krate.{Krate}
+use Rattle.deny_crate_graph.specs.declared.krate.Krate.{Krate}
 use Rattle.deny_krates.proofs.NodeLemmas.{as_many, crate_read, enabled_ascend, placed}
 use Rattle.deny_krates.proofs.ParentLemmas.{edge_at, no_edge_to_crate, to_crate_answer}
 use Rattle.deny_krates.proofs.incoming.leads_to_crate.Goals as goal

@@ -1,12 +1,12 @@
 use Rattle.std.proofs.Common.{◌≡◌, ◌∙◌, List, ℕ, Bool, map, refl, sym, subst}
 use Rattle.std.specs.Prelude.{◌&&◌, slice_index_or}
 use Rattle.std.proofs.lemmas.List.{get_or_default}
-use Rattle.deny_crates.specs.Crates.{crate_view, dependency_view}
+use Rattle.deny_crate_graph.specs.Crates.{crate_view, dependency_view}
 use Rattle.deny_krates.specs.Nodes.{asks_in_vain, is_enabled, is_of_kind}
 use Rattle.deny_krates.specs.private.Sources.{asks_for_none, passes_there}
 use Rattle.deny_krates.specs.declared.resolved.ResolvedAt.{ResolvedAt}
 use Rattle.deny_base.specs.declared.edge.DepKind.{DepKind}
-use Rattle.deny_crates.specs.declared.krate.Krate.{Krate}
+use Rattle.deny_crate_graph.specs.declared.krate.Krate.{Krate}
 use Rattle.deny_krates.proofs.LeadLemmas.{any_more, any_stopped}
 use Rattle.deny_krates.proofs.leads.any_asks_in_vain.Goals as goal
 use Rattle.deny_model.specs.Graph.{Dependency}

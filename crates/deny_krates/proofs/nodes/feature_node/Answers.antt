@@ -8,7 +8,7 @@ use Rattle.std.specs.Ordering.{nat_cmp}
 use Rattle.std.proofs.lemmas.Option.{slice_get-get_or}
 use Rattle.deny_krates.specs.private.NodeNumbers.{first_features_of}
 use Rattle.deny_krates.specs.Nodes.{nodes_of}
-use Rattle.deny_crates.specs.declared.krate.Krate.{Krate}
+use Rattle.deny_crate_graph.specs.declared.krate.Krate.{Krate}
 use Rattle.deny_krates.proofs.NodeLemmas.{as_many, enabled_ascend, feature_within, no_feature, nodes_few}
 use Rattle.deny_krates.proofs.NodeLemmas.{number_of_feature}
 use Rattle.deny_krates.proofs.NumberLemmas.{length-first_features}

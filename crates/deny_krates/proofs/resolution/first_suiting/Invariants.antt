@@ -1,5 +1,5 @@
 use Rattle.std.proofs.Common.{◌≡◌, drop, find}
-use Rattle.deny_crates.specs.Crates.{crates_from, dependency_view}
+use Rattle.deny_crate_graph.specs.Crates.{crates_from, dependency_view}
 use Rattle.deny_model.specs.Resolution.{suits}
 use Rattle.deny_krates.proofs.resolution.first_suiting.Given as goal
 

@@ -1,7 +1,7 @@
 use Rattle.std.proofs.Common.{◌≡◌, ◌≤◌, ◌<◌, ◌∙◌, ℕ, List, true, ap, subst, sym}
 use Rattle.std.specs.Prelude.{find, option_map}
 use Rattle.std.specs.Option.{option_or}
-use Rattle.deny_crates.specs.Crates.{crates_from, dependency_view}
+use Rattle.deny_crate_graph.specs.Crates.{crates_from, dependency_view}
 use Rattle.deny_model.specs.Groups.{has_name}
 use Rattle.deny_model.specs.Resolution.{passes_at, suits}
 use Rattle.deny_model.specs.declared.target_edge.TargetEdge.{TargetEdge}

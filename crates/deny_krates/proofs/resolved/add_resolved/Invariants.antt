@@ -1,5 +1,5 @@
 use Rattle.std.proofs.Common.{◌≡◌, ◌++◌, drop, map}
-use Rattle.deny_crates.specs.Crates.{crates_from, dependency_view}
+use Rattle.deny_crate_graph.specs.Crates.{crates_from, dependency_view}
 use Rattle.deny_krates.specs.private.Resolved.{resolved_from}
 use Rattle.deny_krates.proofs.resolved.add_resolved.Given as goal
 use Rattle.deny_model.specs.Graph.{Graph}

@@ -1,5 +1,5 @@
 use Rattle.std.proofs.Common.{◌≡◌, ◌++◌, drop}
-use Rattle.deny_crates.specs.Crates.{crates_from}
+use Rattle.deny_crate_graph.specs.Crates.{crates_from}
 use Rattle.deny_krates.specs.private.Resolved.{resolved_in}
 use Rattle.deny_krates.proofs.resolved.gather.Given as goal
 use Rattle.deny_model.specs.Graph.{Graph}

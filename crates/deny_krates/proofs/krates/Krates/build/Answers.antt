@@ -1,5 +1,5 @@
 use Rattle.std.proofs.Common.{sym, subst}
-use Rattle.deny_crates.specs.Read.{IsGraphOf}
+use Rattle.deny_crate_graph.specs.Read.{IsGraphOf}
 use Rattle.deny_metadata.proofs.ReadingLemmas.{if_err_handed}
 use Rattle.deny_model.specs.Graph.{Graph}
 use Rattle.deny_resolve.specs.Checked.{checked}

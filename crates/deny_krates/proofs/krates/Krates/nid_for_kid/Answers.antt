@@ -1,10 +1,10 @@
 use Rattle.std.proofs.Common.{◌≡◌, ℕ, List, subst}
 use Rattle.std.specs.Prelude.{option_map}
 use Rattle.deny_model.specs.Graph.{Crate, Graph}
-use Rattle.deny_crates.specs.Ids.{crate_of}
-use Rattle.deny_crates.specs.declared.ids.Entry.{Entry}
-use Rattle.deny_crates.proofs.IdsLemmas.{FoundIn, place_answers}
-use Rattle.deny_crates.proofs.OrderlyLemmas.{apart_of}
+use Rattle.deny_crate_graph.specs.Ids.{crate_of}
+use Rattle.deny_crate_graph.specs.declared.ids.Entry.{Entry}
+use Rattle.deny_crate_graph.proofs.IdsLemmas.{FoundIn, place_answers}
+use Rattle.deny_crate_graph.proofs.OrderlyLemmas.{apart_of}
 use Rattle.deny_krates.proofs.krates.Krates.nid_for_kid.Goals as goal
 
 pub returns : goal.returns

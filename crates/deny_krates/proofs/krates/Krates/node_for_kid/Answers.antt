@@ -2,13 +2,13 @@ use Rattle.std.proofs.Common.{◌≡◌, ◌∙◌, ap, ℕ, List, None, Some, O
 use Rattle.std.specs.Prelude.{Contains, MatchOption, slice_get}
 use Rattle.std.specs.Borrow.{Bor}
 use Rattle.deny_model.specs.Graph.{Graph}
-use Rattle.deny_crates.specs.Crates.{crate_view}
-use Rattle.deny_crates.specs.Ids.{crate_of}
-use Rattle.deny_crates.specs.declared.ids.Entry.{Entry}
-use Rattle.deny_crates.specs.declared.krate.Krate.{Krate}
-use Rattle.deny_crates.proofs.IdsLemmas.{krate_answers, no_crate}
+use Rattle.deny_crate_graph.specs.Crates.{crate_view}
+use Rattle.deny_crate_graph.specs.Ids.{crate_of}
+use Rattle.deny_crate_graph.specs.declared.ids.Entry.{Entry}
+use Rattle.deny_crate_graph.specs.declared.krate.Krate.{Krate}
+use Rattle.deny_crate_graph.proofs.IdsLemmas.{krate_answers, no_crate}
 use Rattle.deny_krates.proofs.GetLemmas.{got, match_none}
-use Rattle.deny_crates.proofs.OrderlyLemmas.{apart_of}
+use Rattle.deny_crate_graph.proofs.OrderlyLemmas.{apart_of}
 use Rattle.deny_krates.proofs.krates.Krates.node_for_kid.Goals as goal
 
 -- what the call says of a graph

@@ -8,8 +8,8 @@ use Rattle.deny_model.specs.Graph.{Crate, Dependency, Graph}
 use Rattle.deny_model.specs.Resolution.{declaration_at, resolution}
 use Rattle.deny_model.specs.TargetEdge.{target_edge_cmp}
 use Rattle.deny_model.specs.declared.target_edge.TargetEdge.{TargetEdge}
-use Rattle.deny_crates.specs.Crates.{crates_from, dependency_view, graph_of}
-use Rattle.deny_crates.specs.declared.krate.Krate.{Krate}
+use Rattle.deny_crate_graph.specs.Crates.{crates_from, dependency_view, graph_of}
+use Rattle.deny_crate_graph.specs.declared.krate.Krate.{Krate}
 use Rattle.deny_krates.proofs.krates.Krates.resolved_dependency.Goals as goal
 
 -- what the call says of a graph

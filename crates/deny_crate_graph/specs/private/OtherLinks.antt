@@ -1,0 +1,24 @@
+-- Links to the crates that a crate needs in another way than one kind.
+use Rattle.std.specs.Prelude.{◌≡◌, ◌==◌, ◌&&◌, ◌<◌, ℕ, Bool, None, not, List, filter, length, map}
+use Rattle.deny_base.specs.declared.edge.DepKind.{DepKind}
+use Rattle.deny_base.specs.declared.edge.Edge.{Edge}
+use Rattle.deny_crate_graph.specs.private.Reach.{links_at}
+use Rattle.deny_resolve.specs.declared.checked.Link.{Link}
+use Rattle.deny_resolve.specs.declared.checked.ResolvedNode.{ResolvedNode}
+use Rattle.deny_model.specs.Counting.{is_of_kind}
+
+abbrev pub link_of : Edge → Link
+link_of e = record { node = e.child; needed_as = record { kind = e.kind; target = None } }
+
+-- whether an edge begins here and is of another kind
+unfoldable pub is_way : DepKind → ℕ → Edge → Bool
+is_way kind parent e = (e.parent == parent) && not (is_of_kind kind e)
+
+-- the links from a place
+abbrev pub links_from : DepKind → List Edge → ℕ → List Link
+links_from kind edges parent = map link_of (filter (is_way kind parent) edges)
+
+-- a row of links for each place
+pub record AreWays (kind : DepKind) (edges : List Edge) (size : ℕ) (rows : List ResolvedNode) : Type 0 where
+  pub long : length rows ≡ size
+  pub at : (place : ℕ) → place < size → links_at rows place ≡ links_from kind edges place

@@ -1,0 +1,178 @@
+ghost use Rattle.std.specs.Prelude.{◌≡◌, ◌≢◌, ◌<◌, [], IfOk, None, Some, All, AllPairs};
+ghost use Rattle.std.specs.Prelude.{Contains, length, map, option_map, slice_get};
+ghost use Rattle.std.specs.Cmp.Lexicographic.{slice_cmp};
+ghost use Rattle.std.specs.List.{AllZip};
+ghost use Rattle.std.specs.Ordering.{nat_cmp};
+ghost use Rattle.semver.specs.Identifiers.{parts_of};
+ghost use Rattle.deny_lists.specs.Ascending.{Lists};
+ghost use Rattle.deny_crate_graph.specs.Crates.{crate_view, dependency_view};
+ghost use Rattle.deny_crate_graph.specs.private.Graph.{IsKrateAs, IsKrateOf, no_package};
+ghost use Rattle.deny_crate_graph.specs.private.Taken.{IsRead, IsWithout, dependency_with, requirement_held};
+ghost use Rattle.deny_crate_graph.specs.Listed.{crate_at, dependency_at, features_of, requirement_read};
+ghost use Rattle.deny_resolve.specs.PackageTexts.{AreTextsOf};
+
+use crate::graph::KeptPackage;
+use crate::krate::{Dependency, Krate};
+use deny_base::Kid;
+use deny_lists::{List, NoMemory, Text, TextMap, put_in_order};
+use deny_metadata::{Declaration, Feature, Node, Package};
+use deny_resolve::{PackageTexts, PackageVersions, Source};
+use semver::{Version, VersionReq};
+use std::alloc::Global;
+use std::mem;
+
+// A package, and what its texts say.
+#[derive(Drop)]
+struct ReadPackage {
+    listed: Package,
+    versions: PackageVersions,
+    requirements: List<VersionReq>,
+    source: Option<Source>,
+}
+
+/// The crates of kept packages, whose texts say this. The packages' own texts are moved.
+pub fn krates_of(
+    alloc: Global,
+    mut packages: List<Package>,
+    mut texts: PackageTexts,
+    nodes: &[Node],
+    kept: &[KeptPackage],
+) -> Result<List<Krate>, NoMemory>
+    requires packages { All (λ k. k.owner < length packages) kept.now }
+    requires texts { AreTextsOf packages texts }
+    requires apart { AllPairs (λ m n. m ≢ n) (map (λ k. k.owner) kept.now) }
+    requires nodes { All (λ k. k.node < length nodes.now) kept.now }
+    ensures { IfOk result (AllZip (IsKrateOf packages nodes.now) kept.now) }
+{
+    let mut krates = List::new(alloc);
+    for each in kept {
+        let listed = take(&mut packages, each.owner, no_package(alloc));
+        let versions = take(&mut texts.versions, each.owner, no_versions());
+        let requirements = take(&mut texts.requirements, each.owner, List::new(alloc));
+        let source = take(&mut texts.sources, each.owner, None);
+        let read = ReadPackage {
+            listed,
+            versions,
+            requirements,
+            source,
+        };
+        let node = &nodes[each.node as usize];
+        krates.push(krate_of(alloc, read, &node.features)?)?;
+    }
+    Ok(krates)
+}
+
+// Takes an item out of a list, and leaves this one in its place.
+fn take<T>(list: &mut List<T>, number: u32, empty: T) -> T
+    requires { number < length list.old }
+    ensures taken { slice_get list.old number ≡ Some result }
+    ensures others { IsWithout number list.old list.new }
+{
+    mem::replace(&mut list.vec[number as usize], empty)
+}
+
+fn no_package(alloc: Global) -> Package
+    ensures { result ≡ no_package }
+{
+    Package {
+        name: Text::new(alloc),
+        version: Text::new(alloc),
+        id: Text::new(alloc),
+        manifest_path: Text::new(alloc),
+        source: None,
+        license: None,
+        rust_version: None,
+        publish: None,
+        features: List::new(alloc),
+        targets: List::new(alloc),
+        dependencies: List::new(alloc),
+    }
+}
+
+fn no_versions() -> PackageVersions
+    ensures version { parts_of result.version ≡ (0, 0, 0, [], []) }
+    ensures rust_version { option_map parts_of result.rust_version ≡ None }
+{
+    PackageVersions {
+        version: Version::new(0, 0, 0),
+        rust_version: None,
+    }
+}
+
+fn krate_of(alloc: Global, read: ReadPackage, enabled: &List<Text>) -> Result<Krate, NoMemory>
+    requires { IsRead read }
+    ensures { IfOk result (IsKrateAs read.listed enabled.now) }
+{
+    let ReadPackage {
+        listed,
+        versions,
+        requirements,
+        source,
+    } = read;
+    Ok(Krate {
+        version: versions.version,
+        source,
+        rust_version: versions.rust_version,
+        features: features_in(alloc, listed.features)?,
+        deps: dependencies_in(alloc, listed.dependencies, requirements)?,
+        enabled: in_order(enabled)?,
+        name: listed.name,
+        id: Kid(listed.id),
+        source_text: listed.source,
+        license: listed.license,
+        manifest_path: listed.manifest_path,
+        publish: listed.publish,
+        targets: listed.targets,
+    })
+}
+
+// What each feature enables, by name.
+fn features_in(alloc: Global, listed: List<Feature>) -> Result<TextMap<List<Text>>, NoMemory>
+    ensures { IfOk result (λ features. features ≡ features_of listed) }
+{
+    let mut features = TextMap::new(alloc);
+    for feature in listed.vec {
+        features.insert(feature.name, feature.enables)?;
+    }
+    Ok(features)
+}
+
+// The dependencies of declarations with their requirements.
+fn dependencies_in(
+    alloc: Global,
+    declarations: List<Declaration>,
+    requirements: List<VersionReq>,
+) -> Result<List<Dependency>, NoMemory>
+    requires { map requirement_held requirements ≡ map (λ d. requirement_read d.req) declarations }
+    ensures { IfOk result (λ deps. map dependency_view deps ≡ map dependency_at declarations) }
+{
+    let mut deps = List::new(alloc);
+    for (declaration, req) in declarations.vec.into_iter().zip(requirements.vec) {
+        deps.push(dependency_in(declaration, req))?;
+    }
+    Ok(deps)
+}
+
+fn dependency_in(declaration: Declaration, req: VersionReq) -> Dependency
+    ensures { dependency_view result ≡ dependency_with declaration (requirement_held req) }
+{
+    Dependency {
+        name: declaration.name,
+        req,
+        kind: declaration.kind,
+        rename: declaration.rename,
+        target: declaration.target,
+        path: declaration.path,
+        features: declaration.features,
+        uses_default_features: declaration.uses_default_features,
+    }
+}
+
+// Texts in ascending order, each once.
+fn in_order(texts: &List<Text>) -> Result<List<Text>, NoMemory>
+    ensures { IfOk result (Lists (slice_cmp nat_cmp) (Contains texts.now)) }
+{
+    let mut texts = texts.clone()?;
+    put_in_order(&mut texts)?;
+    Ok(texts)
+}

@@ -1,0 +1,177 @@
+//! The graph of metadata.
+ghost use Rattle.std.specs.Prelude.{Bool, Ok, ◌≡◌, ◌<◌, ◌^◌, length, IfOk, IfErr};
+ghost use Rattle.std.specs.Cmp.Lexicographic.{slice_cmp};
+ghost use Rattle.std.specs.List.Sorted.{IsSortedByKey};
+ghost use Rattle.std.specs.Ordering.{nat_cmp};
+ghost use Rattle.deny_crate_graph.specs.Crates.{graph_of};
+ghost use Rattle.deny_crate_graph.specs.Orderly.{IsOrderly};
+ghost use Rattle.deny_crate_graph.specs.Read.{IsGraph, IsGraphOf, IsSound, graph_read};
+ghost use Rattle.deny_crate_graph.specs.private.Numbered.{IsNumbered, IsResolved};
+ghost use Rattle.deny_metadata.specs.Reading.{Fails};
+ghost use Rattle.deny_resolve.specs.Checked.{Resolved, checked, resolved};
+ghost use Rattle.deny_resolve.specs.PackageTexts.{AreTextsOf};
+
+use crate::bounds::check_bounds;
+use crate::crates::krates_of;
+use crate::direct::{dependencies_of, dependents_of};
+use crate::graph::{KeptPackage, edges_of, kept_of, members_of, places_in, target_edges_of};
+use crate::ids::{Entry, ids_of, ranks_of};
+use crate::krate::{DirectDependent, Krate};
+use crate::reach::reach;
+use deny_base::Edge;
+use deny_lists::{List, NoMemory, Text};
+use deny_metadata::{Document, MetadataFault};
+use deny_model::TargetEdge;
+use deny_resolve::{PackageTexts, Resolution, ResolvedNode, resolve};
+use std::alloc::Global;
+
+/// The crates of metadata in order, the places of the members of the workspace among them, and the
+/// dependencies between them.
+#[derive(Drop)]
+pub struct CrateGraph {
+    /// The folder of the workspace.
+    pub root: Text,
+    pub krates: List<Krate>,
+    pub members: List<u32>,
+    pub edges: List<Edge>,
+    /// The edges with the targets that they are for.
+    pub target_edges: List<TargetEdge>,
+    /// For each crate the crates with an edge to it, by id.
+    pub dependents: List<List<DirectDependent>>,
+    /// For each crate the crates to which an edge leads from it, by id.
+    pub dependencies: List<List<DirectDependent>>,
+    /// The places of the crates by their ids.
+    pub ids: List<Entry>,
+}
+
+/// The graph of metadata, or its first fault. The lock text of its crates and their nodes are within
+/// bounds; more of either is want of memory.
+pub fn graph_at(alloc: Global, bytes: &[u8]) -> Result<CrateGraph, MetadataFault>
+    requires { length bytes.now < 2 ^ 28 }
+    ensures ok { IfOk result (λ g. IsGraphOf bytes.now (graph_read g)) }
+    ensures sound { IfOk result IsSound }
+    ensures err { IfErr result (λ e. Fails e (checked bytes.now)) }
+{
+    let document = document_at(alloc, bytes)?;
+    graph_in(alloc, document)
+}
+
+// More packages or nodes than any text of fewer bytes holds.
+const MANY: usize = 1 << 28;
+
+// The metadata of a text.
+fn document_at(alloc: Global, bytes: &[u8]) -> Result<Document, MetadataFault>
+    ensures ok { IfOk result (λ d. checked bytes.now ≡ resolved d) }
+    ensures err { IfErr result (λ e. Fails e (checked bytes.now)) }
+{
+    deny_metadata::document_at(alloc, bytes)
+}
+
+// The graph of a document, or its first fault.
+fn graph_in(alloc: Global, document: Document) -> Result<CrateGraph, MetadataFault>
+    ensures ok { IfOk result (λ g. (r : Resolved) × (resolved document ≡ Ok r) × IsGraph document (graph_read g)) }
+    ensures sound { IfOk result IsSound }
+    ensures err { IfErr result (λ e. Fails e (resolved document)) }
+{
+    if document.packages.len() >= MANY || document.nodes.len() >= MANY {
+        return Err(MetadataFault::Memory);
+    }
+    let Resolution {
+        starts,
+        rows,
+        texts,
+    } = resolve(alloc, &document)?;
+    Ok(put_together(alloc, document, starts.as_slice(), rows.as_slice(), texts)?)
+}
+
+// The graph of a document without fault.
+fn put_together(
+    alloc: Global,
+    document: Document,
+    starts: &[u32],
+    rows: &[ResolvedNode],
+    texts: PackageTexts,
+) -> Result<CrateGraph, NoMemory>
+    requires few { length document.nodes < 2 ^ 28 }
+    requires resolved { IsResolved document starts.now rows.now }
+    requires texts { AreTextsOf document.packages texts }
+    ensures graph { IfOk result (λ g. IsGraph document (graph_read g)) }
+    ensures sound { IfOk result IsSound }
+{
+    let marks = reach(alloc, rows, starts)?;
+    let kept = kept_of(alloc, document.packages.as_slice(), rows, marks.as_slice())?;
+    join(alloc, document, starts, rows, texts, kept.as_slice())
+}
+
+// The graph of the packages that are kept.
+fn join(
+    alloc: Global,
+    document: Document,
+    starts: &[u32],
+    rows: &[ResolvedNode],
+    texts: PackageTexts,
+    kept: &[KeptPackage],
+) -> Result<CrateGraph, NoMemory>
+    requires few { length kept.now < 2 ^ 28 }
+    requires numbered { (marks : List Bool) × IsNumbered document starts.now rows.now marks kept.now }
+    requires texts { AreTextsOf document.packages texts }
+    ensures graph { IfOk result (λ g. IsGraph document (graph_read g)) }
+    ensures sound { IfOk result IsSound }
+{
+    let places = places_in(alloc, kept, rows.len())?;
+    let members = members_of(alloc, starts, places.as_slice())?;
+    let target_edges = target_edges_of(alloc, kept, rows, places.as_slice())?;
+    let edges = edges_of(alloc, target_edges.as_slice())?;
+    let krates = krates_of(
+        alloc,
+        document.packages,
+        texts,
+        document.nodes.as_slice(),
+        kept,
+    )?;
+    with_neighbours(
+        alloc,
+        document.workspace_root,
+        krates,
+        members,
+        edges,
+        target_edges,
+    )
+}
+
+// A graph with its crates' neighbours and ids.
+fn with_neighbours(
+    alloc: Global,
+    root: Text,
+    krates: List<Krate>,
+    members: List<u32>,
+    edges: List<Edge>,
+    target_edges: List<TargetEdge>,
+) -> Result<CrateGraph, NoMemory>
+    requires few { length krates < 2 ^ 28 }
+    requires names { IsSortedByKey (λ k. k.name) (slice_cmp nat_cmp) krates }
+    requires orderly { IsOrderly (graph_of target_edges root krates members edges) }
+    ensures graph { IfOk result (λ g. graph_read g ≡ graph_of target_edges root krates members edges) }
+    ensures sound { IfOk result IsSound }
+{
+    let ids = ids_of(alloc, krates.as_slice())?;
+    let ranks = ranks_of(alloc, krates.as_slice(), ids.as_slice())?;
+    let dependents = dependents_of(alloc, krates.as_slice(), ranks.as_slice(), edges.as_slice())?;
+    let dependencies = dependencies_of(
+        alloc,
+        krates.as_slice(),
+        ranks.as_slice(),
+        edges.as_slice(),
+    )?;
+    check_bounds(alloc, krates.as_slice())?;
+    Ok(CrateGraph {
+        root,
+        krates,
+        members,
+        edges,
+        target_edges,
+        dependents,
+        dependencies,
+        ids,
+    })
+}

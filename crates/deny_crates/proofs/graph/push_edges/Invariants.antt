@@ -1,6 +1,0 @@
-use Rattle.std.proofs.Common.{◌≡◌, ◌++◌, map, take}
-use Rattle.deny_crates.specs.private.Graph.{edge_to}
-use Rattle.deny_crates.proofs.graph.push_edges.Given as goal
-
-abbrev pub invariant-loop-link : goal.invariant-loop-link
-invariant-loop-link l = l.edges ≡ l.initial.edges ++ map (edge_to l.places l.parent) (take l.link-index l.links)
