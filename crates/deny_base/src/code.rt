@@ -3,7 +3,6 @@ ghost use Rattle.std.specs.Ordering.{nat_cmp, on};
 ghost use Rattle.std.specs.Cmp.{IsTotalOrder, nat_cmp_total, on_total, on_per};
 ghost use Rattle.std.specs.Cmp.{on_equiv, nat_eq_equiv, partial_equiv_from_equiv};
 ghost use Rattle.std.specs.Cmp.{partial_order_from_own_ties, partial_order_from_total, unsigned_ties};
-ghost use Rattle.std.proofs.Common.{rules};
 ghost use Rattle.std.specs.FinMap.{IsAntisymmetric};
 ghost use Rattle.deny_base.specs.Code.{code_name, code_number, code_cmp, diagnostic_code_name};
 ghost use Rattle.deny_base.specs.Code.{diagnostic_code_number, diagnostic_code_cmp};
@@ -15,7 +14,6 @@ ghost use Rattle.deny_base.specs.declared.license_code.LicenseCode.{LicenseCode}
 
 use crate::entry::EntryKind;
 use crate::license_code::LicenseCode;
-use deny_lists::Plain;
 use std::cmp::Ordering;
 use std::fmt;
 
@@ -58,10 +56,6 @@ pub enum Code {
     UnusedWorkspaceDependency,
     ReplacedInStd,
     UnmatchedReplacementIgnore,
-}
-
-impl Plain for Code {
-    ghost clone_is_equal = { Prim.search rules };
 }
 
 impl Code {
@@ -215,45 +209,6 @@ impl fmt::Display for Code {
     }
 }
 
-impl PartialEq for Code {
-    ghost eq = { λ a b. code_number a == code_number b };
-
-    ghost laws = { on_per code_number (partial_equiv_from_equiv nat_eq_equiv) };
-
-    fn eq(&self, other: &Self) -> bool {
-        self.number() == other.number()
-    }
-}
-
-impl Eq for Code {
-    ghost laws = { on_equiv code_number nat_eq_equiv };
-}
-
-impl PartialOrd for Code {
-    ghost partial_cmp = { λ a b. Some (code_cmp a b) };
-
-    ghost laws = { partial_order_from_own_ties (partial_order_from_total (on_total code_number nat_cmp_total))
-        (λ a b. unsigned_ties (code_number a) (code_number b)) };
-
-    fn partial_cmp(&self, other: &Self) -> Option<Ordering> {
-        Some(self.cmp(other))
-    }
-}
-
-impl Ord for Code {
-    ghost cmp = { code_cmp };
-
-    ghost total = { on_total code_number nat_cmp_total };
-
-    ghost matches_partial_cmp = { λ a b. refl };
-
-    ghost matches_eq = { λ a b. unsigned_ties (code_number a) (code_number b) };
-
-    fn cmp(&self, other: &Self) -> Ordering {
-        self.number().cmp(&other.number())
-    }
-}
-
 /// The kind of a finding, whichever check it comes from.
 #[derive(Debug, Clone, Copy)]
 pub enum DiagnosticCode {
@@ -261,10 +216,6 @@ pub enum DiagnosticCode {
     Deprecated,
     Bans(Code),
     License(LicenseCode),
-}
-
-impl Plain for DiagnosticCode {
-    ghost clone_is_equal = { Prim.search rules };
 }
 
 impl DiagnosticCode {

@@ -3,24 +3,18 @@ ghost use Rattle.std.specs.Ordering.{nat_cmp, on};
 ghost use Rattle.std.specs.Cmp.{IsTotalOrder, nat_cmp_total, on_total, on_per};
 ghost use Rattle.std.specs.Cmp.{on_equiv, nat_eq_equiv, partial_equiv_from_equiv};
 ghost use Rattle.std.specs.Cmp.{partial_order_from_own_ties, partial_order_from_total, unsigned_ties};
-ghost use Rattle.std.proofs.Common.{rules};
 ghost use Rattle.std.specs.FinMap.{IsAntisymmetric};
 ghost use Rattle.deny_base.specs.Edge.{kind_number, kind_cmp, edge_cmp};
 ghost use Rattle.deny_base.specs.declared.edge.Edge.{Edge};
 
-use deny_lists::Plain;
 use std::cmp::Ordering;
 
 /// How a crate is needed: by the crate itself, by its tests and examples, or by its build script.
-#[derive(Debug, Clone, Copy)]
+#[derive(Clone, Copy)]
 pub enum DepKind {
     Normal,
     Dev,
     Build,
-}
-
-impl Plain for DepKind {
-    ghost clone_is_equal = { Prim.search rules };
 }
 
 impl DepKind {
@@ -77,15 +71,11 @@ impl Ord for DepKind {
 }
 
 /// A dependency between two crates, named by their places in graph order.
-#[derive(Debug, Clone, Copy, PartialEq, Eq, PartialOrd, Ord)]
+#[derive(Clone, Copy, PartialEq, Eq, PartialOrd, Ord)]
 pub struct Edge {
     pub parent: u32,
     pub child: u32,
     pub kind: DepKind,
-}
-
-impl Plain for Edge {
-    ghost clone_is_equal = { Prim.search rules };
 }
 
 /// The order of edges is by parent, child and kind, it is total, and only equal edges tie.

@@ -3,7 +3,6 @@ ghost use Rattle.std.specs.Ordering.{nat_cmp, on, eq_by_cmp};
 ghost use Rattle.std.specs.Cmp.{IsTotalOrder, nat_cmp_total, on_total, on_per};
 ghost use Rattle.std.specs.Cmp.{on_equiv, nat_eq_equiv, partial_equiv_from_equiv};
 ghost use Rattle.std.specs.Cmp.{partial_order_from_own_ties, partial_order_from_total, unsigned_ties};
-ghost use Rattle.std.proofs.Common.{rules};
 ghost use Rattle.std.specs.FinMap.{IsAntisymmetric};
 ghost use Rattle.std.proofs.lemmas.Cmp.{eq_by_cmp_equiv};
 ghost use Rattle.std.specs.Cmp.Rules.{comparing};
@@ -11,11 +10,11 @@ ghost use Rattle.deny_base.specs.Entry.{entry_kind_number, entry_kind_cmp, entry
 ghost use Rattle.deny_base.specs.declared.entry.EntryId.{EntryId};
 
 use crate::span::{Kid, Span};
-use deny_lists::{Plain, Text};
+use deny_lists::Text;
 use std::cmp::Ordering;
 
 /// The kinds of entry of a policy that allow something, and so are of use only where they meet it.
-#[derive(Debug, Clone, Copy)]
+#[derive(Clone, Copy)]
 pub enum EntryKind {
     Skip,
     SkipRoot,
@@ -26,10 +25,6 @@ pub enum EntryKind {
     ReplacementIgnore,
     LicenseAllow,
     LicenseException,
-}
-
-impl Plain for EntryKind {
-    ghost clone_is_equal = { Prim.search rules };
 }
 
 impl EntryKind {
@@ -82,14 +77,10 @@ impl Ord for EntryKind {
 }
 
 /// An entry of a policy: its kind, and the range of its text.
-#[derive(Debug, Clone, Copy)]
+#[derive(Clone, Copy)]
 pub struct EntryId {
     pub kind: EntryKind,
     pub range: Span,
-}
-
-impl Plain for EntryId {
-    ghost clone_is_equal = { Prim.search rules };
 }
 
 impl PartialEq for EntryId {
@@ -133,26 +124,18 @@ impl Ord for EntryId {
 }
 
 /// Where an entry was met: at a crate, at a crate's direct parent, or at a file of a crate.
-#[derive(Debug, Clone, PartialEq, Eq, Drop)]
+#[derive(Clone, Drop)]
 pub enum Witness {
     Krate(Kid),
     Parent { krate: Kid, parent: Kid },
     File { krate: Kid, path: Text },
 }
 
-impl Plain for Witness {
-    ghost clone_is_equal = { Prim.search rules };
-}
-
 /// An entry that was met, and where.
-#[derive(Debug, Clone, PartialEq, Eq, Drop)]
+#[derive(Clone, Drop)]
 pub struct Hit {
     pub entry: EntryId,
     pub witness: Witness,
-}
-
-impl Plain for Hit {
-    ghost clone_is_equal = { Prim.search rules };
 }
 
 /// The order of entries is by range and then by kind, it is total, and only equal entries tie.

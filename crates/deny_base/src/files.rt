@@ -2,12 +2,11 @@ ghost use Rattle.std.specs.Prelude.{◌≡◌, ◌+◌, ◌*◌, ◌-◌, ◌/�
 ghost use Rattle.std.specs.Prelude.{length, take, slice_get, option_map, IfOk, OnOk, OnErr};
 ghost use Rattle.std.specs.List.{position};
 ghost use Rattle.std.specs.Str.{bytes_eq};
-ghost use Rattle.std.proofs.Common.{rules};
 ghost use Rattle.deny_base.specs.Files.{begins_character, is_boundary, location_of, location_in};
 ghost use Rattle.deny_base.specs.Marks.{AreMarks, location_after, past};
 
 use crate::label::FileId;
-use deny_lists::{List, NoMemory, Plain, Text};
+use deny_lists::{List, NoMemory, Text};
 use std::alloc::Global;
 use std::marker::Model;
 
@@ -15,14 +14,10 @@ use std::marker::Model;
 const STEP: usize = 256;
 
 /// Where an offset stands in a text. Both count from 0, columns in characters.
-#[derive(Debug, Clone, Copy, PartialEq, Eq)]
+#[derive(Clone, Copy, PartialEq, Eq)]
 pub struct Location {
     pub line: u32,
     pub column: u32,
-}
-
-impl Plain for Location {
-    ghost clone_is_equal = { Prim.search rules };
 }
 
 fn begins_character(byte: u8) -> bool
@@ -85,7 +80,7 @@ fn marks_of(alloc: Global, text: &[u8]) -> Result<Vec<Location>, NoMemory>
 }
 
 /// A text with the location of every 256th byte, from which the others are counted.
-#[derive(Debug, Drop)]
+#[derive(Drop)]
 struct Source {
     text: Text,
     marks: Vec<Location>,
@@ -138,7 +133,7 @@ impl Source {
 }
 
 /// A file that labels point into.
-#[derive(Debug, Drop)]
+#[derive(Drop)]
 struct File {
     path: Text,
     source: Source,
@@ -146,7 +141,7 @@ struct File {
 
 /// The files that labels point into: contracts see the list of them, each with its path and its
 /// text. A `FileId` is a place in that list.
-#[derive(Debug, Drop)]
+#[derive(Drop)]
 pub struct Files {
     alloc: Global,
     files: List<File>,

@@ -3,7 +3,6 @@ ghost use Rattle.std.specs.Ordering.{nat_cmp, on};
 ghost use Rattle.std.specs.Cmp.{IsTotalOrder, nat_cmp_total, on_total, on_per};
 ghost use Rattle.std.specs.Cmp.{on_equiv, nat_eq_equiv, partial_equiv_from_equiv};
 ghost use Rattle.std.specs.Cmp.{partial_order_from_own_ties, partial_order_from_total, unsigned_ties};
-ghost use Rattle.std.proofs.Common.{rules};
 ghost use Rattle.std.specs.FinMap.{IsAntisymmetric};
 ghost use Rattle.deny_base.specs.Code.{section_number, section_cmp};
 ghost use Rattle.deny_base.specs.KeyOrder.{key_cmp};
@@ -11,11 +10,11 @@ ghost use Rattle.deny_base.specs.declared.key.Key.{Key};
 
 use crate::code::DiagnosticCode;
 use crate::span::Span;
-use deny_lists::{List, Plain, Text};
+use deny_lists::{List, Text};
 use std::cmp::Ordering;
 
 /// The part of a report that a finding stands in; reports show sections in this order.
-#[derive(Debug, Clone, Copy)]
+#[derive(Clone, Copy)]
 pub enum Section {
     Deprecated,
     Crates,
@@ -25,10 +24,6 @@ pub enum Section {
     Std,
     Licenses,
     LicensesUnused,
-}
-
-impl Plain for Section {
-    ghost clone_is_equal = { Prim.search rules };
 }
 
 impl Section {
@@ -92,7 +87,7 @@ impl Ord for Section {
 /// What a finding is about, and so its identity in a report: no report holds a key twice, and
 /// findings ascend by their keys, compared field by field. Fields that a code does not use are 0
 /// or empty.
-#[derive(Debug, Clone, PartialEq, Eq, PartialOrd, Ord, Drop)]
+#[derive(Clone, PartialEq, Eq, PartialOrd, Ord, Drop)]
 pub struct Key {
     pub section: Section,
     /// The place of a crate in graph order, from 0.
@@ -105,10 +100,6 @@ pub struct Key {
     pub other: u32,
     /// The places of several crates.
     pub places: List<u32>,
-}
-
-impl Plain for Key {
-    ghost clone_is_equal = { Prim.search rules };
 }
 
 /// The order of keys is by their fields in order, it is total, and only equal keys tie.

@@ -1,31 +1,21 @@
-ghost use Rattle.std.proofs.Common.{rules};
-
 use crate::span::Span;
-use deny_lists::{Plain, Text};
+use deny_lists::Text;
 
 /// The number of a file among the files of a run, from 0 in the order in which they were added.
 pub type FileId = u32;
 
 /// Whether a label marks what the finding is about, or what helps to understand it.
-#[derive(Debug, Clone, Copy, PartialEq, Eq)]
+#[derive(Debug, Clone, Copy)]
 pub enum LabelStyle {
     Primary,
     Secondary,
 }
 
-impl Plain for LabelStyle {
-    ghost clone_is_equal = { Prim.search rules };
-}
-
 /// A range of a file, and what is said of it.
-#[derive(Debug, Clone, PartialEq, Eq, Drop)]
+#[derive(Debug, Drop)]
 pub struct Label {
     pub style: LabelStyle,
     pub file_id: FileId,
     pub span: Span,
     pub message: Text,
-}
-
-impl Plain for Label {
-    ghost clone_is_equal = { Prim.search rules };
 }

@@ -1,19 +1,12 @@
-ghost use Rattle.std.proofs.Common.{rules};
 ghost use Rattle.std.specs.Prelude.{◌≡◌};
 ghost use Rattle.deny_base.specs.Level.{severity_of};
 
-use deny_lists::Plain;
-
 /// The level that a policy gives a rule.
-#[derive(Debug, Clone, Copy, PartialEq, Eq)]
+#[derive(Clone, Copy)]
 pub enum LintLevel {
     Allow,
     Warn,
     Deny,
-}
-
-impl Plain for LintLevel {
-    ghost clone_is_equal = { Prim.search rules };
 }
 
 impl LintLevel {
@@ -30,15 +23,11 @@ impl LintLevel {
 }
 
 /// How grave a finding is. An error alone makes the verdict a failure.
-#[derive(Debug, Clone, Copy, PartialEq, Eq)]
+#[derive(Debug, Clone, Copy)]
 pub enum Severity {
     Bug,
     Error,
     Warning,
     Note,
     Help,
-}
-
-impl Plain for Severity {
-    ghost clone_is_equal = { Prim.search rules };
 }

@@ -1,14 +1,9 @@
-ghost use Rattle.std.specs.Prelude.{◌≡◌, ◌==◌, Some, refl};
+ghost use Rattle.std.specs.Prelude.{◌≡◌, Some};
 ghost use Rattle.std.specs.Ordering.{nat_cmp, on};
-ghost use Rattle.std.specs.Cmp.{nat_cmp_total, on_total, on_per, on_equiv, nat_eq_equiv, partial_equiv_from_equiv};
-ghost use Rattle.std.specs.Cmp.{partial_order_from_own_ties, partial_order_from_total, unsigned_ties};
-ghost use Rattle.std.proofs.Common.{rules};
 ghost use Rattle.deny_base.specs.LicenseCode.{license_code_name, license_code_number};
-ghost use Rattle.deny_base.specs.LicenseCode.{license_code_cmp, license_unused_kind};
+ghost use Rattle.deny_base.specs.LicenseCode.{license_unused_kind};
 
 use crate::entry::EntryKind;
-use deny_lists::Plain;
-use std::cmp::Ordering;
 use std::fmt;
 
 /// A kind of finding of the licence check.
@@ -21,10 +16,6 @@ pub enum LicenseCode {
     SkippedPrivateWorkspaceCrate,
     LicenseNotEncountered,
     LicenseExceptionNotEncountered,
-}
-
-impl Plain for LicenseCode {
-    ghost clone_is_equal = { Prim.search rules };
 }
 
 impl LicenseCode {
@@ -73,44 +64,5 @@ impl fmt::Display for LicenseCode {
 
     fn fmt<W: fmt::Write>(&self, f: &mut fmt::Formatter<W>) -> fmt::Result {
         f.write_str(self.name())
-    }
-}
-
-impl PartialEq for LicenseCode {
-    ghost eq = { λ a b. license_code_number a == license_code_number b };
-
-    ghost laws = { on_per license_code_number (partial_equiv_from_equiv nat_eq_equiv) };
-
-    fn eq(&self, other: &Self) -> bool {
-        self.number() == other.number()
-    }
-}
-
-impl Eq for LicenseCode {
-    ghost laws = { on_equiv license_code_number nat_eq_equiv };
-}
-
-impl PartialOrd for LicenseCode {
-    ghost partial_cmp = { λ a b. Some (license_code_cmp a b) };
-
-    ghost laws = { partial_order_from_own_ties (partial_order_from_total (on_total license_code_number nat_cmp_total))
-        (λ a b. unsigned_ties (license_code_number a) (license_code_number b)) };
-
-    fn partial_cmp(&self, other: &Self) -> Option<Ordering> {
-        Some(self.cmp(other))
-    }
-}
-
-impl Ord for LicenseCode {
-    ghost cmp = { license_code_cmp };
-
-    ghost total = { on_total license_code_number nat_cmp_total };
-
-    ghost matches_partial_cmp = { λ a b. refl };
-
-    ghost matches_eq = { λ a b. unsigned_ties (license_code_number a) (license_code_number b) };
-
-    fn cmp(&self, other: &Self) -> Ordering {
-        self.number().cmp(&other.number())
     }
 }

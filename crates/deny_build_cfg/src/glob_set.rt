@@ -5,8 +5,6 @@ use crate::fitting::patterns_at;
 use crate::pattern::GlobPattern;
 use deny_globs::GlobSet;
 use deny_lists::{List, NoMemory};
-use std::fmt;
-use std::fmt::{Debug, Formatter, Write};
 
 /// Globs, and the patterns that they are of: the glob of each number is of the pattern of that number.
 #[derive(Drop)]
@@ -14,13 +12,6 @@ pub struct ValidGlobSet {
     pub set: GlobSet,
     pub patterns: List<GlobPattern>,
     pub ghost paired: { length set ≡ length patterns },
-}
-
-/// The patterns alone are shown.
-impl Debug for ValidGlobSet {
-    fn fmt<W: Write>(&self, f: &mut Formatter<W>) -> fmt::Result {
-        self.patterns.fmt(f)
-    }
 }
 
 impl ValidGlobSet {

@@ -3,7 +3,7 @@ use deny_base::{FileId, Spanned};
 use deny_lists::Text;
 
 /// A pattern of paths.
-#[derive(Debug, Drop)]
+#[derive(Drop)]
 pub enum GlobPattern {
     /// A built-in glob, with its range in the file of this number.
     Builtin((Spanned<Text>, FileId)),

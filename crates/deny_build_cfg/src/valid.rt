@@ -16,7 +16,7 @@ use deny_tables::bans::cfg::{BuildConfig, Bypass, BypassPath, Checksum};
 use std::alloc::Global;
 
 /// What the build check allows a crate: an entry of `bypass`.
-#[derive(Debug, Drop)]
+#[derive(Drop)]
 pub struct ValidBypass {
     /// The crates that it speaks of.
     pub spec: PackageSpec,
@@ -31,7 +31,7 @@ pub struct ValidBypass {
 }
 
 /// How build scripts and the files of packages are minded. A field that `BuildConfig` has too means the same.
-#[derive(Debug, Drop)]
+#[derive(Drop)]
 pub struct ValidBuildConfig {
     /// The crates that may have a build script; without it, all may.
     pub allow_build_scripts: Option<List<PackageSpec>>,

@@ -17,7 +17,7 @@ use deny_tables::bans::cfg::{BuildConfig, Bypass, BypassPath};
 use std::alloc::Global;
 
 /// What is wrong in a table, with its range in the policy.
-#[derive(Debug, Clone, Copy)]
+#[derive(Clone, Copy)]
 pub enum BuildFault {
     /// An extension has a character past ASCII.
     NonAscii(Span),

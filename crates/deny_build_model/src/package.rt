@@ -1,7 +1,7 @@
 use deny_lists::{List, Text};
 
 /// The formats of native code that the first bytes of a file tell.
-#[derive(Debug, Clone, Copy, PartialEq, Eq)]
+#[derive(Clone, Copy)]
 pub enum NativeKind {
     Elf,
     Pe,
@@ -10,7 +10,7 @@ pub enum NativeKind {
 }
 
 /// How a file is executed.
-#[derive(Debug, PartialEq, Eq, Drop)]
+#[derive(Drop)]
 pub enum ExecutableKind {
     /// It is native code.
     Native(NativeKind),
@@ -19,7 +19,7 @@ pub enum ExecutableKind {
 }
 
 /// Why something was not read.
-#[derive(Debug, Clone, Copy, PartialEq, Eq)]
+#[derive(Clone, Copy)]
 pub enum Failure {
     /// A read of the file failed.
     Unreadable,
@@ -32,7 +32,7 @@ pub enum Failure {
 }
 
 /// What was found of a file or a folder.
-#[derive(Debug, PartialEq, Eq, Drop)]
+#[derive(Drop)]
 pub enum Found {
     /// Nothing was asked.
     Unasked,
@@ -45,7 +45,7 @@ pub enum Found {
 }
 
 /// A file or a folder that was looked at.
-#[derive(Debug, PartialEq, Eq, Drop)]
+#[derive(Drop)]
 pub struct Seen {
     /// Its path as it is shown: below the home of cargo, else below the folder of its crate, else as it is.
     pub shown: Text,
@@ -53,7 +53,7 @@ pub struct Seen {
 }
 
 /// A file of a package.
-#[derive(Debug, PartialEq, Eq, Drop)]
+#[derive(Drop)]
 pub struct PackageFile {
     /// Its path from the folder of the package.
     pub path: Text,
@@ -64,7 +64,7 @@ pub struct PackageFile {
 }
 
 /// What was seen of the package of a crate.
-#[derive(Debug, PartialEq, Eq, Drop)]
+#[derive(Drop)]
 pub struct Package {
     /// The build script, where its checksum was asked for.
     pub script: Option<Seen>,

@@ -12,7 +12,7 @@ const PIECE: usize = 0x1_0000;
 const ROOM: usize = 0x10_0000;
 
 /// A run to be tried: its words, and the world that it finds.
-#[derive(Debug, Drop)]
+#[derive(Drop)]
 pub(crate) struct Case {
     value: Value,
 }

@@ -15,7 +15,7 @@ use std::cmp::Ordering;
 const NO_SPAN: Span = Span { start: 0, end: 0 };
 
 /// What contradicts what, or is wrong.
-#[derive(Debug, Clone, Copy)]
+#[derive(Clone, Copy)]
 pub enum ClashKind {
     /// An entry of `deny` names wrappers, and denies several versions alone.
     WrappersOfMultiple,
@@ -95,7 +95,7 @@ impl Ord for ClashKind {
 
 /// Two places of a policy that contradict each other, or one that is wrong. Clashes are ordered by kind, and then by
 /// the ranges of their labels.
-#[derive(Debug, Clone, Copy, PartialEq, Eq, PartialOrd, Ord)]
+#[derive(Clone, Copy, PartialEq, Eq, PartialOrd, Ord)]
 pub struct Clash {
     pub kind: ClashKind,
     /// The range of the first label.

@@ -30,7 +30,7 @@ use std::alloc::Global;
 use thiserror::Error;
 
 /// What a policy says.
-#[derive(Debug, Drop)]
+#[derive(Drop)]
 pub struct Policy {
     /// The table `bans`; its defaults where the text has none.
     pub bans: ValidConfig,

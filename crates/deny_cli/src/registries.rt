@@ -11,7 +11,7 @@ use deny_workspace::Registry;
 use std::alloc::Global;
 
 /// A registry as an option names it.
-#[derive(Debug, Clone, Copy)]
+#[derive(Clone, Copy)]
 pub struct Named<'a> {
     pub name: &'a str,
     pub address: &'a str,

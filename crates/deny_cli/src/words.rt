@@ -11,7 +11,7 @@ use crate::registries::registry_of;
 
 /// What a check looks at: the paths of its texts, and of a table of replacements, if one is named; the
 /// home, if one is named; and the words that ask for it, since options among them name registries.
-#[derive(Debug, Clone, Copy)]
+#[derive(Clone, Copy)]
 pub struct Asked<'a> {
     pub policy: &'a str,
     pub metadata: &'a str,
@@ -24,7 +24,7 @@ pub struct Asked<'a> {
 const MOST_CRATES: u32 = 20000;
 
 /// What accepted words ask for.
-#[derive(Debug, Clone, Copy)]
+#[derive(Clone, Copy)]
 pub enum Command<'a> {
     Check(Asked<'a>),
     /// To make so many crates, at most 20000, and to check them.
@@ -32,7 +32,7 @@ pub enum Command<'a> {
 }
 
 /// The same as far as words were read.
-#[derive(Debug, Clone, Copy)]
+#[derive(Clone, Copy)]
 struct AskedSoFar<'a> {
     policy: Option<&'a str>,
     metadata: Option<&'a str>,
@@ -41,7 +41,7 @@ struct AskedSoFar<'a> {
 }
 
 /// A command that is filled word by word.
-#[derive(Debug, Clone, Copy)]
+#[derive(Clone, Copy)]
 enum Form<'a> {
     Nothing,
     Checking(AskedSoFar<'a>),

@@ -3,7 +3,7 @@ use deny_lists::{List, Text};
 
 /// What a report tells of a key, whichever code it has: the definition of each code's words gives
 /// one of these, and so does the body that tells it.
-#[derive(Debug, Drop)]
+#[derive(Drop)]
 pub struct Words {
     pub severity: Severity,
     pub message: Text,

@@ -60,7 +60,7 @@ fn reversed_edges(alloc: Global, edges: &[Edge]) -> Result<List<Edge>, NoMemory>
 }
 
 /// An edge from its child's side, with the rank of its parent.
-#[derive(Debug, PartialEq, Eq, PartialOrd, Ord, Drop)]
+#[derive(PartialEq, Eq, PartialOrd, Ord, Drop)]
 pub struct IncomingEdge {
     pub child: u32,
     pub rank: u32,

@@ -19,7 +19,7 @@ use deny_resolve::{Link, ResolvedNode};
 use std::alloc::Global;
 
 /// What crates are ordered by: name, version text, source text (none first) and id.
-#[derive(Debug, PartialEq, Eq, PartialOrd, Ord, Drop)]
+#[derive(PartialEq, Eq, PartialOrd, Ord, Drop)]
 pub struct Rank {
     pub name: Text,
     pub version: Text,
@@ -29,7 +29,7 @@ pub struct Rank {
 
 /// A package that is a crate of the graph: its rank, its number and the number of its node. They
 /// are ordered as the crates are.
-#[derive(Debug, PartialEq, Eq, PartialOrd, Ord, Drop)]
+#[derive(PartialEq, Eq, PartialOrd, Ord, Drop)]
 pub struct KeptPackage {
     pub rank: Rank,
     pub owner: u32,

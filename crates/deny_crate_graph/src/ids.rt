@@ -12,7 +12,7 @@ use deny_lists::{List, NoMemory, Text, put_in_order};
 use std::alloc::Global;
 
 /// The place of the crate of an id.
-#[derive(Debug, PartialEq, Eq, PartialOrd, Ord, Drop)]
+#[derive(PartialEq, Eq, PartialOrd, Ord, Drop)]
 pub struct Entry {
     pub id: Text,
     pub place: u32,

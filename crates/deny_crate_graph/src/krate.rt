@@ -14,7 +14,7 @@ use semver::{Version, VersionReq};
 use std::fmt;
 
 /// A dependency as the crate's manifest declares it.
-#[derive(Debug, Drop)]
+#[derive(Drop)]
 pub struct Dependency {
     pub name: Text,
     pub req: VersionReq,
@@ -32,7 +32,7 @@ pub struct Dependency {
 }
 
 /// A crate of the graph. It prints as `name = version`.
-#[derive(Debug, Drop)]
+#[derive(Drop)]
 pub struct Krate {
     pub name: Text,
     /// The text by which the metadata names its package.
@@ -139,7 +139,7 @@ impl fmt::Display for Krate {
 
 /// A crate that needs another, or that another needs: its place, and the least kind (normal, dev,
 /// build) of the dependencies between the two.
-#[derive(Debug, Clone, Copy, PartialEq, Eq)]
+#[derive(Clone, Copy, PartialEq, Eq)]
 pub struct DirectDependent {
     pub place: u32,
     pub kind: DepKind,

@@ -82,7 +82,7 @@ fn first_place(places: &[u32]) -> Option<u32>
 
 /// An edge that leads to a crate that a ban concerns from one that bears the name of a wrapper: the
 /// wrapper's range, and the places of the two.
-#[derive(Clone, Copy, Debug)]
+#[derive(Clone, Copy)]
 pub struct WrappedEdge {
     pub range: Span,
     pub place: u32,

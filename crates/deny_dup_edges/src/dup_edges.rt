@@ -22,7 +22,7 @@ use std::alloc::Global;
 pub type DupEdge = Edge;
 
 /// The edges that lead to one crate of a duplicate, at any distance.
-#[derive(Debug, Drop)]
+#[derive(Drop)]
 pub struct DupSet {
     /// The crate's place.
     pub place: u32,
@@ -31,7 +31,7 @@ pub struct DupSet {
 }
 
 /// What is shown of a duplicate.
-#[derive(Debug, Drop)]
+#[derive(Drop)]
 pub struct DupEdges {
     /// The name of its crates.
     pub name: Text,

@@ -7,7 +7,7 @@ use semver::VersionReq;
 /// Which crates an entry speaks of: those of a name, or of a name whose versions meet a
 /// requirement. A policy writes it as `name`, `name@requirement` or `name:requirement`, or as a
 /// table with the key `crate`, or with `name` and maybe `version`.
-#[derive(Debug, Drop)]
+#[derive(Drop)]
 pub struct PackageSpec {
     /// The name. Its range tells entries apart.
     pub name: Spanned<Text>,

@@ -2,7 +2,7 @@ ghost use Rattle.std.specs.Prelude.{◌≡◌};
 ghost use Rattle.deny_entries.specs.PolicyKey.{name_of};
 
 /// A key of a table of the policy.
-#[derive(Debug, Clone, Copy)]
+#[derive(Clone, Copy)]
 pub enum PolicyKey {
     Allow,
     AllowBuildScripts,

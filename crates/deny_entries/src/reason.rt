@@ -14,7 +14,7 @@ use deny_toml::{DeserError, Deserialize, TableHelper, Value};
 use std::alloc::Global;
 
 /// Why an entry stands in the policy.
-#[derive(Debug, Drop)]
+#[derive(Drop)]
 pub struct Reason(pub Spanned<Text>);
 
 impl Deserialize for Reason {

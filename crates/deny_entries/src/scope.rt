@@ -5,7 +5,7 @@ use deny_toml::{DeserError, Deserialize, Value};
 use std::alloc::Global;
 
 /// Which crates a rule looks at. A policy writes the variants in small letters.
-#[derive(Debug, Clone, Copy, PartialEq, Eq)]
+#[derive(Clone, Copy)]
 pub enum Scope {
     /// Every crate.
     All,

@@ -8,7 +8,7 @@ use deny_toml::{DeserError, Deserialize, Value};
 use std::alloc::Global;
 
 /// An entry: a spec, and what its table says besides, if it says anything.
-#[derive(Debug, Drop)]
+#[derive(Drop)]
 pub struct PackageSpecOrExtended<T> {
     /// The crates that it speaks of.
     pub spec: PackageSpec,

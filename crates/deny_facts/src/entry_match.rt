@@ -11,7 +11,7 @@ use deny_lists::{List, NoMemory, Text};
 use std::alloc::Global;
 
 /// An entry, by the name that it speaks of and by its range, with crates that it speaks of.
-#[derive(Debug, Drop)]
+#[derive(Drop)]
 pub struct EntryMatch {
     pub name: Text,
     pub range: Span,

@@ -18,7 +18,7 @@ use deny_lists::{List, NoMemory};
 use std::alloc::Global;
 
 /// A mark for each crate, at its place.
-#[derive(Debug, Drop)]
+#[derive(Drop)]
 pub struct Marks {
     /// Which crates count.
     pub counts: Vec<bool>,

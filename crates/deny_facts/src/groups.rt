@@ -24,7 +24,7 @@ use std::alloc::Global;
 use std::ops::Range;
 
 /// A mark for each crate, at its place.
-#[derive(Debug, Drop)]
+#[derive(Drop)]
 pub struct Groups {
     /// Which crates a skip speaks of.
     pub marked: List<bool>,

@@ -31,7 +31,7 @@ use deny_unread::Unread;
 use std::alloc::Global;
 
 /// What both checks tell and hand out.
-#[derive(Debug, Drop)]
+#[derive(Drop)]
 pub struct Told {
     pub findings: List<Finding>,
     pub dup_edges: List<DupEdges>,
@@ -39,14 +39,14 @@ pub struct Told {
 }
 
 /// The same, and what could not be read of packages.
-#[derive(Debug, Drop)]
+#[derive(Drop)]
 struct Checked {
     told: Told,
     unread: List<Unread>,
 }
 
 /// The same, with what was not read of manifests too, and which manifests are malformed.
-#[derive(Debug, Drop)]
+#[derive(Drop)]
 pub struct Looked {
     pub told: Told,
     pub unread: List<Unread>,

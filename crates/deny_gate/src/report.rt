@@ -1,16 +1,14 @@
-ghost use Rattle.std.proofs.Common.{rules};
-
 use crate::stats::AllStats;
 use deny_base::{Check, Diag, Diagnostic, EntryId, Files, Hit, Kid};
 use deny_krates::{Krates, MetadataFault};
-use deny_lists::{List, NoMemory, Plain, Text};
+use deny_lists::{List, NoMemory, Text};
 use deny_rules::DupEdges;
 use deny_spans::Registry;
 use deny_toml::ConfigFault;
 use deny_unread::Unread;
 
 /// The texts that the gate reads, as bytes, and what it knows besides.
-#[derive(Debug, Drop)]
+#[derive(Drop)]
 pub struct Inputs {
     pub policy: Vec<u8>,
     /// What `cargo metadata` printed.
@@ -24,27 +22,19 @@ pub struct Inputs {
 }
 
 /// One thing that a report tells: what stands, and of which crate, if it is of one.
-#[derive(Debug, Clone, PartialEq, Eq, Drop)]
+#[derive(Drop)]
 pub struct Finding {
     pub check: Check,
     pub kid: Option<Kid>,
     pub diag: Diag,
 }
 
-impl Plain for Finding {
-    ghost clone_is_equal = { Prim.search rules };
-}
-
 /// What a report comes to. `Fail` holds the bits of the checks that have an error: 2 for the bans, 4
 /// for the licences, 6 for both.
-#[derive(Debug, Clone, Copy, PartialEq, Eq)]
+#[derive(Clone, Copy)]
 pub enum Verdict {
     Pass,
     Fail(u8),
-}
-
-impl Plain for Verdict {
-    ghost clone_is_equal = { Prim.search rules };
 }
 
 /// What the gate finds.
@@ -80,7 +70,7 @@ pub struct Report {
 }
 
 /// Why the gate gives no report: the first of these that stands.
-#[derive(Debug, Drop)]
+#[derive(Drop)]
 pub enum GateError {
     /// The policy's text has these faults, in order.
     Config(List<ConfigFault>),

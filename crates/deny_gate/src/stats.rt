@@ -1,5 +1,4 @@
 //! How many findings of each severity a check has, and the code that a program exits with.
-ghost use Rattle.std.proofs.Common.{rules};
 ghost use Rattle.std.specs.Prelude.{◌≡◌, ◌≤◌, Some, None, length, filter, if◌then◌else◌};
 ghost use Rattle.deny_gate.specs.Stats.{all_stats, bit_of, counts_as, exit_code, number_of};
 ghost use Rattle.deny_gate.specs.Stats.{same_severity, stats_of};
@@ -7,11 +6,10 @@ ghost use Rattle.deny_gate.specs.Stats.{same_severity, stats_of};
 use crate::findings::same_check;
 use crate::report::Finding;
 use deny_base::{Check, Severity};
-use deny_lists::Plain;
 
 /// How many findings of a check have each severity, and 2^32 - 1 where there are more. Bugs count
 /// nowhere.
-#[derive(Debug, Clone, Copy, PartialEq, Eq, Default)]
+#[derive(Clone, Copy)]
 pub struct Stats {
     pub errors: u32,
     pub warnings: u32,
@@ -19,21 +17,13 @@ pub struct Stats {
     pub helps: u32,
 }
 
-impl Plain for Stats {
-    ghost clone_is_equal = { Prim.search rules };
-}
-
 /// The counts of each check; none of a check that is not made.
-#[derive(Debug, Clone, Copy, PartialEq, Eq, Default)]
+#[derive(Clone, Copy)]
 pub struct AllStats {
     pub advisories: Option<Stats>,
     pub bans: Option<Stats>,
     pub licenses: Option<Stats>,
     pub sources: Option<Stats>,
-}
-
-impl Plain for AllStats {
-    ghost clone_is_equal = { Prim.search rules };
 }
 
 fn same_severity(a: Severity, b: Severity) -> bool

@@ -2,7 +2,7 @@ use deny_lists::NoMemory;
 use thiserror::Error;
 
 /// Why a text is no glob.
-#[derive(Debug, Clone, Copy, PartialEq, Eq, Error)]
+#[derive(Debug, Clone, Copy, Error)]
 pub enum GlobError {
     /// The text is no glob, and the character that begins at this byte is the first that is bad.
     #[error("the text is no glob: the character at byte {0} is bad")]

@@ -1,7 +1,7 @@
 use deny_lists::NoMemory;
 
 /// Why a pattern is not read on.
-#[derive(Debug, Drop)]
+#[derive(Drop)]
 pub enum Stop {
     /// The character with this number is bad.
     Fault(usize),

@@ -25,7 +25,7 @@ use deny_lists::{List, NoMemory, Text};
 use std::alloc::Global;
 
 /// Where an edge comes from: a crate, or a feature of it, with the crate's id, and the kind of the dependency.
-#[derive(Debug, PartialEq, Eq, PartialOrd, Ord, Drop)]
+#[derive(PartialEq, Eq, PartialOrd, Ord, Drop)]
 pub struct Parent {
     pub feature: Option<Text>,
     pub id: Text,

@@ -16,12 +16,12 @@ use deny_lists::{List, NoMemory, put_in_order};
 use std::alloc::Global;
 
 /// The number of a node of a graph: of a crate, or of an enabled feature of one. A crate's is its place.
-#[derive(Debug, Clone, Copy, PartialEq, Eq, PartialOrd, Ord)]
+#[derive(Clone, Copy)]
 pub struct NodeId(pub u32);
 
 /// An edge from a node, seen from where it ends: the node that it comes from, and the kind of the
 /// dependency that it stands for; none where it comes from a feature of the same crate.
-#[derive(Debug, Clone, Copy, PartialEq, Eq)]
+#[derive(Clone, Copy)]
 pub struct InEdge {
     pub node: NodeId,
     pub kind: Option<DepKind>,

@@ -21,7 +21,7 @@ use std::alloc::Global;
 
 /// A declaration that resolves: the place of the crate that it resolves to, and that of the crate that
 /// declares it, with its index there.
-#[derive(Debug, PartialEq, Eq, PartialOrd, Ord, Drop)]
+#[derive(PartialEq, Eq, PartialOrd, Ord, Drop)]
 pub struct ResolvedAt {
     pub child: u32,
     pub parent: u32,

@@ -12,7 +12,7 @@ use deny_base::{EntryKind, LicenseCode, Span};
 use std::cmp::Ordering;
 
 /// An entry of a policy that grants licences, by its range.
-#[derive(Debug, Clone, Copy)]
+#[derive(Clone, Copy)]
 pub enum Granter {
     /// A licence that every crate may ask for.
     Allowance(Span),

@@ -13,7 +13,7 @@ use std::alloc::Global;
 use std::collections::BTreeMap;
 
 /// A licence that is asked for, with its exception.
-#[derive(Debug, PartialEq, Eq, PartialOrd, Ord, Drop)]
+#[derive(PartialEq, Eq, PartialOrd, Ord, Drop)]
 pub struct Wanted {
     pub id: Text,
     pub exception: Option<Text>,

@@ -17,10 +17,6 @@ impl Plain for u32 {
     ghost clone_is_equal = { Prim.search rules };
 }
 
-impl<T: Plain> Plain for Option<T> {
-    ghost clone_is_equal = { Prim.search (rules, T.clone_is_equal) };
-}
-
 /// A `Vec` that contracts see as the list of its items, so that equal lists are equal values.
 #[derive(Debug, Drop)]
 pub struct List<T> {
@@ -98,10 +94,6 @@ impl<T: Plain> Clone for List<T> {
             vec: self.vec.clone()?,
         })
     }
-}
-
-impl<T: Plain> Plain for List<T> {
-    ghost clone_is_equal = { λ x y same. same };
 }
 
 impl<T: PartialEq> PartialEq for List<T> {

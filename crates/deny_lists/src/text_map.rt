@@ -10,7 +10,7 @@ use std::marker::Model;
 
 /// A map from texts in their byte order, which contracts see as a finite map: equal maps are equal
 /// values.
-#[derive(Debug, Drop)]
+#[derive(Drop)]
 pub struct TextMap<V> {
     pub tree: BTreeMap<String, V>,
 }

@@ -1,4 +1,3 @@
-ghost use Rattle.std.proofs.Common.{rules};
 ghost use Rattle.std.specs.Prelude.{◌≡◌, ◌+◌, ◌<◌, ◌^◌, ◌++◌, [], ◌∷◌, IfOk, length};
 ghost use Rattle.semver.specs.Identifiers.{parts_of, parts_text};
 ghost use Rattle.deny_krates.specs.Bounds.{lock_line_length};
@@ -7,20 +6,16 @@ ghost use Rattle.deny_lock.specs.Line.{before_source, line_span, lock_line, sour
 
 use deny_base::Span;
 use deny_krates::Krate;
-use deny_lists::{NoMemory, Plain, Text};
+use deny_lists::{NoMemory, Text};
 use std::alloc::Global;
 
 /// Where a crate stands in the lock text, in bytes.
-#[derive(Debug, Clone, Copy, PartialEq, Eq)]
+#[derive(Clone, Copy)]
 pub struct LockSpan {
     /// Its line, without the newline.
     pub total: Span,
     /// Its source in that line.
     pub source: Span,
-}
-
-impl Plain for LockSpan {
-    ghost clone_is_equal = { Prim.search rules };
 }
 
 /// Puts the line of a crate at the end, with its newline, and says where it stands.

@@ -12,7 +12,7 @@ use deny_lists::{List, NoMemory, Text};
 use std::alloc::Global;
 
 /// The lock text of a graph, and where each crate stands in it, by the crates' places.
-#[derive(Debug, Drop)]
+#[derive(Drop)]
 pub struct LockText {
     pub text: Text,
     pub spans: List<LockSpan>,

@@ -19,7 +19,7 @@ use semver::VersionReq;
 use std::alloc::Global;
 
 /// A declaration of a crate that resolves, and that its manifest writes.
-#[derive(Debug, Drop)]
+#[derive(Drop)]
 pub struct ManifestDep<'k> {
     /// The declaration, and its number among those of the crate.
     pub dep: &'k Dependency,

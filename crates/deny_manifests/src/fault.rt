@@ -3,7 +3,7 @@ use deny_toml::TomlError;
 use thiserror::Error;
 
 /// Why a text gives no manifest.
-#[derive(Debug, Clone, Copy, PartialEq, Eq, Error)]
+#[derive(Debug, Clone, Copy, Error)]
 pub enum ManifestFault {
     /// The text is no TOML, or goes past the limits.
     #[error("the manifest is no TOML")]

@@ -20,7 +20,7 @@ use deny_toml::{Value, parse};
 use std::alloc::Global;
 
 /// The manifest of a crate: which of its declarations are written there, and where.
-#[derive(Debug, Drop)]
+#[derive(Drop)]
 pub struct Manifest<'k> {
     /// The file that ranges point into; 0 until the text is added to files.
     pub id: FileId,

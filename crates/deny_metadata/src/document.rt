@@ -1,4 +1,3 @@
-ghost use Rattle.std.proofs.Common.{rules};
 ghost use Rattle.std.specs.Prelude.{◌≡◌, IfOk, true};
 ghost use Rattle.std.specs.Str.{is_utf8};
 ghost use Rattle.deny_metadata.specs.private.Borrowed.{members_view, sorted_view, view};
@@ -18,31 +17,23 @@ use crate::fault::MetadataFault;
 use crate::member::Member;
 use crate::text::{pruned_in, value_in};
 use deny_base::DepKind;
-use deny_lists::{List, NoMemory, Plain, Text};
+use deny_lists::{List, NoMemory, Text};
 use json::{Scratch, Value};
 use std::alloc::Global;
 use std::collections::BTreeMap;
 
 /// A feature of a package, and what it enables.
-#[derive(Debug, Clone, PartialEq, Eq, Drop)]
+#[derive(Drop)]
 pub struct Feature {
     pub name: Text,
     pub enables: List<Text>,
 }
 
-impl Plain for Feature {
-    ghost clone_is_equal = { Prim.search rules };
-}
-
 /// A target of a package: its kinds, and the path of its first file.
-#[derive(Debug, Clone, PartialEq, Eq, Drop)]
+#[derive(Drop)]
 pub struct Target {
     pub kind: List<Text>,
     pub src_path: Text,
-}
-
-impl Plain for Target {
-    ghost clone_is_equal = { Prim.search rules };
 }
 
 impl Element for Target {
@@ -58,7 +49,7 @@ impl Element for Target {
 }
 
 /// A dependency as the manifest declares it.
-#[derive(Debug, Drop)]
+#[derive(Drop)]
 pub struct Declaration {
     pub name: Text,
     pub req: Text,
@@ -94,7 +85,7 @@ impl Element for Declaration {
 }
 
 /// A package as the metadata lists it.
-#[derive(Debug, Drop)]
+#[derive(Drop)]
 pub struct Package {
     pub name: Text,
     pub version: Text,
@@ -290,14 +281,10 @@ fn kind_in(alloc: Global, path: &str, dependency: &Value<'_>) -> Result<DepKind,
 }
 
 /// What a dependency is needed as: its kind, and the target that it is for; none for all.
-#[derive(Debug, Clone, PartialEq, Eq, Drop)]
+#[derive(Clone, Drop)]
 pub struct NeededAs {
     pub kind: DepKind,
     pub target: Option<Text>,
-}
-
-impl Plain for NeededAs {
-    ghost clone_is_equal = { Prim.search rules };
 }
 
 impl Element for NeededAs {
@@ -314,7 +301,7 @@ impl Element for NeededAs {
 
 /// A dependency that cargo resolved: the id of the package, and the kinds it is needed as, each
 /// with its target.
-#[derive(Debug, Drop)]
+#[derive(Drop)]
 pub struct NodeDependency {
     pub pkg: Text,
     pub kinds: List<NeededAs>,
@@ -352,7 +339,7 @@ fn kinds_in(mut written: List<NeededAs>) -> Result<List<NeededAs>, NoMemory>
 }
 
 /// What cargo resolved for a package: the features that are enabled, and its dependencies.
-#[derive(Debug, Drop)]
+#[derive(Drop)]
 pub struct Node {
     pub id: Text,
     pub features: List<Text>,
@@ -373,7 +360,7 @@ impl Element for Node {
 }
 
 /// The members of the metadata that the graph is made of, as they stand there.
-#[derive(Debug, Drop)]
+#[derive(Drop)]
 pub struct Document {
     pub packages: List<Package>,
     pub members: List<Text>,

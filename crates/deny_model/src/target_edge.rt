@@ -9,7 +9,7 @@ use deny_lists::Text;
 
 /// A dependency between two crates as cargo resolved it: the crates by their places in graph order,
 /// its kind, and the target that it is for; none for all.
-#[derive(Debug, PartialEq, Eq, PartialOrd, Ord, Drop)]
+#[derive(PartialEq, Eq, PartialOrd, Ord, Drop)]
 pub struct TargetEdge {
     pub parent: u32,
     pub child: u32,

@@ -1,31 +1,26 @@
 ghost use Rattle.std.specs.Prelude.{◌≡◌, ◌≤◌, length, IfOk, IfSome, IsErrOf, MatchResult};
-ghost use Rattle.std.proofs.Common.{rules};
 ghost use Rattle.deny_outside.specs.Children.{AreListed, children};
 ghost use Rattle.deny_outside.specs.Count.{counted};
 ghost use Rattle.deny_outside.specs.Disk.{Disk, IsLater, FailedAt, IsPieceOf, bytes_at};
 
-use deny_lists::{Keyed, List, NoMemory, Plain, Text};
+use deny_lists::{Keyed, List, NoMemory, Text};
 use std::alloc::{AllocError, AllocFailed, Global};
 use thiserror::Error;
 
 /// What stands at a path of a disk.
-#[derive(Debug, Drop)]
+#[derive(Drop)]
 pub enum Place {
     Folder,
     File(List<u8>),
 }
 
 /// What a folder holds under a name.
-#[derive(Debug, Clone, PartialEq, Eq, Drop)]
+#[derive(Drop)]
 pub struct Entry {
     /// The name, without the folder's path.
     pub name: Text,
     /// Whether it is a folder. What is none counts as a file, a link too.
     pub folder: bool,
-}
-
-impl Plain for Entry {
-    ghost clone_is_equal = { Prim.search rules };
 }
 
 impl Keyed for Entry {
@@ -39,14 +34,14 @@ impl Keyed for Entry {
 }
 
 /// The kinds of call that a disk can fail. Contracts count the failures of each kind at each path.
-#[derive(Debug, Clone, Copy, PartialEq, Eq)]
+#[derive(Clone, Copy)]
 pub enum Call {
     List,
     Read,
 }
 
 /// Why a disk did not answer.
-#[derive(Debug, Clone, Copy, PartialEq, Eq, Error)]
+#[derive(Debug, Clone, Copy, Error)]
 pub enum DiskError {
     /// The disk failed the call, and counted that.
     #[error("the disk failed")]

@@ -9,7 +9,7 @@ use std::alloc::Global;
 use std::marker::Model;
 
 /// An output that keeps its bytes in memory, and has room for so many of them.
-#[derive(Debug, Drop)]
+#[derive(Drop)]
 pub struct MemoryOut {
     bytes: Vec<u8>,
     room: usize,

@@ -5,7 +5,7 @@ ghost use Rattle.deny_outside.specs.Out.{Appends, AppendsFront};
 use thiserror::Error;
 
 /// An output did not take all bytes.
-#[derive(Debug, Clone, Copy, PartialEq, Eq, Error)]
+#[derive(Debug, Clone, Copy, Error)]
 #[error("the output did not take all bytes")]
 pub struct OutFault;
 

@@ -16,7 +16,7 @@ const LIMIT: usize = 0x1000_0000;
 const PIECE: usize = 0x1_0000;
 
 /// Why a text was not read to its end.
-#[derive(Debug, Clone, Copy, PartialEq, Eq, Error)]
+#[derive(Debug, Clone, Copy, Error)]
 pub enum ReadEnd {
     /// The disk failed.
     #[error("the disk failed")]

@@ -16,7 +16,7 @@ use std::{fs, io};
 /// The files of the system. It tells nothing of what they hold, and has one count of failures for
 /// every call and path. The file that was read last stays open, so that one is opened once for all
 /// its pieces.
-#[derive(Debug, Drop)]
+#[derive(Drop)]
 pub struct RealDisk<'r> {
     rt: &'r HostRuntime,
     last: LastFile,
@@ -41,7 +41,7 @@ impl<'r> RealDisk<'r> {
 }
 
 /// The file that was read last, by its path, if it is still open.
-#[derive(Debug, Drop)]
+#[derive(Drop)]
 struct LastFile {
     path: String,
     file: Option<File>,

@@ -4,14 +4,14 @@ ghost use Rattle.std.specs.Io.KnownBytes.{Appends};
 use crate::out::{Out, OutFault};
 use std::io::Write;
 
-#[derive(Debug, Clone, Copy)]
+#[derive(Clone, Copy)]
 enum Stream {
     Out,
     Err,
 }
 
 /// Standard output or standard error. It tells nothing of what was written.
-#[derive(Debug, Drop)]
+#[derive(Drop)]
 pub struct RealOut<'r> {
     rt: &'r HostRuntime,
     stream: Stream,

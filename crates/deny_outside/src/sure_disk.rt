@@ -15,7 +15,7 @@ use std::marker::Model;
 
 /// Files in memory that never fail: a path without a file reads as the empty text, and one without
 /// a folder lists as an empty folder.
-#[derive(Debug, Drop)]
+#[derive(Drop)]
 pub struct SureDisk {
     alloc: Global,
     files: TextMap<Place>,

@@ -15,14 +15,14 @@ use std::alloc::Global;
 use std::collections::BTreeMap;
 
 /// A dependency on a node, by the node's number, and what it is needed as.
-#[derive(Debug, PartialEq, Eq, Drop)]
+#[derive(Drop)]
 pub struct Link {
     pub node: u32,
     pub needed_as: NeededAs,
 }
 
 /// What a node resolves to: the number of its package, and its links.
-#[derive(Debug, Drop)]
+#[derive(Drop)]
 pub struct ResolvedNode {
     pub owner: u32,
     pub links: List<Link>,

@@ -15,7 +15,7 @@ use semver::{Version, VersionReq};
 use std::alloc::Global;
 
 /// What the versions that a package writes say.
-#[derive(Debug, Drop)]
+#[derive(Drop)]
 pub struct PackageVersions {
     pub version: Version,
     /// The least version of Rust that it needs, where it writes one.

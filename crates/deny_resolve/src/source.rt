@@ -12,7 +12,7 @@ use std::alloc::Global;
 use url::{ParseError, Url};
 
 /// What the address of a git source names: a branch, a tag, a revision, or none of them.
-#[derive(Debug, Clone, Copy, PartialEq, Eq)]
+#[derive(Clone, Copy)]
 pub enum GitSpec {
     Any,
     Branch,
@@ -21,7 +21,7 @@ pub enum GitSpec {
 }
 
 /// Where a package comes from.
-#[derive(Debug, Drop)]
+#[derive(Drop)]
 pub enum Source {
     /// The public registry, and whether by its sparse index.
     CratesIo(bool),

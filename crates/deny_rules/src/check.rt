@@ -47,7 +47,7 @@ pub struct CheckCtx<'a> {
 }
 
 /// What the check hands out besides its findings.
-#[derive(Debug, Drop)]
+#[derive(Drop)]
 pub struct BansEnd {
     /// One for each entry that is hit, by its first crate and then its first dependent or file.
     pub hits: List<Hit>,

@@ -2,7 +2,7 @@ use deny_lists::NoMemory;
 use thiserror::Error;
 
 /// Why a text is not read.
-#[derive(Debug, Clone, Copy, PartialEq, Eq, Error)]
+#[derive(Debug, Clone, Copy, Error)]
 pub enum SpdxError {
     /// The text is not of the grammar. The offset is that of the first byte that begins no token, or
     /// of the first token that can't stand there. The end of the text counts as a token at the text's

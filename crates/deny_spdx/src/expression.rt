@@ -15,7 +15,7 @@ use std::alloc::Global;
 
 /// How an expression is put together. The requirements stand in it by their numbers, which count
 /// from 0 in text order.
-#[derive(Debug, Drop)]
+#[derive(Drop)]
 pub enum Tree {
     /// The requirement of this number holds.
     Requirement(usize),
@@ -26,7 +26,7 @@ pub enum Tree {
 }
 
 /// A licence expression.
-#[derive(Debug, Drop)]
+#[derive(Drop)]
 pub struct Expression {
     pub requirements: List<Requirement>,
     pub tree: Tree,

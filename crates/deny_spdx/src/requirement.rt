@@ -1,4 +1,3 @@
-ghost use Rattle.std.proofs.Common.{rules};
 ghost use Rattle.std.specs.Prelude.{◌≡◌, ℕ, IfOk, Ok, Err};
 ghost use Rattle.deny_spdx.specs.Grammar.{IsRequirement};
 ghost use Rattle.deny_lists.specs.Reader.{Answers};
@@ -7,19 +6,15 @@ ghost use Rattle.deny_spdx.specs.Meaning.{IsMeaning};
 
 use crate::error::SpdxError;
 use crate::parse::read_requirement;
-use deny_lists::{Plain, Text};
+use deny_lists::Text;
 use std::alloc::Global;
 
 /// A licence that an expression asks for, with the exception to it where one is named. A `+` behind
 /// either is not kept. Two are equal where both parts are, byte for byte.
-#[derive(Debug, Clone, PartialEq, Eq, Drop)]
+#[derive(Drop)]
 pub struct Requirement {
     pub id: Text,
     pub exception: Option<Text>,
-}
-
-impl Plain for Requirement {
-    ghost clone_is_equal = { Prim.search rules };
 }
 
 impl Requirement {

@@ -20,7 +20,7 @@ use deny_std_table::ReplacementData;
 use std::alloc::Global;
 
 /// How a policy minds crates that the standard library replaces.
-#[derive(Debug, Drop)]
+#[derive(Drop)]
 pub struct ReplacementCtx {
     cfg: StdReplacementConfig,
 }

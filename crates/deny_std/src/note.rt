@@ -14,7 +14,7 @@ use deny_std_table::{Api, ApiReplacement, Replacement, ReplacementItem};
 use std::alloc::{AllocError, Global};
 
 /// What stands above items in a note.
-#[derive(Debug, Clone, Copy)]
+#[derive(Clone, Copy)]
 pub enum Heading {
     /// They are stable since this minor version of Rust.
     Version(u8),

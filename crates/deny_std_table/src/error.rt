@@ -3,7 +3,7 @@ use std::alloc::AllocError;
 use thiserror::Error;
 
 /// Why replacement bytes were refused.
-#[derive(Clone, Copy, Debug, PartialEq, Eq, Error)]
+#[derive(Clone, Copy, Debug, Error)]
 pub enum ReplacementError {
     /// The bytes are no table: the byte offset of the first break.
     #[error("the replacement table breaks at byte {0}")]
@@ -25,7 +25,7 @@ impl From<NoMemory> for ReplacementError {
 }
 
 /// Why a table could not be written in the second version.
-#[derive(Clone, Copy, Debug, PartialEq, Eq, Error)]
+#[derive(Clone, Copy, Debug, Error)]
 pub enum UpgradeError {
     /// Its bytes would be 2^28 or more.
     #[error("the replacement table has 2^28 bytes or more in version 2")]

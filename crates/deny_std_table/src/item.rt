@@ -8,7 +8,7 @@ ghost use Rattle.deny_std_table.specs.Item.{IsApiAt, IsReplacementAt, IsItemAt};
 use crate::place::{ApiPlace, ItemPlace, ReplacementPlace, TextPlace, text_at};
 
 /// An API.
-#[derive(Clone, Copy, Debug)]
+#[derive(Clone, Copy)]
 pub struct Api<'d> {
     /// Its path.
     pub name: &'d str,
@@ -17,7 +17,7 @@ pub struct Api<'d> {
 }
 
 /// An API of a crate that has a replacement in the standard library.
-#[derive(Clone, Copy, Debug)]
+#[derive(Clone, Copy)]
 pub struct ApiReplacement<'d> {
     /// What the crate has.
     pub krate: Api<'d>,
@@ -28,7 +28,7 @@ pub struct ApiReplacement<'d> {
 }
 
 /// What an entry says of one API of its crate.
-#[derive(Clone, Copy, Debug)]
+#[derive(Clone, Copy)]
 pub enum ReplacementItem<'d> {
     /// It has a replacement, which is stable since the minor version of Rust 1.
     Stable {

@@ -2,7 +2,7 @@ use deny_lists::NoMemory;
 use thiserror::Error;
 
 /// Why a text is not read as an expression.
-#[derive(Debug, Clone, Copy, PartialEq, Eq, Error)]
+#[derive(Debug, Clone, Copy, Error)]
 pub enum CfgError {
     /// The text is none of the grammar.
     #[error("not a cfg expression")]

@@ -10,7 +10,7 @@ use deny_lists::{List, NoMemory};
 use std::alloc::Global;
 
 /// An expression `cfg(..)`. Two are equal where their trees are.
-#[derive(Debug, PartialEq, Eq, Drop)]
+#[derive(Drop)]
 pub struct CfgExpr {
     /// The tokens in order, without the commas.
     pub tokens: List<Token>,

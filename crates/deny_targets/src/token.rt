@@ -9,7 +9,7 @@ use deny_lists::{List, NoMemory, Text};
 use std::alloc::Global;
 
 /// A token of an expression.
-#[derive(Debug, PartialEq, Eq, Drop)]
+#[derive(PartialEq, Eq, Drop)]
 pub enum Token {
     /// A word other than `all`, `any` and `not`.
     Name(Text),

@@ -18,7 +18,7 @@ use std::cmp::Ordering;
 use std::collections::BTreeMap;
 
 /// A list of the policy whose entries findings are told from.
-#[derive(Debug, Clone, Copy)]
+#[derive(Clone, Copy)]
 pub enum EntryList {
     Deny,
     Allow,

@@ -4,7 +4,7 @@ ghost use Rattle.std.specs.Prelude.{◌≡◌};
 use deny_lists::{Keyed, List, NoMemory, put_records_in_order};
 use std::alloc::Global;
 
-#[derive(Debug, Clone, Copy, PartialEq, Eq)]
+#[derive(Clone, Copy, PartialEq, Eq)]
 struct Told {
     number: u32,
     text: u32,

@@ -19,7 +19,7 @@ use std::alloc::Global;
 use thiserror::Error;
 
 /// Why there is no tree.
-#[derive(Debug, Clone, Copy, PartialEq, Eq, Error)]
+#[derive(Debug, Clone, Copy, Error)]
 pub enum GraphEnd {
     #[error("the graph has no such crate, or the feature is not enabled")]
     NoNode,

@@ -2,14 +2,12 @@ ghost use Rattle.std.specs.Prelude.{◌≡◌, ◌==◌, Some, refl};
 ghost use Rattle.std.specs.Ordering.{nat_cmp, on};
 ghost use Rattle.std.specs.Cmp.{nat_cmp_total, on_total, on_per, on_equiv, nat_eq_equiv, partial_equiv_from_equiv};
 ghost use Rattle.std.specs.Cmp.{partial_order_from_own_ties, partial_order_from_total, unsigned_ties};
-ghost use Rattle.std.proofs.Common.{rules};
 ghost use Rattle.deny_unread.specs.Purpose.{purpose_number, purpose_cmp};
 
-use deny_lists::Plain;
 use std::cmp::Ordering;
 
 /// What a file or a folder of a crate is read for.
-#[derive(Debug, Clone, Copy)]
+#[derive(Clone, Copy)]
 pub enum Purpose {
     /// The crate's manifest, all of it.
     Manifest,
@@ -21,10 +19,6 @@ pub enum Purpose {
     Header,
     /// A file whose sum is compared.
     Sum,
-}
-
-impl Plain for Purpose {
-    ghost clone_is_equal = { Prim.search rules };
 }
 
 impl Purpose {

@@ -1,27 +1,22 @@
 ghost use Rattle.std.specs.Prelude.{◌≡◌};
 ghost use Rattle.std.specs.Cmp.{IsTotalOrder};
-ghost use Rattle.std.proofs.Common.{rules};
 ghost use Rattle.std.specs.FinMap.{IsAntisymmetric};
 ghost use Rattle.deny_unread.specs.Unread.{unread_cmp};
 ghost use Rattle.deny_unread.specs.declared.unread.Unread.{Unread};
 
 use crate::purpose::Purpose;
 use deny_base::Kid;
-use deny_lists::{Plain, Text};
+use deny_lists::Text;
 
 /// What was not read, though it was wanted: by a bound, or since a call failed. Entries ascend by
 /// crate, path and purpose, and those of no crate come first.
-#[derive(Debug, Clone, PartialEq, Eq, PartialOrd, Ord, Drop)]
+#[derive(PartialEq, Eq, PartialOrd, Ord, Drop)]
 pub struct Unread {
     /// The crate that it was wanted for; none for the manifest of a workspace that is no crate's.
     pub krate: Option<Kid>,
     /// The path of the file or the folder.
     pub path: Text,
     pub purpose: Purpose,
-}
-
-impl Plain for Unread {
-    ghost clone_is_equal = { Prim.search rules };
 }
 
 /// The order of entries is by crate, path and purpose, it is total, and only equal entries tie.

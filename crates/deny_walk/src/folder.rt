@@ -13,7 +13,7 @@ use deny_unread::{Purpose, Unread};
 use std::alloc::Global;
 
 /// Why a folder has no list.
-#[derive(Debug, Clone, Copy, PartialEq, Eq)]
+#[derive(Clone, Copy)]
 pub enum NoList {
     /// The disk failed the call.
     Failed,

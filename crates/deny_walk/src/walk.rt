@@ -34,14 +34,14 @@ use std::collections::BTreeSet;
 const MOST_ENTRIES: usize = 0x100_0000;
 
 /// A folder that has no list.
-#[derive(Debug, Drop)]
+#[derive(Drop)]
 pub struct Unlisted {
     pub path: Text,
     pub why: NoList,
 }
 
 /// The paths of a package, ascending.
-#[derive(Debug, Drop)]
+#[derive(Drop)]
 pub struct Walked {
     pub files: List<Text>,
     /// The folders without a list, each with its entry among what is unread.

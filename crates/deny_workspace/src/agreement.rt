@@ -19,7 +19,7 @@ use std::alloc::Global;
 use url::Url;
 
 /// Where the crate of an entry has to come from.
-#[derive(Debug, Drop)]
+#[derive(Drop)]
 pub enum Home {
     CratesIo,
     /// Another registry, by its source; none where that is not known.

@@ -16,7 +16,7 @@ use deny_toml::{Key, Table, Value};
 use std::alloc::Global;
 
 /// An entry, or the patch in its place.
-#[derive(Debug, Drop)]
+#[derive(Drop)]
 pub struct Entry {
     /// The name of the key.
     pub name: Text,

@@ -2,7 +2,7 @@ ghost use Rattle.std.specs.Prelude.{◌≡◌};
 ghost use Rattle.deny_workspace.specs.EntryKey.{name_of};
 
 /// A key that leads to the entries of a workspace, or that an entry has.
-#[derive(Debug, Clone, Copy)]
+#[derive(Clone, Copy)]
 pub enum EntryKey {
     Branch,
     CratesIo,

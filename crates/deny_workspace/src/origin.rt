@@ -12,14 +12,14 @@ use std::alloc::Global;
 use url::{ParseError, Url};
 
 /// The reference of a git source: its kind, and what it names.
-#[derive(Debug, Drop)]
+#[derive(Drop)]
 pub struct Reference {
     pub spec: GitSpec,
     pub value: Option<Text>,
 }
 
 /// The source of an entry.
-#[derive(Debug, Drop)]
+#[derive(Drop)]
 pub enum Origin {
     /// A registry by its name; crates.io where there is none.
     Registry(Option<Text>),

@@ -9,7 +9,7 @@ use deny_lists::{NoMemory, Text};
 use std::alloc::Global;
 
 /// A registry that manifests can name.
-#[derive(Debug, Drop)]
+#[derive(Drop)]
 pub struct Registry {
     pub name: Text,
     /// The address of its index, as a source of metadata writes it: with `registry+` or `sparse+` before

@@ -13,7 +13,7 @@ use semver::VersionReq;
 use std::alloc::Global;
 
 /// A source, with the requirement and the package's name that stand beside it.
-#[derive(Debug, Drop)]
+#[derive(Drop)]
 pub struct Wanted {
     pub origin: Origin,
     pub version: Option<Spanned<VersionReq>>,

@@ -15,7 +15,7 @@ use std::alloc::Global;
 
 /// Which licences crates may ask for: the table `licenses`. Its keys `version` and
 /// `confidence-threshold` pass unread.
-#[derive(Debug, Drop)]
+#[derive(Drop)]
 pub struct Config {
     /// What every crate may ask for; default nothing.
     pub allow: List<Spanned<Requirement>>,

@@ -11,7 +11,7 @@ use deny_toml::{DeserError, Deserialize, TableHelper, Value};
 use std::alloc::Global;
 
 /// What some crates may ask for besides the licences that all may: an entry of `exceptions`.
-#[derive(Debug, Drop)]
+#[derive(Drop)]
 pub struct Exception {
     /// The crates that it speaks of.
     pub spec: PackageSpec,
@@ -20,7 +20,7 @@ pub struct Exception {
 }
 
 /// What an entry of `exceptions` says besides its spec.
-#[derive(Debug, Drop)]
+#[derive(Drop)]
 pub(crate) struct ExceptionKeys {
     /// The key `allow`.
     pub allow: List<Spanned<Requirement>>,

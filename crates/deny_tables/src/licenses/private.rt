@@ -9,7 +9,7 @@ use deny_toml::{DeserError, Deserialize, TableHelper, Value};
 use std::alloc::Global;
 
 /// Which crates are private, and whether that counts: the table `private`.
-#[derive(Debug, Drop)]
+#[derive(Drop)]
 pub(crate) struct Private {
     /// The key `ignore`; default false.
     pub ignore: bool,

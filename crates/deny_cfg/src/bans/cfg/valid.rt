@@ -25,7 +25,7 @@ use deny_tables::bans::cfg::{
 use std::alloc::Global;
 
 /// What an entry that bans crates says besides its spec.
-#[derive(Debug, Drop)]
+#[derive(Drop)]
 pub struct KrateBan {
     /// The crates that may depend on the banned one; an empty list is as none.
     pub wrappers: Option<List<Spanned<Text>>>,
@@ -36,7 +36,7 @@ pub struct KrateBan {
 }
 
 /// Which features of a crate may be enabled.
-#[derive(Debug, Drop)]
+#[derive(Drop)]
 pub struct Features {
     /// The features that may be enabled; where there are none, all may, unless `exact` is set: then none may.
     pub allow: Spanned<List<Spanned<Text>>>,
@@ -47,7 +47,7 @@ pub struct Features {
 }
 
 /// An entry of `features`.
-#[derive(Debug, Drop)]
+#[derive(Drop)]
 pub struct ValidKrateFeatures {
     /// The crates that it speaks of.
     pub spec: PackageSpec,
@@ -58,7 +58,7 @@ pub struct ValidKrateFeatures {
 }
 
 /// What `[bans]` says, without clashes. A field that `Config` has too means the same.
-#[derive(Debug, Drop)]
+#[derive(Drop)]
 pub struct ValidConfig {
     /// The file whose ranges all spans are.
     pub file_id: FileId,

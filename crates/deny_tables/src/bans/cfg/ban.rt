@@ -12,7 +12,7 @@ use deny_toml::{DeserError, Deserialize, TableHelper, Value};
 use std::alloc::Global;
 
 /// What an entry of `deny` says besides its spec.
-#[derive(Debug, Drop)]
+#[derive(Drop)]
 pub struct CrateBanExtended {
     /// The crates that may depend on the banned one.
     pub wrappers: Option<Spanned<List<Spanned<Text>>>>,

@@ -10,7 +10,7 @@ use deny_toml::{DeserError, Deserialize, TableHelper, Value};
 use std::alloc::Global;
 
 /// How build scripts and the files of packages are minded: the table `build`.
-#[derive(Debug, Drop)]
+#[derive(Drop)]
 pub struct BuildConfig {
     /// The crates that may have a build script; without it, all may.
     pub allow_build_scripts: Option<List<PackageSpec>>,

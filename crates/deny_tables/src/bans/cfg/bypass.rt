@@ -12,7 +12,7 @@ use deny_toml::{DeserError, Deserialize, TableHelper, Value};
 use std::alloc::Global;
 
 /// A file of a package that may be executable: an entry of `allow` in an entry of `bypass`.
-#[derive(Debug, Drop)]
+#[derive(Drop)]
 pub struct BypassPath {
     /// Its path, relative to the package's folder.
     pub path: Spanned<Text>,
@@ -51,7 +51,7 @@ impl Deserialize for BypassPath {
 }
 
 /// What the build check allows a crate: an entry of `bypass`.
-#[derive(Debug, Drop)]
+#[derive(Drop)]
 pub struct Bypass {
     /// The crates that it speaks of.
     pub spec: PackageSpec,
@@ -67,7 +67,7 @@ pub struct Bypass {
 }
 
 /// What an entry of `bypass` says besides its spec.
-#[derive(Debug, Drop)]
+#[derive(Drop)]
 pub(crate) struct BypassKeys {
     /// The key `build-script`, as `Bypass` has it.
     pub build_script: Option<Spanned<Checksum>>,

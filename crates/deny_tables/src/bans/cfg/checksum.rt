@@ -12,11 +12,11 @@ use thiserror::Error;
 
 /// The SHA-256 digest of a file. It is written as 64 hex digits, of either case where it is read
 /// and of lower case where it is shown.
-#[derive(Debug, Clone, PartialEq, Eq, Drop)]
+#[derive(Drop)]
 pub struct Checksum(pub [u8; 32]);
 
 /// Why a text is no checksum.
-#[derive(Debug, Clone, Copy, PartialEq, Eq, Error)]
+#[derive(Debug, Clone, Copy, Error)]
 pub enum ChecksumParseError {
     /// The text has not 64 bytes, but so many.
     #[error("a checksum has 64 hex digits, and not {0}")]

@@ -19,7 +19,7 @@ use std::alloc::Global;
 
 /// What `[bans]` of a `deny.toml` says, as it is written. A key that is left out gives the default
 /// that is named, or none.
-#[derive(Debug, Drop)]
+#[derive(Drop)]
 pub struct Config {
     /// The level of crates that stand in several versions; default `warn`.
     pub multiple_versions: LintLevel,

@@ -16,7 +16,7 @@ use deny_toml::{DeserError, Deserialize, TableHelper, Value};
 use std::alloc::Global;
 
 /// Which features of a crate may be enabled: an entry of `features`.
-#[derive(Debug, Drop)]
+#[derive(Drop)]
 pub struct CrateFeatures {
     /// The crates that it speaks of.
     pub spec: PackageSpec,
@@ -32,7 +32,7 @@ pub struct CrateFeatures {
 }
 
 /// What an entry of `features` says besides its spec.
-#[derive(Debug, Drop)]
+#[derive(Drop)]
 pub(crate) struct FeatureLists {
     /// The key `allow`, as `CrateFeatures` has it.
     pub allow: Spanned<List<Spanned<Text>>>,

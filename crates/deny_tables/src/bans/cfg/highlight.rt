@@ -6,7 +6,7 @@ use deny_toml::{DeserError, Deserialize, Value};
 use std::alloc::Global;
 
 /// What is shown of the crates of a duplicate.
-#[derive(Debug, Clone, Copy, PartialEq, Eq)]
+#[derive(Clone, Copy)]
 pub enum GraphHighlight {
     /// The path with the fewest edges.
     SimplestPath,
@@ -14,17 +14,6 @@ pub enum GraphHighlight {
     LowestVersion,
     /// Both.
     All,
-}
-
-impl Default for GraphHighlight {
-    ghost use Rattle.std.specs.Prelude.{◌≡◌};
-    ghost use Rattle.deny_tables.specs.declared.bans.cfg.highlight.GraphHighlight.TheVariants.{All};
-
-    ghost is_default = { λ highlight. highlight ≡ All };
-
-    fn default() -> GraphHighlight {
-        GraphHighlight::All
-    }
 }
 
 impl GraphHighlight {

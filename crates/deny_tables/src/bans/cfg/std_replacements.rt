@@ -16,7 +16,7 @@ use semver::Version;
 use std::alloc::Global;
 
 /// How crates that the standard library has replaced are minded: the table `std-replacements`.
-#[derive(Debug, Drop)]
+#[derive(Drop)]
 pub struct StdReplacementConfig {
     /// Whose direct dependencies are looked at; default `workspace`.
     pub scope: Scope,

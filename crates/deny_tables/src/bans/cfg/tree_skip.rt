@@ -11,7 +11,7 @@ use deny_toml::{DeserError, Deserialize, TableHelper, Value};
 use std::alloc::Global;
 
 /// What an entry of `skip-tree` says besides its spec.
-#[derive(Debug, Drop)]
+#[derive(Drop)]
 pub struct TreeSkipExtended {
     /// Crates are skipped to which fewer edges than this lead from one that the entry speaks of, 0 being as 1;
     /// without it, however many lead there.

@@ -10,7 +10,7 @@ use deny_toml::{DeserError, Deserialize, TableHelper, Value};
 use std::alloc::Global;
 
 /// How the dependencies that a workspace shares are minded: the table `workspace-dependencies`.
-#[derive(Debug, Drop)]
+#[derive(Drop)]
 pub struct WorkspaceDepsConfig {
     /// The level of a dependency with two declarations or more, be they of one member, of which one is not
     /// shared; default `deny`.
