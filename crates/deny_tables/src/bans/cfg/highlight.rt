@@ -16,6 +16,17 @@ pub enum GraphHighlight {
     All,
 }
 
+impl Default for GraphHighlight {
+    ghost use Rattle.std.specs.Prelude.{◌≡◌};
+    ghost use Rattle.deny_tables.specs.declared.bans.cfg.highlight.GraphHighlight.TheVariants.{All};
+
+    ghost is_default = { λ highlight. highlight ≡ All };
+
+    fn default() -> GraphHighlight {
+        GraphHighlight::All
+    }
+}
+
 impl GraphHighlight {
     /// Whether the path with the fewest edges is shown.
     pub fn simplest(self) -> bool
