@@ -53,3 +53,6 @@ returns-clause-value c =
     let l = c.parts in
     let none : 64 - l._part ≡ 0 = omega arith in
     l.invariant.2 ∙ rw none (key_after_zero _ _ _)
+
+pub returns-in_err-push-clause-value : goal.returns-in_err-push-clause-value
+returns-in_err-push-clause-value c = search rules

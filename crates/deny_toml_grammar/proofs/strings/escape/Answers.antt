@@ -23,3 +23,6 @@ returns-clause-value c = (
   search
       rules,
 )
+
+pub returns-in_err-push-clause-value : goal.returns-in_err-push-clause-value
+returns-in_err-push-clause-value c = search rules

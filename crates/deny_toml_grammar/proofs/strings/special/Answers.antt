@@ -28,3 +28,6 @@ returns-in_ok-push-clause-value c = (
 pub returns-else-multi-2-clause-value : goal.returns-else-multi-2-clause-value
 unfolding special
 returns-else-multi-2-clause-value c = search rules
+
+pub returns-in_err-push-clause-value : goal.returns-in_err-push-clause-value
+returns-in_err-push-clause-value c = search rules
