@@ -222,3 +222,9 @@ value-returns-in_ok-members-clause-value t c =
     let b : (first text == 123) ≡ true = grind (arith, common_steps) in
     let read = rw c.skip-else-byte-eq91.ensures.rest at c.in_ok-members.ensures.value in
     laws.value_table c.args.depth c.args.total text some a b ∙ rw (read, c.whole-else-byte-eq91.ensures)
+
+pub array-returns-in_err-push-clause-value : goal.array-returns-in_err-push-clause-value
+array-returns-in_err-push-clause-value t c = search rules
+
+pub members-returns-in_err-push-clause-value : goal.members-returns-in_err-push-clause-value
+members-returns-in_err-push-clause-value t c = search rules
