@@ -3,59 +3,139 @@
 #![tactic(auto)]
 
 use deny_globs::{Glob, GlobError, GlobSet};
-use std::alloc::Global;
-use std::io::{self, BufRead, BufReader, BufWriter, Write};
+use std::alloc::{AllocError, Global};
+use std::io;
 
 fn main(rt: HostRuntime) -> io::Result<()> {
-    let alloc = rt.alloc();
-    let mut out = BufWriter::new(alloc, io::writer(&rt))?;
-    let mut set = GlobSet::empty(alloc);
-    let mut globs = 0u64;
+    let input = io::read_to_string(rt.alloc(), rt.reader())?;
+    let answers = answers(rt.alloc(), input.as_str())?;
+    print!(rt; "{answers}")
+}
+
+/// The lines, each with its answer.
+fn answers(alloc: Global, input: &str) -> Result<String, AllocError> {
+    let mut answers = String::new(alloc);
+    let mut globs = Globs::none(alloc);
+    push_answers(alloc, input, &mut globs, &mut answers)?;
+    Ok(answers)
+}
+
+fn push_answers(
+    alloc: Global,
+    input: &str,
+    globs: &mut Globs,
+    answers: &mut String,
+) -> Result<(), AllocError> {
+    for line in input.lines() {
+        push_line(alloc, line, globs, answers)?;
+    }
+    Ok(())
+}
+
+fn push_line(
+    alloc: Global,
+    line: &str,
+    globs: &mut Globs,
+    answers: &mut String,
+) -> Result<(), AllocError> {
+    answers.push_str(line)?;
+    push_answer(alloc, line, globs, answers)?;
+    answers.push_str("\n")
+}
+
+/// What a glob is, or which globs fit a path. Another line begins a set, and has no answer.
+fn push_answer(
+    alloc: Global,
+    line: &str,
+    globs: &mut Globs,
+    answers: &mut String,
+) -> Result<(), AllocError> {
+    if let Some(text) = line.strip_prefix("glob ") {
+        return push_added(globs.add(alloc, text), answers);
+    }
+    if let Some(path) = line.strip_prefix("path ") {
+        return push_matches(alloc, path, &globs.set, answers);
+    }
+    *globs = Globs::none(alloc);
+    Ok(())
+}
+
+fn push_added(added: Added, answers: &mut String) -> Result<(), AllocError> {
+    match added {
+        Added::Numbered(number) => push_number(": ", number, answers),
+        Added::Bad(place) => push_number(": bad ", place, answers),
+        Added::Memory => answers.push_str(": memory"),
+    }
+}
+
+/// The numbers of the globs that fit the path, as many as the memory sufficed for.
+fn push_matches(
+    alloc: Global,
+    path: &str,
+    set: &GlobSet,
+    answers: &mut String,
+) -> Result<(), AllocError> {
     let mut indices = Vec::new(alloc);
-    for line in BufReader::new(alloc, rt.reader())?.lines(alloc) {
-        let line = line?;
-        if let Some(text) = line.strip_prefix("glob ") {
-            match add(alloc, &mut set, text) {
-                Answer::Added => {
-                    writeln!(out, "{line}: {globs}")?;
-                    globs = globs.wrapping_add(1);
-                },
-                Answer::Bad(place) => writeln!(out, "{line}: bad {place}")?,
-                Answer::Memory => writeln!(out, "{line}: memory")?,
-            }
-        } else if let Some(path) = line.strip_prefix("path ") {
-            let found = set.matches(path, &mut indices);
-            write!(out, "{line}:")?;
-            for index in &indices {
-                write!(out, " {index}")?;
-            }
-            writeln!(out, "{}", if found.is_ok() { "" } else { " memory" })?;
-        } else {
-            set = GlobSet::empty(alloc);
-            globs = 0;
-            writeln!(out, "{line}")?;
+    let found = set.matches(path, &mut indices);
+    push_indices(indices.as_slice(), answers)?;
+    answers.push_str(if found.is_ok() { "" } else { " memory" })
+}
+
+fn push_indices(indices: &[usize], answers: &mut String) -> Result<(), AllocError> {
+    answers.push_str(":")?;
+    for index in indices {
+        push_number(" ", *index, answers)?;
+    }
+    Ok(())
+}
+
+fn push_number(before: &str, number: usize, answers: &mut String) -> Result<(), AllocError> {
+    answers.push_str(before)?;
+    answers.write(number)
+}
+
+/// The globs of a set, and how many were added to it.
+#[derive(Drop)]
+struct Globs {
+    set: GlobSet,
+    count: usize,
+}
+
+impl Globs {
+    fn none(alloc: Global) -> Globs {
+        Globs {
+            set: GlobSet::empty(alloc),
+            count: 0,
         }
     }
-    out.flush()
+
+    /// Adds a text to the set, where it is a glob.
+    fn add(&mut self, alloc: Global, text: &str) -> Added {
+        match Glob::parse(alloc, text) {
+            Ok(glob) => self.add_glob(glob),
+            Err(GlobError::Bad(place)) => Added::Bad(place),
+            Err(GlobError::Memory) => Added::Memory,
+        }
+    }
+
+    fn add_glob(&mut self, glob: Glob) -> Added {
+        let number = self.count;
+        match self.set.add(glob) {
+            Ok(()) => {
+                self.count = number.wrapping_add(1);
+                Added::Numbered(number)
+            }
+            Err(_) => Added::Memory,
+        }
+    }
 }
 
 /// What became of a text.
 #[derive(Drop)]
-enum Answer {
-    Added,
+enum Added {
+    /// It is the glob of this number.
+    Numbered(usize),
     /// It is no glob, and bad at this byte.
     Bad(usize),
     Memory,
-}
-
-/// Adds a text to the set, where it is a glob.
-fn add(alloc: Global, set: &mut GlobSet, text: &str) -> Answer {
-    match Glob::parse(alloc, text) {
-        Ok(glob) => match set.add(glob) {
-            Ok(()) => Answer::Added,
-            Err(_) => Answer::Memory,
-        },
-        Err(GlobError::Bad(place)) => Answer::Bad(place),
-        Err(GlobError::Memory) => Answer::Memory,
-    }
 }
