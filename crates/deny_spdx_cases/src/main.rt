@@ -7,22 +7,39 @@ ghost use Rattle.std.specs.Prelude.{◌≡◌, IfOk, vec_len};
 
 use deny_spdx::{Expression, Requirement, SpdxError};
 use std::alloc::{AllocError, Global};
-use std::io::{self, BufRead, BufReader, BufWriter, Write};
+use std::io;
 
 /// How many requirements have values of their own in an assignment.
 const FREE: usize = 8;
 
 fn main(rt: HostRuntime) -> io::Result<()> {
-    let alloc = rt.alloc();
-    let mut out = BufWriter::new(alloc, io::writer(&rt))?;
-    for line in BufReader::new(alloc, rt.reader())?.lines(alloc) {
-        let line = line?;
-        let text = unescaped(alloc, &line)?;
-        let whole = expression_answer(alloc, &text)?;
-        let one = requirement_answer(alloc, &text)?;
-        writeln!(out, "{line}: {whole}; {one}")?;
+    let input = io::read_to_string(rt.alloc(), rt.reader())?;
+    let answers = answers(rt.alloc(), input.as_str())?;
+    print!(rt; "{answers}")
+}
+
+/// The lines, each with its answer.
+fn answers(alloc: Global, input: &str) -> Result<String, AllocError> {
+    let mut answers = String::new(alloc);
+    for line in input.lines() {
+        push_line(alloc, line, &mut answers)?;
     }
-    out.flush()
+    Ok(answers)
+}
+
+fn push_line(alloc: Global, line: &str, answers: &mut String) -> Result<(), AllocError> {
+    answers.push_str(line)?;
+    let text = unescaped(alloc, line)?;
+    push_answer(alloc, text.as_str(), answers)
+}
+
+/// What the text is as an expression, and as one requirement.
+fn push_answer(alloc: Global, text: &str, answers: &mut String) -> Result<(), AllocError> {
+    answers.push_str(": ")?;
+    push_expression(alloc, text, answers)?;
+    answers.push_str("; ")?;
+    push_requirement(alloc, text, answers)?;
+    answers.push_str("\n")
 }
 
 /// The line with `\t`, `\n`, `\r` and `\\` for what they stand for.
@@ -30,16 +47,18 @@ fn unescaped(alloc: Global, line: &str) -> Result<String, AllocError> {
     let mut text = String::new(alloc);
     let mut escaped = false;
     for c in line.chars() {
-        if escaped {
-            text.push(meant(c))?;
-            escaped = false;
-        } else if c == '\\' {
-            escaped = true;
-        } else {
-            text.push(c)?;
-        }
+        escaped = push_character(c, escaped, &mut text)?;
     }
     Ok(text)
+}
+
+/// Puts a character at the end, and tells whether it is a backslash that the next one stands behind.
+fn push_character(c: char, escaped: bool, text: &mut String) -> Result<bool, AllocError> {
+    if c == '\\' && !escaped {
+        return Ok(true);
+    }
+    text.push(if escaped { meant(c) } else { c })?;
+    Ok(false)
 }
 
 /// What the character stands for behind a backslash.
@@ -53,77 +72,109 @@ fn meant(c: char) -> char {
 }
 
 /// What the text is as an expression.
-fn expression_answer(alloc: Global, text: &str) -> Result<String, AllocError> {
+fn push_expression(alloc: Global, text: &str, answers: &mut String) -> Result<(), AllocError> {
     match Expression::parse(alloc, text) {
-        Ok(expression) => {
-            let names = names(alloc, expression.requirements())?;
-            let truths = truths(alloc, &expression)?;
-            format!(in alloc; "ok {names} {truths}")
-        },
-        Err(error) => fault(alloc, error),
+        Ok(expression) => push_names_and_truths(alloc, &expression, answers),
+        Err(error) => push_fault(error, answers),
     }
 }
 
 /// What the text is as one requirement.
-fn requirement_answer(alloc: Global, text: &str) -> Result<String, AllocError> {
+fn push_requirement(alloc: Global, text: &str, answers: &mut String) -> Result<(), AllocError> {
     match Requirement::parse(alloc, text) {
-        Ok(requirement) => {
-            let name = name(alloc, &requirement)?;
-            format!(in alloc; "ok {name}")
-        },
-        Err(error) => fault(alloc, error),
+        Ok(requirement) => push_name("ok ", &requirement, answers),
+        Err(error) => push_fault(error, answers),
     }
 }
 
-fn fault(alloc: Global, error: SpdxError) -> Result<String, AllocError> {
+fn push_fault(error: SpdxError, answers: &mut String) -> Result<(), AllocError> {
     match error {
-        SpdxError::Bad(place) => format!(in alloc; "bad {place}"),
-        SpdxError::Memory => String::from_str(alloc, "memory"),
+        SpdxError::Bad(place) => push_place(place, answers),
+        SpdxError::Memory => answers.push_str("memory"),
     }
+}
+
+fn push_place(place: usize, answers: &mut String) -> Result<(), AllocError> {
+    answers.push_str("bad ")?;
+    answers.write(place)
+}
+
+fn push_names_and_truths(
+    alloc: Global,
+    expression: &Expression,
+    answers: &mut String,
+) -> Result<(), AllocError> {
+    answers.push_str("ok ")?;
+    push_names(expression.requirements(), answers)?;
+    answers.push_str(" ")?;
+    push_truths(alloc, expression, answers)
 }
 
 /// The requirements in order.
-fn names(alloc: Global, requirements: &[Requirement]) -> Result<String, AllocError> {
-    let mut names = String::new(alloc);
+fn push_names(requirements: &[Requirement], answers: &mut String) -> Result<(), AllocError> {
+    let mut before = "";
     for requirement in requirements {
-        if !names.is_empty() {
-            names.push_str(", ")?;
-        }
-        names.push_str(&name(alloc, requirement)?)?;
+        push_name(before, requirement, answers)?;
+        before = ", ";
     }
-    Ok(names)
+    Ok(())
 }
 
-fn name(alloc: Global, requirement: &Requirement) -> Result<String, AllocError> {
+fn push_name(
+    before: &str,
+    requirement: &Requirement,
+    answers: &mut String,
+) -> Result<(), AllocError> {
+    answers.push_str(before)?;
+    answers.push_str(requirement.id.as_str())?;
     match &requirement.exception {
-        None => String::from_str(alloc, requirement.id.as_str()),
-        Some(exception) => format!(in alloc; "{} WITH {}", requirement.id, exception),
+        None => Ok(()),
+        Some(exception) => push_exception(exception.as_str(), answers),
     }
+}
+
+fn push_exception(exception: &str, answers: &mut String) -> Result<(), AllocError> {
+    answers.push_str(" WITH ")?;
+    answers.push_str(exception)
 }
 
 /// A digit for each assignment to the first requirements.
-fn truths(alloc: Global, expression: &Expression) -> Result<String, AllocError> {
-    let count = expression.requirements().len();
-    let mut digits = String::new(alloc);
-    for bits in 0..1u32 << count.min(FREE) {
-        let allowed = assignment(alloc, count, bits)?;
-        digits.push(if expression.evaluate(&allowed) {
-            '1'
-        } else {
-            '0'
-        })?;
+fn push_truths(
+    alloc: Global,
+    expression: &Expression,
+    answers: &mut String,
+) -> Result<(), AllocError> {
+    let count = expression.requirements().len().min(FREE);
+    for bits in 0..1u32 << count {
+        push_truth(alloc, expression, bits, answers)?;
     }
-    Ok(digits)
+    Ok(())
 }
 
-/// A value for each requirement: its bit, and past the free ones that of the first.
+fn push_truth(
+    alloc: Global,
+    expression: &Expression,
+    bits: u32,
+    answers: &mut String,
+) -> Result<(), AllocError> {
+    let allowed = assignment(alloc, expression.requirements().len(), bits)?;
+    let is_true = expression.evaluate(&allowed);
+    answers.push_str(if is_true { "1" } else { "0" })
+}
+
+/// A value for each requirement.
 fn assignment(alloc: Global, count: usize, bits: u32) -> Result<Vec<bool>, AllocError>
     ensures { IfOk result (λ values. vec_len values ≡ count) }
 {
     let mut values = Vec::new(alloc);
     for number in 0..count {
-        let place = if number < FREE { number } else { 0 };
-        values.push((bits >> place) & 1 == 1)?;
+        values.push(value(number, bits))?;
     }
     Ok(values)
+}
+
+/// The value of a requirement: its bit, and past the free ones that of the first.
+fn value(number: usize, bits: u32) -> bool {
+    let place = if number < FREE { number } else { 0 };
+    (bits >> place) & 1 == 1
 }
