@@ -1,7 +1,7 @@
 ghost use Rattle.std.specs.Prelude.{◌≡◌, IfOk, true};
 ghost use Rattle.std.specs.Str.{is_utf8};
 ghost use Rattle.deny_metadata.specs.private.Borrowed.{members_view, sorted_view, view};
-ghost use Rattle.deny_metadata.specs.private.Parts.{identity_at, terms_at};
+ghost use Rattle.deny_metadata.specs.private.Parts.{contents_at, identity_at, requested_at, terms_at, usage_at};
 ghost use Rattle.deny_metadata.specs.Document.{document_at, target_at, declaration_at, feature_at, features_from};
 ghost use Rattle.deny_metadata.specs.Document.{features_member, package_at, kind_named, kind_member, needed_as_at};
 ghost use Rattle.deny_metadata.specs.Document.{kinds_of, node_dependency_at, node_at, resolve_given, document_of};
@@ -64,24 +64,77 @@ pub struct Declaration {
 impl Element for Declaration {
     ghost read_at = { declaration_at };
 
-    #[tactic(auto, unfolding(crate::specs::Document::declaration_at))]
     fn from_value(
         alloc: Global,
         path: &str,
         value: &Value<'_>,
     ) -> Result<Declaration, MetadataFault> {
-        object(alloc, path, value)?;
+        let requested = requested_in(alloc, path, value)?;
+        let usage = usage_in(alloc, path, value)?;
         Ok(Declaration {
-            name: text_of(alloc, path, value, Member::Name)?,
-            req: text_of(alloc, path, value, Member::Req)?,
-            kind: kind_in(alloc, path, value)?,
-            rename: optional_text_in(alloc, path, value, Member::Rename)?,
-            target: optional_text_in(alloc, path, value, Member::Target)?,
-            path: optional_text_in(alloc, path, value, Member::Path)?,
-            features: each_text_given(alloc, path, value, Member::Features)?,
-            uses_default_features: flag_in(alloc, path, value, Member::UsesDefaultFeatures, true)?,
+            name: requested.name,
+            req: requested.req,
+            kind: requested.kind,
+            rename: requested.rename,
+            target: usage.target,
+            path: usage.path,
+            features: usage.features,
+            uses_default_features: usage.uses_default_features,
         })
     }
+}
+
+// What a dependency is: which versions of which package, of which kind, and by which name.
+#[derive(Drop)]
+struct Requested {
+    name: Text,
+    req: Text,
+    kind: DepKind,
+    rename: Option<Text>,
+}
+
+// What the dependency that a value declares is.
+#[tactic(auto, unfolding(crate::specs::private::Parts::requested_at))]
+fn requested_in(alloc: Global, path: &str, value: &Value<'_>) -> Result<Requested, MetadataFault>
+    ensures { Gives result (requested_at path.now (view value.now)) }
+{
+    object(alloc, path, value)?;
+    let name = text_of(alloc, path, value, Member::Name)?;
+    let req = text_of(alloc, path, value, Member::Req)?;
+    let kind = kind_in(alloc, path, value)?;
+    let rename = optional_text_in(alloc, path, value, Member::Rename)?;
+    Ok(Requested {
+        name,
+        req,
+        kind,
+        rename,
+    })
+}
+
+// How a dependency is used: for which target, from which folder, and with which features.
+#[derive(Drop)]
+struct Usage {
+    target: Option<Text>,
+    path: Option<Text>,
+    features: List<Text>,
+    uses_default_features: bool,
+}
+
+// How the dependency that a value declares is used.
+#[tactic(auto, unfolding(crate::specs::private::Parts::usage_at))]
+fn usage_in(alloc: Global, path: &str, value: &Value<'_>) -> Result<Usage, MetadataFault>
+    ensures { Gives result (usage_at path.now (view value.now)) }
+{
+    let target = optional_text_in(alloc, path, value, Member::Target)?;
+    let folder = optional_text_in(alloc, path, value, Member::Path)?;
+    let features = each_text_given(alloc, path, value, Member::Features)?;
+    let uses_default_features = flag_in(alloc, path, value, Member::UsesDefaultFeatures, true)?;
+    Ok(Usage {
+        target,
+        path: folder,
+        features,
+        uses_default_features,
+    })
 }
 
 /// A package as the metadata lists it.
@@ -104,10 +157,10 @@ pub struct Package {
 impl Element for Package {
     ghost read_at = { package_at };
 
-    #[tactic(auto, using(crate::proofs::PartsLemmas::package_in_parts))]
     fn from_value(alloc: Global, path: &str, value: &Value<'_>) -> Result<Package, MetadataFault> {
         let identity = identity_in(alloc, path, value)?;
         let terms = terms_in(alloc, path, value)?;
+        let contents = contents_in(alloc, path, value)?;
         Ok(Package {
             name: identity.name,
             version: identity.version,
@@ -117,9 +170,9 @@ impl Element for Package {
             license: terms.license,
             rust_version: terms.rust_version,
             publish: terms.publish,
-            features: features_in(alloc, path, value)?,
-            targets: each_given(alloc, path, value, Member::Targets)?,
-            dependencies: each_given(alloc, path, value, Member::Dependencies)?,
+            features: contents.features,
+            targets: contents.targets,
+            dependencies: contents.dependencies,
         })
     }
 }
@@ -174,6 +227,29 @@ fn terms_in(alloc: Global, path: &str, value: &Value<'_>) -> Result<Terms, Metad
         license,
         rust_version,
         publish,
+    })
+}
+
+// What a package is made of.
+#[derive(Drop)]
+struct Contents {
+    features: List<Feature>,
+    targets: List<Target>,
+    dependencies: List<Declaration>,
+}
+
+// What the package that a value is is made of.
+#[tactic(auto, unfolding(crate::specs::private::Parts::contents_at))]
+fn contents_in(alloc: Global, path: &str, value: &Value<'_>) -> Result<Contents, MetadataFault>
+    ensures { Gives result (contents_at path.now (view value.now)) }
+{
+    let features = features_in(alloc, path, value)?;
+    let targets = each_given(alloc, path, value, Member::Targets)?;
+    let dependencies = each_given(alloc, path, value, Member::Dependencies)?;
+    Ok(Contents {
+        features,
+        targets,
+        dependencies,
     })
 }
 

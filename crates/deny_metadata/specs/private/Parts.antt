@@ -1,13 +1,42 @@
--- The parts in which a package is read.
-use Rattle.std.specs.Prelude.{ℕ, List, Result, Ok}
+-- The parts in which a package and a declaration are read.
+use Rattle.std.specs.Prelude.{ℕ, List, Result, Ok, true}
 use Rattle.serde_json.specs.Data.{Data}
-use Rattle.deny_metadata.specs.Elements.{object_at, text_member, optional_text, optional_texts}
+use Rattle.deny_metadata.specs.Document.{declaration_at, features_member, kind_member, target_at}
+use Rattle.deny_metadata.specs.Elements.{object_at, text_at, text_member, optional_text, optional_texts, flag_member}
+use Rattle.deny_metadata.specs.Elements.{each_optional}
 use Rattle.deny_metadata.specs.Reading.{◌>>=◌}
+use Rattle.deny_metadata.specs.declared.document.Contents.{Contents}
 use Rattle.deny_metadata.specs.declared.document.Identity.{Identity}
+use Rattle.deny_metadata.specs.declared.document.Requested.{Requested}
 use Rattle.deny_metadata.specs.declared.document.Terms.{Terms}
+use Rattle.deny_metadata.specs.declared.document.Usage.{Usage}
 use Rattle.deny_metadata.specs.declared.fault.MetadataFault.{MetadataFault}
 use Rattle.deny_metadata.specs.declared.member.Member.TheVariants.{Name, Version, Id, ManifestPath, Source, License}
-use Rattle.deny_metadata.specs.declared.member.Member.TheVariants.{RustVersion, Publish}
+use Rattle.deny_metadata.specs.declared.member.Member.TheVariants.{RustVersion, Publish, Targets}
+use Rattle.deny_metadata.specs.declared.member.Member.TheVariants.{Dependencies, Req, Rename, Target as ForTarget}
+use Rattle.deny_metadata.specs.declared.member.Member.TheVariants.{Path, Features, UsesDefaultFeatures}
+
+unfoldable pub requested_at : List ℕ → Data → Result Requested MetadataFault
+requested_at path d = do
+  _ ← object_at path d
+  name ← text_member path Name d
+  req ← text_member path Req d
+  kind ← kind_member path d
+  rename ← optional_text path Rename d
+  Ok (record { name = name; req = req; kind = kind; rename = rename })
+
+unfoldable pub usage_at : List ℕ → Data → Result Usage MetadataFault
+usage_at path d = do
+  target ← optional_text path ForTarget d
+  folder ← optional_text path Path d
+  features ← each_optional text_at path Features d
+  uses_default_features ← flag_member path UsesDefaultFeatures true d
+  Ok (record {
+    target = target;
+    path = folder;
+    features = features;
+    uses_default_features = uses_default_features;
+  })
 
 unfoldable pub identity_at : List ℕ → Data → Result Identity MetadataFault
 identity_at path d = do
@@ -25,3 +54,10 @@ terms_at path d = do
   rust_version ← optional_text path RustVersion d
   publish ← optional_texts path Publish d
   Ok (record { source = source; license = license; rust_version = rust_version; publish = publish })
+
+unfoldable pub contents_at : List ℕ → Data → Result Contents MetadataFault
+contents_at path d = do
+  features ← features_member path d
+  targets ← each_optional target_at path Targets d
+  dependencies ← each_optional declaration_at path Dependencies d
+  Ok (record { features = features; targets = targets; dependencies = dependencies })
