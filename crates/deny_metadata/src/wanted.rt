@@ -1,5 +1,5 @@
 ghost use Rattle.std.specs.Prelude.{◌≡◌};
-ghost use Rattle.deny_metadata.specs.private.Wanted.{all_if, is_nothing, member_wanted};
+ghost use Rattle.deny_metadata.specs.private.Wanted.{all_if, has, is_nothing, member_wanted};
 ghost use Rattle.deny_metadata.specs.private.Wanted.{metadata_member, package_member, target_member};
 ghost use Rattle.deny_metadata.specs.private.Wanted.{declaration_member, resolve_member};
 ghost use Rattle.deny_metadata.specs.private.Wanted.{node_member, dependency_member};
@@ -56,16 +56,23 @@ fn all_if(is_read: bool) -> Wanted
     }
 }
 
+// Whether a name is that of the member.
+fn is(name: &str, member: Member) -> bool
+    ensures { result ≡ has name.now member }
+{
+    name == member.name()
+}
+
 #[tactic(auto, unfolding(crate::specs::private::Wanted::metadata_member))]
 fn metadata_member(name: &str) -> Wanted
     ensures { result ≡ metadata_member name.now }
 {
-    if name == Member::Packages.name() {
+    if is(name, Member::Packages) {
         Wanted::Package
-    } else if name == Member::Resolve.name() {
+    } else if is(name, Member::Resolve) {
         Wanted::Resolve
     } else {
-        all_if(name == Member::WorkspaceMembers.name() || name == Member::WorkspaceRoot.name())
+        all_if(is(name, Member::WorkspaceMembers) || is(name, Member::WorkspaceRoot))
     }
 }
 
@@ -73,21 +80,21 @@ fn metadata_member(name: &str) -> Wanted
 fn package_member(name: &str) -> Wanted
     ensures { result ≡ package_member name.now }
 {
-    if name == Member::Targets.name() {
+    if is(name, Member::Targets) {
         Wanted::Target
-    } else if name == Member::Dependencies.name() {
+    } else if is(name, Member::Dependencies) {
         Wanted::Declaration
     } else {
         all_if(
-            name == Member::Name.name()
-                || name == Member::Version.name()
-                || name == Member::Id.name()
-                || name == Member::ManifestPath.name()
-                || name == Member::Source.name()
-                || name == Member::License.name()
-                || name == Member::RustVersion.name()
-                || name == Member::Publish.name()
-                || name == Member::Features.name(),
+            is(name, Member::Name)
+                || is(name, Member::Version)
+                || is(name, Member::Id)
+                || is(name, Member::ManifestPath)
+                || is(name, Member::Source)
+                || is(name, Member::License)
+                || is(name, Member::RustVersion)
+                || is(name, Member::Publish)
+                || is(name, Member::Features),
         )
     }
 }
@@ -96,7 +103,7 @@ fn package_member(name: &str) -> Wanted
 fn target_member(name: &str) -> Wanted
     ensures { result ≡ target_member name.now }
 {
-    all_if(name == Member::Kind.name() || name == Member::SrcPath.name())
+    all_if(is(name, Member::Kind) || is(name, Member::SrcPath))
 }
 
 #[tactic(auto, unfolding(crate::specs::private::Wanted::declaration_member))]
@@ -104,14 +111,14 @@ fn declaration_member(name: &str) -> Wanted
     ensures { result ≡ declaration_member name.now }
 {
     all_if(
-        name == Member::Name.name()
-            || name == Member::Req.name()
-            || name == Member::Kind.name()
-            || name == Member::Rename.name()
-            || name == Member::Target.name()
-            || name == Member::Path.name()
-            || name == Member::Features.name()
-            || name == Member::UsesDefaultFeatures.name(),
+        is(name, Member::Name)
+            || is(name, Member::Req)
+            || is(name, Member::Kind)
+            || is(name, Member::Rename)
+            || is(name, Member::Target)
+            || is(name, Member::Path)
+            || is(name, Member::Features)
+            || is(name, Member::UsesDefaultFeatures),
     )
 }
 
@@ -119,7 +126,7 @@ fn declaration_member(name: &str) -> Wanted
 fn resolve_member(name: &str) -> Wanted
     ensures { result ≡ resolve_member name.now }
 {
-    if name == Member::Nodes.name() {
+    if is(name, Member::Nodes) {
         Wanted::Node
     } else {
         Wanted::Nothing
@@ -130,10 +137,10 @@ fn resolve_member(name: &str) -> Wanted
 fn node_member(name: &str) -> Wanted
     ensures { result ≡ node_member name.now }
 {
-    if name == Member::Deps.name() {
+    if is(name, Member::Deps) {
         Wanted::NodeDependency
     } else {
-        all_if(name == Member::Id.name() || name == Member::Features.name())
+        all_if(is(name, Member::Id) || is(name, Member::Features))
     }
 }
 
@@ -141,5 +148,5 @@ fn node_member(name: &str) -> Wanted
 fn dependency_member(name: &str) -> Wanted
     ensures { result ≡ dependency_member name.now }
 {
-    all_if(name == Member::Pkg.name() || name == Member::DepKinds.name())
+    all_if(is(name, Member::Pkg) || is(name, Member::DepKinds))
 }
