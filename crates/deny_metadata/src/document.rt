@@ -1,11 +1,12 @@
-ghost use Rattle.std.specs.Prelude.{◌≡◌, IfOk, true};
+ghost use Rattle.std.specs.Prelude.{◌≡◌, ◌++◌, [], ◌∷◌, IfOk, MatchResult, Ok, true};
 ghost use Rattle.std.specs.Str.{is_utf8};
 ghost use Rattle.deny_metadata.specs.private.Borrowed.{members_view, sorted_view, view};
 ghost use Rattle.deny_metadata.specs.private.Parts.{contents_at, identity_at, requested_at, terms_at, usage_at};
 ghost use Rattle.deny_metadata.specs.Document.{document_at, target_at, declaration_at, feature_at, features_from};
 ghost use Rattle.deny_metadata.specs.Document.{features_member, package_at, kind_named, kind_member, needed_as_at};
 ghost use Rattle.deny_metadata.specs.Document.{kinds_of, node_dependency_at, node_at, resolve_given, document_of};
-ghost use Rattle.deny_metadata.specs.Reading.{Gives};
+ghost use Rattle.deny_metadata.specs.Reading.{Fails, Gives};
+ghost use Rattle.deny_metadata.specs.declared.document.Feature.{Feature};
 
 use crate::borrowed::{items_in, members_in, text_in};
 use crate::elements::{
@@ -306,9 +307,26 @@ fn features_by<'v, 't>(
 {
     let mut features = List::new(alloc);
     for (name, value) in sorted.iter() {
-        features.push(feature_of(alloc, path, name, value)?)?;
+        push_feature(alloc, path, name, value, &mut features)?;
     }
     Ok(features)
+}
+
+// Puts the feature of this name at the end.
+fn push_feature(
+    alloc: Global,
+    path: &str,
+    name: &str,
+    value: &Value<'_>,
+    features: &mut List<Feature>,
+) -> Result<(), MetadataFault>
+    ensures { MatchResult result
+        (λ _. (f : Feature) × (feature_at path.now name.now (view value.now) ≡ Ok f)
+        × (features.new ≡ features.old ++ f ∷ []))
+        (λ e. Fails e (feature_at path.now name.now (view value.now))) }
+{
+    features.push(feature_of(alloc, path, name, value)?)?;
+    Ok(())
 }
 
 // A feature by its name and what it enables.

@@ -5,17 +5,17 @@ use Rattle.deny_metadata.proofs.FeaturesLemmas.{next_feature, no_more_features}
 use Rattle.deny_metadata.proofs.ReadingLemmas.{goes_on, fails_here, handed_on, all_read}
 use Rattle.deny_metadata.proofs.document.features_by.Goals as goal
 
-pub returns-in_err-feature_of : goal.returns-in_err-feature_of
-returns-in_err-feature_of c =
+pub returns-in_err-push_feature : goal.returns-in_err-push_feature
+returns-in_err-push_feature c =
     let path = c.args.path.now in
     let name = c.in-Some.name.now in
     let value = c.in-Some.value.now in
     let step = ap (λ es. features_from path (sorted_view es)) c.in-Some.ensures.steps ∙ next_feature path (name, value)
     c.next.new.self in
-    let fault = c.in_err-feature_of.field-0.0 in
+    let fault = c.in_err-push_feature.field-0.0 in
     handed_on _ fault _ c.from_residual.ensures.1
     (fails_here _ _ _ (feature_at path name.now (view value.now)) c.loop-name.features fault c.loop-name.invariant
-    step c.in_err-feature_of.ensures)
+    step c.in_err-push_feature.ensures)
 
 pub loop-name-preserved : goal.loop-name-preserved
 loop-name-preserved c =
@@ -24,8 +24,9 @@ loop-name-preserved c =
     let value = c.in-Some.value.now in
     let step = ap (λ es. features_from path (sorted_view es)) c.in-Some.ensures.steps ∙ next_feature path (name, value)
     c.next.new.self in
-    rw c.in_ok-push.ensures.ok (goes_on _ _ _ (feature_at path name.now (view value.now)) c.loop-name.features
-    c.in_ok-feature_of.field-0 c.loop-name.invariant step c.in_ok-feature_of.ensures)
+    let pushed = c.in_ok-push_feature.ensures in
+    rw pushed.2 (goes_on _ _ _ (feature_at path name.now (view value.now)) c.loop-name.features
+    pushed.0 c.loop-name.invariant step pushed.1)
 
 pub returns : goal.returns
 returns c = all_read _ _ c.loop-name.features c.loop-name.invariant
