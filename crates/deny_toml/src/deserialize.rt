@@ -176,13 +176,37 @@ fn read_element<T: Deserialize + Drop>(
     ensures items { OnOk result (T.faults_of element.entry ≡ [] → Adds T.reads element.entry items.old items.new) }
     ensures faults { OnOk result (faults.new ≡ faults.old ++ under (decimal place) (T.faults_of element.entry)) }
 {
-    let mut element = element;
-    match T::deserialize(alloc, &mut element) {
+    match read_whole(alloc, element) {
         Ok(item) => items.push(item),
-        Err(DeserError::Faults(more)) => {
-            let name = format!(in alloc; "{place}")?;
-            keep_faults(faults, put_under(alloc, name.as_str(), more)?)
-        }
+        Err(DeserError::Faults(more)) => keep_under_place(alloc, place, more, faults),
         Err(DeserError::Memory) => Err(NoMemory),
     }
+}
+
+/// Reads an element, and lets go of what is not moved out of it.
+fn read_whole<T: Deserialize>(alloc: Global, element: Value<'_>) -> Result<T, DeserError>
+    ensures ok { IfOk result (λ item. (T.faults_of element.entry ≡ []) × T.reads element.entry item) }
+    ensures faults { IfErr result (Reports (T.faults_of element.entry)) }
+{
+    let mut element = element;
+    T::deserialize(alloc, &mut element)
+}
+
+/// Puts the faults of the element at a place to the others.
+fn keep_under_place(
+    alloc: Global,
+    place: usize,
+    more: List<ConfigFault>,
+    faults: &mut List<ConfigFault>,
+) -> Result<(), NoMemory>
+    ensures { OnOk result (faults.new ≡ faults.old ++ under (decimal place) more) }
+{
+    let name = name_of_place(alloc, place)?;
+    keep_faults(faults, put_under(alloc, name.as_str(), more)?)
+}
+
+fn name_of_place(alloc: Global, place: usize) -> Result<Text, NoMemory>
+    ensures { IfOk result (λ name. name ≡ decimal place) }
+{
+    Ok(Text::from_string(format!(in alloc; "{place}")?))
 }

@@ -141,16 +141,22 @@ pub(crate) fn put_under(
 {
     let mut all = List::new(alloc);
     'faults: for fault in faults.vec {
-        let key = path_under(alloc, name, &fault)?;
-        let is_nameless = fault.is_nameless || (fault.is_of_itself() && name.is_empty());
-        all.push(ConfigFault {
-            span: fault.span,
-            kind: fault.kind,
-            key,
-            is_nameless,
-        })?;
+        all.push(fault_under(alloc, name, &fault)?)?;
     }
     Ok(all)
+}
+
+fn fault_under(alloc: Global, name: &str, fault: &ConfigFault) -> Result<ConfigFault, NoMemory>
+    ensures { IfOk result (λ named. named ≡ spec.fault_under name.now fault.now) }
+{
+    let key = path_under(alloc, name, fault)?;
+    let is_nameless = fault.is_nameless || (fault.is_of_itself() && name.is_empty());
+    Ok(ConfigFault {
+        span: fault.span,
+        kind: fault.kind,
+        key,
+        is_nameless,
+    })
 }
 
 fn path_under(alloc: Global, name: &str, fault: &ConfigFault) -> Result<Text, NoMemory>

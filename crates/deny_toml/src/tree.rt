@@ -446,12 +446,22 @@ fn add_member_steps<'t>(
     ensures { OnOk result (found.new ≡ found.old ++ spec.end_steps (PathEnd.Table members.entry)) }
 {
     'members: for member in members.vec {
-        let mut path = member.path;
-        if let Some(key) = take_first(&mut path) {
-            found.push(step(key, path, PathEnd::Value(member.value)))?;
-        }
+        add_member_step(found, member)?;
     }
     Ok(())
+}
+
+fn add_member_step<'t>(
+    found: &mut List<(CowStr<'t>, Line<'t>)>,
+    member: Member<'t>,
+) -> Result<(), NoMemory>
+    ensures { OnOk result (found.new ≡ found.old ++ spec.member_steps member.entry.value member.entry.path) }
+{
+    let mut path = member.path;
+    match take_first(&mut path) {
+        Some(key) => found.push(step(key, path, PathEnd::Value(member.value))),
+        None => Ok(()),
+    }
 }
 
 fn step<'t>(key: Key<'t>, path: List<Key<'t>>, path_end: PathEnd<'t>) -> (CowStr<'t>, Line<'t>)
