@@ -33,7 +33,14 @@ use Rattle.deny_lists.proofs.Members.{there}
 use Rattle.deny_lists.proofs.Sorted.{ascends_at, ascends_map}
 use Rattle.deny_crate_graph.proofs.OrderLemmas.{kept_cmp-total, rank_cmp-exact}
 use Rattle.deny_crate_graph.proofs.ResolvedLemmas.{
-  IsAt, apart, link_needs, linked_row, member_is, need_links, needs_for}
+  IsAt,
+  apart,
+  link_needs,
+  linked_row,
+  member_is,
+  need_links,
+  needs_for,
+}
 use Rattle.deny_crate_graph.proofs.ResolvedLemmas.{needs_of, node_at, owner_at, reached_id, reached_number, row_is}
 use Rattle.deny_crate_graph.proofs.ResolvedLemmas.{row_of_node, start_is}
 use Rattle.deny_model.specs.declared.target_edge.TargetEdge.{TargetEdge}

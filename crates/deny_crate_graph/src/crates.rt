@@ -109,13 +109,20 @@ fn krate_of(alloc: Global, read: ReadPackage, enabled: &List<Text>) -> Result<Kr
         requirements,
         source,
     } = read;
+    let lists = lists_of(
+        alloc,
+        listed.features,
+        listed.dependencies,
+        requirements,
+        enabled,
+    )?;
     Ok(Krate {
         version: versions.version,
         source,
         rust_version: versions.rust_version,
-        features: features_in(alloc, listed.features)?,
-        deps: dependencies_in(alloc, listed.dependencies, requirements)?,
-        enabled: in_order(enabled)?,
+        features: lists.features,
+        deps: lists.deps,
+        enabled: lists.enabled,
         name: listed.name,
         id: Kid(listed.id),
         source_text: listed.source,
@@ -123,6 +130,36 @@ fn krate_of(alloc: Global, read: ReadPackage, enabled: &List<Text>) -> Result<Kr
         manifest_path: listed.manifest_path,
         publish: listed.publish,
         targets: listed.targets,
+    })
+}
+
+// What a crate holds of features and dependencies.
+#[derive(Drop)]
+struct KrateLists {
+    features: TextMap<List<Text>>,
+    deps: List<Dependency>,
+    enabled: List<Text>,
+}
+
+fn lists_of(
+    alloc: Global,
+    features: List<Feature>,
+    declarations: List<Declaration>,
+    requirements: List<VersionReq>,
+    enabled: &List<Text>,
+) -> Result<KrateLists, NoMemory>
+    requires { map requirement_held requirements ≡ map (λ d. requirement_read d.req) declarations }
+    ensures features { IfOk result (λ lists. lists.features ≡ features_of features) }
+    ensures deps { IfOk result (λ lists. map dependency_view lists.deps ≡ map dependency_at declarations) }
+    ensures enabled { IfOk result (λ lists. Lists (slice_cmp nat_cmp) (Contains enabled.now) lists.enabled) }
+{
+    let features = features_in(alloc, features)?;
+    let deps = dependencies_in(alloc, declarations, requirements)?;
+    let enabled = in_order(enabled)?;
+    Ok(KrateLists {
+        features,
+        deps,
+        enabled,
     })
 }
 
