@@ -3,9 +3,10 @@ use Rattle.std.proofs.Common.{◌≡◌, ℕ, ◌+◌, ◌≤◌, List, ◌++◌
 use Rattle.std.proofs.Common.{length-append}
 use Rattle.std.proofs.Common.{Option, Some, None, IfSome, rules}
 use Rattle.std.proofs.Math.Seq.{take-add}
-use Rattle.std.proofs.lemmas.List.{length-take-le}
+use Rattle.std.proofs.lemmas.List.{length-take, length-take-le}
 use Rattle.deny_outside.specs.Count.{counted}
-use Rattle.deny_outside.specs.Disk.{Disk, Files, IsLater, IsPieceOf, bytes_at}
+use Rattle.deny_outside.specs.Disk.{Disk, FailedAt, Files, IsLater, IsPieceOf, bytes_at}
+use Rattle.deny_outside.specs.declared.disk.Call.{Call}
 use Rattle.deny_outside.specs.Read.{GaveAtMost, IsReading}
 
 -- a front of a text with the next piece behind it is a longer front
@@ -44,6 +45,30 @@ reading_more start old new path bytes buf at n fits here reading later given nex
   text = (let P : Option Files → Type 0 = λ known. IfSome known (λ files. IsPieceOf (bytes_at files path) at n buf) in
       text_more start.files path bytes buf at n fits here reading.text (subst P reading.later.files next));
 }
+
+pub later_then : (start between now : Disk) → IsLater start between → IsLater between now → IsLater start now
+later_then start between now before behind = record {
+  files = behind.files ∙ before.files;
+  faults = omega (arith, before.faults, behind.faults);
+  faults_at = λ call path. omega (arith, before.faults_at call path, behind.faults_at call path);
+  given = omega (arith, before.given, behind.given);
+  listed = omega (arith, before.listed, behind.listed);
+}
+
+pub failed_then : (start between now : Disk) (call : Call) (path : List ℕ) → IsLater start between
+    → FailedAt between now call path → FailedAt start now call path
+failed_then start between now call path before failed = record {
+  faults = omega (arith, before.faults, failed.faults);
+  faults_at = omega (arith, before.faults_at call path, failed.faults_at);
+}
+
+-- a text is as long as what was read of it, or longer
+pub long_text : (known : Option Files) (path bytes : List ℕ) (n : ℕ) → n ≤ length bytes
+    → IfSome known (λ files. bytes ≡ take (length bytes) (bytes_at files path))
+    → IfSome known (λ files. n ≤ length (bytes_at files path))
+long_text None path bytes n least front = tt
+long_text (Some files) path bytes n least front =
+    omega (arith, least, ap length front, length-take (length bytes) (bytes_at files path))
 
 -- what was given before and behind
 pub gave_then : (a b c : Disk) (few more : Files → ℕ) → b.files ≡ a.files → GaveAtMost a b few → GaveAtMost b c more
