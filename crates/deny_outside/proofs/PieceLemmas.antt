@@ -1,12 +1,17 @@
 -- Reading goes on by a piece.
-use Rattle.std.proofs.Common.{◌≡◌, ℕ, ◌+◌, ◌≤◌, List, ◌++◌, length, take, drop, sym, ap, subst, ◌∙◌, arith}
+use Rattle.std.proofs.Common.{◌≡◌, ℕ, ◌+◌, ◌≤◌, List, [], ◌++◌, length, take, drop, refl, sym, ap, subst, ◌∙◌, arith}
 use Rattle.std.proofs.Common.{length-append}
-use Rattle.std.proofs.Common.{Option, Some, None, IfSome, rules}
+use Rattle.std.proofs.Common.{Bool, true, false, Option, Some, None, IfSome, rules}
+use Rattle.std.specs.Prelude.{MatchOption, if◌then◌else◌, unwrap_or}
 use Rattle.std.proofs.Math.Seq.{take-add}
 use Rattle.std.proofs.lemmas.List.{length-take, length-take-le}
+use Rattle.std.proofs.lemmas.Option.{none-some}
 use Rattle.deny_outside.specs.Count.{counted}
-use Rattle.deny_outside.specs.Disk.{Disk, FailedAt, Files, IsLater, IsPieceOf, bytes_at}
+use Rattle.deny_outside.specs.Disk.{Disk, FailedAt, Files, IsLater, IsPieceOf, bytes_at, text_of}
+use Rattle.deny_outside.specs.MemoryDisk.{file_text}
 use Rattle.deny_outside.specs.declared.disk.Call.{Call}
+use Rattle.deny_outside.specs.declared.disk.Place.{Place}
+use Rattle.deny_outside.specs.declared.disk.Place.TheVariants.{Folder, File}
 use Rattle.deny_outside.specs.Read.{GaveAtMost, IsReading}
 
 -- a front of a text with the next piece behind it is a longer front
@@ -46,15 +51,7 @@ reading_more start old new path bytes buf at n fits here reading later given nex
       text_more start.files path bytes buf at n fits here reading.text (subst P reading.later.files next));
 }
 
-pub later_then : (start between now : Disk) → IsLater start between → IsLater between now → IsLater start now
-later_then start between now before behind = record {
-  files = behind.files ∙ before.files;
-  faults = omega (arith, before.faults, behind.faults);
-  faults_at = λ call path. omega (arith, before.faults_at call path, behind.faults_at call path);
-  given = omega (arith, before.given, behind.given);
-  listed = omega (arith, before.listed, behind.listed);
-}
-
+-- a failure behind earlier calls
 pub failed_then : (start between now : Disk) (call : Call) (path : List ℕ) → IsLater start between
     → FailedAt between now call path → FailedAt start now call path
 failed_then start between now call path before failed = record {
@@ -90,3 +87,21 @@ gave_within a b few more fewer gave = by_files a.files gave
         → IfSome told (λ files. b.given ≤ a.given + more files)
     by_files None gave = tt
     by_files (Some files) gave = omega (arith, gave, fewer files)
+
+-- the text that a call reads is the one at the path
+pub text_read : (fails : Bool) (place : Option Place) (text : List ℕ)
+    → (if fails then None else file_text place) ≡ Some text → text_of place ≡ text
+text_read true place text is = absurd (none-some text is)
+text_read false None text is = absurd (none-some text is)
+text_read false (Some Folder) text is = absurd (none-some text is)
+text_read false (Some (File bytes)) text is = ap (λ (o : Option (List ℕ)). unwrap_or o []) is
+
+-- and the piece that was copied is of that text
+pub piece_given : (told : Option (List ℕ)) (bytes : List ℕ) (result : Option ℕ) (count : List ℕ → ℕ) (offset n : ℕ)
+    (buf : List ℕ) → ((text : List ℕ) → told ≡ Some text → bytes ≡ text) → result ≡ Some n
+    → MatchOption told (result ≡ None) (λ text. (result ≡ Some (count text)) × IsPieceOf text offset (count text) buf)
+    → IsPieceOf bytes offset n buf
+piece_given None bytes result count offset n buf here is read = absurd (none-some n (sym read ∙ is))
+piece_given (Some text) bytes result count offset n buf here is read =
+    subst (λ bs. IsPieceOf bs offset n buf) (sym (here text refl))
+    (subst (λ k. IsPieceOf text offset k buf) (ap (λ (o : Option ℕ). unwrap_or o 0) (sym read.0 ∙ is)) read.1)
