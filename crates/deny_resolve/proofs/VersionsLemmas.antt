@@ -9,7 +9,8 @@ use Rattle.std.specs.Str.Parse.{digits_value}
 use Rattle.std.proofs.lemmas.Bool.Decides.{nat_tests}
 use Rattle.std.proofs.lemmas.Int.Digits.{digits_value_more}
 use Rattle.form_urlencoded.specs.Form.{onto_first, split}
-use Rattle.deny_resolve.specs.Versions.{pieces_of, release_of, rust_version_of}
+use Rattle.semver.specs.Parse.{Parts}
+use Rattle.deny_resolve.specs.Versions.{number_of, pieces_of, release_of, rust_version_of, whole_release}
 
 pub next_value : (ds : List ℕ) (i number : ℕ) → i < length ds → is_ascii_digit (get_or ds i 0) ≡ true
     → number ≡ digits_value 10 (take i ds)
@@ -68,6 +69,40 @@ some_piece (b ∷ bytes) = by_test (is_dot b) refl (some_piece bytes)
         → (piece : List ℕ) × (pieces : List (List ℕ)) × (split 46 (b ∷ bytes) ≡ piece ∷ pieces)
     by_test true is rest = ([], split 46 bytes, rw is refl)
     by_test false is rest = (b ∷ rest.0, rest.1, rw is (ap (onto_first b) rest.2))
+
+-- one to three numbers make a release
+pub one_number : (text a : List ℕ) (first : Option (Bor (List ℕ))) (x : Option ℕ) (made : Option Parts)
+    → first ≡ None → pieces_of a (option_copied first) ≡ split 46 text → x ≡ number_of a
+    → made ≡ whole_release x (Some 0) (Some 0) → made ≡ rust_version_of text
+unfolding rust_version_of release_of
+one_number text a first x made none one x_is is =
+    let whole : a ∷ [] ≡ split 46 text = rw none at one in
+    rw (← whole, ← x_is) is
+
+pub two_numbers : (text a b : List ℕ) (first second : Option (Bor (List ℕ))) (after_a : Bor (List ℕ))
+    (x y : Option ℕ) (made : Option Parts)
+    → first ≡ Some after_a → pieces_of a (option_copied first) ≡ split 46 text
+    → second ≡ None → pieces_of b (option_copied second) ≡ split 46 after_a.now
+    → x ≡ number_of a → y ≡ number_of b → made ≡ whole_release x y (Some 0) → made ≡ rust_version_of text
+unfolding rust_version_of release_of
+two_numbers text a b first second after_a x y made some one none two x_is y_is is =
+    let whole : a ∷ split 46 after_a.now ≡ split 46 text = rw some at one in
+    let last : b ∷ [] ≡ split 46 after_a.now = rw none at two in
+    rw (← whole, ← last, ← x_is, ← y_is) is
+
+pub three_numbers : (text a b c : List ℕ) (first second third : Option (Bor (List ℕ)))
+    (after_a after_b : Bor (List ℕ)) (x y z : Option ℕ) (made : Option Parts)
+    → first ≡ Some after_a → pieces_of a (option_copied first) ≡ split 46 text
+    → second ≡ Some after_b → pieces_of b (option_copied second) ≡ split 46 after_a.now
+    → is_some third ≡ false → pieces_of c (option_copied third) ≡ split 46 after_b.now
+    → x ≡ number_of a → y ≡ number_of b → z ≡ number_of c → made ≡ whole_release x y z → made ≡ rust_version_of text
+unfolding rust_version_of release_of
+three_numbers text a b c first second (Some rest) after_a after_b x y z made some one some' two none three x_is y_is
+    z_is is = absurd (true≢false none)
+three_numbers text a b c first second None after_a after_b x y z made some one some' two none three x_is y_is z_is is =
+    let whole : a ∷ split 46 after_a.now ≡ split 46 text = rw some at one in
+    let later : b ∷ split 46 after_b.now ≡ split 46 after_a.now = rw some' at two in
+    rw (← whole, ← later, ← three, ← x_is, ← y_is, ← z_is) is
 
 -- four numbers are no version of Rust
 pub too_many : (text a b c : List ℕ) (first second third : Option (Bor (List ℕ))) (after_a after_b : Bor (List ℕ))
