@@ -1,4 +1,4 @@
-//! One case: a table's bytes and the names that are looked up in it, in hex.
+//! The cases, one a line: a table's bytes and the names that are looked up in it, in hex.
 
 use deny_std_table::{
     Api, ApiReplacement, Replacement, ReplacementData, ReplacementError, ReplacementItem,
@@ -17,112 +17,209 @@ fn bytes_of(alloc: Global, word: &str) -> Result<Vec<u8>, AllocError> {
     }
 }
 
-fn push_text(answer: &mut String, alloc: Global, text: &str) -> Result<(), AllocError> {
-    answer.push_str(" <")?;
-    answer.push_str(hex::encode(alloc, text.as_bytes())?.as_str())?;
-    answer.push_str(">")
-}
-
-fn push_api(answer: &mut String, alloc: Global, api: &Api) -> Result<(), AllocError> {
-    push_text(answer, alloc, api.name)?;
-    push_text(answer, alloc, api.url)
-}
-
-fn push_replacement(
-    answer: &mut String,
+/// Bytes in hex, between what stands on both sides of them.
+fn push_hex(
+    answers: &mut String,
     alloc: Global,
-    replacement: &ApiReplacement,
+    before: &str,
+    bytes: &[u8],
+    after: &str,
 ) -> Result<(), AllocError> {
-    push_api(answer, alloc, &replacement.krate)?;
-    push_api(answer, alloc, &replacement.std)?;
-    match replacement.note {
-        None => answer.push_str(" none"),
-        Some(note) => push_text(answer, alloc, note),
+    answers.push_str(before)?;
+    push_digits(answers, alloc, bytes)?;
+    answers.push_str(after)
+}
+
+fn push_digits(answers: &mut String, alloc: Global, bytes: &[u8]) -> Result<(), AllocError> {
+    let digits = hex::encode(alloc, bytes)?;
+    answers.push_str(digits.as_str())
+}
+
+fn push_text(answers: &mut String, alloc: Global, text: &str) -> Result<(), AllocError> {
+    push_hex(answers, alloc, " <", text.as_bytes(), ">")
+}
+
+fn push_api(answers: &mut String, alloc: Global, api: &Api) -> Result<(), AllocError> {
+    push_text(answers, alloc, api.name)?;
+    push_text(answers, alloc, api.url)
+}
+
+fn push_note(answers: &mut String, alloc: Global, note: Option<&str>) -> Result<(), AllocError> {
+    match note {
+        None => answers.push_str(" none"),
+        Some(note) => push_text(answers, alloc, note),
     }
 }
 
-fn push_item(answer: &mut String, alloc: Global, item: &ReplacementItem) -> Result<(), AllocError> {
+fn push_replacement(
+    answers: &mut String,
+    alloc: Global,
+    replacement: &ApiReplacement,
+) -> Result<(), AllocError> {
+    push_api(answers, alloc, &replacement.krate)?;
+    push_api(answers, alloc, &replacement.std)?;
+    push_note(answers, alloc, replacement.note)
+}
+
+fn push_stable(
+    answers: &mut String,
+    alloc: Global,
+    minor: u8,
+    replacement: &ApiReplacement,
+) -> Result<(), AllocError> {
+    answers.push_str(" stable ")?;
+    answers.write(minor)?;
+    push_replacement(answers, alloc, replacement)
+}
+
+fn push_unstable(
+    answers: &mut String,
+    alloc: Global,
+    replacement: &ApiReplacement,
+) -> Result<(), AllocError> {
+    answers.push_str(" unstable")?;
+    push_replacement(answers, alloc, replacement)
+}
+
+fn push_unavailable(answers: &mut String, alloc: Global, api: &Api) -> Result<(), AllocError> {
+    answers.push_str(" unavailable")?;
+    push_api(answers, alloc, api)
+}
+
+fn push_item(
+    answers: &mut String,
+    alloc: Global,
+    item: &ReplacementItem,
+) -> Result<(), AllocError> {
     match item {
         ReplacementItem::Stable { replacement, minor } => {
-            let minor = *minor;
-            answer.push_str(format!(in alloc; " stable {minor}")?.as_str())?;
-            push_replacement(answer, alloc, replacement)
+            push_stable(answers, alloc, *minor, replacement)
         }
-        ReplacementItem::Unstable { replacement } => {
-            answer.push_str(" unstable")?;
-            push_replacement(answer, alloc, replacement)
-        }
-        ReplacementItem::Unavailable { api } => {
-            answer.push_str(" unavailable")?;
-            push_api(answer, alloc, api)
-        }
+        ReplacementItem::Unstable { replacement } => push_unstable(answers, alloc, replacement),
+        ReplacementItem::Unavailable { api } => push_unavailable(answers, alloc, api),
     }
 }
 
 fn push_items(
-    answer: &mut String,
+    answers: &mut String,
     alloc: Global,
     replacement: &Replacement,
 ) -> Result<(), AllocError> {
     let mut items = replacement.iter();
-    let mut first = true;
+    let mut before = "";
     while let Some(item) = items.next() {
-        if !first {
-            answer.push_str(",")?;
-        }
-        first = false;
-        push_item(answer, alloc, &item)?;
+        answers.push_str(before)?;
+        push_item(answers, alloc, &item)?;
+        before = ",";
     }
     Ok(())
 }
 
+fn push_entry(
+    answers: &mut String,
+    alloc: Global,
+    table: &ReplacementData,
+    name: &str,
+) -> Result<(), AllocError> {
+    match table.entry(name) {
+        None => answers.push_str(" absent"),
+        Some(replacement) => push_items(answers, alloc, &replacement),
+    }
+}
+
+fn push_found(
+    answers: &mut String,
+    alloc: Global,
+    table: &ReplacementData,
+    name: &[u8],
+) -> Result<(), AllocError> {
+    match str::from_utf8(name) {
+        Ok(name) => push_entry(answers, alloc, table, name),
+        Err(_) => answers.push_str(" no name"),
+    }
+}
+
+/// What is said of the name that a word gives.
 fn push_look_up(
-    answer: &mut String,
+    answers: &mut String,
     alloc: Global,
     table: &ReplacementData,
     word: &str,
 ) -> Result<(), AllocError> {
     let name = bytes_of(alloc, word)?;
-    answer.push_str("; <")?;
-    answer.push_str(hex::encode(alloc, name.as_slice())?.as_str())?;
-    answer.push_str(">:")?;
-    let Ok(name) = str::from_utf8(name.as_slice()) else {
-        return answer.push_str(" no name");
-    };
-    match table.entry(name) {
-        None => answer.push_str(" absent"),
-        Some(replacement) => push_items(answer, alloc, &replacement),
+    push_hex(answers, alloc, "; <", name.as_slice(), ">:")?;
+    push_found(answers, alloc, table, name.as_slice())
+}
+
+fn push_look_ups(
+    answers: &mut String,
+    alloc: Global,
+    table: &ReplacementData,
+    line: &str,
+) -> Result<(), AllocError> {
+    for word in line.split(' ').skip(1) {
+        push_look_up(answers, alloc, table, word)?;
     }
+    Ok(())
 }
 
 fn push_upgrade(
-    answer: &mut String,
+    answers: &mut String,
     alloc: Global,
     table: &ReplacementData,
 ) -> Result<(), AllocError> {
-    answer.push_str("; version 2: ")?;
     match table.upgrade(alloc) {
-        Ok(bytes) => answer.push_str(hex::encode(alloc, bytes.as_slice())?.as_str()),
-        Err(UpgradeError::Long) => answer.push_str("Long"),
+        Ok(bytes) => push_hex(answers, alloc, "; version 2: ", bytes.as_slice(), ""),
+        Err(UpgradeError::Long) => answers.push_str("; version 2: Long"),
         Err(UpgradeError::Memory) => Err(AllocError),
     }
 }
 
-/// The answer to a case: `Ok`, what is said of each name, and the table's bytes in version 2, or why the bytes
-/// were refused.
-pub(crate) fn answer(alloc: Global, line: &str) -> Result<String, AllocError> {
-    let mut words = line.split(' ');
-    let bytes = bytes_of(alloc, words.next().unwrap_or(""))?;
-    match ReplacementData::from_bytes(alloc, bytes.as_slice()) {
-        Ok(table) => {
-            let mut answer = String::from_str(alloc, "Ok")?;
-            for word in words {
-                push_look_up(&mut answer, alloc, &table, word)?;
-            }
-            push_upgrade(&mut answer, alloc, &table)?;
-            Ok(answer)
-        }
-        Err(ReplacementError::Bad(offset)) => format!(in alloc; "Bad({offset})"),
-        Err(ReplacementError::Memory) => String::from_str(alloc, "Memory"),
+/// `Ok`, what is said of each name, and the table's bytes in version 2.
+fn push_table(
+    answers: &mut String,
+    alloc: Global,
+    table: &ReplacementData,
+    line: &str,
+) -> Result<(), AllocError> {
+    answers.push_str("Ok")?;
+    push_look_ups(answers, alloc, table, line)?;
+    push_upgrade(answers, alloc, table)
+}
+
+/// Why the bytes were refused.
+fn push_error(answers: &mut String, error: ReplacementError) -> Result<(), AllocError> {
+    match error {
+        ReplacementError::Bad(offset) => push_offset(answers, offset),
+        ReplacementError::Memory => answers.push_str("Memory"),
     }
+}
+
+fn push_offset(answers: &mut String, offset: usize) -> Result<(), AllocError> {
+    answers.push_str("Bad(")?;
+    answers.write(offset)?;
+    answers.push_str(")")
+}
+
+/// The answer to a case: what its table holds, or why the bytes were refused.
+fn push_answer(answers: &mut String, alloc: Global, line: &str) -> Result<(), AllocError> {
+    let bytes = bytes_of(alloc, line.split(' ').next().unwrap_or(""))?;
+    match ReplacementData::from_bytes(alloc, bytes.as_slice()) {
+        Ok(table) => push_table(answers, alloc, &table, line),
+        Err(error) => push_error(answers, error),
+    }
+}
+
+fn push_line(answers: &mut String, alloc: Global, line: &str) -> Result<(), AllocError> {
+    push_answer(answers, alloc, line)?;
+    answers.push_str("\n")
+}
+
+/// The answers to the cases, one a line.
+pub(crate) fn answers(alloc: Global, input: &str) -> Result<String, AllocError> {
+    let mut answers = String::new(alloc);
+    for line in input.lines() {
+        push_line(&mut answers, alloc, line)?;
+    }
+    Ok(answers)
 }

@@ -8,9 +8,7 @@ mod cases;
 use std::io;
 
 fn main(rt: HostRuntime) -> io::Result<()> {
-    for line in rt.lines(rt.alloc()) {
-        let text = cases::answer(rt.alloc(), line?.as_str())?;
-        println!(rt; "{text}")?;
-    }
-    Ok(())
+    let input = io::read_to_string(rt.alloc(), rt.reader())?;
+    let answers = cases::answers(rt.alloc(), input.as_str())?;
+    print!(rt; "{answers}")
 }
