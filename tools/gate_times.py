@@ -23,7 +23,7 @@ KINDS = ("library", "tests", "edits")
 
 
 def parents_and_times():
-    """Of each process its parent, and the processor seconds of itself and of those it waited for."""
+    """Of each process its parent, when it started, and the processor seconds of itself and of those it waited for."""
     found = {}
     for name in filter(str.isdigit, os.listdir("/proc")):
         try:
@@ -31,7 +31,7 @@ def parents_and_times():
                 fields = file.read().rpartition(")")[2].split()
         except OSError:
             continue
-        found[int(name)] = int(fields[1]), sum(map(int, fields[11:15])) / TICKS
+        found[int(name)] = int(fields[1]), int(fields[19]), sum(map(int, fields[11:15])) / TICKS
     return found
 
 
@@ -60,13 +60,14 @@ def prover_of(process):
 def note_provers(top, seen):
     """Notes of each prover below a process how long it has run."""
     found = parents_and_times()
-    for process, (parent, seconds) in found.items():
+    for process, (parent, start, seconds) in found.items():
         if process == top or not is_below(process, top, found):
             continue
         prover = prover_of(process)
         # A prover's copies are counted with the one that started them.
         if prover is not None and (parent not in found or prover_of(parent) is None):
-            seen[process] = prover, max(seconds, seen.get(process, (prover, 0))[1])
+            # (a number that is free again is given to another process)
+            seen[process, start] = prover, seconds
 
 
 def print_costs(seen):
