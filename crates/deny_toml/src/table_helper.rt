@@ -68,7 +68,7 @@ impl<'t> TableHelper<'t> {
         ensures left { self.new ≡ record self.old { entries = without name.now self.old.entries } }
     {
         match self.take(name) {
-            Some((_, mut value)) => read_under(self.alloc, name, &mut value),
+            Some(entry) => read_entry(self.alloc, name, entry),
             None => Err(missing(self.alloc, name, self.span)),
         }
     }
@@ -93,10 +93,10 @@ impl<'t> TableHelper<'t> {
           faults = self.old.faults ++ optional_faults T.faults_of name.now (value_at name.now self.old.entries);
         }) }
     {
-        let Some((_, mut value)) = self.take(name) else {
+        let Some(entry) = self.take(name) else {
             return Ok(None);
         };
-        match read_under(self.alloc, name, &mut value) {
+        match read_entry(self.alloc, name, entry) {
             Ok(read) => Ok(Some(read)),
             Err(DeserError::Faults(faults)) => {
                 self.keep(faults)?;
@@ -153,6 +153,19 @@ fn take_entry<'t>(
     Some(entries.vec.remove(place))
 }
 
+/// Reads the value of an entry, and lets go of what is not moved out of it.
+fn read_entry<T: Deserialize>(
+    alloc: Global,
+    name: &str,
+    entry: (Key<'_>, Value<'_>),
+) -> Result<T, DeserError>
+    ensures ok { IfOk result (λ x. (T.faults_of entry.entry.1 ≡ []) × T.reads entry.entry.1 x) }
+    ensures faults { IfErr result (Reports (under name.now (T.faults_of entry.entry.1))) }
+{
+    let (_, mut value) = entry;
+    read_under(alloc, name, &mut value)
+}
+
 /// Reads a value, whose faults stand under `name`.
 pub(crate) fn read_under<T: Deserialize>(
     alloc: Global,
@@ -188,9 +201,27 @@ fn with_unknown(
     ensures { IfOk result (λ faults. faults ≡ kept ++ map unknown left.entry) }
 {
     let mut faults = kept;
-    'left: for (key, _) in left.vec {
-        let name = key.name.into_text(alloc)?;
-        faults.push(ConfigFault::new(FaultKind::Unknown, name, key.span))?;
-    }
+    add_unknown(alloc, &mut faults, left.as_slice())?;
     Ok(faults)
+}
+
+fn add_unknown(
+    alloc: Global,
+    faults: &mut List<ConfigFault>,
+    left: &[(Key<'_>, Value<'_>)],
+) -> Result<(), NoMemory>
+    ensures { OnOk result (faults.new ≡ faults.old ++ map unknown left.now) }
+{
+    for entry in left {
+        faults.push(unknown(alloc, entry)?)?;
+    }
+    Ok(())
+}
+
+/// The fault of a key that nothing has read.
+fn unknown(alloc: Global, entry: &(Key<'_>, Value<'_>)) -> Result<ConfigFault, NoMemory>
+    ensures { IfOk result (λ fault. fault ≡ unknown entry.now) }
+{
+    let name = Text::from_str(alloc, entry.0.name.as_str())?;
+    Ok(ConfigFault::new(FaultKind::Unknown, name, entry.0.span))
 }
