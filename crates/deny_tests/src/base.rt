@@ -40,18 +40,25 @@ fn stands_nowhere(files: &Files, id: FileId, offset: u32) -> bool {
     files.location(id, offset).is_none()
 }
 
+fn are_in_columns(files: &Files) -> bool {
+    stands_at(files, 0, 0, 0)
+        && stands_at(files, 3, 0, 2)
+        && stands_at(files, 4, 1, 0)
+        && stands_at(files, 11, 1, 2)
+        && stands_at(files, 12, 1, 3)
+}
+
+fn are_nowhere(files: &Files) -> bool {
+    stands_nowhere(files, 0, 2)
+        && stands_nowhere(files, 0, 10)
+        && stands_nowhere(files, 0, 13)
+        && stands_nowhere(files, 1, 0)
+}
+
 #[test]
 fn a_column_counts_characters(rt: HostRuntime) -> Result<(), NoMemory> {
     let files = files_of(rt.alloc(), TEXT)?;
-    assert!(rt; stands_at(&files, 0, 0, 0));
-    assert!(rt; stands_at(&files, 3, 0, 2));
-    assert!(rt; stands_at(&files, 4, 1, 0));
-    assert!(rt; stands_at(&files, 11, 1, 2));
-    assert!(rt; stands_at(&files, 12, 1, 3));
-    assert!(rt; stands_nowhere(&files, 0, 2));
-    assert!(rt; stands_nowhere(&files, 0, 10));
-    assert!(rt; stands_nowhere(&files, 0, 13));
-    assert!(rt; stands_nowhere(&files, 1, 0));
+    assert!(rt; are_in_columns(&files) && are_nowhere(&files));
     Ok(())
 }
 
@@ -91,18 +98,30 @@ fn is_source(files: &Files, id: FileId, text: &str) -> bool {
     }
 }
 
-#[test]
-fn files_are_found_by_number_and_path(rt: HostRuntime) -> Result<(), NoMemory> {
-    let mut files = Files::new(rt.alloc());
+/// Three files, two of them at one path, and whether their numbers are 0 to 2.
+fn three_files(alloc: Global) -> Result<(Files, bool), NoMemory> {
+    let mut files = Files::new(alloc);
     let first = files.add("/ws/Cargo.toml", "[package]")?;
     let second = files.add("/ws/Cargo.toml", "")?;
     let third = files.add("/ws/Cargo.lock", "version = 4")?;
-    assert!(rt; first == 0 && second == 1 && third == 2);
-    assert!(rt; is_source(&files, 0, "[package]"));
-    assert!(rt; is_source(&files, 2, "version = 4"));
-    assert!(rt; files.source(3).is_none());
-    assert!(rt; files.id_for_path("/ws/Cargo.toml") == Some(0));
-    assert!(rt; files.id_for_path("/ws/Cargo.lock") == Some(2));
-    assert!(rt; files.id_for_path("/ws").is_none());
+    Ok((files, first == 0 && second == 1 && third == 2))
+}
+
+fn have_sources(files: &Files) -> bool {
+    is_source(files, 0, "[package]")
+        && is_source(files, 2, "version = 4")
+        && files.source(3).is_none()
+}
+
+fn have_paths(files: &Files) -> bool {
+    files.id_for_path("/ws/Cargo.toml") == Some(0)
+        && files.id_for_path("/ws/Cargo.lock") == Some(2)
+        && files.id_for_path("/ws").is_none()
+}
+
+#[test]
+fn files_are_found_by_number_and_path(rt: HostRuntime) -> Result<(), NoMemory> {
+    let (files, are_numbered) = three_files(rt.alloc())?;
+    assert!(rt; are_numbered && have_sources(&files) && have_paths(&files));
     Ok(())
 }

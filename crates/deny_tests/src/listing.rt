@@ -1,100 +1,92 @@
 //! What disks list, and calls that fail by their numbers.
+use crate::outside::put;
 use deny_lists::{NoMemory, Text};
-use deny_outside::{MemoryDisk, PackageFiles, RealDisk, SureDisk};
+use deny_outside::{Entry, MemoryDisk, PackageFiles, RealDisk, SureDisk};
 use std::alloc::Global;
-use std::{fs, io};
+use std::fs;
 
-/// The names in the folder, a slash behind those of folders and a blank behind each; or a question
-/// mark, where the call failed.
+/// The names, a slash behind those of folders and a blank behind each.
+fn push_names(text: &mut Text, entries: &[Entry]) -> Result<(), NoMemory> {
+    for entry in entries {
+        text.push_str(entry.name.as_str())?;
+        text.push_str(if entry.folder { "/ " } else { " " })?;
+    }
+    Ok(())
+}
+
+/// The names in the folder; or a question mark, where the call failed.
 fn listed<D: PackageFiles>(alloc: Global, disk: &mut D, dir: &str) -> Result<Text, NoMemory> {
     let mut text = Text::new(alloc);
     match disk.list(alloc, dir) {
-        Ok(entries) => {
-            for entry in entries.as_slice() {
-                text.push_str(entry.name.as_str())?;
-                text.push_str(if entry.folder { "/ " } else { " " })?;
-            }
-        }
+        Ok(entries) => push_names(&mut text, entries.as_slice())?,
         Err(_error) => text.push_str("?")?,
     }
     Ok(text)
 }
 
-/// A disk in memory with a folder whose name begins as that of a file beside it.
-fn disk_of(alloc: Global) -> Result<Option<MemoryDisk>, NoMemory> {
-    let mut disk = MemoryDisk::new(alloc, 1);
-    for path in &["/ws/b/c/d", "/ws/b-e", "/ws/a"] {
-        if !disk.takes(path)? {
-            return Ok(None);
-        }
-        disk.put_file(path, b"")?;
+fn lists<D: PackageFiles>(alloc: Global, disk: &mut D, dir: &str, names: &str) -> bool {
+    match listed(alloc, disk, dir) {
+        Ok(text) => text.as_str() == names,
+        Err(NoMemory) => false,
     }
-    Ok(Some(disk))
 }
 
-fn lists_children(alloc: Global) -> Result<bool, NoMemory> {
-    let Some(mut disk) = disk_of(alloc)? else {
-        return Ok(false);
-    };
-    let root = listed(alloc, &mut disk, "/")?;
-    let folder = listed(alloc, &mut disk, "/ws")?;
-    let file = listed(alloc, &mut disk, "/ws/a")?;
-    let missing = listed(alloc, &mut disk, "/ws/n")?;
-    Ok(
-        root.as_str() == "ws/ "
-            && folder.as_str() == "a b/ b-e "
-            && file.as_str() == "?"
-            && missing.as_str() == "?",
-    )
+/// A folder whose name begins as that of a file beside it.
+fn fill(disk: &mut MemoryDisk) -> Result<bool, NoMemory> {
+    Ok(put(disk, "/ws/b/c/d", b"")? && put(disk, "/ws/b-e", b"")? && put(disk, "/ws/a", b"")?)
+}
+
+fn lists_children(alloc: Global, disk: &mut MemoryDisk) -> bool {
+    lists(alloc, disk, "/", "ws/ ")
+        && lists(alloc, disk, "/ws", "a b/ b-e ")
+        && lists(alloc, disk, "/ws/a", "?")
+        && lists(alloc, disk, "/ws/n", "?")
 }
 
 /// Of calls of both kinds the second, and no other.
-fn fails_second(alloc: Global) -> Result<bool, NoMemory> {
-    let Some(mut disk) = disk_of(alloc)? else {
-        return Ok(false);
-    };
-    disk.fail_call(1)?;
+fn fails_second(alloc: Global, disk: &mut MemoryDisk) -> bool {
     let mut buffer = [0; 1];
-    let first = disk.read_at("/ws/a", 0, &mut buffer).is_ok();
-    let second = disk.list(alloc, "/ws").is_err();
-    let third = disk.list(alloc, "/ws").is_ok();
-    Ok(first && second && third)
+    disk.fail_call(1).is_ok()
+        && disk.read_at("/ws/a", 0, &mut buffer).is_ok()
+        && disk.list(alloc, "/ws").is_err()
+        && disk.list(alloc, "/ws").is_ok()
 }
 
 #[test]
-fn a_disk_in_memory_lists_children(rt: HostRuntime) -> Result<(), NoMemory> {
-    assert!(rt; lists_children(rt.alloc())?);
-    Ok(())
+fn a_disk_in_memory_lists_children(rt: HostRuntime) {
+    let mut disk = MemoryDisk::new(rt.alloc(), 1);
+    assert!(rt; matches!(fill(&mut disk), Ok(true)) && lists_children(rt.alloc(), &mut disk));
 }
 
 #[test]
-fn a_call_fails_by_its_number(rt: HostRuntime) -> Result<(), NoMemory> {
-    assert!(rt; fails_second(rt.alloc())?);
-    Ok(())
+fn a_call_fails_by_its_number(rt: HostRuntime) {
+    let mut disk = MemoryDisk::new(rt.alloc(), 1);
+    assert!(rt; matches!(fill(&mut disk), Ok(true)) && fails_second(rt.alloc(), &mut disk));
 }
 
 #[test]
-fn a_sure_disk_lists_what_is_not_there(rt: HostRuntime) -> Result<(), NoMemory> {
+fn a_sure_disk_lists_what_is_not_there(rt: HostRuntime) {
     let mut disk = SureDisk::new(rt.alloc());
-    assert!(rt; listed(rt.alloc(), &mut disk, "/ws")?.as_str() == "");
-    Ok(())
+    assert!(rt; lists(rt.alloc(), &mut disk, "/ws", ""));
 }
 
-fn make_folder(rt: &HostRuntime) -> io::Result<()> {
-    fs::create_dir_all(rt, "listed/b/c")?;
-    fs::write(rt, "listed/b-e", "")?;
-    fs::write(rt, "listed/a", "")
+fn make_folder(rt: &HostRuntime) -> bool {
+    fs::create_dir_all(rt, "listed/b/c").is_ok()
+        && fs::write(rt, "listed/b-e", "").is_ok()
+        && fs::write(rt, "listed/a", "").is_ok()
+}
+
+fn lists_made(rt: &HostRuntime) -> bool {
+    let mut disk = RealDisk::new(rt);
+    lists(rt.alloc(), &mut disk, "listed", "a b/ b-e ")
+        && lists(rt.alloc(), &mut disk, "listed/b/c", "")
+        && lists(rt.alloc(), &mut disk, "listed/n", "?")
 }
 
 #[test]
-fn the_disk_of_the_system_lists_children(rt: HostRuntime) -> Result<(), NoMemory> {
-    let made = make_folder(&rt).is_ok();
-    let mut disk = RealDisk::new(&rt);
-    let folder = listed(rt.alloc(), &mut disk, "listed")?;
-    let inner = listed(rt.alloc(), &mut disk, "listed/b/c")?;
-    let missing = listed(rt.alloc(), &mut disk, "listed/n")?;
+fn the_disk_of_the_system_lists_children(rt: HostRuntime) {
+    let made = make_folder(&rt);
+    let lists = lists_made(&rt);
     let removed = fs::remove_dir_all(&rt, "listed").is_ok();
-    assert!(rt; made && removed);
-    assert!(rt; folder.as_str() == "a b/ b-e " && inner.as_str() == "" && missing.as_str() == "?");
-    Ok(())
+    assert!(rt; made && lists && removed);
 }
