@@ -93,14 +93,20 @@ fn has_edge(krates: &Krates, parent: u32, child: u32, kind: DepKind) -> bool {
     is_place(krates, parent) && is_place(krates, child) && krates.has_edge(parent, child, kind)
 }
 
-// The id of `x` 1.9.0 is below that of `y`, and a build dependency counts after a normal one.
-fn have_neighbours(krates: &Krates) -> bool {
+fn have_dependents(krates: &Krates) -> bool {
     needed_by(krates, 0, &[])
         && needed_by(krates, 2, &[(0, DepKind::Normal), (3, DepKind::Normal)])
         && needed_by(krates, 3, &[(0, DepKind::Dev)])
-        && needs(krates, 0, &[(2, DepKind::Normal), (3, DepKind::Dev)])
+}
+
+// The id of `x` 1.9.0 is below that of `y`, and a build dependency counts after a normal one.
+fn have_dependencies(krates: &Krates) -> bool {
+    needs(krates, 0, &[(2, DepKind::Normal), (3, DepKind::Dev)])
         && needs(krates, 3, &[(2, DepKind::Normal), (1, DepKind::Normal)])
-        && has_edge(krates, 0, 2, DepKind::Normal)
+}
+
+fn have_edges(krates: &Krates) -> bool {
+    has_edge(krates, 0, 2, DepKind::Normal)
         && has_edge(krates, 0, 2, DepKind::Build)
         && !has_edge(krates, 0, 2, DepKind::Dev)
         && !has_edge(krates, 2, 0, DepKind::Normal)
@@ -120,39 +126,55 @@ fn are_texts(found: Option<&[Text]>, expected: &[&str]) -> bool {
 }
 
 // Enabled features ascend, each once.
+fn is_app(krates: &Krates, id: &Kid) -> bool {
+    is_crate(krates.node_for_kid(id), "app")
+        && are_texts(krates.get_enabled_features(id), &["one", "two"])
+}
+
+fn is_unknown(krates: &Krates, id: &Kid) -> bool {
+    krates.nid_for_kid(id).is_none()
+        && krates.node_for_kid(id).is_none()
+        && krates.get_enabled_features(id).is_none()
+}
+
+fn are_known(krates: &Krates, app: &Kid, x: &Kid, z: &Kid) -> bool {
+    is_app(krates, app) && krates.nid_for_kid(x) == Some(2) && is_unknown(krates, z)
+}
+
 fn are_known_by_id(alloc: Global, krates: &Krates) -> Result<bool, NoMemory> {
     let app = kid(alloc, "app")?;
     let x = kid(alloc, "g#x@1.9.0")?;
     let z = kid(alloc, "z")?;
-    Ok(
-        krates.nid_for_kid(&x) == Some(2)
-            && krates.nid_for_kid(&z).is_none()
-            && is_crate(krates.node_for_kid(&app), "app")
-            && krates.node_for_kid(&z).is_none()
-            && are_texts(krates.get_enabled_features(&app), &["one", "two"])
-            && krates.get_enabled_features(&z).is_none(),
-    )
+    Ok(are_known(krates, &app, &x, &z))
+}
+
+fn leaves(alloc: Global, krates: &Krates, without: DepKind, marks: &[bool]) -> bool {
+    match krates.krates_filtered(alloc, without) {
+        Ok(left) => left.as_slice() == marks,
+        Err(NoMemory) => false,
+    }
 }
 
 // Without dev edges `app` reaches neither `y` nor what `y` alone needs.
-fn are_filtered(alloc: Global, krates: &Krates) -> Result<bool, NoMemory> {
-    let shipped = krates.krates_filtered(alloc, DepKind::Dev)?;
-    let built = krates.krates_filtered(alloc, DepKind::Build)?;
-    Ok(
-        shipped.as_slice() == [true, false, true, false].as_slice()
-            && built.as_slice() == [true, true, true, true].as_slice(),
-    )
+fn are_filtered(alloc: Global, krates: &Krates) -> bool {
+    leaves(alloc, krates, DepKind::Dev, &[true, false, true, false])
+        && leaves(alloc, krates, DepKind::Build, &[true, true, true, true])
 }
 
 fn at(krates: &Krates, place: usize) -> Option<&Krate> {
     krates.krates().get(place)
 }
 
+fn needs_rust(krate: &Krate) -> bool {
+    krate.rust_version == Some(Version::new(1, 70, 0))
+}
+
 fn is_held(krate: &Krate) -> bool {
     krate.license.is_none()
         && krate.source_text.is_none()
-        && krate.rust_version == Some(Version::new(1, 70, 0))
+        && needs_rust(krate)
         && krate.manifest_path.as_str() == "/w/app/Cargo.toml"
+        && krate.folder() == "/w/app"
         && is_build_script(krate.targets.as_slice())
         && are_declared(krate.deps.as_slice())
 }
@@ -167,23 +189,25 @@ fn is_build_script(targets: &[Target]) -> bool {
     }
 }
 
+fn takes_version(dep: &Dependency, major: u64, minor: u64) -> bool {
+    dep.req.matches(&Version::new(major, minor, 0))
+}
+
+fn is_x(dep: &Dependency) -> bool {
+    dep.rename.as_ref().map(Text::as_str) == Some("ex")
+        && dep.kind == DepKind::Normal
+        && takes_version(dep, 1, 10)
+        && !takes_version(dep, 2, 0)
+        && are_texts(Some(dep.features.as_slice()), &["std"])
+        && !dep.uses_default_features
+}
+
+fn is_y(dep: &Dependency) -> bool {
+    dep.kind == DepKind::Dev && dep.uses_default_features && dep.rename.is_none()
+}
+
 fn are_declared(deps: &[Dependency]) -> bool {
-    deps.len() == 2
-        && match deps.first() {
-            Some(x) => {
-                x.rename.as_ref().map(Text::as_str) == Some("ex")
-                    && x.kind == DepKind::Normal
-                    && x.req.matches(&Version::new(1, 10, 0))
-                    && !x.req.matches(&Version::new(2, 0, 0))
-                    && are_texts(Some(x.features.as_slice()), &["std"])
-                    && !x.uses_default_features
-            }
-            None => false,
-        }
-        && match deps.get(1) {
-            Some(y) => y.kind == DepKind::Dev && y.uses_default_features && y.rename.is_none(),
-            None => false,
-        }
+    matches!(deps, [x, y] if is_x(x) && is_y(y))
 }
 
 fn is_of_crates_io(krate: &Krate) -> bool {
@@ -201,11 +225,12 @@ fn is_of_another_registry(krate: &Krate) -> bool {
 }
 
 fn have_fields(krates: &Krates) -> bool {
-    at(krates, 0).map(is_held) == Some(true)
-        && at(krates, 0).map(Krate::folder) == Some("/w/app")
-        && at(krates, 1).map(is_of_crates_io) == Some(true)
-        && at(krates, 2).map(is_of_git) == Some(true)
-        && at(krates, 3).map(is_of_another_registry) == Some(true)
+    match krates.krates() {
+        [app, x, older, y] => {
+            is_held(app) && is_of_crates_io(x) && is_of_git(older) && is_of_another_registry(y)
+        }
+        _ => false,
+    }
 }
 
 fn is_private(krates: &Krates, place: usize, registries: &[Text]) -> bool {
@@ -216,17 +241,25 @@ fn is_private(krates: &Krates, place: usize, registries: &[Text]) -> bool {
 }
 
 // A crate that may be published nowhere is private, and one that does not say is not.
-fn are_private(alloc: Global, krates: &Krates) -> Result<bool, NoMemory> {
-    let here = Text::from_str(alloc, "here")?;
-    let there = Text::from_str(alloc, "there")?;
-    let one = [here.clone()?];
-    let both = [there, here];
-    Ok(
-        is_private(krates, 0, &[])
-            && !is_private(krates, 1, &both)
-            && !is_private(krates, 3, &one)
-            && is_private(krates, 3, &both),
-    )
+fn are_private(krates: &Krates, one: &[Text], both: &[Text]) -> bool {
+    is_private(krates, 0, &[])
+        && !is_private(krates, 1, both)
+        && !is_private(krates, 3, one)
+        && is_private(krates, 3, both)
+}
+
+fn texts_of(alloc: Global, texts: &[&str]) -> Result<List<Text>, NoMemory> {
+    let mut list = List::new(alloc);
+    for text in texts {
+        list.push(Text::from_str(alloc, text)?)?;
+    }
+    Ok(list)
+}
+
+fn are_private_by_registry(alloc: Global, krates: &Krates) -> Result<bool, NoMemory> {
+    let one = texts_of(alloc, &["here"])?;
+    let both = texts_of(alloc, &["there", "here"])?;
+    Ok(are_private(krates, one.as_slice(), both.as_slice()))
 }
 
 fn prints(alloc: Global, krates: &Krates) -> Result<bool, NoMemory> {
@@ -238,26 +271,31 @@ fn prints(alloc: Global, krates: &Krates) -> Result<bool, NoMemory> {
 
 fn answers(alloc: Global, krates: &Krates) -> Result<bool, NoMemory> {
     Ok(
-        are_known_by_id(alloc, krates)?
-            && are_filtered(alloc, krates)?
-            && are_private(alloc, krates)?
+        are_filtered(alloc, krates)
+            && are_known_by_id(alloc, krates)?
+            && are_private_by_registry(alloc, krates)?
             && prints(alloc, krates)?,
     )
 }
 
-fn all_answer(alloc: Global) -> Result<bool, MetadataFault> {
-    let krates = built(alloc, GRAPH)?;
-    Ok(
-        are_in_order(&krates)
-            && have_neighbours(&krates)
-            && have_fields(&krates)
-            && answers(alloc, &krates)?,
-    )
+fn is_graph(krates: &Krates) -> bool {
+    are_in_order(krates)
+        && have_dependents(krates)
+        && have_dependencies(krates)
+        && have_edges(krates)
+        && have_fields(krates)
+}
+
+fn all_answer(alloc: Global) -> bool {
+    match built(alloc, GRAPH) {
+        Ok(krates) => is_graph(&krates) && matches!(answers(alloc, &krates), Ok(true)),
+        Err(_) => false,
+    }
 }
 
 #[test]
 fn each_call_answers_of_the_graph(rt: HostRuntime) {
-    assert!(rt; all_answer(rt.alloc()) == Ok(true));
+    assert!(rt; all_answer(rt.alloc()));
 }
 
 // `app` needs `x` in one version on Unix and in another on Windows, `y` under another name and, in a
@@ -316,18 +354,20 @@ fn are_resolved(krates: &Krates) -> bool {
     all
 }
 
-fn all_resolve(alloc: Global) -> Result<bool, MetadataFault> {
-    let krates = built(alloc, RESOLVED)?;
-    Ok(are_resolved(&krates))
+fn all_resolve(alloc: Global) -> bool {
+    match built(alloc, RESOLVED) {
+        Ok(krates) => are_resolved(&krates),
+        Err(_) => false,
+    }
 }
 
 #[test]
 fn a_declaration_resolves_by_name_kind_target_and_version(rt: HostRuntime) {
-    assert!(rt; all_resolve(rt.alloc()) == Ok(true));
+    assert!(rt; all_resolve(rt.alloc()));
 }
 
 // A workspace of one package, which comes from `source`.
-fn from_source(alloc: Global, source: &str) -> Result<Krates, MetadataFault> {
+fn text_from(alloc: Global, source: &str) -> Result<Text, NoMemory> {
     let mut text = Text::from_str(
         alloc,
         r#"{"packages":[{"name":"a","version":"1.0.0","id":"a","manifest_path":"/a","source":""#,
@@ -336,12 +376,25 @@ fn from_source(alloc: Global, source: &str) -> Result<Krates, MetadataFault> {
     text.push_str(
         r#""}],"workspace_members":["a"],"workspace_root":"/","resolve":{"nodes":[{"id":"a"}]}}"#,
     )?;
-    built(alloc, text.as_str())
+    Ok(text)
 }
 
 // The reference that a git source names, and its address.
 fn is_git(alloc: Global, source: &str, address: &str, named: GitSpec, value: Option<&str>) -> bool {
-    match from_source(alloc, source) {
+    match text_from(alloc, source) {
+        Ok(text) => is_git_in(alloc, text.as_str(), address, named, value),
+        Err(NoMemory) => false,
+    }
+}
+
+fn is_git_in(
+    alloc: Global,
+    text: &str,
+    address: &str,
+    named: GitSpec,
+    value: Option<&str>,
+) -> bool {
+    match built(alloc, text) {
         Ok(krates) => match at(&krates, 0) {
             Some(krate) => names(krate.source.as_ref(), address, named, value),
             None => false,
@@ -367,70 +420,66 @@ fn names(source: Option<&Source>, address: &str, named: GitSpec, value: Option<&
     }
 }
 
+fn have_references(alloc: Global) -> bool {
+    is_git(
+        alloc,
+        "git+https://a.b/c?x=1&tag=v%201+2&rev=3#4",
+        "https://a.b/c?x=1&tag=v%201+2&rev=3",
+        GitSpec::Tag,
+        Some("v 1 2"),
+    ) && is_git(
+        alloc,
+        "git+ssh://git@a.b/c?b%72anch=%ff",
+        "ssh://git@a.b/c?b%72anch=%ff",
+        GitSpec::Branch,
+        Some("%ff"),
+    ) && is_git(
+        alloc,
+        "git+https://a.b/c?&rev=",
+        "https://a.b/c?&rev=",
+        GitSpec::Rev,
+        Some(""),
+    )
+}
+
 #[test]
 fn a_git_source_names_its_reference(rt: HostRuntime) {
-    let alloc = rt.alloc();
+    let plain = "git+https://a.b/c?x=1";
     assert!(rt;
-        is_git(
-            alloc,
-            "git+https://a.b/c?x=1&tag=v%201+2&rev=3#4",
-            "https://a.b/c?x=1&tag=v%201+2&rev=3",
-            GitSpec::Tag,
-            Some("v 1 2")
-        )
-    );
-    assert!(rt;
-        is_git(
-            alloc,
-            "git+ssh://git@a.b/c?b%72anch=%ff",
-            "ssh://git@a.b/c?b%72anch=%ff",
-            GitSpec::Branch,
-            Some("%ff")
-        )
-    );
-    assert!(rt;
-        is_git(
-            alloc,
-            "git+https://a.b/c?&rev=",
-            "https://a.b/c?&rev=",
-            GitSpec::Rev,
-            Some("")
-        )
-    );
-    assert!(rt;
-        is_git(
-            alloc,
-            "git+https://a.b/c?x=1",
-            "https://a.b/c?x=1",
-            GitSpec::Any,
-            None
-        )
+        have_references(rt.alloc())
+            && is_git(rt.alloc(), plain, "https://a.b/c?x=1", GitSpec::Any, None)
     );
 }
 
-fn tells(alloc: Global, text: &str, told: &str) -> Result<bool, MetadataFault> {
-    match built(alloc, text) {
-        Ok(_) => Ok(false),
-        Err(fault) => Ok(format!(in alloc; "{fault}")?.as_str() == told),
+fn is_told(alloc: Global, fault: &MetadataFault, told: &str) -> bool {
+    match format!(in alloc; "{fault}") {
+        Ok(printed) => printed.as_str() == told,
+        Err(_) => false,
     }
+}
+
+fn tells(alloc: Global, text: &str, told: &str) -> bool {
+    match built(alloc, text) {
+        Ok(_) => false,
+        Err(fault) => is_told(alloc, &fault, told),
+    }
+}
+
+fn tells_causes(alloc: Global) -> bool {
+    tells(alloc, "{", "the metadata is no JSON")
+        && tells(
+            alloc,
+            r#"{"resolve":1,"packages":1}"#,
+            "the member `packages` of the metadata is missing or of another kind",
+        )
+        && tells(
+            alloc,
+            r#"{"resolve":{"nodes":[]},"packages":[],"workspace_members":["b"],"workspace_root":"/"}"#,
+            "the id `b` has no package or no node in the metadata",
+        )
 }
 
 #[test]
 fn a_fault_tells_its_cause(rt: HostRuntime) {
-    let alloc = rt.alloc();
-    assert!(rt; tells(alloc, "{", "the metadata is no JSON") == Ok(true));
-    assert!(rt;
-        tells(
-            alloc,
-            r#"{"resolve":1,"packages":1}"#,
-            "the member `packages` of the metadata is missing or of another kind"
-        ) == Ok(true)
-    );
-    assert!(rt;
-        tells(
-            alloc,
-            r#"{"resolve":{"nodes":[]},"packages":[],"workspace_members":["b"],"workspace_root":"/"}"#,
-            "the id `b` has no package or no node in the metadata"
-        ) == Ok(true)
-    );
+    assert!(rt; tells_causes(rt.alloc()));
 }

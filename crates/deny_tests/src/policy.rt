@@ -4,7 +4,7 @@ use deny_base::Span;
 use deny_cfg::bans::cfg::{Checksum, ChecksumParseError};
 use deny_cfg::{PackageSpec, PolicyError, parse_semver};
 use deny_toml::{Content, CowStr, DeserError, Deserialize, FaultKind, Scalar, Value};
-use std::alloc::{AllocError, Global};
+use std::alloc::Global;
 use std::str::FromStr;
 
 fn string_value(string: Scalar<'static>, end: u32) -> Value<'static> {
@@ -35,20 +35,59 @@ fn a_name_on_several_lines_has_the_range_of_its_string(rt: HostRuntime) -> Resul
     Ok(())
 }
 
-#[test]
-fn a_text_is_a_name_and_a_requirement(rt: HostRuntime) -> Result<(), DeserError> {
-    let plain = spec_of(rt.alloc(), "x@1", 19)?;
-    assert!(rt; is_named(&plain, "x", 16, 17) && plain.version_req.is_some());
-    let escaped = spec_of(rt.alloc(), "x@1", 24)?;
-    assert!(rt; is_named(&escaped, "x", 16, 24) && escaped == plain);
-    let colon = spec_of(rt.alloc(), "x:y@1", 21)?;
-    assert!(rt; is_named(&colon, "x:y", 16, 19) && colon != plain);
-    let name = spec_of(rt.alloc(), "x", 17)?;
-    assert!(rt; is_named(&name, "x", 16, 17) && name.req_text.is_none() && name != plain);
-    for text in ["", "x@", "@1", ":1", "x@y"] {
-        assert!(rt; spec_of(rt.alloc(), text, 20).is_err(), "{text}");
+fn is_plain(spec: &PackageSpec) -> bool {
+    is_named(spec, "x", 16, 17) && spec.version_req.is_some()
+}
+
+fn is_bare(spec: &PackageSpec) -> bool {
+    is_named(spec, "x", 16, 17) && spec.req_text.is_none()
+}
+
+/// With an escape the range of the name is that of the string.
+fn is_escaped(alloc: Global, plain: &PackageSpec) -> bool {
+    match spec_of(alloc, "x@1", 24) {
+        Ok(spec) => is_named(&spec, "x", 16, 24) && spec == *plain,
+        Err(_) => false,
     }
-    Ok(())
+}
+
+fn is_with_colon(alloc: Global, plain: &PackageSpec) -> bool {
+    match spec_of(alloc, "x:y@1", 21) {
+        Ok(spec) => is_named(&spec, "x:y", 16, 19) && spec != *plain,
+        Err(_) => false,
+    }
+}
+
+fn is_name_alone(alloc: Global, plain: &PackageSpec) -> bool {
+    match spec_of(alloc, "x", 17) {
+        Ok(spec) => is_bare(&spec) && spec != *plain,
+        Err(_) => false,
+    }
+}
+
+fn are_specs(alloc: Global) -> bool {
+    match spec_of(alloc, "x@1", 19) {
+        Ok(plain) => {
+            is_plain(&plain)
+                && is_escaped(alloc, &plain)
+                && is_with_colon(alloc, &plain)
+                && is_name_alone(alloc, &plain)
+        }
+        Err(_) => false,
+    }
+}
+
+fn are_no_specs(alloc: Global) -> bool {
+    let mut all = true;
+    for text in ["", "x@", "@1", ":1", "x@y"] {
+        all = all && spec_of(alloc, text, 20).is_err();
+    }
+    all
+}
+
+#[test]
+fn a_text_is_a_name_and_a_requirement(rt: HostRuntime) {
+    assert!(rt; are_specs(rt.alloc()) && are_no_specs(rt.alloc()));
 }
 
 fn is_version(alloc: Global, text: &'static str, minor: u64, patch: u64) -> bool {
@@ -68,14 +107,23 @@ fn is_unreadable(alloc: Global, text: &'static str) -> bool {
     }
 }
 
+fn are_versions(alloc: Global) -> bool {
+    is_version(alloc, "1.70", 70, 0)
+        && is_version(alloc, "1.70.0", 70, 0)
+        && is_version(alloc, "01.02.4294967295", 2, 4294967295)
+}
+
+fn are_unreadable(alloc: Global) -> bool {
+    let mut all = true;
+    for text in ["1", "1.70.0.1", "1.+7", "1.4294967296", "1..2", ""] {
+        all = all && is_unreadable(alloc, text);
+    }
+    all
+}
+
 #[test]
 fn two_or_three_numbers_are_a_version(rt: HostRuntime) {
-    assert!(rt; is_version(rt.alloc(), "1.70", 70, 0));
-    assert!(rt; is_version(rt.alloc(), "1.70.0", 70, 0));
-    assert!(rt; is_version(rt.alloc(), "01.02.4294967295", 2, 4294967295));
-    for text in ["1", "1.70.0.1", "1.+7", "1.4294967296", "1..2", ""] {
-        assert!(rt; is_unreadable(rt.alloc(), text), "{text}");
-    }
+    assert!(rt; are_versions(rt.alloc()) && are_unreadable(rt.alloc()));
 }
 
 const UPPER: &str = "ABABABABABABABABABABABABABABABABABABABABABABABABABABABABABABABAB";
@@ -86,38 +134,67 @@ const SHORT: &str = "aaaaaaaaaaaaaaaaaaaaaaaaaaaaaaaaaaaaaaaaaaaaaaaaaaaaaaaaaaa
 
 const LETTERS: &str = "gggggggggggggggggggggggggggggggggggggggggggggggggggggggggggggggg";
 
-#[test]
-fn digits_of_either_case_are_read(rt: HostRuntime) -> Result<(), AllocError> {
-    let Ok(checksum) = Checksum::from_str(UPPER) else {
-        return Err(AllocError);
-    };
-    let printed = format!(in rt.alloc(); "{checksum}")?;
-    assert!(rt; printed.as_str() == LOWER);
-    assert!(rt;
-        matches!(
-            Checksum::from_str(SHORT),
-            Err(ChecksumParseError::InvalidLength(63))
-        )
-    );
-    assert!(rt;
-        matches!(
-            Checksum::from_str(LETTERS),
-            Err(ChecksumParseError::InvalidValue('g'))
-        )
-    );
-    Ok(())
+fn prints(alloc: Global, checksum: &Checksum, digits: &str) -> bool {
+    match format!(in alloc; "{checksum}") {
+        Ok(printed) => printed.as_str() == digits,
+        Err(_) => false,
+    }
+}
+
+fn is_read(alloc: Global, text: &str, digits: &str) -> bool {
+    match Checksum::from_str(text) {
+        Ok(checksum) => prints(alloc, &checksum, digits),
+        Err(_) => false,
+    }
+}
+
+fn is_short() -> bool {
+    matches!(
+        Checksum::from_str(SHORT),
+        Err(ChecksumParseError::InvalidLength(63))
+    )
+}
+
+fn has_letter() -> bool {
+    matches!(
+        Checksum::from_str(LETTERS),
+        Err(ChecksumParseError::InvalidValue('g'))
+    )
 }
 
 #[test]
-fn an_error_names_its_cause(rt: HostRuntime) -> Result<(), AllocError> {
-    let length = ChecksumParseError::InvalidLength(63);
-    let told = format!(in rt.alloc(); "{length}")?;
-    assert!(rt; told.as_str() == "a checksum has 64 hex digits, and not 63");
-    let value = ChecksumParseError::InvalidValue('g');
-    let told = format!(in rt.alloc(); "{value}")?;
-    assert!(rt; told.as_str() == "`g` is no hex digit");
+fn digits_of_either_case_are_read(rt: HostRuntime) {
+    assert!(rt; is_read(rt.alloc(), UPPER, LOWER) && is_short() && has_letter());
+}
+
+fn tells(alloc: Global, error: ChecksumParseError, told: &str) -> bool {
+    match format!(in alloc; "{error}") {
+        Ok(printed) => printed.as_str() == told,
+        Err(_) => false,
+    }
+}
+
+fn tells_memory(alloc: Global) -> bool {
     let memory = PolicyError::Memory;
-    let told = format!(in rt.alloc(); "{memory}")?;
-    assert!(rt; told.as_str() == "the memory did not suffice");
-    Ok(())
+    match format!(in alloc; "{memory}") {
+        Ok(printed) => printed.as_str() == "the memory did not suffice",
+        Err(_) => false,
+    }
+}
+
+fn tells_causes(alloc: Global) -> bool {
+    tells(
+        alloc,
+        ChecksumParseError::InvalidLength(63),
+        "a checksum has 64 hex digits, and not 63",
+    ) && tells(
+        alloc,
+        ChecksumParseError::InvalidValue('g'),
+        "`g` is no hex digit",
+    )
+}
+
+#[test]
+fn an_error_names_its_cause(rt: HostRuntime) {
+    assert!(rt; tells_causes(rt.alloc()) && tells_memory(rt.alloc()));
 }

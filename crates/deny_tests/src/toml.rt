@@ -29,64 +29,124 @@ fn faults_of(read: Result<(), DeserError>, alloc: Global) -> List<ConfigFault> {
     }
 }
 
+fn reads_name(helper: &mut TableHelper) -> bool {
+    match helper.required_s::<Text>("name") {
+        Ok(spanned) => spanned.value.as_str() == "x" && spanned.span.start == 36,
+        Err(_) => false,
+    }
+}
+
+fn misses_gone(alloc: Global, helper: &mut TableHelper) -> bool {
+    let missing = faults_of(helper.required::<u32>("gone").map(|_| ()), alloc);
+    is_fault(missing.as_slice(), 0, FaultKind::Missing, "gone", 0)
+}
+
+fn reads_no_list(helper: &mut TableHelper, key: &str) -> bool {
+    match helper.optional::<List<i64>>(key) {
+        Ok(read) => read.is_none(),
+        Err(NoMemory) => false,
+    }
+}
+
+fn reads_no_number(helper: &mut TableHelper, key: &str) -> bool {
+    match helper.optional::<i64>(key) {
+        Ok(read) => read.is_none(),
+        Err(NoMemory) => false,
+    }
+}
+
+fn reads_keys(alloc: Global, helper: &mut TableHelper) -> bool {
+    reads_name(helper)
+        && misses_gone(alloc, helper)
+        && reads_no_list(helper, "list")
+        && reads_no_number(helper, "float")
+}
+
+fn are_gathered(faults: &[ConfigFault]) -> bool {
+    faults.len() == 3
+        && is_fault(faults, 0, FaultKind::WrongKind, "float", 8)
+        && is_fault(faults, 1, FaultKind::WrongKind, "list.1", 24)
+        && is_fault(faults, 2, FaultKind::Unknown, "other", 39)
+}
+
+fn gathers_faults(alloc: Global, value: &mut Value) -> bool {
+    let Ok(mut helper) = TableHelper::new(alloc, value) else {
+        return false;
+    };
+    let read = reads_keys(alloc, &mut helper);
+    let faults = faults_of(helper.finalize(), alloc);
+    read && are_gathered(faults.as_slice())
+}
+
 #[test]
 fn a_helper_reads_keys_and_gathers_faults(rt: HostRuntime) -> Result<(), NoMemory> {
     let mut value = value_of(rt.alloc(), TABLE)?;
-    let Ok(mut helper) = TableHelper::new(rt.alloc(), &mut value) else {
-        return Err(NoMemory);
-    };
-    let name = helper.required_s::<Text>("name");
-    assert!(rt;
-        matches!(&name, Ok(spanned) if spanned.value.as_str() == "x" && spanned.span.start == 36)
-    );
-    let missing = faults_of(helper.required::<u32>("gone").map(|_| ()), rt.alloc());
-    assert!(rt; is_fault(missing.as_slice(), 0, FaultKind::Missing, "gone", 0));
-    assert!(rt; helper.optional::<List<i64>>("list")?.is_none());
-    assert!(rt; helper.optional::<i64>("float")?.is_none());
-    let faults = faults_of(helper.finalize(), rt.alloc());
-    assert!(rt; faults.len() == 3);
-    assert!(rt; is_fault(faults.as_slice(), 0, FaultKind::WrongKind, "float", 8));
-    assert!(rt; is_fault(faults.as_slice(), 1, FaultKind::WrongKind, "list.1", 24));
-    assert!(rt; is_fault(faults.as_slice(), 2, FaultKind::Unknown, "other", 39));
+    assert!(rt; gathers_faults(rt.alloc(), &mut value));
     Ok(())
 }
 
-/// A value under the key whose name is empty, its elements, and a key of that name which nothing reads.
+/// An element of a value under the key whose name is empty.
+fn names_element(alloc: Global, value: &mut Value) -> bool {
+    let Ok(mut helper) = TableHelper::new(alloc, value) else {
+        return false;
+    };
+    let none = reads_no_list(&mut helper, "");
+    let faults = faults_of(helper.finalize(), alloc);
+    none && faults.len() == 1 && is_fault(faults.as_slice(), 0, FaultKind::WrongKind, ".0", 6)
+}
+
+fn is_nameless(faults: &[ConfigFault]) -> bool {
+    is_fault(faults, 0, FaultKind::WrongKind, "", 5)
+        && matches!(faults.first(), Some(fault) if fault.is_nameless)
+}
+
+/// That value itself.
+fn names_value(alloc: Global, value: &mut Value) -> bool {
+    let Ok(mut helper) = TableHelper::new(alloc, value) else {
+        return false;
+    };
+    let none = reads_no_number(&mut helper, "");
+    let faults = faults_of(helper.finalize(), alloc);
+    none && is_nameless(faults.as_slice())
+}
+
+fn element_is_named(alloc: Global) -> Result<bool, NoMemory> {
+    let mut value = value_of(alloc, "\"\" = [true]\n")?;
+    Ok(names_element(alloc, &mut value))
+}
+
+fn value_is_named(alloc: Global) -> Result<bool, NoMemory> {
+    let mut value = value_of(alloc, "\"\" = true\n")?;
+    Ok(names_value(alloc, &mut value))
+}
+
 #[test]
 fn an_empty_name_is_a_part_of_a_path(rt: HostRuntime) -> Result<(), NoMemory> {
-    let mut value = value_of(rt.alloc(), "\"\" = [true]\n")?;
-    let Ok(mut helper) = TableHelper::new(rt.alloc(), &mut value) else {
-        return Err(NoMemory);
-    };
-    assert!(rt; helper.optional::<List<i64>>("")?.is_none());
-    let faults = faults_of(helper.finalize(), rt.alloc());
-    assert!(rt; faults.len() == 1);
-    assert!(rt; is_fault(faults.as_slice(), 0, FaultKind::WrongKind, ".0", 6));
-    let mut value = value_of(rt.alloc(), "\"\" = true\n")?;
-    let Ok(mut helper) = TableHelper::new(rt.alloc(), &mut value) else {
-        return Err(NoMemory);
-    };
-    assert!(rt; helper.optional::<i64>("")?.is_none());
-    let faults = faults_of(helper.finalize(), rt.alloc());
-    assert!(rt; is_fault(faults.as_slice(), 0, FaultKind::WrongKind, "", 5));
-    assert!(rt; matches!(faults.as_slice().first(), Some(fault) if fault.is_nameless));
+    assert!(rt; element_is_named(rt.alloc())? && value_is_named(rt.alloc())?);
     Ok(())
+}
+
+fn lead_to_values(value: &Value) -> bool {
+    let mut all = true;
+    for (path, start) in [("", 0u32), ("/list/0", 20), ("/list/1", 24), ("/name", 36)] {
+        all = all && matches!(value.pointer(path), Some(found) if found.span.start == start);
+    }
+    all
+}
+
+fn lead_nowhere(value: &Value) -> bool {
+    let mut all = true;
+    for path in [
+        "name", "/", "/list/2", "/list/01", "/list/+1", "/list/", "/name/0", "/list/0/",
+    ] {
+        all = all && value.pointer(path).is_none();
+    }
+    all
 }
 
 #[test]
 fn paths_lead_to_values(rt: HostRuntime) -> Result<(), NoMemory> {
     let value = value_of(rt.alloc(), TABLE)?;
-    for (path, start) in [("", 0u32), ("/list/0", 20), ("/list/1", 24), ("/name", 36)] {
-        let found = value.pointer(path);
-        assert!(rt;
-            matches!(found, Some(found) if found.span.start == start),
-            "at {path}"
-        );
-    }
-    for path in [
-        "name", "/", "/list/2", "/list/01", "/list/+1", "/list/", "/name/0", "/list/0/",
-    ] {
-        assert!(rt; value.pointer(path).is_none(), "at {path}");
-    }
+    assert!(rt; lead_to_values(&value) && lead_nowhere(&value));
     Ok(())
 }
