@@ -1,94 +1,108 @@
 //! The tree of a text in JSON. It is written from a list of the pieces that are left, so that the
 //! depth of the text takes no stack.
 
-use crate::case_error::CaseError;
 use deny_base::Span;
 use deny_toml::{Content, Key, Scalar, Table, Value};
-use serde_json::json;
 use std::alloc::{AllocError, Global};
 
 /// A piece of the tree that is left to be written.
 #[derive(Drop)]
 enum Piece<'v, 't> {
     Text(&'static str),
-    Range(Span),
+    /// What stands behind the elements of an array with this range.
+    ArrayEnd(Span),
     Value(&'v Value<'t>),
     Entry(&'v (Key<'t>, Value<'t>)),
 }
 
 /// A value: its range, and what it holds under the name of its kind.
-pub(crate) fn tree(alloc: Global, value: &Value<'_>) -> Result<String, CaseError> {
-    let mut written = String::new(alloc);
+pub(crate) fn push_tree(
+    alloc: Global,
+    value: &Value<'_>,
+    written: &mut String,
+) -> Result<(), AllocError> {
     let mut left = Vec::new(alloc);
     left.push(Piece::Value(value))?;
+    push_pieces(alloc, &mut left, written)
+}
+
+fn push_pieces<'v, 't>(
+    alloc: Global,
+    left: &mut Vec<Piece<'v, 't>>,
+    written: &mut String,
+) -> Result<(), AllocError> {
     for _piece in 0..u64::MAX {
         match left.pop() {
-            Some(piece) => write_piece(alloc, piece, &mut written, &mut left)?,
+            Some(piece) => push_piece(alloc, piece, left, written)?,
             None => break,
         }
     }
-    Ok(written)
+    Ok(())
 }
 
 /// Writes a piece up to the first value in it, and leaves the rest.
-fn write_piece<'v, 't>(
+fn push_piece<'v, 't>(
     alloc: Global,
     piece: Piece<'v, 't>,
-    written: &mut String,
     left: &mut Vec<Piece<'v, 't>>,
-) -> Result<(), CaseError> {
+    written: &mut String,
+) -> Result<(), AllocError> {
     match piece {
-        Piece::Text(text) => written.push_str(text)?,
-        Piece::Range(span) => written.push_str(range(alloc, &span)?.as_str())?,
-        Piece::Value(value) => write_value(alloc, value, written, left)?,
-        Piece::Entry(entry) => {
-            written.push_str(entry_start(alloc, &entry.0)?.as_str())?;
-            left.push(Piece::Text("}"))?;
-            left.push(Piece::Value(&entry.1))?;
-        }
+        Piece::Text(text) => written.push_str(text),
+        Piece::ArrayEnd(span) => push_array_end(&span, written),
+        Piece::Value(value) => push_value(alloc, value, left, written),
+        Piece::Entry(entry) => push_entry(alloc, entry, left, written),
     }
-    Ok(())
 }
 
-fn write_value<'v, 't>(
+fn push_value<'v, 't>(
     alloc: Global,
     value: &'v Value<'t>,
-    written: &mut String,
     left: &mut Vec<Piece<'v, 't>>,
-) -> Result<(), CaseError> {
+    written: &mut String,
+) -> Result<(), AllocError> {
     match &value.content {
-        Content::Scalar(scalar) => {
-            let text = scalar_tree(alloc, scalar, &value.span)?;
-            written.push_str(text.as_str())?;
-        }
-        Content::Array(elements) => {
-            written.push_str("{\"array\":[")?;
-            left.push(Piece::Text("}"))?;
-            left.push(Piece::Range(value.span))?;
-            left.push(Piece::Text("],\"span\":"))?;
-            leave_elements(elements.as_slice(), left)?;
-        }
-        Content::Table(table) => {
-            written.push_str("{\"span\":")?;
-            written.push_str(range(alloc, &value.span)?.as_str())?;
-            written.push_str(",\"table\":[")?;
-            left.push(Piece::Text("]}"))?;
-            leave_entries(table, left)?;
-        }
+        Content::Scalar(scalar) => push_scalar(alloc, scalar, &value.span, written),
+        Content::Array(elements) => push_array(elements.as_slice(), &value.span, left, written),
+        Content::Table(table) => push_table(table, &value.span, left, written),
     }
-    Ok(())
+}
+
+fn push_array<'v, 't>(
+    elements: &'v [Value<'t>],
+    span: &Span,
+    left: &mut Vec<Piece<'v, 't>>,
+    written: &mut String,
+) -> Result<(), AllocError> {
+    written.push_str("{\"array\":[")?;
+    left.push(Piece::ArrayEnd(*span))?;
+    leave_elements(elements, left)
+}
+
+fn push_array_end(span: &Span, written: &mut String) -> Result<(), AllocError> {
+    written.push_str("]")?;
+    push_last_range(span, written)
+}
+
+fn push_table<'v, 't>(
+    table: &'v Table<'t>,
+    span: &Span,
+    left: &mut Vec<Piece<'v, 't>>,
+    written: &mut String,
+) -> Result<(), AllocError> {
+    push_first_range(span, written)?;
+    written.push_str("\"table\":[")?;
+    left.push(Piece::Text("]}"))?;
+    leave_entries(table, left)
 }
 
 /// Leaves the elements, the first on top, with commas between them.
 fn leave_elements<'v, 't>(
     elements: &'v [Value<'t>],
     left: &mut Vec<Piece<'v, 't>>,
-) -> Result<(), CaseError> {
+) -> Result<(), AllocError> {
     for (index, element) in elements.iter().enumerate().rev() {
-        left.push(Piece::Value(element))?;
-        if index > 0 {
-            left.push(Piece::Text(","))?;
-        }
+        leave(Piece::Value(element), index, left)?;
     }
     Ok(())
 }
@@ -97,38 +111,129 @@ fn leave_elements<'v, 't>(
 fn leave_entries<'v, 't>(
     table: &'v Table<'t>,
     left: &mut Vec<Piece<'v, 't>>,
-) -> Result<(), CaseError> {
+) -> Result<(), AllocError> {
     for (index, entry) in table.entries().iter().enumerate().rev() {
-        left.push(Piece::Entry(entry))?;
-        if index > 0 {
-            left.push(Piece::Text(","))?;
-        }
+        leave(Piece::Entry(entry), index, left)?;
     }
     Ok(())
 }
 
-/// An entry up to its value.
-fn entry_start(alloc: Global, key: &Key<'_>) -> Result<String, AllocError> {
-    let name = json!(in alloc; key.name.as_str())?.to_string(alloc)?;
-    format!(in alloc;
-        "{{\"key\":{},\"span\":[{},{}],\"value\":",
-        name, key.span.start, key.span.end
-    )
+/// Leaves the piece of this index in its list, with a comma before it where it is not the first.
+fn leave<'v, 't>(
+    piece: Piece<'v, 't>,
+    index: usize,
+    left: &mut Vec<Piece<'v, 't>>,
+) -> Result<(), AllocError> {
+    left.push(piece)?;
+    if index > 0 {
+        left.push(Piece::Text(","))?;
+    }
+    Ok(())
 }
 
-fn scalar_tree(alloc: Global, scalar: &Scalar<'_>, span: &Span) -> Result<String, AllocError> {
-    let span = json!(in alloc; [span.start, span.end])?;
-    let tree = match scalar {
-        Scalar::Text(text) => json!(in alloc; { "span": span, "text": text.as_str() })?,
-        Scalar::Multiline(text) => json!(in alloc; { "multiline": text.as_str(), "span": span })?,
-        Scalar::Integer(number) => json!(in alloc; { "integer": *number, "span": span })?,
-        Scalar::Float(text) => json!(in alloc; { "float": text.as_str(), "span": span })?,
-        Scalar::Boolean(is_true) => json!(in alloc; { "boolean": *is_true, "span": span })?,
-        Scalar::Date(text) => json!(in alloc; { "date": text.as_str(), "span": span })?,
-    };
-    tree.to_string(alloc)
+/// Writes an entry up to its value.
+fn push_entry<'v, 't>(
+    alloc: Global,
+    entry: &'v (Key<'t>, Value<'t>),
+    left: &mut Vec<Piece<'v, 't>>,
+    written: &mut String,
+) -> Result<(), AllocError> {
+    push_key(alloc, &entry.0, written)?;
+    left.push(Piece::Text("}"))?;
+    left.push(Piece::Value(&entry.1))?;
+    Ok(())
 }
 
-fn range(alloc: Global, span: &Span) -> Result<String, AllocError> {
-    format!(in alloc; "[{},{}]", span.start, span.end)
+fn push_key(alloc: Global, key: &Key<'_>, written: &mut String) -> Result<(), AllocError> {
+    push_string(alloc, "{\"key\":", key.name.as_str(), written)?;
+    written.push_str(",\"span\":")?;
+    push_range(&key.span, written)?;
+    written.push_str(",\"value\":")
+}
+
+/// The members in the order of their names.
+fn push_scalar(
+    alloc: Global,
+    scalar: &Scalar<'_>,
+    span: &Span,
+    written: &mut String,
+) -> Result<(), AllocError> {
+    match scalar {
+        Scalar::Text(text) => push_text(alloc, text.as_str(), span, written),
+        Scalar::Multiline(text) => {
+            push_member(alloc, "{\"multiline\":", text.as_str(), span, written)
+        }
+        Scalar::Integer(number) => push_integer(*number, span, written),
+        Scalar::Float(text) => push_member(alloc, "{\"float\":", text.as_str(), span, written),
+        Scalar::Boolean(is_true) => push_boolean(*is_true, span, written),
+        Scalar::Date(text) => push_member(alloc, "{\"date\":", text.as_str(), span, written),
+    }
+}
+
+fn push_text(
+    alloc: Global,
+    text: &str,
+    span: &Span,
+    written: &mut String,
+) -> Result<(), AllocError> {
+    push_first_range(span, written)?;
+    push_string(alloc, "\"text\":", text, written)?;
+    written.push_str("}")
+}
+
+fn push_member(
+    alloc: Global,
+    before: &str,
+    text: &str,
+    span: &Span,
+    written: &mut String,
+) -> Result<(), AllocError> {
+    push_string(alloc, before, text, written)?;
+    push_last_range(span, written)
+}
+
+fn push_integer(number: i64, span: &Span, written: &mut String) -> Result<(), AllocError> {
+    written.push_str("{\"integer\":")?;
+    written.write(number)?;
+    push_last_range(span, written)
+}
+
+fn push_boolean(is_true: bool, span: &Span, written: &mut String) -> Result<(), AllocError> {
+    written.push_str("{\"boolean\":")?;
+    written.push_str(if is_true { "true" } else { "false" })?;
+    push_last_range(span, written)
+}
+
+/// A text as a string of JSON, behind what stands before it.
+fn push_string(
+    alloc: Global,
+    before: &str,
+    text: &str,
+    written: &mut String,
+) -> Result<(), AllocError> {
+    written.push_str(before)?;
+    let string = String::from_str(alloc, text)?;
+    written.write(serde_json::Value::String(string))
+}
+
+/// A range as the first member of an object.
+fn push_first_range(span: &Span, written: &mut String) -> Result<(), AllocError> {
+    written.push_str("{\"span\":")?;
+    push_range(span, written)?;
+    written.push_str(",")
+}
+
+/// A range as the last member of an object.
+fn push_last_range(span: &Span, written: &mut String) -> Result<(), AllocError> {
+    written.push_str(",\"span\":")?;
+    push_range(span, written)?;
+    written.push_str("}")
+}
+
+fn push_range(span: &Span, written: &mut String) -> Result<(), AllocError> {
+    written.push_str("[")?;
+    written.write(span.start)?;
+    written.push_str(",")?;
+    written.write(span.end)?;
+    written.push_str("]")
 }
