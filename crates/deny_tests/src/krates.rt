@@ -288,9 +288,13 @@ fn is_graph(krates: &Krates) -> bool {
 
 fn all_answer(alloc: Global) -> bool {
     match built(alloc, GRAPH) {
-        Ok(krates) => is_graph(&krates) && matches!(answers(alloc, &krates), Ok(true)),
+        Ok(krates) => is_answered(alloc, &krates),
         Err(_) => false,
     }
+}
+
+fn is_answered(alloc: Global, krates: &Krates) -> bool {
+    is_graph(krates) && matches!(answers(alloc, krates), Ok(true))
 }
 
 #[test]
@@ -395,11 +399,15 @@ fn is_git_in(
     value: Option<&str>,
 ) -> bool {
     match built(alloc, text) {
-        Ok(krates) => match at(&krates, 0) {
-            Some(krate) => names(krate.source.as_ref(), address, named, value),
-            None => false,
-        },
+        Ok(krates) => comes_from(&krates, address, named, value),
         Err(_) => false,
+    }
+}
+
+fn comes_from(krates: &Krates, address: &str, named: GitSpec, value: Option<&str>) -> bool {
+    match at(krates, 0) {
+        Some(krate) => names(krate.source.as_ref(), address, named, value),
+        None => false,
     }
 }
 
