@@ -4,7 +4,6 @@ use deny_gate::{Inputs, gate};
 use deny_lists::{List, NoMemory};
 use deny_outside::MemoryDisk;
 use deny_rules::{DupEdges, DupSet};
-use std::alloc::Global;
 
 // `app` leads to `a` and to `c` 1.0.0, and `a` to `c` 2.0.0, for itself and for its tests.
 const GRAPH: &[u8] = b"{\"packages\":[\
@@ -17,32 +16,21 @@ const GRAPH: &[u8] = b"{\"packages\":[\
     {\"id\":\"app\",\"deps\":[{\"pkg\":\"a\"},{\"pkg\":\"c1\"}]},\
     {\"id\":\"c1\"},{\"id\":\"c2\"}]}}";
 
-const POLICY: &[u8] = b"[bans]\nmultiple-versions = \"deny\"\nhighlight = \"all\"\n";
-
-fn inputs_of_graph(alloc: Global) -> Result<Inputs, NoMemory> {
-    let policy = Vec::from_slice(alloc, POLICY)?;
-    let metadata = Vec::from_slice(alloc, GRAPH)?;
-    Ok(Inputs {
-        policy,
-        metadata,
-        replacements: None,
-        registries: List::new(alloc),
-        home: None,
-    })
-}
-
 // The edges that the report shows, apart from all else, so that no test holds a report.
-fn edges_of(alloc: Global, inputs: &Inputs) -> List<DupEdges> {
-    let mut disk = MemoryDisk::new(alloc, 1);
-    match gate(alloc, inputs, &mut disk) {
-        Ok(report) => report.dup_edges,
-        Err(_) => List::new(alloc),
+fn edges_shown(rt: &HostRuntime) -> Result<List<DupEdges>, NoMemory> {
+    let policy = b"[bans]\nmultiple-versions = \"deny\"\nhighlight = \"all\"\n";
+    let inputs = Inputs {
+        policy: Vec::from_slice(rt.alloc(), policy)?,
+        metadata: Vec::from_slice(rt.alloc(), GRAPH)?,
+        replacements: None,
+        registries: List::new(rt.alloc()),
+        home: None,
+    };
+    let mut disk = MemoryDisk::new(rt.alloc(), 1);
+    match gate(rt.alloc(), &inputs, &mut disk) {
+        Ok(report) => Ok(report.dup_edges),
+        Err(_) => Ok(List::new(rt.alloc())),
     }
-}
-
-fn edges_shown(alloc: Global) -> Result<List<DupEdges>, NoMemory> {
-    let inputs = inputs_of_graph(alloc)?;
-    Ok(edges_of(alloc, &inputs))
 }
 
 fn edge(parent: u32, child: u32, kind: DepKind) -> Edge {
@@ -79,14 +67,14 @@ fn is_shown(shown: &DupEdges) -> bool {
 
 #[test]
 fn edges_ascend_by_parent_child_and_kind(rt: HostRuntime) -> Result<(), NoMemory> {
-    let edges = edges_shown(rt.alloc())?;
+    let edges = edges_shown(&rt)?;
     assert!(rt; matches!(edges.as_slice(), [shown] if are_in_order(shown)));
     Ok(())
 }
 
 #[test]
 fn a_set_has_the_edges_above_its_crate(rt: HostRuntime) -> Result<(), NoMemory> {
-    let edges = edges_shown(rt.alloc())?;
+    let edges = edges_shown(&rt)?;
     assert!(rt; matches!(edges.as_slice(), [shown] if is_shown(shown) && are_sets(shown)));
     Ok(())
 }
