@@ -1,9 +1,9 @@
 use crate::case_error::CaseError;
-use crate::text::text_bytes;
+use crate::told::told;
+use crate::text::{number_member, string_member, text_bytes};
 use deny_cli::status_of_run;
-use deny_lists::{List, Text};
 use deny_outside::{MemoryDisk, MemoryOut};
-use serde_json::{Map, Value, json};
+use serde_json::{Map, Value};
 use std::alloc::Global;
 
 /// How many bytes a read gives at most, and how many an output takes, where a case does not say.
@@ -11,13 +11,113 @@ const PIECE: usize = 0x1_0000;
 
 const ROOM: usize = 0x10_0000;
 
-/// A run to be tried: its words, and the world that it finds.
-#[derive(Drop)]
-pub(crate) struct Case {
-    value: Value,
+/// Runs the case of a line, and tells what came of it as a line of JSON.
+pub(crate) fn run_line(alloc: Global, line: &str) -> Result<String, CaseError> {
+    match Value::from_str(alloc, line) {
+        Ok(case) => run(alloc, &case),
+        Err(error) => Err(CaseError::Json(error)),
+    }
 }
 
-/// A file of a case.
+/// Runs a case: its words, and the world that they find.
+fn run(alloc: Global, case: &Value) -> Result<String, CaseError> {
+    let Some(name) = string_member(case, "name") else {
+        return Err(CaseError::Member("name"));
+    };
+    let words = strings(alloc, case.get("words"))?;
+    run_words(alloc, case, name, words.as_slice())
+}
+
+fn run_words(
+    alloc: Global,
+    case: &Value,
+    name: &str,
+    words: &[String],
+) -> Result<String, CaseError> {
+    let mut disk = disk(alloc, case)?;
+    run_on_disk(alloc, case, name, words, &mut disk)
+}
+
+fn run_on_disk(
+    alloc: Global,
+    case: &Value,
+    name: &str,
+    words: &[String],
+    disk: &mut MemoryDisk,
+) -> Result<String, CaseError> {
+    let mut out = MemoryOut::new(alloc, number(case, "room", ROOM))?;
+    let mut err = MemoryOut::new(alloc, number(case, "err_room", ROOM))?;
+    let status = status_of_run(alloc, words, disk, &mut out, &mut err);
+    told(alloc, name, &out, &err, status)
+}
+
+/// A number of the case, or what stands for it where it is left out.
+fn number(case: &Value, name: &str, default: usize) -> usize {
+    match number_member(case, name) {
+        Some(number) => number as usize,
+        None => default,
+    }
+}
+
+/// The texts of a list of strings; a list that is missing is empty.
+fn strings(alloc: Global, list: Option<&Value>) -> Result<Vec<String>, CaseError> {
+    match list.and_then(Value::as_array) {
+        Some(items) => strings_of(alloc, items.as_slice()),
+        None => Ok(Vec::new(alloc)),
+    }
+}
+
+fn strings_of(alloc: Global, items: &[Value]) -> Result<Vec<String>, CaseError> {
+    let mut strings = Vec::new(alloc);
+    for item in items {
+        push_string(alloc, item, &mut strings)?;
+    }
+    Ok(strings)
+}
+
+fn push_string(
+    alloc: Global,
+    item: &Value,
+    strings: &mut Vec<String>,
+) -> Result<(), CaseError> {
+    match item.as_str() {
+        Some(string) => push_copy(alloc, string, strings),
+        None => Err(CaseError::Member("words or fail")),
+    }
+}
+
+fn push_copy(alloc: Global, string: &str, strings: &mut Vec<String>) -> Result<(), CaseError> {
+    strings.push(String::from_str(alloc, string)?)?;
+    Ok(())
+}
+
+/// The disk of the case.
+fn disk(alloc: Global, case: &Value) -> Result<MemoryDisk, CaseError> {
+    let mut disk = MemoryDisk::new(alloc, number(case, "piece", PIECE).max(1));
+    put_files(alloc, case, &mut disk)?;
+    fail_paths(alloc, case, &mut disk)?;
+    fail_call(case, &mut disk)?;
+    Ok(disk)
+}
+
+fn put_files(alloc: Global, case: &Value, disk: &mut MemoryDisk) -> Result<(), CaseError> {
+    match case.get("files").and_then(Value::as_object) {
+        Some(files) => put_each(alloc, files, disk),
+        None => Ok(()),
+    }
+}
+
+fn put_each(
+    alloc: Global,
+    files: &Map<String, Value>,
+    disk: &mut MemoryDisk,
+) -> Result<(), CaseError> {
+    for (path, text) in files {
+        put_file(alloc, path.as_str(), text, disk)?;
+    }
+    Ok(())
+}
+
 fn put_file(
     alloc: Global,
     path: &str,
@@ -25,93 +125,32 @@ fn put_file(
     disk: &mut MemoryDisk,
 ) -> Result<(), CaseError> {
     let bytes = text_bytes(alloc, text)?;
+    put_bytes(path, bytes.as_slice(), disk)
+}
+
+fn put_bytes(path: &str, bytes: &[u8], disk: &mut MemoryDisk) -> Result<(), CaseError> {
     if !disk.takes(path)? {
         return Err(CaseError::Member("files"));
     }
-    disk.put_file(path, bytes.as_slice())?;
+    disk.put_file(path, bytes)?;
     Ok(())
 }
 
-/// The texts of a list of strings; a list that is missing is empty.
-fn strings(alloc: Global, list: Option<&Value>) -> Result<Vec<String>, CaseError> {
-    let mut strings = Vec::new(alloc);
-    let Some(list) = list.and_then(Value::as_array) else {
-        return Ok(strings);
-    };
-    for item in list {
-        let Some(string) = item.as_str() else {
-            return Err(CaseError::Member("words or fail"));
-        };
-        strings.push(String::from_str(alloc, string)?)?;
-    }
-    Ok(strings)
+fn fail_paths(alloc: Global, case: &Value, disk: &mut MemoryDisk) -> Result<(), CaseError> {
+    let paths = strings(alloc, case.get("fail"))?;
+    fail_each(paths.as_slice(), disk)
 }
 
-/// What an output took, as text.
-fn output_text(alloc: Global, out: &MemoryOut) -> Result<String, CaseError> {
-    Ok(String::from_utf8_lossy(alloc, out.bytes())?)
+fn fail_each(paths: &[String], disk: &mut MemoryDisk) -> Result<(), CaseError> {
+    for path in paths {
+        disk.fail_path(path.as_str())?;
+    }
+    Ok(())
 }
 
-impl Case {
-    /// The case of a line.
-    pub(crate) fn from_line(alloc: Global, line: &str) -> Result<Case, CaseError> {
-        Ok(Case {
-            value: Value::from_str(alloc, line)?,
-        })
+fn fail_call(case: &Value, disk: &mut MemoryDisk) -> Result<(), CaseError> {
+    if let Some(number) = number_member(case, "fail_call") {
+        disk.fail_call(number)?;
     }
-
-    /// A number of the case, or what stands for it where it is left out.
-    fn number(&self, name: &str, default: usize) -> usize {
-        match self.value.get(name).and_then(Value::as_u64) {
-            Some(number) => number as usize,
-            None => default,
-        }
-    }
-
-    /// The disk of the case.
-    fn disk(&self, alloc: Global) -> Result<MemoryDisk, CaseError> {
-        let mut disk = MemoryDisk::new(alloc, self.number("piece", PIECE).max(1));
-        if let Some(files) = self.value.get("files").and_then(Value::as_object) {
-            for (path, text) in files {
-                put_file(alloc, path.as_str(), text, &mut disk)?;
-            }
-        }
-        for path in &strings(alloc, self.value.get("fail"))? {
-            disk.fail_path(path.as_str())?;
-        }
-        if let Some(number) = self.value.get("fail_call").and_then(Value::as_u64) {
-            disk.fail_call(number)?;
-        }
-        Ok(disk)
-    }
-
-    /// Runs the case, and tells what came of it as a line of JSON.
-    pub(crate) fn run(&self, alloc: Global) -> Result<String, CaseError> {
-        let Some(name) = self.value.get("name").and_then(Value::as_str) else {
-            return Err(CaseError::Member("name"));
-        };
-        let words = strings(alloc, self.value.get("words"))?;
-        let mut disk = self.disk(alloc)?;
-        let mut out = MemoryOut::new(alloc, self.number("room", ROOM))?;
-        let mut err = MemoryOut::new(alloc, self.number("err_room", ROOM))?;
-        let status = status_of_run(alloc, words.as_slice(), &mut disk, &mut out, &mut err);
-        told(alloc, name, &out, &err, status)
-    }
-}
-
-/// What came of a case, as a line of JSON.
-fn told(
-    alloc: Global,
-    name: &str,
-    out: &MemoryOut,
-    err: &MemoryOut,
-    status: u8,
-) -> Result<String, CaseError> {
-    let told = json!(in alloc; {
-        "err": output_text(alloc, err)?,
-        "name": name,
-        "out": output_text(alloc, out)?,
-        "status": status,
-    })?;
-    Ok(told.to_string(alloc)?)
+    Ok(())
 }

@@ -13,18 +13,6 @@ pub(crate) enum CaseError {
     Memory,
 }
 
-impl From<serde_json::Error> for CaseError {
-    fn from(error: serde_json::Error) -> CaseError {
-        CaseError::Json(error)
-    }
-}
-
-impl From<io::Error> for CaseError {
-    fn from(error: io::Error) -> CaseError {
-        CaseError::Io(error)
-    }
-}
-
 impl From<NoMemory> for CaseError {
     fn from(_error: NoMemory) -> CaseError {
         CaseError::Memory

@@ -11,17 +11,25 @@
 mod case;
 mod case_error;
 mod text;
+mod told;
 
-use case::Case;
+use case::run_line;
 use case_error::CaseError;
 use std::io;
 
 fn main(rt: HostRuntime) -> Result<(), CaseError> {
-    let alloc = rt.alloc();
-    let input = io::read_to_string(alloc, rt.reader())?;
-    for line in input.as_str().lines() {
-        let case = Case::from_line(alloc, line)?;
-        println!(rt; "{}", case.run(alloc)?)?;
+    let input = io::read_to_string(rt.alloc(), rt.reader()).map_err(CaseError::Io)?;
+    run_lines(&rt, input.as_str())
+}
+
+fn run_lines(rt: &HostRuntime, input: &str) -> Result<(), CaseError> {
+    for line in input.lines() {
+        print_run(rt, line)?;
     }
     Ok(())
+}
+
+fn print_run(rt: &HostRuntime, line: &str) -> Result<(), CaseError> {
+    let told = run_line(rt.alloc(), line)?;
+    println!(rt; "{told}").map_err(CaseError::Io)
 }
