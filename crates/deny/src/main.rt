@@ -16,12 +16,16 @@ fn words_of(rt: &HostRuntime) -> io::Result<Vec<String>> {
 }
 
 fn main(rt: HostRuntime) -> ExitCode {
-    let Ok(words) = words_of(&rt) else {
-        return ExitCode::from(NO_WORDS);
-    };
-    let mut disk = RealDisk::new(&rt);
-    let mut out = RealOut::out(&rt);
-    let mut err = RealOut::err(&rt);
-    let status = status_of_run(rt.alloc(), words.as_slice(), &mut disk, &mut out, &mut err);
-    ExitCode::from(status)
+    match words_of(&rt) {
+        Ok(words) => ExitCode::from(status_of(&rt, words.as_slice())),
+        Err(_) => ExitCode::from(NO_WORDS),
+    }
+}
+
+/// The status that the run of these words ends with.
+fn status_of(rt: &HostRuntime, words: &[String]) -> u8 {
+    let mut disk = RealDisk::new(rt);
+    let mut out = RealOut::out(rt);
+    let mut err = RealOut::err(rt);
+    status_of_run(rt.alloc(), words, &mut disk, &mut out, &mut err)
 }

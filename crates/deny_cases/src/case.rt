@@ -1,6 +1,6 @@
 use crate::case_error::CaseError;
-use crate::told::told;
 use crate::text::{number_member, string_member, text_bytes};
+use crate::told::told;
 use deny_cli::status_of_run;
 use deny_outside::{MemoryDisk, MemoryOut};
 use serde_json::{Map, Value};
@@ -75,11 +75,7 @@ fn strings_of(alloc: Global, items: &[Value]) -> Result<Vec<String>, CaseError> 
     Ok(strings)
 }
 
-fn push_string(
-    alloc: Global,
-    item: &Value,
-    strings: &mut Vec<String>,
-) -> Result<(), CaseError> {
+fn push_string(alloc: Global, item: &Value, strings: &mut Vec<String>) -> Result<(), CaseError> {
     match item.as_str() {
         Some(string) => push_copy(alloc, string, strings),
         None => Err(CaseError::Member("words or fail")),
