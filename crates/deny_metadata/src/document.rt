@@ -1,7 +1,8 @@
 ghost use Rattle.std.specs.Prelude.{◌≡◌, ◌++◌, [], ◌∷◌, IfOk, MatchResult, Ok, true};
 ghost use Rattle.std.specs.Str.{is_utf8};
-ghost use Rattle.deny_metadata.specs.private.Borrowed.{members_view, sorted_view, view};
-ghost use Rattle.deny_metadata.specs.private.Parts.{contents_at, identity_at, requested_at, terms_at, usage_at};
+ghost use Rattle.deny_metadata.specs.private.Borrowed.{items_view, members_view, sorted_view, view};
+ghost use Rattle.deny_metadata.specs.private.Parts.{contents_at, document_of_packages, document_with, identity_at};
+ghost use Rattle.deny_metadata.specs.private.Parts.{requested_at, terms_at, usage_at};
 ghost use Rattle.deny_metadata.specs.Document.{document_at, target_at, declaration_at, feature_at, features_from};
 ghost use Rattle.deny_metadata.specs.Document.{features_member, package_at, kind_named, kind_member, needed_as_at};
 ghost use Rattle.deny_metadata.specs.Document.{kinds_of, node_dependency_at, node_at, resolve_given, document_of};
@@ -473,25 +474,54 @@ fn resolve_stands(root: &Value<'_>) -> Result<(), MetadataFault>
 }
 
 // The metadata that a value is, or its first fault.
-#[tactic(auto, unfolding(crate::specs::Document::document_of, crate::specs::Elements::array_member, crate::specs::Elements::object_member, crate::specs::Elements::required, crate::specs::Elements::part_of))]
+#[tactic(auto, unfolding(crate::specs::Document::document_of, crate::specs::private::Parts::document_of_packages, crate::specs::private::Parts::document_with, crate::specs::Elements::array_member, crate::specs::Elements::required))]
 fn document_in(alloc: Global, root: &Value<'_>) -> Result<Document, MetadataFault>
     ensures { Gives result (document_of (view root.now)) }
 {
     object(alloc, "", root)?;
     resolve_stands(root)?;
-    let Some(packages) = array_in(root, Member::Packages) else {
-        return refuse_member(alloc, "", Member::Packages);
-    };
+    match array_in(root, Member::Packages) {
+        Some(packages) => document_of_packages(alloc, root, packages),
+        None => refuse_member(alloc, "", Member::Packages),
+    }
+}
+
+// The same, whose packages are the elements of this array.
+#[tactic(auto, unfolding(crate::specs::private::Parts::document_of_packages, crate::specs::Elements::object_member, crate::specs::Elements::required))]
+fn document_of_packages(
+    alloc: Global,
+    root: &Value<'_>,
+    packages: &[Value<'_>],
+) -> Result<Document, MetadataFault>
+    ensures { Gives result (document_of_packages (view root.now) (items_view packages.now)) }
+{
     let members = each_text_of(alloc, "", root, Member::WorkspaceMembers)?;
     let workspace_root = text_of(alloc, "", root, Member::WorkspaceRoot)?;
-    let Some(resolve) = object_in(root, Member::Resolve) else {
-        return refuse_member(alloc, "", Member::Resolve);
-    };
+    match object_in(root, Member::Resolve) {
+        Some(resolve) => document_with(alloc, members, workspace_root, packages, resolve),
+        None => refuse_member(alloc, "", Member::Resolve),
+    }
+}
+
+// The metadata of a workspace with these members and this folder, whose packages are the elements of an
+// array, and whose nodes are those of an object.
+#[tactic(auto, unfolding(crate::specs::private::Parts::document_with, crate::specs::Elements::part_of))]
+fn document_with(
+    alloc: Global,
+    members: List<Text>,
+    workspace_root: Text,
+    packages: &[Value<'_>],
+    resolve: &Value<'_>,
+) -> Result<Document, MetadataFault>
+    ensures { Gives result (document_with members workspace_root (items_view packages.now) (view resolve.now)) }
+{
+    let packages = elements(alloc, Member::Packages.name(), packages)?;
+    let nodes = each_of(alloc, Member::Resolve.name(), resolve, Member::Nodes)?;
     Ok(Document {
-        packages: elements(alloc, Member::Packages.name(), packages)?,
+        packages,
         members,
         workspace_root,
-        nodes: each_of(alloc, Member::Resolve.name(), resolve, Member::Nodes)?,
+        nodes,
     })
 }
 

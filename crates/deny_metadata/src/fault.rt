@@ -3,7 +3,7 @@ use std::alloc::{AllocError, AllocFailed};
 use thiserror::Error;
 
 /// Why a text gives no graph: the first fault, in the order of the variants.
-#[derive(Debug, PartialEq, Eq, Drop, Error)]
+#[derive(Debug, Drop, Error)]
 pub enum MetadataFault {
     /// The text is no JSON.
     #[error("the metadata is no JSON")]

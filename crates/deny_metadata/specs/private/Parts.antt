@@ -1,17 +1,19 @@
--- The parts in which a package and a declaration are read.
-use Rattle.std.specs.Prelude.{ℕ, List, Result, Ok, true}
-use Rattle.serde_json.specs.Data.{Data}
-use Rattle.deny_metadata.specs.Document.{declaration_at, features_member, kind_member, target_at}
-use Rattle.deny_metadata.specs.Elements.{object_at, text_at, text_member, optional_text, optional_texts, flag_member}
-use Rattle.deny_metadata.specs.Elements.{each_optional}
+-- The parts in which a package, a declaration and a document are read.
+use Rattle.std.specs.Prelude.{ℕ, List, [], Result, Ok, true}
+use Rattle.serde_json.specs.Data.{Data, Items}
+use Rattle.deny_metadata.specs.Document.{declaration_at, features_member, kind_member, node_at, package_at, target_at}
+use Rattle.deny_metadata.specs.Elements.{path_to, object_at, text_at, text_member, optional_text, optional_texts}
+use Rattle.deny_metadata.specs.Elements.{flag_member, object_member, elements_from, each_member, each_optional}
 use Rattle.deny_metadata.specs.Reading.{◌>>=◌}
 use Rattle.deny_metadata.specs.declared.document.Contents.{Contents}
+use Rattle.deny_metadata.specs.declared.document.Document.{Document}
 use Rattle.deny_metadata.specs.declared.document.Identity.{Identity}
 use Rattle.deny_metadata.specs.declared.document.Requested.{Requested}
 use Rattle.deny_metadata.specs.declared.document.Terms.{Terms}
 use Rattle.deny_metadata.specs.declared.document.Usage.{Usage}
 use Rattle.deny_metadata.specs.declared.fault.MetadataFault.{MetadataFault}
-use Rattle.deny_metadata.specs.declared.member.Member.TheVariants.{Name, Version, Id, ManifestPath, Source, License}
+use Rattle.deny_metadata.specs.declared.member.Member.TheVariants.{Packages, WorkspaceMembers, WorkspaceRoot, Resolve}
+use Rattle.deny_metadata.specs.declared.member.Member.TheVariants.{Nodes, Name, Version, Id, ManifestPath, Source, License}
 use Rattle.deny_metadata.specs.declared.member.Member.TheVariants.{RustVersion, Publish, Targets}
 use Rattle.deny_metadata.specs.declared.member.Member.TheVariants.{Dependencies, Req, Rename, Target as ForTarget}
 use Rattle.deny_metadata.specs.declared.member.Member.TheVariants.{Path, Features, UsesDefaultFeatures}
@@ -61,3 +63,18 @@ contents_at path d = do
   targets ← each_optional target_at path Targets d
   dependencies ← each_optional declaration_at path Dependencies d
   Ok (record { features = features; targets = targets; dependencies = dependencies })
+
+-- the document of a workspace, with its packages and with the nodes of what is resolved
+unfoldable pub document_with : List (List ℕ) → List ℕ → Items → Data → Result Document MetadataFault
+document_with members workspace_root packages resolve = do
+  read_packages ← elements_from package_at (path_to [] Packages) 0 packages
+  nodes ← each_member node_at (path_to [] Resolve) Nodes resolve
+  Ok (record { packages = read_packages; members = members; workspace_root = workspace_root; nodes = nodes })
+
+-- the same of a root whose packages these are
+unfoldable pub document_of_packages : Data → Items → Result Document MetadataFault
+document_of_packages d packages = do
+  members ← each_member text_at [] WorkspaceMembers d
+  workspace_root ← text_member [] WorkspaceRoot d
+  resolve ← object_member [] Resolve d
+  document_with members workspace_root packages resolve
