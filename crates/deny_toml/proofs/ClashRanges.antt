@@ -10,9 +10,9 @@ use Rattle.deny_base.specs.declared.span.Span.{Span}
 use Rattle.deny_toml.specs.declared.clash.Role.{Role}
 use Rattle.deny_toml_grammar.specs.declared.parts.Key.{Key}
 use Rattle.deny_toml_grammar.specs.declared.expression.Written.{Written, fold_out-Written}
-use Rattle.deny_toml_grammar.specs.declared.expression.WrittenContent.{WrittenContent, fold-WrittenContent}
+use Rattle.deny_toml_grammar.specs.declared.expression.WrittenContent.{WrittenContent}
 use Rattle.deny_toml_grammar.specs.declared.expression.WrittenContent.{fold_out-WrittenContent, map-WrittenContent}
-use Rattle.deny_toml_grammar.specs.declared.expression.Assignment.{Assignment, fold-Assignment, fold_out-Assignment}
+use Rattle.deny_toml_grammar.specs.declared.expression.Assignment.{Assignment, fold_out-Assignment}
 use Rattle.deny_toml_grammar.specs.declared.expression.Expression.{Expression}
 use Rattle.deny_toml_grammar.specs.declared.expression.Expression.TheVariants as expression
 use Rattle.deny_toml_grammar.specs.Expression.{written_content, assigned_value}

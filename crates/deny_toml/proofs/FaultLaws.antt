@@ -1,6 +1,6 @@
 -- The order of faults is total, only equal faults tie, and `in_order` is the ascending list of what it is given.
 use Rattle.deny_lists.proofs.Orders.{then_first, then_second, slice_cmp-append}
-use Rattle.std.proofs.Common.{length, arith, ◌≢◌, Bool, true, false, ◌&&◌, ◌||◌, ◌++◌, append-nil, ◌≡◌, ℕ, List, []}
+use Rattle.std.proofs.Common.{length, ◌≢◌, Bool, true, false, ◌&&◌, ◌||◌, ◌++◌, append-nil, ◌≡◌, ℕ, List, []}
 use Rattle.std.proofs.Common.{◌∷◌, Contains, slice_index_or, refl, sym, ap, subst, inl, inr, ◌∙◌}
 use Rattle.std.proofs.lemmas.List.{nil_from_length}
 use Rattle.std.specs.Ordering.{bool_cmp, nat_cmp, ordering_then, ordering_reverse, match_ordering}

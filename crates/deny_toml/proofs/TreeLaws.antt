@@ -22,6 +22,7 @@ use Rattle.std.specs.Bool.{nat_eq}
 use Rattle.std.specs.Ordering.{nat_cmp, is_eq, ordering_reverse, match_ordering}
 use Rattle.std.specs.declared.cmp.Ordering.TheVariants.{Less, Equal, Greater}
 use Rattle.deny_base.specs.declared.span.Span.{Span}
+use Rattle.deny_toml_grammar.specs.declared.parts.Key.{Key}
 use Rattle.deny_toml_grammar.specs.declared.expression.Assignment.{Assignment}
 use Rattle.deny_toml_grammar.specs.declared.expression.Header.{Header}
 use Rattle.deny_toml_grammar.specs.declared.expression.Expression.{Expression}
@@ -30,93 +31,86 @@ use Rattle.deny_toml.specs.declared.tree.Line.{Line}
 use Rattle.deny_toml.specs.declared.tree.Member.{Member}
 use Rattle.deny_toml.specs.Tree.{lines, leading, header_lines, header_line, written_member, until_element, elements}
 use Rattle.deny_toml.specs.Tree.{is_element, as_table, names, lines_through, groups}
+use Rattle.deny_toml.specs.private.Gathered.{lines_with, elements_with, IsGrouped}
 
--- The lines of a document of which these expressions were read: those found, then that of the last header, which goes
--- on.
-abbrev pub LinesSoFar : Span → List Expression → List Line → Header → List Member → Type 0
-LinesSoFar span seen found h members =
-    (rest : List Expression) → lines span (seen ++ rest) ≡ found ++ header_line span h (members ++ leading rest) ∷
-    header_lines span rest
+-- what one more item leaves as it was, all of them do
+pub goes_on : {X A : Type 0} (all before after : List X → A) (seen : List X) (x : X)
+    → ((rest : List X) → all (seen ++ rest) ≡ before rest) → ((rest : List X) → before (x ∷ rest) ≡ after rest)
+    → (rest : List X) → all ((seen ++ x ∷ []) ++ rest) ≡ after rest
+goes_on all before after seen x so step rest =
+    ap all (append_assoc seen (x ∷ []) rest) ∙ so (x ∷ rest) ∙ step rest
 
-pub lines_member : (span : Span) (seen : List Expression) (found : List Line) (h : Header) (members : List Member)
-    (a : Assignment) (more : List Member)
-    → more ≡ members ++ written_member a ∷ [] → LinesSoFar span seen found h members
-    → LinesSoFar span (seen ++ expression.Assignment a ∷ []) found h more
+pub lines_begin : (span : Span) (es : List Expression) (found : List Line) (path : List Key) (members : List Member)
+    → found ≡ [] → path ≡ [] → members ≡ []
+    → lines_with span found (record { path = path; is_array = false }) members es ≡ lines span es
+lines_begin span es found path members f p m = rw (f, p, m) refl
+
+pub lines_member : (span : Span) (found : List Line) (h : Header) (members : List Member) (a : Assignment)
+    (more : List Member) → more ≡ members ++ written_member a ∷ []
+    → (rest : List Expression)
+    → lines_with span found h members (expression.Assignment a ∷ rest) ≡ lines_with span found h more rest
 unfolding leading header_lines
-lines_member span seen found h members a more is so rest =
+lines_member span found h members a more is rest =
     rw is
-    (ap (lines span) (append_assoc seen (expression.Assignment a ∷ []) rest) ∙ so (expression.Assignment a ∷ rest)
-    ∙ ap (λ ms. found ++ header_line span h ms ∷ header_lines span rest)
+    (ap (λ ms. found ++ header_line span h ms ∷ header_lines span rest)
     (sym (append_assoc members (written_member a ∷ []) (leading rest))))
 
-pub lines_header : (span : Span) (seen : List Expression) (found : List Line) (h : Header) (members : List Member)
-    (next : Header) (more : List Line) (none : List Member)
-    → more ≡ found ++ header_line span h members ∷ [] → none ≡ [] → LinesSoFar span seen found h members
-    → LinesSoFar span (seen ++ expression.Header next ∷ []) more next none
+pub lines_header : (span : Span) (found : List Line) (h : Header) (members : List Member) (next : Header)
+    (more : List Line) (begun : Header) (none : List Member)
+    → more ≡ found ++ header_line span h members ∷ [] → begun ≡ next → none ≡ []
+    → (rest : List Expression)
+    → lines_with span found h members (expression.Header next ∷ rest) ≡ lines_with span more begun none rest
 unfolding leading header_lines
-lines_header span seen found h members next more none is empty so rest =
-    rw (is, empty)
-    (ap (lines span) (append_assoc seen (expression.Header next ∷ []) rest) ∙ so (expression.Header next ∷ rest)
-    ∙ ap (λ ms. found ++ header_line span h ms ∷ header_line span next (leading rest) ∷ header_lines span rest)
+lines_header span found h members next more begun none is same empty rest =
+    rw (is, same, empty)
+    (ap (λ ms. found ++ header_line span h ms ∷ header_line span next (leading rest) ∷ header_lines span rest)
     (append-nil members)
     ∙ sym (append_assoc found (header_line span h members ∷ [])
     (header_line span next (leading rest) ∷ header_lines span rest)))
 
-pub lines_all : (span : Span) (seen : List Expression) (found : List Line) (h : Header) (members : List Member)
-    → LinesSoFar span seen found h members → found ++ header_line span h members ∷ [] ≡ lines span seen
+pub lines_end : (span : Span) (found : List Line) (h : Header) (members : List Member)
+    → lines_with span found h members [] ≡ found ++ header_line span h members ∷ []
 unfolding leading header_lines
-lines_all span seen found h members so =
-    ap (λ ms. found ++ header_line span h ms ∷ []) (sym (append-nil members)) ∙ sym (so [])
-    ∙ ap (lines span) (append-nil seen)
+lines_end span found h members = ap (λ ms. found ++ header_line span h ms ∷ []) (append-nil members)
 
--- The tables of an array of which these lines were read: those found, then the last, which goes on.
-abbrev pub ElementsSoFar : List Line → List (List Line) → List Line → Type 0
-ElementsSoFar seen found table =
-    (rest : List Line) → until_element (seen ++ rest) ∷ elements (seen ++ rest) ≡ found ++ (table ++ until_element rest)
-    ∷ elements rest
-
-abbrev cut : List Line → List (List Line)
-cut ls = until_element ls ∷ elements ls
-
-pub elements_next : (seen : List Line) (found : List (List Line)) (table : List Line) (line : Line)
-    (more : List (List Line)) (begun : List Line)
-    → is_element line ≡ true → more ≡ found ++ table ∷ [] → begun ≡ as_table line ∷ []
-    → ElementsSoFar seen found table → ElementsSoFar (seen ++ line ∷ []) more begun
+pub elements_next : (found : List (List Line)) (table : List Line) (line : Line) (more : List (List Line))
+    (begun : List Line) → is_element line ≡ true → more ≡ found ++ table ∷ [] → begun ≡ as_table line ∷ []
+    → (rest : List Line) → elements_with found table (line ∷ rest) ≡ elements_with more begun rest
 unfolding until_element elements
-elements_next seen found table line more_tables begun is ended first so rest =
+elements_next found table line more_tables begun is ended first rest =
     let begins : until_element (line ∷ rest) ≡ [] = rw is in
     let more : elements (line ∷ rest) ≡ (as_table line ∷ until_element rest) ∷ elements rest = rw is in
     rw (ended, first)
-    (ap cut (append_assoc seen (line ∷ []) rest) ∙ so (line ∷ rest)
-    ∙ ap (λ ls. found ++ (table ++ ls) ∷ elements (line ∷ rest)) begins
+    (ap (λ ls. found ++ (table ++ ls) ∷ elements (line ∷ rest)) begins
     ∙ ap (λ ls. found ++ ls ∷ elements (line ∷ rest)) (append-nil table)
     ∙ ap (λ es. found ++ table ∷ es) more
     ∙ sym (append_assoc found (table ∷ []) ((as_table line ∷ until_element rest) ∷ elements rest)))
 
-pub elements_more : (seen : List Line) (found : List (List Line)) (table : List Line) (line : Line) (longer : List Line)
+pub elements_more : (found : List (List Line)) (table : List Line) (line : Line) (longer : List Line)
     → is_element line ≡ false → longer ≡ table ++ line ∷ []
-    → ElementsSoFar seen found table → ElementsSoFar (seen ++ line ∷ []) found longer
+    → (rest : List Line) → elements_with found table (line ∷ rest) ≡ elements_with found longer rest
 unfolding until_element elements
-elements_more seen found table line longer other is so rest =
+elements_more found table line longer other is rest =
     let goes_on : until_element (line ∷ rest) ≡ line ∷ until_element rest = rw other in
     let later : elements (line ∷ rest) ≡ elements rest = rw other in
     rw is
-    (ap cut (append_assoc seen (line ∷ []) rest) ∙ so (line ∷ rest)
-    ∙ ap (λ ls. found ++ (table ++ ls) ∷ elements (line ∷ rest)) goes_on
+    (ap (λ ls. found ++ (table ++ ls) ∷ elements (line ∷ rest)) goes_on
     ∙ ap (λ es. found ++ (table ++ line ∷ until_element rest) ∷ es) later
     ∙ ap (λ ls. found ++ ls ∷ elements rest) (sym (append_assoc table (line ∷ []) (until_element rest))))
 
-elements_cut : (seen : List Line) (found : List (List Line)) (table : List Line)
-    → ElementsSoFar seen found table → found ++ table ∷ [] ≡ cut seen
+pub elements_end : (found : List (List Line)) (table : List Line)
+    → elements_with found table [] ≡ found ++ table ∷ []
 unfolding until_element elements
-elements_cut seen found table so =
-    ap (λ ls. found ++ ls ∷ []) (sym (append-nil table)) ∙ sym (so []) ∙ ap cut (append-nil seen)
+elements_end found table = ap (λ ls. found ++ ls ∷ []) (append-nil table)
 
 -- the lines before the first header are left out
-pub elements_all : (seen : List Line) (found : List (List Line)) (table : List Line) (whole rest : List (List Line))
-    → whole ≡ found ++ table ∷ [] → rest ≡ remove whole 0 → ElementsSoFar seen found table → rest ≡ elements seen
-elements_all seen found table whole rest is left so = left ∙ ap (λ es. remove es 0)
-    (is ∙ elements_cut seen found table so)
+pub elements_all : (lines : List Line) (before : List (List Line)) (leading : List Line) (found : List (List Line))
+    (table : List Line) (whole rest : List (List Line))
+    → before ≡ [] → leading ≡ [] → elements_with before leading lines ≡ found ++ table ∷ []
+    → whole ≡ found ++ table ∷ [] → rest ≡ remove whole 0 → rest ≡ elements lines
+elements_all lines before leading found table whole rest none empty so is left =
+    let begins : elements_with before leading lines ≡ until_element lines ∷ elements lines = rw (none, empty) refl in
+    left ∙ ap (λ es. remove es 0) (is ∙ (sym so ∙ begins))
 
 -- there is something to leave out
 pub elements_some : (found : List (List Line)) (table : List Line) (whole : List (List Line))
@@ -265,11 +259,6 @@ lines_through_more q seen name line b e =
     ∙ map-append (λ s. s.1) (filter (λ s. pointwise nat_eq s.0 q) seen)
     (filter (λ s. pointwise nat_eq s.0 q) ((name, line) ∷ []))
     ∙ ap (λ ls. lines_through q seen ++ ls) (lines_of_one q name line b (texts_ties name q ∙ e))
-
--- The entries of the map that groups lines by their names.
-pub record IsGrouped (seen : List (List ℕ × Line)) (entries : List (List ℕ × List Line)) : Type 0 where
-  pub is : entries ≡ groups seen
-  pub whole : (q : List ℕ) → unwrap_or (lookup (is_at (slice_cmp nat_cmp q)) entries) [] ≡ lines_through q seen
 
 pub grouped_none : IsGrouped [] []
 unfolding groups names lines_through

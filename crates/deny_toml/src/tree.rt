@@ -5,6 +5,7 @@ ghost use Rattle.deny_base.specs.declared.span.Span.{Span};
 ghost use Rattle.deny_toml_grammar.specs.declared.expression.Expression.{Expression};
 ghost use Rattle.deny_toml.specs.Tree as spec;
 ghost use Rattle.deny_toml.specs.TreeOrder.{IsOrderly};
+ghost use Rattle.deny_toml.specs.private.Gathered.{lines_with, elements_with, IsGrouped};
 
 use crate::value::{Content, Table, Value};
 use deny_base::Span;
@@ -83,18 +84,79 @@ fn lines<'t>(
         is_array: false,
     };
     let mut members = List::new(alloc);
-    'expressions: for expression in expressions.vec {
-        match expression {
-            Expression::Assignment(assignment) => members.push(member_of(alloc, assignment)?)?,
-            Expression::Header(begun) => {
-                let ended = mem::replace(&mut header, begun);
-                let below = mem::replace(&mut members, List::new(alloc));
-                found.push(header_line(span, ended, below))?;
-            }
-        }
-    }
+    add_expressions(
+        alloc,
+        span,
+        expressions,
+        &mut found,
+        &mut header,
+        &mut members,
+    )?;
     found.push(header_line(span, header, members))?;
     Ok(found)
+}
+
+/// Adds what expressions write to the lines found before and to the header that goes on.
+fn add_expressions<'t>(
+    alloc: Global,
+    span: Span,
+    expressions: List<Expression<'t>>,
+    found: &mut List<Line<'t>>,
+    header: &mut Header<'t>,
+    members: &mut List<Member<'t>>,
+) -> Result<(), NoMemory>
+    ensures { OnOk result (lines_with span found.old header.old members.old expressions.entry
+        ≡ found.new ++ spec.header_line span header.new members.new ∷ []) }
+{
+    'expressions: for expression in expressions.vec {
+        add_expression(alloc, span, expression, found, header, members)?;
+    }
+    Ok(())
+}
+
+fn add_expression<'t>(
+    alloc: Global,
+    span: Span,
+    expression: Expression<'t>,
+    found: &mut List<Line<'t>>,
+    header: &mut Header<'t>,
+    members: &mut List<Member<'t>>,
+) -> Result<(), NoMemory>
+    ensures { OnOk result ((rest : List Expression) → lines_with span found.old header.old members.old
+        (expression.entry ∷ rest) ≡ lines_with span found.new header.new members.new rest) }
+{
+    match expression {
+        Expression::Assignment(assignment) => add_member(alloc, assignment, members),
+        Expression::Header(begun) => add_header(alloc, span, begun, found, header, members),
+    }
+}
+
+fn add_member<'t>(
+    alloc: Global,
+    assignment: Assignment<'t>,
+    members: &mut List<Member<'t>>,
+) -> Result<(), NoMemory>
+    ensures { OnOk result (members.new ≡ members.old ++ spec.written_member assignment.entry ∷ []) }
+{
+    members.push(member_of(alloc, assignment)?)
+}
+
+/// Begins a header, and adds the line of the one before.
+fn add_header<'t>(
+    alloc: Global,
+    span: Span,
+    begun: Header<'t>,
+    found: &mut List<Line<'t>>,
+    header: &mut Header<'t>,
+    members: &mut List<Member<'t>>,
+) -> Result<(), NoMemory>
+    ensures found { OnOk result (found.new ≡ found.old ++ spec.header_line span header.old members.old ∷ []) }
+    ensures header { header.new ≡ begun.entry }
+    ensures members { members.new ≡ [] }
+{
+    let ended = mem::replace(header, begun);
+    let below = mem::replace(members, List::new(alloc));
+    found.push(header_line(span, ended, below))
 }
 
 fn header_line<'t>(span: Span, header: Header<'t>, members: List<Member<'t>>) -> Line<'t>
@@ -237,28 +299,32 @@ fn longest(members: &[Member<'_>]) -> usize
 fn table<'t>(alloc: Global, depth: u128, lines: List<Line<'t>>) -> Result<Table<'t>, NoMemory>
     ensures { IfOk result (λ table. table ≡ spec.table depth lines.entry) }
 {
-    let mut entries = List::new(alloc);
     if depth == 0 {
-        return Ok(Table { entries });
+        return Ok(Table {
+            entries: List::new(alloc),
+        });
     }
-    'groups: for (name, lines) in groups(alloc, steps(alloc, lines)?)? {
-        entries.push(entry(alloc, depth - 1, name, lines)?)?;
+    let mut entries = List::new(alloc);
+    'groups: for (name, lines) in groups_of_lines(alloc, lines)? {
+        add_entry(alloc, depth - 1, name, lines, &mut entries)?;
     }
     Ok(Table { entries })
 }
 
 #[cycle(tables)]
-fn entry<'t>(
+fn add_entry<'t>(
     alloc: Global,
     depth: u128,
     name: CowStr<'t>,
     lines: List<Line<'t>>,
-) -> Result<(Key<'t>, Value<'t>), NoMemory>
-    ensures { IfOk result (λ entry. entry ≡ spec.entry_of (spec.table depth) (name.entry, lines.entry)) }
+    entries: &mut List<(Key<'t>, Value<'t>)>,
+) -> Result<(), NoMemory>
+    ensures { OnOk result (entries.new ≡ entries.old
+        ++ spec.entry_of (spec.table depth) (name.entry, lines.entry) ∷ []) }
 {
     let span = place_of(lines.as_slice());
     let value = value_of_lines(alloc, depth, lines)?;
-    Ok((Key { name, span }, value))
+    entries.push((Key { name, span }, value))
 }
 
 /// What stands at a place, by the first line that leads there.
@@ -274,13 +340,23 @@ fn value_of_lines<'t>(
     if let Some(value) = assigned(&mut lines) {
         return Ok(value);
     }
-    let span = place_of(lines.as_slice());
-    let content = if starts_array(lines.as_slice()) {
-        Content::Array(array(alloc, depth, elements(alloc, lines)?)?)
+    if starts_array(lines.as_slice()) {
+        array_value(alloc, depth, lines)
     } else {
-        Content::Table(table(alloc, depth, lines)?)
-    };
-    Ok(Value { span, content })
+        table_value(alloc, depth, lines)
+    }
+}
+
+#[cycle(tables)]
+fn array_value<'t>(alloc: Global, depth: u128, lines: List<Line<'t>>) -> Result<Value<'t>, NoMemory>
+    ensures { IfOk result (λ value. value ≡ spec.array_value (spec.table depth) lines.entry) }
+{
+    let span = place_of(lines.as_slice());
+    let values = array(alloc, depth, elements(alloc, lines)?)?;
+    Ok(Value {
+        span,
+        content: Content::Array(values),
+    })
 }
 
 #[cycle(tables)]
@@ -293,14 +369,21 @@ fn array<'t>(
 {
     let mut values = List::new(alloc);
     'elements: for lines in elements.vec {
-        let span = place_of(lines.as_slice());
-        let table = table(alloc, depth, lines)?;
-        values.push(Value {
-            span,
-            content: Content::Table(table),
-        })?;
+        values.push(table_value(alloc, depth, lines)?)?;
     }
     Ok(values)
+}
+
+#[cycle(tables)]
+fn table_value<'t>(alloc: Global, depth: u128, lines: List<Line<'t>>) -> Result<Value<'t>, NoMemory>
+    ensures { IfOk result (λ value. value ≡ spec.table_value (spec.table depth) lines.entry) }
+{
+    let span = place_of(lines.as_slice());
+    let table = table(alloc, depth, lines)?;
+    Ok(Value {
+        span,
+        content: Content::Table(table),
+    })
 }
 
 /// The part that stands at a place in the first line that leads there.
@@ -372,18 +455,64 @@ fn elements<'t>(alloc: Global, lines: List<Line<'t>>) -> Result<List<List<Line<'
 {
     let mut found = List::new(alloc);
     let mut table = List::new(alloc);
-    'lines: for line in lines.vec {
-        if is_element(&line) {
-            found.push(mem::replace(&mut table, List::new(alloc)))?;
-            table.push(as_table(line))?;
-        } else {
-            table.push(line)?;
-        }
-    }
+    add_element_lines(alloc, lines, &mut found, &mut table)?;
     found.push(table)?;
     // What comes before the first header is of no table.
     found.vec.remove(0);
     Ok(found)
+}
+
+/// Adds lines to the tables found before and to the one that goes on.
+fn add_element_lines<'t>(
+    alloc: Global,
+    lines: List<Line<'t>>,
+    found: &mut List<List<Line<'t>>>,
+    table: &mut List<Line<'t>>,
+) -> Result<(), NoMemory>
+    ensures { OnOk result (elements_with found.old table.old lines.entry ≡ found.new ++ table.new ∷ []) }
+{
+    'lines: for line in lines.vec {
+        add_element_line(alloc, line, found, table)?;
+    }
+    Ok(())
+}
+
+fn add_element_line<'t>(
+    alloc: Global,
+    line: Line<'t>,
+    found: &mut List<List<Line<'t>>>,
+    table: &mut List<Line<'t>>,
+) -> Result<(), NoMemory>
+    ensures { OnOk result ((rest : List Line) → elements_with found.old table.old (line.entry ∷ rest)
+        ≡ elements_with found.new table.new rest) }
+{
+    if is_element(&line) {
+        begin_element(alloc, line, found, table)
+    } else {
+        table.push(line)
+    }
+}
+
+/// Adds the table that goes on to those found, and begins the next with its header.
+fn begin_element<'t>(
+    alloc: Global,
+    line: Line<'t>,
+    found: &mut List<List<Line<'t>>>,
+    table: &mut List<Line<'t>>,
+) -> Result<(), NoMemory>
+    ensures { OnOk result ((found.new ≡ found.old ++ table.old ∷ []) × (table.new ≡ spec.as_table line.entry ∷ [])) }
+{
+    let begun = element(alloc, line)?;
+    found.push(mem::replace(table, begun))
+}
+
+/// The lines of a table of an array of which its header alone was read.
+fn element<'t>(alloc: Global, header: Line<'t>) -> Result<List<Line<'t>>, NoMemory>
+    ensures { IfOk result (λ lines. lines ≡ spec.as_table header.entry ∷ []) }
+{
+    let mut lines = List::new(alloc);
+    lines.push(as_table(header))?;
+    Ok(lines)
 }
 
 /// An element's header as that of a table.
@@ -398,6 +527,15 @@ fn as_table(line: Line<'_>) -> Line<'_>
     Line { at, path, path_end }
 }
 
+fn groups_of_lines<'t>(
+    alloc: Global,
+    lines: List<Line<'t>>,
+) -> Result<BTreeMap<CowStr<'t>, List<Line<'t>>>, NoMemory>
+    ensures { IfOk result (λ found. found.entries ≡ spec.groups (spec.steps lines.entry)) }
+{
+    groups(alloc, steps(alloc, lines)?)
+}
+
 /// Each name, with the lines that lead through it.
 fn groups<'t>(
     alloc: Global,
@@ -407,11 +545,24 @@ fn groups<'t>(
 {
     let mut found = BTreeMap::new(alloc);
     'steps: for (name, line) in steps.vec {
-        let mut lines = found.remove(&name).unwrap_or(List::new(alloc));
-        lines.push(line)?;
-        found.insert(name, lines)?;
+        add_to_group(alloc, &mut found, name, line)?;
     }
     Ok(found)
+}
+
+fn add_to_group<'t>(
+    alloc: Global,
+    found: &mut BTreeMap<CowStr<'t>, List<Line<'t>>>,
+    name: CowStr<'t>,
+    line: Line<'t>,
+) -> Result<(), NoMemory>
+    ensures { OnOk result ((seen : List (List ℕ × Line)) → IsGrouped seen found.old.entries
+        → IsGrouped (seen ++ (name.entry, line.entry) ∷ []) found.new.entries) }
+{
+    let mut lines = found.remove(&name).unwrap_or(List::new(alloc));
+    lines.push(line)?;
+    found.insert(name, lines)?;
+    Ok(())
 }
 
 /// The lines seen from the table that they lead into: each with the name of its next part.
@@ -429,13 +580,26 @@ fn steps<'t>(alloc: Global, lines: List<Line<'t>>) -> Result<List<(CowStr<'t>, L
 fn add_steps<'t>(found: &mut List<(CowStr<'t>, Line<'t>)>, line: Line<'t>) -> Result<(), NoMemory>
     ensures { OnOk result (found.new ≡ found.old ++ spec.line_steps line.entry.path_end line.entry.path) }
 {
-    let mut path = line.path;
+    let Line {
+        at: _,
+        mut path,
+        path_end,
+    } = line;
     match take_first(&mut path) {
-        Some(key) => found.push(step(key, path, line.path_end)),
-        None => match line.path_end {
-            PathEnd::Table(members) => add_member_steps(found, members),
-            _ => Ok(()),
-        },
+        Some(key) => found.push(step(key, path, path_end)),
+        None => add_end_steps(found, path_end),
+    }
+}
+
+fn add_end_steps<'t>(
+    found: &mut List<(CowStr<'t>, Line<'t>)>,
+    path_end: PathEnd<'t>,
+) -> Result<(), NoMemory>
+    ensures { OnOk result (found.new ≡ found.old ++ spec.end_steps path_end.entry) }
+{
+    match path_end {
+        PathEnd::Table(members) => add_member_steps(found, members),
+        _ => Ok(()),
     }
 }
 

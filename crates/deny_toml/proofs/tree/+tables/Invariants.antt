@@ -3,16 +3,22 @@ use Rattle.deny_toml.specs.Tree.{entry_of, table_value, table}
 use Rattle.deny_toml.proofs.tree.+tables.Given as goal
 
 abbrev pub decreases-table : goal.decreases-table
-decreases-table l = 4 * l.depth
+decreases-table l = 6 * l.depth
+
+abbrev pub decreases-table_value : goal.decreases-table_value
+decreases-table_value l = 6 * l.depth + 1
 
 abbrev pub decreases-array : goal.decreases-array
-decreases-array l = 4 * l.depth + 1
+decreases-array l = 6 * l.depth + 2
+
+abbrev pub decreases-array_value : goal.decreases-array_value
+decreases-array_value l = 6 * l.depth + 3
 
 abbrev pub decreases-value_of_lines : goal.decreases-value_of_lines
-decreases-value_of_lines l = 4 * l.depth + 2
+decreases-value_of_lines l = 6 * l.depth + 4
 
-abbrev pub decreases-entry : goal.decreases-entry
-decreases-entry l = 4 * l.depth + 3
+abbrev pub decreases-add_entry : goal.decreases-add_entry
+decreases-add_entry l = 6 * l.depth + 5
 
 abbrev pub invariant-table-groups : goal.invariant-table-groups
 invariant-table-groups l = l.entries ≡ map (entry_of (table (l.fn.depth - 1))) l.yielded

@@ -1,4 +1,4 @@
-use Rattle.deny_toml.proofs.TreeLaws.{IsGrouped}
+use Rattle.deny_toml.specs.private.Gathered.{IsGrouped}
 use Rattle.deny_toml.proofs.tree.groups.Given as goal
 
 abbrev pub invariant-steps : goal.invariant-steps
