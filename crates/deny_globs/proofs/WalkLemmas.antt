@@ -1,7 +1,7 @@
 -- What the walk finds, place by place.
 use Rattle.std.proofs.Common.{◌≡◌, ℕ, zero, suc, ◌+◌, ◌*◌, ◌<◌, ◌≤◌, List, [], ◌∷◌, ◌++◌, length, take, drop, Bool}
-use Rattle.std.proofs.Common.{true, refl, sym, ap, subst, inl, inr, ◌∙◌, arith, get_or}
-use Rattle.std.specs.Prelude.{◌⊎◌, ◌↔◌, Some, None, Contains, nat_eq, slice_get}
+use Rattle.std.proofs.Common.{true, refl, sym, ap, subst, inl, inr, ◌∙◌, arith, get_or, eqb-true}
+use Rattle.std.specs.Prelude.{◌⊎◌, ◌↔◌, ◌==◌, Some, None, Contains, nat_eq, slice_get}
 use Rattle.std.proofs.lemmas.Bool.{cases_lt, false≢true}
 use Rattle.std.proofs.lemmas.List.{take_more, get_or_append_left, get_or_default}
 use Rattle.std.proofs.lemmas.List.Elements.{Contains-get_or, Contains-push, Contains-push_cases, Contains-append_left}
@@ -310,6 +310,11 @@ drop_all (c ∷ cs) = drop_all cs
 pub nothing_leads : {states : List State} {marked : List ℕ} {glob : ℕ} {cs : List ℕ} → marked ≡ []
     → SomeLeads states marked glob cs → ⊥
 nothing_leads e s = contains_none (subst (λ l. Contains l s.number) e s.is_marked)
+
+pub nothing_starts : {states : List State} {glob : ℕ} {path : List ℕ} (starts : List ℕ) → (length starts == 0) ≡ true
+    → SomeLeads states starts glob path → ⊥
+nothing_starts [] e s = contains_none s.is_marked
+nothing_starts (n ∷ ns) e s = absurd (omega (arith, eqb-true (suc (length ns)) 0 e))
 
 pub no_more : {states : List State} {starts path now : List ℕ} {place glob : ℕ} → now ≡ []
     → IsAtPlace states starts path place now → SomeLeads states starts glob path → ⊥

@@ -114,3 +114,26 @@ returns-in-OneOf-clause-none g c e = c.mark_if-in-OneOf.ensures.kept (c.begins_o
 pub returns-in_ok-mark-in-AnyText-clause-none : goal.returns-in_ok-mark-in-AnyText-clause-none
 returns-in_ok-mark-in-AnyText-clause-none g c e = c.mark_if-in-AnyText.ensures.kept (c.has_next-in-AnyText.ensures
     ∙ ap (first_passes (λ _. true)) e)
+
+pub returns-in-Character-clause-steps : goal.returns-in-Character-clause-steps
+returns-in-Character-clause-steps g c = omega (arith, c.mark_if.ensures.steps)
+
+pub returns-in-AnyCharacter-clause-steps : goal.returns-in-AnyCharacter-clause-steps
+returns-in-AnyCharacter-clause-steps g c = omega (arith, c.mark_if-in-AnyCharacter.ensures.steps)
+
+pub returns-in-OneOf-clause-steps : goal.returns-in-OneOf-clause-steps
+returns-in-OneOf-clause-steps g c = omega (arith, c.mark_if-in-OneOf.ensures.steps)
+
+pub returns-in_err-mark-in-AnyText-clause-steps : goal.returns-in_err-mark-in-AnyText-clause-steps
+returns-in_err-mark-in-AnyText-clause-steps g c = omega (arith, c.in_err-mark-in-AnyText.ensures.steps)
+
+pub returns-in_ok-mark-in-AnyText-clause-steps : goal.returns-in_ok-mark-in-AnyText-clause-steps
+returns-in_ok-mark-in-AnyText-clause-steps g c =
+    omega (arith, c.in_ok-mark-in-AnyText.ensures.steps, c.mark_if-in-AnyText.ensures.steps)
+
+pub returns-in_err-mark-in-Either-clause-steps : goal.returns-in_err-mark-in-Either-clause-steps
+returns-in_err-mark-in-Either-clause-steps g c = omega (arith, c.in_err-mark-in-Either.ensures.steps)
+
+pub returns-in_ok-mark-in-Either-clause-steps : goal.returns-in_ok-mark-in-Either-clause-steps
+returns-in_ok-mark-in-Either-clause-steps g c =
+    omega (arith, c.in_ok-mark-in-Either.ensures.steps, c.mark-in-Either-2.ensures.steps)

@@ -1,14 +1,59 @@
-use Rattle.std.proofs.Common.{arith, ap, refl, sym, subst, length, drop, length-drop, ◌∙◌, ◌≡◌, ◌+◌, ◌-◌, ◌*◌}
+use Rattle.std.proofs.Common.{arith, ap, refl, sym, subst, length, drop, length-drop, mul-le-mul_right, ◌∙◌, ◌≡◌, ◌≤◌}
+use Rattle.std.proofs.Common.{◌+◌, ◌-◌, ◌*◌}
 use Rattle.std.specs.Prelude.{Contains}
 use Rattle.std.proofs.lemmas.Result.{on_ok_weaker}
 use Rattle.deny_globs.specs.Walk.{HasEnd, Notes}
 use Rattle.deny_globs.proofs.MarkedLemmas.{take_all}
 use Rattle.deny_globs.proofs.WalkLemmas.{IsAtPlace, at_next_place, at_last_place, rest_at_end, notes_back, notes_none}
-use Rattle.deny_globs.proofs.WalkLemmas.{no_more, times}
+use Rattle.deny_globs.proofs.WalkLemmas.{no_more, nothing_starts, times}
 use Rattle.deny_globs.proofs.walk.walk.Goals as goal
+
+pub returns-then-is_empty-clause-notes : goal.returns-then-is_empty-clause-notes
+returns-then-is_empty-clause-notes g c =
+    notes_none refl (λ glob s. nothing_starts c.args.starts.now (sym c.is_empty.ensures ∙ c.if-is_empty.true) s)
 
 pub mark_starts-requires-clause-within : goal.mark_starts-requires-clause-within
 mark_starts-requires-clause-within g c n h = omega (arith, c.requires.within n h, c.in_ok-now.ensures.room)
+
+pub returns-in_err-mark_starts-clause-steps : goal.returns-in_err-mark_starts-clause-steps
+returns-in_err-mark_starts-clause-steps g c =
+    let m = c.in_err-mark_starts.ensures in
+    omega (
+      arith,
+      m.steps,
+      m.bound,
+      m.room,
+      c.in_ok-now.ensures.room,
+      times (length c.args.path.now) (length c.args.states.now),
+    )
+
+pub returns-then-is_empty-2-clause-steps : goal.returns-then-is_empty-2-clause-steps
+returns-then-is_empty-2-clause-steps g c =
+    let n = length c.args.states.now in
+    let old = c.loop-place.invariant in
+    let before : c.loop-place.place ≤ length c.args.path.now = omega arith in
+    omega (arith, old.steps, old.bound, old.now, mul-le-mul_right n before, times (length c.args.path.now) n)
+
+pub returns-in_err-pass-clause-steps : goal.returns-in_err-pass-clause-steps
+returns-in_err-pass-clause-steps g c =
+    let n = length c.args.states.now in
+    let p = c.in_err-pass.ensures in
+    let old = c.loop-place.invariant in
+    let before : c.loop-place.place + 1 ≤ length c.args.path.now = omega arith in
+    omega (
+      arith,
+      p.steps,
+      p.now_bound,
+      p.next_bound,
+      p.now,
+      p.next,
+      old.now,
+      old.next,
+      old.steps,
+      mul-le-mul_right n before,
+      times c.loop-place.place n,
+      times (length c.args.path.now) n,
+    )
 
 pub loop-place-preserved : goal.loop-place-preserved
 loop-place-preserved g c =
@@ -44,6 +89,27 @@ loop-place-preserved g c =
 pub returns-in_err-pass-2-clause-steps : goal.returns-in_err-pass-2-clause-steps
 returns-in_err-pass-2-clause-steps g c =
     let p = c.in_err-pass-2.ensures in
+    let n = length c.args.states.now in
+    let size = length c.args.path.now in
+    let rest_is = take_all (drop size c.args.path.now) (size - size) (omega (arith, length-drop size c.args.path.now))
+    in
+    let none = p.none (rest_at_end c.args.path.now rest_is) in
+    let last : c.loop-place.place ≡ size = omega arith in
+    omega (
+      arith,
+      p.steps,
+      p.now_bound,
+      p.now,
+      c.loop-place.invariant.now,
+      c.loop-place.invariant.steps,
+      ap length none,
+      ap (λ k. k * n) last,
+      times size n,
+    )
+
+pub returns-clause-steps : goal.returns-clause-steps
+returns-clause-steps g c =
+    let p = c.in_ok-pass-2.ensures in
     let n = length c.args.states.now in
     let size = length c.args.path.now in
     let rest_is = take_all (drop size c.args.path.now) (size - size) (omega (arith, length-drop size c.args.path.now))

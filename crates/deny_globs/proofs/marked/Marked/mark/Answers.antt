@@ -1,6 +1,6 @@
 use Rattle.std.proofs.Common.{false, true, arith, ap, sym, subst, ◌∙◌, ◌≡◌, ◌<◌, ◌++◌, ◌∷◌, [], length, get_or}
 use Rattle.std.specs.Prelude.{slice_set}
-use Rattle.std.proofs.lemmas.List.{get_or_default}
+use Rattle.std.proofs.lemmas.List.{get_or_default, length_push}
 use Rattle.deny_globs.specs.Marked.{IsMarked}
 use Rattle.deny_globs.proofs.MarkedLemmas.{marked_more, marks_new, marks_at_most}
 use Rattle.deny_globs.proofs.marked.Marked.mark.Goals as goal
@@ -23,3 +23,13 @@ returns-clause-bound g c = omega (
   (invariant_of-self-2 g c).once,
   marks_at_most (slice_set c.self.inside.marks.items c.args.state true),
 )
+
+pub returns-clause-steps : goal.returns-clause-steps
+returns-clause-steps g c =
+    omega (
+      arith,
+      c.tick.ensures,
+      length_push c.self.inside.order.items c.args.state,
+      ap length c.in_ok-push.ensures.items,
+      ap (λ v. length v.0) c.self.view_is,
+    )
