@@ -24,17 +24,30 @@ name_decides v w = Decides-like _ (λ e. ap Name e) (λ e. cc) (bytes_eq-Decides
 quoted_decides : (v w : List ℕ) → Decides (token_eq.eq (Quoted v) (Quoted w)) (Quoted v ≡ Quoted w)
 quoted_decides v w = Decides-like _ (λ e. ap Quoted e) (λ e. cc) (bytes_eq-Decides v w)
 
+untrue : {A : Type 0} → IsTrue false → A
+untrue e = absurd (cc e)
+
+-- (tokens of two kinds are told apart by computation: a proof for each pair takes minutes)
+equal_same : (a b : Token) → IsTrue (token_eq.eq a b) → a ≡ b
+equal_same (Name v) (Name w) = (name_decides v w).0
+equal_same All All = λ e. refl
+equal_same Any Any = λ e. refl
+equal_same Not Not = λ e. refl
+equal_same (Quoted v) (Quoted w) = (quoted_decides v w).0
+equal_same Equals Equals = λ e. refl
+equal_same Comma Comma = λ e. refl
+equal_same Open Open = λ e. refl
+equal_same Close Close = λ e. refl
+equal_same a b = λ e. untrue e
+
+equal_self : (a : Token) → IsTrue (token_eq.eq a a)
+equal_self (Name v) = (name_decides v v).1 refl
+equal_self (Quoted v) = (quoted_decides v v).1 refl
+equal_self a = refl
+
 token_decides : (a b : Token) → Decides (token_eq.eq a b) (a ≡ b)
-token_decides (Name v) (Name w) = name_decides v w
-token_decides All All = (λ e. refl, λ e. refl)
-token_decides Any Any = (λ e. refl, λ e. refl)
-token_decides Not Not = (λ e. refl, λ e. refl)
-token_decides (Quoted v) (Quoted w) = quoted_decides v w
-token_decides Equals Equals = (λ e. refl, λ e. refl)
-token_decides Comma Comma = (λ e. refl, λ e. refl)
-token_decides Open Open = (λ e. refl, λ e. refl)
-token_decides Close Close = (λ e. refl, λ e. refl)
-token_decides a b = (λ e. absurd (cc e), λ e. absurd (cc e))
+token_decides a b = let P : Token → Type 0 = λ x. IsTrue (token_eq.eq a x) in
+    (equal_same a b, λ e. subst P e (equal_self a))
 
 -- what `==` says of two lists of tokens
 pub tokens_equal : (xs ys : List Token) (r : Bool) → r ≡ pointwise token_eq.eq xs ys
