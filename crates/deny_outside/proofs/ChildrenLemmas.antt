@@ -21,6 +21,7 @@ use Rattle.std.proofs.lemmas.List.Elements.{All-from_recursion, All-nil}
 use Rattle.std.proofs.lemmas.Option.{none-some}
 use Rattle.std.proofs.lemmas.Slice.Eq.{starts_is}
 use Rattle.std.proofs.lemmas.Str.Pattern.{starts_text}
+use Rattle.deny_lists.proofs.Loops.{appended}
 use Rattle.deny_lists.proofs.TextMapLemmas.{texts_tie}
 use Rattle.deny_lists.specs.TextMap.{map_of, with_bytes}
 use Rattle.deny_lists.specs.declared.memory.NoMemory.{NoMemory}
@@ -227,6 +228,17 @@ entries_of es sorted =
     (λ q. finite.get-from_entries nat_list_cmp_total es q
     ∙ sym (finite.get-from_sorted (slice_cmp nat_cmp) es q sorted)))
     ∙ finite.entries-from_sorted (slice_cmp nat_cmp) es sorted
+
+kept_first : {Y : Type 0} (o : Option Y) (others : List Y) → cons_option o others ≡ cons_option o [] ++ others
+kept_first None others = refl
+kept_first (Some y) others = refl
+
+-- a step of a walk that keeps what is made of the next one, if anything
+pub kept_next : {X Y : Type 0} (f : X → Option Y) (x : X) (left rest : List X) (old new whole : List Y)
+    → left ≡ x ∷ rest → new ≡ old ++ cons_option (f x) [] → old ++ filter_map f left ≡ whole
+    → new ++ filter_map f rest ≡ whole
+kept_next f x left rest old new whole next put = appended (filter_map f) left rest (cons_option (f x) []) old new whole
+    (ap (filter_map f) next ∙ kept_first (f x) (filter_map f rest)) put
 
 -- walking the tree of a map gives what its folder holds
 pub children_are : {A : Type 0} (result : Result (List Entry) NoMemory) (tree : BTreeMap (String A) Place)

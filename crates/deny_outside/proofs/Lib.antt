@@ -1,3 +1,4 @@
+pub mod CallLemmas
 pub mod ChildrenLemmas
 pub mod PathsLemmas
 pub mod PieceLemmas

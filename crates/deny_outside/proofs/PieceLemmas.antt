@@ -1,8 +1,8 @@
 -- Reading goes on by a piece.
 use Rattle.std.proofs.Common.{◌≡◌, ℕ, ◌+◌, ◌≤◌, List, [], ◌++◌, length, take, drop, refl, sym, ap, subst, ◌∙◌, arith}
-use Rattle.std.proofs.Common.{length-append}
-use Rattle.std.proofs.Common.{Bool, true, false, Option, Some, None, IfSome, rules}
-use Rattle.std.specs.Prelude.{MatchOption, if◌then◌else◌, unwrap_or}
+use Rattle.std.proofs.Common.{length-append, append-nil, take_all, ltb, ltb-true, ltb-false, ◌<◌, Result, Ok, Err}
+use Rattle.std.proofs.Common.{Bool, true, false, Option, Some, None, IfSome, IsErrAnd, rules}
+use Rattle.std.specs.Prelude.{IsErrOf, MatchOption, if◌then◌else◌, unwrap_or}
 use Rattle.std.proofs.Math.Seq.{take-add}
 use Rattle.std.proofs.lemmas.List.{length-take, length-take-le}
 use Rattle.std.proofs.lemmas.Option.{none-some}
@@ -12,7 +12,11 @@ use Rattle.deny_outside.specs.MemoryDisk.{file_text}
 use Rattle.deny_outside.specs.declared.disk.Call.{Call}
 use Rattle.deny_outside.specs.declared.disk.Place.{Place}
 use Rattle.deny_outside.specs.declared.disk.Place.TheVariants.{Folder, File}
-use Rattle.deny_outside.specs.Read.{GaveAtMost, IsReading}
+use Rattle.deny_outside.specs.declared.disk.DiskError.{DiskError}
+use Rattle.deny_outside.specs.declared.disk.DiskError.TheVariants.{Failed, Memory}
+use Rattle.deny_outside.specs.declared.read.ReadEnd.{ReadEnd}
+use Rattle.deny_outside.specs.declared.read.ReadEnd.TheVariants.{Fault, Long, Memory as OutOfMemory}
+use Rattle.deny_outside.specs.Read.{GaveAtMost, GaveOnce, IsReading, read_end_of}
 
 -- a front of a text with the next piece behind it is a longer front
 pub front_more : (text bytes piece : List ℕ) → bytes ≡ take (length bytes) text
@@ -105,3 +109,106 @@ piece_given None bytes result count offset n buf here is read = absurd (none-som
 piece_given (Some text) bytes result count offset n buf here is read =
     subst (λ bs. IsPieceOf bs offset n buf) (sym (here text refl))
     (subst (λ k. IsPieceOf text offset k buf) (ap (λ (o : Option ℕ). unwrap_or o 0) (sym read.0 ∙ is)) read.1)
+
+-- nothing was asked in between
+pub later_same : (disk : Disk) → IsLater disk disk
+later_same disk = record {
+  files = refl;
+  faults = omega arith;
+  faults_at = λ call path. omega arith;
+  given = omega arith;
+  listed = omega arith;
+}
+
+pub gave_nothing : (disk : Disk) (path : List ℕ) → GaveOnce disk disk path
+gave_nothing disk path = by_files disk.files
+  where
+    by_files : (told : Option Files) → IfSome told (λ files. disk.given ≤ disk.given + length (bytes_at files path))
+    by_files None = tt
+    by_files (Some files) = omega arith
+
+pub later_then : (start between now : Disk) → IsLater start between → IsLater between now → IsLater start now
+later_then start between now before behind = record {
+  files = behind.files ∙ before.files;
+  faults = omega (arith, before.faults, behind.faults);
+  faults_at = λ call path. omega (arith, before.faults_at call path, behind.faults_at call path);
+  given = omega (arith, before.given, behind.given);
+  listed = omega (arith, before.listed, behind.listed);
+}
+
+-- nothing was given in between
+pub gave_as : (start old new : Disk) (path : List ℕ) → new.given ≡ old.given → GaveOnce start old path
+    → GaveOnce start new path
+gave_as start old new path same gave =
+    subst (λ n. IfSome start.files (λ files. n ≤ start.given + length (bytes_at files path))) (sym same) gave
+
+-- what was read of a text is no longer than the text
+pub gave_once : (start now : Disk) (path bytes : List ℕ) → IsReading start now path bytes → GaveOnce start now path
+gave_once start now path bytes reading = by_files start.files reading.text
+  where
+    by_files : (told : Option Files) → IfSome told (λ files. bytes ≡ take (length bytes) (bytes_at files path))
+        → IfSome told (λ files. now.given ≤ start.given + length (bytes_at files path))
+    by_files None front = tt
+    by_files (Some files) front =
+        omega (arith, reading.once, ap length front, length-take (length bytes) (bytes_at files path))
+
+-- ---- whether there was a piece
+
+pub some_read : (n : ℕ) (answer : Result Bool ReadEnd) → answer ≡ Ok (ltb 0 n) → answer ≡ Ok true → 0 < n
+some_read n answer told is = let more : ltb 0 n ≡ true = cc in ltb-true 0 n more
+
+pub none_read : (n : ℕ) (answer : Result Bool ReadEnd) → answer ≡ Ok (ltb 0 n) → answer ≡ Ok false → n ≡ 0
+none_read n answer told is =
+    let none : ltb 0 n ≡ false = cc in
+    let least : n ≤ 0 = ltb-false 0 n none in
+    omega arith
+
+pub longer_by : (bytes buf new : List ℕ) (n : ℕ) → n ≤ length buf → new ≡ bytes ++ take n buf → 0 < n
+    → length bytes < length new
+longer_by bytes buf new n fits made some =
+    omega (arith, ap length made, length-append bytes (take n buf), length-take-le n buf fits)
+
+pub same_by : (bytes buf new : List ℕ) (n : ℕ) → new ≡ bytes ++ take n buf → n ≡ 0 → new ≡ bytes
+same_by bytes buf new n made none = made ∙ ap (λ k. bytes ++ take k buf) none ∙ append-nil bytes
+
+-- where there was none, the text has been read
+pub whole_at_end : (told : Option Files) (path bytes buf new : List ℕ) (at n : ℕ) → at ≡ length bytes → n ≡ 0
+    → 0 < length buf → new ≡ bytes
+    → IfSome told (λ files. bytes ≡ take (length bytes) (bytes_at files path))
+    → IfSome told (λ files. IsPieceOf (bytes_at files path) at n buf)
+    → IfSome told (λ files. new ≡ bytes_at files path)
+whole_at_end None path bytes buf new at n here none room same front piece = tt
+whole_at_end (Some files) path bytes buf new at n here none room same front piece =
+    let text = bytes_at files path in
+    let past : length text ≤ at = piece.ends none room in
+    same ∙ front ∙ take_all (length bytes) text (omega (arith, past, here))
+
+-- ---- how reading ends
+
+-- want of memory is no other end
+pub memory_no_fault : {T : Type 0} (r : Result T ReadEnd) → IsErrAnd r (λ e. e ≡ OutOfMemory) → IsErrOf r Fault → ⊥
+memory_no_fault (Ok x) memory is = memory
+memory_no_fault (Err e) memory is = cc
+
+pub memory_not_long : {T : Type 0} (r : Result T ReadEnd) → IsErrAnd r (λ e. e ≡ OutOfMemory) → IsErrOf r Long → ⊥
+memory_not_long (Ok x) memory is = memory
+memory_not_long (Err e) memory is = cc
+
+-- only a failed call is a fault
+pub disk_failed : {T : Type 0} (r : Result T ReadEnd) (error : DiskError) → IsErrAnd r (λ e. e ≡ read_end_of error)
+    → IsErrOf r Fault → error ≡ Failed
+disk_failed (Ok x) error ended is = absurd ended
+disk_failed (Err e) Failed ended is = refl
+disk_failed (Err e) Memory ended is = cc
+
+pub disk_not_long : {T : Type 0} (r : Result T ReadEnd) (error : DiskError) → IsErrAnd r (λ e. e ≡ read_end_of error)
+    → IsErrOf r Long → ⊥
+disk_not_long (Ok x) error ended is = ended
+disk_not_long (Err e) Failed ended is = cc
+disk_not_long (Err e) Memory ended is = cc
+
+-- an end that was handed on
+pub end_handed : {T : Type 0} (r : Result T ReadEnd) (first end : ReadEnd) → IsErrAnd r (λ e. e ≡ first)
+    → IsErrOf r end → first ≡ end
+end_handed (Ok x) first end ended is = absurd ended
+end_handed (Err e) first end ended is = cc

@@ -1,7 +1,8 @@
-ghost use Rattle.std.specs.Prelude.{◌≡◌, IfOk, IsTrue, Some, codes, map, nat_eq, if◌then◌else◌};
+ghost use Rattle.std.specs.Prelude.{◌≡◌, ◌++◌, [], IfOk, OnOk, IsTrue, Some, codes, map, nat_eq};
+ghost use Rattle.std.specs.Prelude.{if◌then◌else◌};
 ghost use Rattle.std.specs.BTreeMap.{IsOrdered};
 ghost use Rattle.std.specs.FinMap as finite;
-ghost use Rattle.std.specs.List.{ends_with, filter_map, list_any};
+ghost use Rattle.std.specs.List.{cons_option, ends_with, filter_map, list_any};
 ghost use Rattle.std.specs.Option.{option_copied};
 ghost use Rattle.std.specs.String.{string_cmp};
 ghost use Rattle.deny_lists.specs.TextMap.{with_bytes};
@@ -106,14 +107,29 @@ fn entries_behind(
 {
     let mut entries = List::new(alloc);
     for (path, place) in tree.iter() {
-        if let Some(name) = name_behind(front, path.as_str()) {
-            entries.push(Entry {
-                name: Text::from_str(alloc, name)?,
-                folder: matches!(place, Place::Folder),
-            })?;
-        }
+        add_behind(alloc, front, path.as_str(), place, &mut entries)?;
     }
     Ok(entries)
+}
+
+/// Puts the entry of what stands at a path at the end, if the path is that of a child behind the front.
+fn add_behind(
+    alloc: Global,
+    front: &str,
+    path: &str,
+    place: &Place,
+    entries: &mut List<Entry>,
+) -> Result<(), NoMemory>
+    ensures { OnOk result (entries.new ≡
+        entries.old ++ cons_option (entry_behind front.now (path.now, place.now)) []) }
+{
+    match name_behind(front, path) {
+        Some(name) => entries.push(Entry {
+            name: Text::from_str(alloc, name)?,
+            folder: matches!(place, Place::Folder),
+        }),
+        None => Ok(()),
+    }
 }
 
 pub(crate) fn is_folder_at(files: &TextMap<Place>, path: &str) -> bool
