@@ -44,22 +44,62 @@ pub fn krates_of(
     requires nodes { All (λ k. k.node < length nodes.now) kept.now }
     ensures { IfOk result (AllZip (IsKrateOf packages nodes.now) kept.now) }
 {
+    krates_out_of(alloc, &mut packages, &mut texts, nodes, kept)
+}
+
+// The crates of kept packages, which are taken out of the lists that hold them.
+fn krates_out_of(
+    alloc: Global,
+    packages: &mut List<Package>,
+    texts: &mut PackageTexts,
+    nodes: &[Node],
+    kept: &[KeptPackage],
+) -> Result<List<Krate>, NoMemory>
+    requires packages { All (λ k. k.owner < length packages.old) kept.now }
+    requires texts { AreTextsOf packages.old texts.old }
+    requires apart { AllPairs (λ m n. m ≢ n) (map (λ k. k.owner) kept.now) }
+    requires nodes { All (λ k. k.node < length nodes.now) kept.now }
+    ensures { IfOk result (AllZip (IsKrateOf packages.old nodes.now) kept.now) }
+{
     let mut krates = List::new(alloc);
     for each in kept {
-        let listed = take(&mut packages, each.owner, no_package(alloc));
-        let versions = take(&mut texts.versions, each.owner, no_versions());
-        let requirements = take(&mut texts.requirements, each.owner, List::new(alloc));
-        let source = take(&mut texts.sources, each.owner, None);
-        let read = ReadPackage {
-            listed,
-            versions,
-            requirements,
-            source,
-        };
+        let read = take_read(alloc, packages, texts, each.owner);
         let node = &nodes[each.node as usize];
         krates.push(krate_of(alloc, read, &node.features)?)?;
     }
     Ok(krates)
+}
+
+// Takes a package and what its texts say out of the lists that hold them.
+fn take_read(
+    alloc: Global,
+    packages: &mut List<Package>,
+    texts: &mut PackageTexts,
+    number: u32,
+) -> ReadPackage
+    requires packages { number < length packages.old }
+    requires versions { number < length texts.old.versions }
+    requires requirements { number < length texts.old.requirements }
+    requires sources { number < length texts.old.sources }
+    ensures listed { slice_get packages.old number ≡ Some result.listed }
+    ensures versions { slice_get texts.old.versions number ≡ Some result.versions }
+    ensures requirements { slice_get texts.old.requirements number ≡ Some result.requirements }
+    ensures source { slice_get texts.old.sources number ≡ Some result.source }
+    ensures other_packages { IsWithout number packages.old packages.new }
+    ensures other_versions { IsWithout number texts.old.versions texts.new.versions }
+    ensures other_requirements { IsWithout number texts.old.requirements texts.new.requirements }
+    ensures other_sources { IsWithout number texts.old.sources texts.new.sources }
+{
+    let listed = take(packages, number, no_package(alloc));
+    let versions = take(&mut texts.versions, number, no_versions());
+    let requirements = take(&mut texts.requirements, number, List::new(alloc));
+    let source = take(&mut texts.sources, number, None);
+    ReadPackage {
+        listed,
+        versions,
+        requirements,
+        source,
+    }
 }
 
 // Takes an item out of a list, and leaves this one in its place.

@@ -1,12 +1,16 @@
 //! The graph of metadata.
-ghost use Rattle.std.specs.Prelude.{Bool, Ok, ◌≡◌, ◌<◌, ◌^◌, length, IfOk, IfErr};
+ghost use Rattle.std.specs.Prelude.{All, Bool, List, Ok, ◌≡◌, ◌<◌, ◌^◌, length, IfOk, IfErr};
 ghost use Rattle.std.specs.Cmp.Lexicographic.{slice_cmp};
 ghost use Rattle.std.specs.List.Sorted.{IsSortedByKey};
 ghost use Rattle.std.specs.Ordering.{nat_cmp};
 ghost use Rattle.deny_crate_graph.specs.Crates.{graph_of};
+ghost use Rattle.deny_crate_graph.specs.IdEntries.{AreIds};
 ghost use Rattle.deny_crate_graph.specs.Orderly.{IsOrderly};
 ghost use Rattle.deny_crate_graph.specs.Read.{IsGraph, IsGraphOf, IsSound, graph_read};
+ghost use Rattle.deny_crate_graph.specs.private.Direct.{AreApart, AreDependencies, AreDependents};
 ghost use Rattle.deny_crate_graph.specs.private.Numbered.{IsNumbered, IsResolved};
+ghost use Rattle.deny_crate_graph.specs.private.Relations.{AreRelations};
+ghost use Rattle.deny_metadata.specs.declared.document.Document.{Document};
 ghost use Rattle.deny_metadata.specs.Reading.{Fails};
 ghost use Rattle.deny_resolve.specs.Checked.{Resolved, checked, resolved};
 ghost use Rattle.deny_resolve.specs.PackageTexts.{AreTextsOf};
@@ -98,9 +102,25 @@ fn put_together(
     ensures graph { IfOk result (λ g. IsGraph document (graph_read g)) }
     ensures sound { IfOk result IsSound }
 {
-    let marks = reach(alloc, rows, starts)?;
-    let kept = kept_of(alloc, document.packages.as_slice(), rows, marks.as_slice())?;
+    let kept = reached_packages(alloc, &document, starts, rows)?;
     join(alloc, document, starts, rows, texts, kept.as_slice())
+}
+
+// The packages of the nodes that the members reach, in order.
+fn reached_packages(
+    alloc: Global,
+    document: &Document,
+    starts: &[u32],
+    rows: &[ResolvedNode],
+) -> Result<List<KeptPackage>, NoMemory>
+    requires few { length document.now.nodes < 2 ^ 28 }
+    requires resolved { IsResolved document.now starts.now rows.now }
+    ensures numbered { IfOk result (λ kept. (marks : List Bool)
+        × IsNumbered document.now starts.now rows.now marks kept) }
+    ensures few { IfOk result (λ kept. length kept < 2 ^ 28) }
+{
+    let marks = reach(alloc, rows, starts)?;
+    kept_of(alloc, document.packages.as_slice(), rows, marks.as_slice())
 }
 
 // The graph of the packages that are kept.
@@ -118,10 +138,7 @@ fn join(
     ensures graph { IfOk result (λ g. IsGraph document (graph_read g)) }
     ensures sound { IfOk result IsSound }
 {
-    let places = places_in(alloc, kept, rows.len())?;
-    let members = members_of(alloc, starts, places.as_slice())?;
-    let target_edges = target_edges_of(alloc, kept, rows, places.as_slice())?;
-    let edges = edges_of(alloc, target_edges.as_slice())?;
+    let relations = relations_of(alloc, starts, rows, kept)?;
     let krates = krates_of(
         alloc,
         document.packages,
@@ -129,14 +146,38 @@ fn join(
         document.nodes.as_slice(),
         kept,
     )?;
-    with_neighbours(
-        alloc,
-        document.workspace_root,
-        krates,
+    with_neighbours(alloc, document.workspace_root, krates, relations)
+}
+
+/// Which crates are members, and how they depend on each other, by their places.
+#[derive(Drop)]
+pub struct Relations {
+    pub members: List<u32>,
+    pub edges: List<Edge>,
+    pub target_edges: List<TargetEdge>,
+}
+
+// The relations of the packages that are kept.
+fn relations_of(
+    alloc: Global,
+    starts: &[u32],
+    rows: &[ResolvedNode],
+    kept: &[KeptPackage],
+) -> Result<Relations, NoMemory>
+    requires few { length kept.now < 2 ^ 28 }
+    requires numbered { (document : Document) × (marks : List Bool)
+        × IsNumbered document starts.now rows.now marks kept.now }
+    ensures { IfOk result (AreRelations starts.now rows.now kept.now) }
+{
+    let places = places_in(alloc, kept, rows.len())?;
+    let members = members_of(alloc, starts, places.as_slice())?;
+    let target_edges = target_edges_of(alloc, kept, rows, places.as_slice())?;
+    let edges = edges_of(alloc, target_edges.as_slice())?;
+    Ok(Relations {
         members,
         edges,
         target_edges,
-    )
+    })
 }
 
 // A graph with its crates' neighbours and ids.
@@ -144,32 +185,52 @@ fn with_neighbours(
     alloc: Global,
     root: Text,
     krates: List<Krate>,
-    members: List<u32>,
-    edges: List<Edge>,
-    target_edges: List<TargetEdge>,
+    relations: Relations,
 ) -> Result<CrateGraph, NoMemory>
     requires few { length krates < 2 ^ 28 }
     requires names { IsSortedByKey (λ k. k.name) (slice_cmp nat_cmp) krates }
-    requires orderly { IsOrderly (graph_of target_edges root krates members edges) }
-    ensures graph { IfOk result (λ g. graph_read g ≡ graph_of target_edges root krates members edges) }
+    requires orderly { IsOrderly (graph_of relations.target_edges root krates relations.members relations.edges) }
+    ensures graph { IfOk result (λ g. graph_read g
+        ≡ graph_of relations.target_edges root krates relations.members relations.edges) }
     ensures sound { IfOk result IsSound }
 {
-    let ids = ids_of(alloc, krates.as_slice())?;
-    let ranks = ranks_of(alloc, krates.as_slice(), ids.as_slice())?;
-    let dependents = dependents_of(alloc, krates.as_slice(), ranks.as_slice(), edges.as_slice())?;
-    let dependencies = dependencies_of(
-        alloc,
-        krates.as_slice(),
-        ranks.as_slice(),
-        edges.as_slice(),
-    )?;
     check_bounds(alloc, krates.as_slice())?;
+    let neighbours = neighbours_of(alloc, krates.as_slice(), relations.edges.as_slice())?;
     Ok(CrateGraph {
         root,
         krates,
-        members,
-        edges,
-        target_edges,
+        members: relations.members,
+        edges: relations.edges,
+        target_edges: relations.target_edges,
+        dependents: neighbours.dependents,
+        dependencies: neighbours.dependencies,
+        ids: neighbours.ids,
+    })
+}
+
+// The neighbours of crates, by the crates' places, and the places of the crates by their ids.
+#[derive(Drop)]
+struct Neighbours {
+    dependents: List<List<DirectDependent>>,
+    dependencies: List<List<DirectDependent>>,
+    ids: List<Entry>,
+}
+
+// The neighbours of crates by their edges.
+fn neighbours_of(alloc: Global, krates: &[Krate], edges: &[Edge]) -> Result<Neighbours, NoMemory>
+    requires few { length krates.now < 2 ^ 28 }
+    requires apart { AreApart krates.now }
+    requires parents { All (λ e. e.parent < length krates.now) edges.now }
+    requires children { All (λ e. e.child < length krates.now) edges.now }
+    ensures dependents { IfOk result (λ n. AreDependents krates.now edges.now n.dependents) }
+    ensures dependencies { IfOk result (λ n. AreDependencies krates.now edges.now n.dependencies) }
+    ensures ids { IfOk result (λ n. AreIds krates.now n.ids) }
+{
+    let ids = ids_of(alloc, krates)?;
+    let ranks = ranks_of(alloc, krates, ids.as_slice())?;
+    let dependents = dependents_of(alloc, krates, ranks.as_slice(), edges)?;
+    let dependencies = dependencies_of(alloc, krates, ranks.as_slice(), edges)?;
+    Ok(Neighbours {
         dependents,
         dependencies,
         ids,
