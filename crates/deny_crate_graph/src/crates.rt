@@ -30,25 +30,9 @@ struct ReadPackage {
     source: Option<Source>,
 }
 
-/// The crates of kept packages, whose texts say this. The packages' own texts are moved.
+/// The crates of kept packages, whose texts say this. The packages' own texts are moved: what is left
+/// of these packages and of what their texts say is nothing.
 pub fn krates_of(
-    alloc: Global,
-    mut packages: List<Package>,
-    mut texts: PackageTexts,
-    nodes: &[Node],
-    kept: &[KeptPackage],
-) -> Result<List<Krate>, NoMemory>
-    requires packages { All (λ k. k.owner < length packages) kept.now }
-    requires texts { AreTextsOf packages texts }
-    requires apart { AllPairs (λ m n. m ≢ n) (map (λ k. k.owner) kept.now) }
-    requires nodes { All (λ k. k.node < length nodes.now) kept.now }
-    ensures { IfOk result (AllZip (IsKrateOf packages nodes.now) kept.now) }
-{
-    krates_out_of(alloc, &mut packages, &mut texts, nodes, kept)
-}
-
-// The crates of kept packages, which are taken out of the lists that hold them.
-fn krates_out_of(
     alloc: Global,
     packages: &mut List<Package>,
     texts: &mut PackageTexts,

@@ -9,7 +9,7 @@ ghost use Rattle.deny_crate_graph.specs.Orderly.{IsOrderly};
 ghost use Rattle.deny_crate_graph.specs.Read.{IsGraph, IsGraphOf, IsSound, graph_read};
 ghost use Rattle.deny_crate_graph.specs.private.Direct.{AreApart, AreDependencies, AreDependents};
 ghost use Rattle.deny_crate_graph.specs.private.Numbered.{IsNumbered, IsResolved};
-ghost use Rattle.deny_crate_graph.specs.private.Relations.{AreRelations};
+ghost use Rattle.deny_crate_graph.specs.private.Relations.{AreRelations, whole_graph};
 ghost use Rattle.deny_metadata.specs.declared.document.Document.{Document};
 ghost use Rattle.deny_metadata.specs.Reading.{Fails};
 ghost use Rattle.deny_resolve.specs.Checked.{Resolved, checked, resolved};
@@ -80,30 +80,33 @@ fn graph_in(alloc: Global, document: Document) -> Result<CrateGraph, MetadataFau
     if document.packages.len() >= MANY || document.nodes.len() >= MANY {
         return Err(MetadataFault::Memory);
     }
-    let Resolution {
-        starts,
-        rows,
-        texts,
-    } = resolve(alloc, &document)?;
-    Ok(put_together(alloc, document, starts.as_slice(), rows.as_slice(), texts)?)
+    let resolution = resolve(alloc, &document)?;
+    Ok(put_together(alloc, document, resolution)?)
 }
 
 // The graph of a document without fault.
 fn put_together(
     alloc: Global,
     document: Document,
-    starts: &[u32],
-    rows: &[ResolvedNode],
-    texts: PackageTexts,
+    mut resolution: Resolution,
 ) -> Result<CrateGraph, NoMemory>
     requires few { length document.nodes < 2 ^ 28 }
-    requires resolved { IsResolved document starts.now rows.now }
-    requires texts { AreTextsOf document.packages texts }
+    requires resolved { IsResolved document resolution.starts resolution.rows }
+    requires texts { AreTextsOf document.packages resolution.texts }
     ensures graph { IfOk result (λ g. IsGraph document (graph_read g)) }
     ensures sound { IfOk result IsSound }
 {
+    let starts = resolution.starts.as_slice();
+    let rows = resolution.rows.as_slice();
     let kept = reached_packages(alloc, &document, starts, rows)?;
-    join(alloc, document, starts, rows, texts, kept.as_slice())
+    join(
+        alloc,
+        document,
+        starts,
+        rows,
+        &mut resolution.texts,
+        kept.as_slice(),
+    )
 }
 
 // The packages of the nodes that the members reach, in order.
@@ -126,22 +129,22 @@ fn reached_packages(
 // The graph of the packages that are kept.
 fn join(
     alloc: Global,
-    document: Document,
+    mut document: Document,
     starts: &[u32],
     rows: &[ResolvedNode],
-    texts: PackageTexts,
+    texts: &mut PackageTexts,
     kept: &[KeptPackage],
 ) -> Result<CrateGraph, NoMemory>
     requires few { length kept.now < 2 ^ 28 }
     requires numbered { (marks : List Bool) × IsNumbered document starts.now rows.now marks kept.now }
-    requires texts { AreTextsOf document.packages texts }
+    requires texts { AreTextsOf document.packages texts.old }
     ensures graph { IfOk result (λ g. IsGraph document (graph_read g)) }
     ensures sound { IfOk result IsSound }
 {
     let relations = relations_of(alloc, starts, rows, kept)?;
     let krates = krates_of(
         alloc,
-        document.packages,
+        &mut document.packages,
         texts,
         document.nodes.as_slice(),
         kept,
@@ -149,12 +152,12 @@ fn join(
     with_neighbours(alloc, document.workspace_root, krates, relations)
 }
 
-/// Which crates are members, and how they depend on each other, by their places.
+// Which crates are members, and how crates depend on each other, by their places.
 #[derive(Drop)]
-pub struct Relations {
-    pub members: List<u32>,
-    pub edges: List<Edge>,
-    pub target_edges: List<TargetEdge>,
+struct Relations {
+    members: List<u32>,
+    edges: List<Edge>,
+    target_edges: List<TargetEdge>,
 }
 
 // The relations of the packages that are kept.
@@ -196,7 +199,19 @@ fn with_neighbours(
 {
     check_bounds(alloc, krates.as_slice())?;
     let neighbours = neighbours_of(alloc, krates.as_slice(), relations.edges.as_slice())?;
-    Ok(CrateGraph {
+    Ok(whole_graph(root, krates, relations, neighbours))
+}
+
+// The graph that is made of these.
+fn whole_graph(
+    root: Text,
+    krates: List<Krate>,
+    relations: Relations,
+    neighbours: Neighbours,
+) -> CrateGraph
+    ensures { result ≡ whole_graph root krates relations neighbours }
+{
+    CrateGraph {
         root,
         krates,
         members: relations.members,
@@ -205,7 +220,7 @@ fn with_neighbours(
         dependents: neighbours.dependents,
         dependencies: neighbours.dependencies,
         ids: neighbours.ids,
-    })
+    }
 }
 
 // The neighbours of crates, by the crates' places, and the places of the crates by their ids.

@@ -7,6 +7,9 @@ use Rattle.deny_model.specs.TargetEdge.{edge_of, target_edge_cmp}
 use Rattle.deny_crate_graph.specs.private.Graph.{IsInverse, edges_from, place_at}
 use Rattle.deny_resolve.specs.declared.checked.ResolvedNode.{ResolvedNode}
 use Rattle.deny_crate_graph.specs.declared.graph.KeptPackage.{KeptPackage}
+use Rattle.deny_crate_graph.specs.declared.krate.Krate.{Krate}
+use Rattle.deny_crate_graph.specs.declared.read.CrateGraph.{CrateGraph}
+use Rattle.deny_crate_graph.specs.declared.read.Neighbours.{Neighbours}
 use Rattle.deny_crate_graph.specs.declared.read.Relations.{Relations}
 
 -- the members, the target edges and the edges are those of the nodes, by their packages' places
@@ -17,3 +20,16 @@ pub record AreRelations (starts : List ℕ) (rows : List ResolvedNode) (kept : L
   pub members : Lists nat_cmp (Contains (map (place_at places) starts)) r.members
   pub target_edges : Lists target_edge_cmp (Contains (edges_from rows places 0 kept)) r.target_edges
   pub edges : Lists edge_cmp (Contains (map edge_of r.target_edges)) r.edges
+
+-- a graph of its crates, their relations and their neighbours
+abbrev pub whole_graph : List ℕ → List Krate → Relations → Neighbours → CrateGraph
+whole_graph root krates r n = record {
+  root = root;
+  krates = krates;
+  members = r.members;
+  edges = r.edges;
+  target_edges = r.target_edges;
+  dependents = n.dependents;
+  dependencies = n.dependencies;
+  ids = n.ids;
+}

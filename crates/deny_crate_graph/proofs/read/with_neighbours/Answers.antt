@@ -1,10 +1,11 @@
-use Rattle.std.proofs.Common.{◌<◌, ◌^◌, sym, List, length, subst}
+use Rattle.std.proofs.Common.{◌<◌, ◌^◌, ap, sym, List, length, subst}
 use Rattle.std.specs.Prelude.{All}
 use Rattle.deny_base.specs.declared.edge.Edge.{Edge}
 use Rattle.deny_crate_graph.specs.private.Direct.{AreApart, AreDependencies, AreDependents}
 use Rattle.deny_crate_graph.specs.Bounds.{lock_length, node_count}
 use Rattle.deny_crate_graph.specs.Crates.{crates_from}
 use Rattle.deny_crate_graph.specs.IdEntries.{AreIds}
+use Rattle.deny_crate_graph.specs.Read.{IsSound, graph_read}
 use Rattle.deny_crate_graph.specs.declared.krate.Krate.{Krate}
 use Rattle.deny_crate_graph.proofs.OrderlyLemmas.{apart_of, children_inside, parents_inside}
 use Rattle.deny_crate_graph.proofs.read.with_neighbours.Goals as goal
@@ -33,12 +34,15 @@ neighbours_of-requires-clause-children c =
     (subst (λ (es : List Edge). All (λ e. e.child < length c.args.krates) es) (sym c.as_slice-3.ensures)
     (children_inside r.target_edges c.args.root c.args.krates r.members r.edges c.requires.orderly))
 
+pub returns-clause-graph : goal.returns-clause-graph
+returns-clause-graph c = ap graph_read c.whole_graph.ensures
+
 pub returns-clause-sound : goal.returns-clause-sound
 returns-clause-sound c =
     let r = c.args.relations in
     let n = c.in_ok-neighbours.neighbours in
     let are = c.in_ok-neighbours.ensures in
-    record {
+    subst IsSound (sym c.whole_graph.ensures) record {
       few = c.requires.few;
       names = c.requires.names;
       orderly = c.requires.orderly;

@@ -2,7 +2,7 @@ use Rattle.std.proofs.Common.{take}
 use Rattle.std.specs.List.{AllZip}
 use Rattle.deny_crate_graph.specs.private.Graph.{IsKrateOf}
 use Rattle.deny_crate_graph.proofs.TakenLemmas.{AreLeft}
-use Rattle.deny_crate_graph.proofs.crates.krates_out_of.Given as goal
+use Rattle.deny_crate_graph.proofs.crates.krates_of.Given as goal
 
 abbrev pub invariant-loop-each : goal.invariant-loop-each
 invariant-loop-each l = record {

@@ -7,7 +7,7 @@ use Rattle.deny_crate_graph.specs.declared.graph.KeptPackage.{KeptPackage}
 use Rattle.deny_crate_graph.specs.declared.krate.Krate.{Krate}
 use Rattle.deny_crate_graph.proofs.GraphLemmas.{features_are, listed_is, zip_more}
 use Rattle.deny_crate_graph.proofs.TakenLemmas.{all_left, left_after, taken_reads, texts_long}
-use Rattle.deny_crate_graph.proofs.crates.krates_out_of.Goals as goal
+use Rattle.deny_crate_graph.proofs.crates.krates_of.Goals as goal
 
 pub loop-each-init : goal.loop-each-init
 loop-each-init c = record {
