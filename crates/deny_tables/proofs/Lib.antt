@@ -1,2 +1,3 @@
 pub mod ChecksumLaws
 pub mod ConfigLaws
+pub mod Chain

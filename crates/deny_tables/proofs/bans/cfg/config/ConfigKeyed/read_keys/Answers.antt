@@ -1,7 +1,8 @@
 use Rattle.deny_entries.specs.Table.{state_of}
 use Rattle.deny_entries.proofs.RowLaws.{◌▷◌, all_read, read_rows}
 use Rattle.deny_tables.specs.Apart.{bans-apart}
-use Rattle.deny_tables.specs.Config.{bans_rows}
+use Rattle.deny_tables.specs.Config.{bans_fields, bans_rows}
+use Rattle.deny_tables.proofs.Chain.{◌▸◌, ended, ends}
 use Rattle.deny_tables.proofs.bans.cfg.config.ConfigKeyed.read_keys.Goals as goal
 
 pub returns-clause-read : goal.returns-clause-read
@@ -24,3 +25,24 @@ returns-clause-read c = read_rows bans_rows bans-apart (state_of c.args.helper.n
     ▷ (c.in_ok-workspace_dependencies.ensures.next, c.in_ok-workspace_dependencies.ensures.read)
     ▷ (c.in_ok-std_replacements.ensures.next, c.in_ok-std_replacements.ensures.read)
     ▷ all_read)
+
+pub returns-clause-next : goal.returns-clause-next
+returns-clause-next c = ends bans_fields (state_of c.args.helper.now) _ (
+    c.in_ok-multiple_versions.ensures.next
+    ▸ c.in_ok-multiple_versions_include_dev.ensures.next
+    ▸ c.in_ok-highlight.ensures.next
+    ▸ c.in_ok-deny.ensures.next
+    ▸ c.in_ok-allow.ensures.next
+    ▸ c.in_ok-allow_workspace.ensures.next
+    ▸ c.in_ok-external_default_features.ensures.next
+    ▸ c.in_ok-workspace_default_features.ensures.next
+    ▸ c.in_ok-features.ensures.next
+    ▸ c.in_ok-skip.ensures.next
+    ▸ c.in_ok-skip_tree.ensures.next
+    ▸ c.in_ok-wildcards.ensures.next
+    ▸ c.in_ok-allow_wildcard_paths.ensures.next
+    ▸ c.in_ok-allow_build_scripts.ensures.next
+    ▸ c.in_ok-build.ensures.next
+    ▸ c.in_ok-workspace_dependencies.ensures.next
+    ▸ c.in_ok-std_replacements.ensures.next
+    ▸ ended)
