@@ -72,25 +72,94 @@ impl<'c> Matches<'c> {
         ensures facts { IfOk result (λ found. AreFacts (policy_view found.cfg.now) found.krates.now
             (facts_of found.marks)) }
     {
-        let mut roots = List::new(alloc);
-        let mut skips = List::new(alloc);
-        let marks = marks_of(alloc, cfg, krates, &mut roots)?;
-        let groups = groups_of(alloc, cfg, krates, &marks, &mut skips)?;
-        let exempt = exempt_marks(alloc, cfg, krates)?;
-        let several = several_of(alloc, cfg, krates)?;
-        let bans = ban_matches(alloc, cfg, krates, exempt.as_slice())?;
+        let marked = marked_of(alloc, cfg, krates)?;
+        let grouped = grouped_of(alloc, cfg, krates, &marked.marks)?;
+        let banned = banned_of(alloc, cfg, krates)?;
         Ok(Matches {
             cfg,
             krates,
-            marks,
-            groups,
-            exempt,
-            several,
-            skips,
-            roots,
-            bans,
+            marks: marked.marks,
+            groups: grouped.groups,
+            exempt: banned.exempt,
+            several: banned.several,
+            skips: grouped.skips,
+            roots: marked.roots,
+            bans: banned.bans,
         })
     }
+}
+
+/// Marks, and of each entry of `skip-tree` the crates that it speaks of.
+#[derive(Drop)]
+struct Marked {
+    marks: Marks,
+    roots: List<EntryMatch>,
+}
+
+/// What is true of a configuration and a graph, and what each entry of `skip-tree` speaks of.
+fn marked_of(alloc: Global, cfg: &ValidConfig, krates: &Krates) -> Result<Marked, NoMemory>
+    ensures facts { IfOk result (λ marked. AreFacts (policy_view cfg.now) krates.now (facts_of marked.marks)) }
+    ensures roots { IfOk result (λ marked. marked.roots ≡ map (root_match krates.now) (policy_view cfg.now).skip_tree) }
+{
+    let mut roots = List::new(alloc);
+    let marks = marks_of(alloc, cfg, krates, &mut roots)?;
+    Ok(Marked { marks, roots })
+}
+
+/// The groups of names, and of each skip the crates that it speaks of and that count.
+#[derive(Drop)]
+struct Grouped {
+    groups: Groups,
+    skips: List<EntryMatch>,
+}
+
+/// The groups of names by marks, and what each skip speaks of.
+fn grouped_of(
+    alloc: Global,
+    cfg: &ValidConfig,
+    krates: &Krates,
+    marks: &Marks,
+) -> Result<Grouped, NoMemory>
+    ensures groups { IfOk result (λ grouped.
+        AreGroups (policy_view cfg.now) krates.now (facts_of marks.now) grouped.groups) }
+    ensures skips { IfOk result (λ grouped.
+        grouped.skips ≡ map (skip_match krates.now (facts_of marks.now)) (policy_view cfg.now).skip) }
+{
+    let mut skips = List::new(alloc);
+    let groups = groups_of(alloc, cfg, krates, marks, &mut skips)?;
+    Ok(Grouped { groups, skips })
+}
+
+/// Which crates rules of bans do not concern, which ones an entry denies in several versions, and what
+/// each entry that bans crates speaks of.
+#[derive(Drop)]
+struct Banned<'c> {
+    exempt: List<bool>,
+    several: List<bool>,
+    bans: List<BanMatch<'c>>,
+}
+
+/// What the entries that deny crates speak of.
+fn banned_of<'c>(
+    alloc: Global,
+    cfg: &'c ValidConfig,
+    krates: &Krates,
+) -> Result<Banned<'c>, NoMemory>
+    ensures exempt { IfOk result (λ banned.
+        banned.exempt ≡ map (is_exempt (policy_view cfg.now) krates.now) krates.now.crates) }
+    ensures several { IfOk result (λ banned.
+        banned.several ≡ map (is_denied_multiple (policy_view cfg.now)) krates.now.crates) }
+    ensures bans { IfOk result (λ banned.
+        AreBanMatches (policy_view cfg.now) krates.now (policy_view cfg.now).deny banned.bans) }
+{
+    let exempt = exempt_marks(alloc, cfg, krates)?;
+    let several = several_of(alloc, cfg, krates)?;
+    let bans = ban_matches(alloc, cfg, krates, exempt.as_slice())?;
+    Ok(Banned {
+        exempt,
+        several,
+        bans,
+    })
 }
 
 /// Marks for the crates that an entry denies in several versions.
