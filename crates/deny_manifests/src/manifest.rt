@@ -1,5 +1,5 @@
 //! The manifest of a crate.
-ghost use Rattle.std.specs.Prelude.{◌≡◌, ◌<◌, ◌^◌, IfNone, IfOk, IfSome, Err, None, Some};
+ghost use Rattle.std.specs.Prelude.{◌≡◌, ◌≢◌, ◌<◌, ◌^◌, ℕ, List, IfNone, IfOk, IfSome, Err, None, Some};
 ghost use Rattle.std.specs.Prelude.{length, not, position, slice_get, if◌then◌else◌};
 ghost use Rattle.std.specs.Iterator.{YieldsFirstRef, item_count};
 ghost use Rattle.deny_krates.specs.Crates.{crate_view};
@@ -8,6 +8,7 @@ ghost use Rattle.deny_manifests.specs.Fault.{HasNoTree};
 ghost use Rattle.deny_manifests.specs.Ignored.{is_among};
 ghost use Rattle.deny_manifests.specs.Manifest.{HasNoNode, IsManifestBy, IsManifestOf, IsOwn};
 ghost use Rattle.deny_manifests.specs.Manifest.{deps_in, deps_left, ignored_by, without};
+ghost use Rattle.deny_toml.specs.Parser.{IsTreeOf};
 
 use crate::declarations::{ManifestDep, deps_of};
 use crate::fault::ManifestFault;
@@ -51,10 +52,7 @@ impl<'k> Manifest<'k> {
             → HasNoNode krates.now krate.now.id.0 contents.now }
     {
         let tree = parse(alloc, contents)?;
-        let Some(place) = place_of(krates, krate) else {
-            return Err(ManifestFault::NoNode);
-        };
-        Ok(manifest_of(alloc, krates, place, krate, &tree)?)
+        manifest_by(alloc, krates, krate, &tree)
     }
 
     /// The declarations in their order; with `filter` without the kinds that the manifest ignores.
@@ -67,6 +65,27 @@ impl<'k> Manifest<'k> {
             ignored: if filter { self.ignored.as_slice() } else { &[] },
         }
     }
+}
+
+/// The manifest of a crate, where it is in the graph, by the tree of its text.
+fn manifest_by<'k>(
+    alloc: Global,
+    krates: &'k Krates,
+    krate: &'k Krate,
+    tree: &Value<'_>,
+) -> Result<Manifest<'k>, ManifestFault>
+    requires { IsOwn krates.now krate.now }
+    ensures manifest { (text : List ℕ) → IsTreeOf text tree.now
+        → IfOk result (IsManifestOf krates.now krate.now.id.0 text) }
+    ensures krate { IfOk result (λ m. m.krate.now ≡ krate.now) }
+    ensures id { IfOk result (λ m. m.id ≡ 0) }
+    ensures toml { result ≢ Err ManifestFault.Toml }
+    ensures no_node { result ≡ Err ManifestFault.NoNode → crate_of krates.now krate.now.id.0 ≡ None }
+{
+    let Some(place) = place_of(krates, krate) else {
+        return Err(ManifestFault::NoNode);
+    };
+    Ok(manifest_of(alloc, krates, place, krate, tree)?)
 }
 
 /// The place of a crate, where it is in the graph.

@@ -1,18 +1,20 @@
-use Rattle.deny_krates.specs.Crates.{crate_view}
 use Rattle.deny_manifests.proofs.manifest.Manifest.parse.Goals as goal
 
-pub returns-in_default-clause-no_node : goal.returns-in_default-clause-no_node
-returns-in_default-clause-no_node c = λ _. record {
-  tree = c.in_ok-tree.tree;
-  reads = c.in_ok-tree.ensures.tree;
-  none = c.in_default.ensures.none;
-}
-
 pub returns-clause-manifest : goal.returns-clause-manifest
-returns-clause-manifest c = record {
-  crate = crate_view c.in-Some.place c.args.krate.now;
+returns-clause-manifest c = c.manifest_by.ensures.manifest c.args.contents.now c.in_ok-tree.ensures.tree
+
+pub returns-clause-krate : goal.returns-clause-krate
+returns-clause-krate c = c.manifest_by.ensures.krate
+
+pub returns-clause-id : goal.returns-clause-id
+returns-clause-id c = c.manifest_by.ensures.id
+
+pub returns-clause-toml : goal.returns-clause-toml
+returns-clause-toml c = λ e. absurd (c.manifest_by.ensures.toml e)
+
+pub returns-clause-no_node : goal.returns-clause-no_node
+returns-clause-no_node c = λ e. record {
   tree = c.in_ok-tree.tree;
-  stands = c.in-Some.ensures.some;
   reads = c.in_ok-tree.ensures.tree;
-  is = c.in_ok-manifest_of.ensures.is;
+  none = c.manifest_by.ensures.no_node e;
 }
