@@ -1,4 +1,5 @@
 mod ChecksumRows
+pub mod EndLemmas
 pub mod FrontLemmas
 pub mod HashingLemmas
 mod HeaderRows

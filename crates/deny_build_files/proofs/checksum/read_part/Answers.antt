@@ -1,7 +1,19 @@
-use Rattle.std.proofs.Common.{arith}
+use Rattle.std.proofs.Common.{Err, arith}
+use Rattle.deny_build_files.proofs.EndLemmas.{disk_failed, disk_not_long}
 use Rattle.deny_build_files.proofs.HashingLemmas.{hashing_more, hashing_ended, none_left}
 use Rattle.deny_build_files.proofs.checksum.read_part.Goals as goal
 
+-- the disk did not answer
+pub returns-in_err-n-clause-fault : goal.returns-in_err-n-clause-fault
+returns-in_err-n-clause-fault g c = λ is.
+    let failed = disk_failed c.from_residual.result c.in_err-n.field-0.0 c.from_residual.ensures.1 is in
+    c.in_err-n.ensures.failed (λ i. Err (failed i))
+
+pub returns-in_err-n-clause-never_long : goal.returns-in_err-n-clause-never_long
+returns-in_err-n-clause-never_long g c =
+    disk_not_long c.from_residual.result c.in_err-n.field-0.0 c.from_residual.ensures.1
+
+-- the piece was taken
 pub returns-clause-hashing : goal.returns-clause-hashing
 returns-clause-hashing g c = λ start hashing _.
     let read = c.in_ok-n.ensures in
