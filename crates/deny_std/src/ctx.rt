@@ -1,9 +1,12 @@
 //! A policy's table `std-replacements` brought together with a graph and a table of replacements.
-ghost use Rattle.std.specs.Prelude.{◌≡◌, IfOk, false};
+ghost use Rattle.std.specs.Prelude.{◌≡◌, IfOk, false, flat_map};
 ghost use Rattle.deny_cfg.specs.PolicyView.{replacing_view, scope_view};
 ghost use Rattle.deny_codes.specs.Saying.{said_in};
 ghost use Rattle.deny_codes.specs.StdReplacements.{looks_at_none};
+ghost use Rattle.deny_lists.specs.First.{FindsFirst};
 ghost use Rattle.deny_std.specs.Found.{IsFound, IsFoundFrom};
+ghost use Rattle.deny_std.specs.private.FirstWitnesses.{place_in, same_range};
+ghost use Rattle.deny_std.specs.private.Sorted.{passed_at, replaced_in, told_at};
 
 use crate::dependents::Asked;
 use crate::hits::{hits_of, unmatched_of};
@@ -11,11 +14,11 @@ use crate::ignored::Ignored;
 use crate::places::are_placed;
 use crate::replaced::replaced_places;
 use crate::replacements::Replacements;
-use crate::sorted::sort;
+use crate::sorted::{Sorted, sort};
 use deny_cfg::Scope;
 use deny_cfg::bans::cfg::StdReplacementConfig;
 use deny_krates::Krates;
-use deny_lists::NoMemory;
+use deny_lists::{List, NoMemory};
 use deny_std_table::ReplacementData;
 use std::alloc::Global;
 
@@ -82,10 +85,7 @@ fn found_in<'d>(
     ensures { IfOk result (IsFoundFrom (replacing_view cfg.now) krates.now (said_in table.entry)) }
 {
     are_placed(krates);
-    let asked = Asked::new(alloc, cfg, krates)?;
-    let replaced = replaced_places(alloc, &asked, &table)?;
-    let ignored = Ignored::new(alloc, cfg.ignore.as_slice())?;
-    let sorted = sort(alloc, krates, &ignored, replaced.as_slice())?;
+    let sorted = sorted_in(alloc, cfg, krates, &table)?;
     let hits = hits_of(alloc, krates, cfg.ignore.as_slice(), &sorted.passed)?;
     let unmatched = unmatched_of(alloc, cfg.ignore.as_slice(), &sorted.passed)?;
     Ok(Replacements {
@@ -95,4 +95,37 @@ fn found_in<'d>(
         replaced: sorted.told,
         hits,
     })
+}
+
+/// The crates that are replaced: those that are told, and the first that each entry passes over.
+fn sorted_in(
+    alloc: Global,
+    cfg: &StdReplacementConfig,
+    krates: &Krates,
+    table: &ReplacementData<'_>,
+) -> Result<Sorted, NoMemory>
+    ensures told { IfOk result (λ sorted. sorted.told ≡ flat_map (told_at cfg.now.ignore krates.now)
+        (replaced_in (replacing_view cfg.now) krates.now (said_in table.now))) }
+    ensures passed { IfOk result (λ sorted. FindsFirst same_range
+        (flat_map (passed_at cfg.now.ignore krates.now)
+        (replaced_in (replacing_view cfg.now) krates.now (said_in table.now)))
+        (place_in sorted.passed)) }
+{
+    let replaced = replaced_in(alloc, cfg, krates, table)?;
+    let ignored = Ignored::new(alloc, cfg.ignore.as_slice())?;
+    sort(alloc, krates, &ignored, replaced.as_slice())
+}
+
+/// The places of the crates that are replaced.
+fn replaced_in(
+    alloc: Global,
+    cfg: &StdReplacementConfig,
+    krates: &Krates,
+    table: &ReplacementData<'_>,
+) -> Result<List<u32>, NoMemory>
+    ensures { IfOk result (λ places. places
+        ≡ replaced_in (replacing_view cfg.now) krates.now (said_in table.now)) }
+{
+    let asked = Asked::new(alloc, cfg, krates)?;
+    replaced_places(alloc, &asked, table)
 }

@@ -1,13 +1,19 @@
 -- Replaced crates by their places: those that are told, and those that entries pass over.
-use Rattle.std.specs.Prelude.{◌∷◌, ℕ, List, [], Option, None, Some, map, option_and_then, option_map}
+use Rattle.std.specs.Prelude.{◌∷◌, ℕ, List, [], Option, None, Some, filter, map, option_and_then, option_map}
 use Rattle.deny_base.specs.declared.span.Span.{Span}
 use Rattle.deny_cfg.specs.PackageSpecOrExtended.{PackageSpecOrExtended}
 use Rattle.deny_cfg.specs.PolicyView.{entry_view}
 use Rattle.deny_cfg.specs.Reason.{Reason}
 use Rattle.deny_codes.specs.FirstMatch.{first_of}
-use Rattle.deny_codes.specs.StdReplacements.{ignore_range, ignores}
+use Rattle.deny_codes.specs.Saying.{Saying}
+use Rattle.deny_codes.specs.StdReplacements.{ignore_range, ignores, is_replaced}
 use Rattle.deny_model.specs.Graph.{Graph}
+use Rattle.deny_model.specs.Policy.{Replacing}
 use Rattle.deny_model.specs.Told.{crate_at}
+
+-- the places of the crates that are replaced
+abbrev pub replaced_in : Replacing → Graph → Saying → List ℕ
+replaced_in r g said = map (λ c. c.place) (filter (is_replaced r g said) g.crates)
 
 -- the range of the first entry that speaks of the crate at a place
 abbrev pub range_at : List (PackageSpecOrExtended Reason) → Graph → ℕ → Option Span
