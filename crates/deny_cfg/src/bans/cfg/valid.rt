@@ -1,5 +1,5 @@
 //! What `[bans]` says once it is known to hold no clash.
-ghost use Rattle.std.specs.Prelude.{◌≡◌, ◌++◌, ◌<◌, ◌^◌, [], IfOk, OnErr, OnOk, filter, length, map};
+ghost use Rattle.std.specs.Prelude.{◌≡◌, ◌∷◌, ◌++◌, ◌<◌, ◌^◌, [], IfOk, OnErr, OnOk, filter, length, map};
 ghost use Rattle.std.specs.Option.{option_map_or};
 ghost use Rattle.deny_build_cfg.specs.Build.{HasFiles, IsBuildOf, files_of};
 ghost use Rattle.deny_build_cfg.specs.Globs.{OfBoth};
@@ -120,24 +120,43 @@ fn ban_of(entry: CrateBan) -> PackageSpecOrExtended<KrateBan>
     }
 }
 
-/// Divides the entries of `deny` into those that ban, and those that deny several versions alone.
-fn divided(
-    alloc: Global,
-    deny: List<CrateBan>,
-) -> Result<(List<PackageSpecOrExtended<KrateBan>>, List<PackageSpec>), NoMemory>
-    ensures bans { IfOk result (λ parts. parts.0 ≡ map ban_of (filter is_ban deny)) }
-    ensures others { IfOk result (λ parts. parts.1 ≡ map (λ e. e.spec) (filter is_multiple deny)) }
-{
-    let mut bans = List::new(alloc);
-    let mut others = List::new(alloc);
-    'deny: for entry in deny.vec {
+/// Entries of `deny` by their kind.
+#[derive(Drop)]
+struct Denied {
+    /// Those that ban.
+    bans: List<PackageSpecOrExtended<KrateBan>>,
+    /// The specs of those that deny several versions alone.
+    others: List<PackageSpec>,
+}
+
+impl Denied {
+    /// Puts an entry behind those of its kind.
+    fn add(&mut self, entry: CrateBan) -> Result<(), NoMemory>
+        ensures bans { OnOk result (self.new.bans ≡ self.old.bans ++ map ban_of (filter is_ban (entry ∷ []))) }
+        ensures others { OnOk result
+            (self.new.others ≡ self.old.others ++ map (λ e. e.spec) (filter is_multiple (entry ∷ []))) }
+    {
         if is_ban(&entry) {
-            bans.push(ban_of(entry))?;
+            self.bans.push(ban_of(entry))
         } else {
-            others.push(entry.spec)?;
+            self.others.push(entry.spec)
         }
     }
-    Ok((bans, others))
+}
+
+/// Divides the entries of `deny` into those that ban, and those that deny several versions alone.
+fn divided(alloc: Global, deny: List<CrateBan>) -> Result<Denied, NoMemory>
+    ensures bans { IfOk result (λ parts. parts.bans ≡ map ban_of (filter is_ban deny)) }
+    ensures others { IfOk result (λ parts. parts.others ≡ map (λ e. e.spec) (filter is_multiple deny)) }
+{
+    let mut parts = Denied {
+        bans: List::new(alloc),
+        others: List::new(alloc),
+    };
+    'deny: for entry in deny.vec {
+        parts.add(entry)?;
+    }
+    Ok(parts)
 }
 
 fn features_of(entry: CrateFeatures) -> ValidKrateFeatures
@@ -187,6 +206,41 @@ fn valid_build_of(
     }
 }
 
+/// What rules take in another form than it is written in.
+struct Remade {
+    denied: Denied,
+    features: List<ValidKrateFeatures>,
+    build: Option<ValidBuildConfig>,
+}
+
+/// What is written in these entries and in the table `build`. Where memory runs out the files are as they were, or
+/// hold those that the table asks for.
+fn remade_of(
+    alloc: Global,
+    deny: List<CrateBan>,
+    features: List<CrateFeatures>,
+    build: Option<BuildConfig>,
+    older_key: Option<Span>,
+    files: &mut Files,
+) -> Result<Remade, NoMemory>
+    requires few { length files.old < 2 ^ 31 }
+    ensures bans { IfOk result (λ all. all.denied.bans ≡ map ban_of (filter is_ban deny)) }
+    ensures others { IfOk result (λ all. all.denied.others ≡ map (λ e. e.spec) (filter is_multiple deny)) }
+    ensures features { IfOk result (λ all. all.features ≡ map features_of features) }
+    ensures build { IfOk result
+        (λ all. OfBoth (λ build. IsBuildOf build (length files.old) older_key) build all.build) }
+    ensures files { OnOk result (files.new
+        ≡ files.old ++ option_map_or (λ build. files_of build.enable_builtin_globs) build []) }
+    ensures files_too { OnErr result (HasFiles
+        (option_map_or (λ build. files_of build.enable_builtin_globs) build []) files.old files.new) }
+{
+    Ok(Remade {
+        denied: divided(alloc, deny)?,
+        features: all_features(alloc, features)?,
+        build: valid_build_of(alloc, build, older_key, files)?,
+    })
+}
+
 /// A configuration without its clashes. Where memory runs out the files are as they were, or hold those that it
 /// asks for.
 fn valid_of(
@@ -201,16 +255,19 @@ fn valid_of(
     ensures files_too { OnErr result (HasFiles (files_asked config) files.old files.new) }
 {
     let older_key = older_key_by(&config.build, &config.allow_build_scripts);
-    let (denied, denied_multiple_versions) = divided(alloc, config.deny)?;
-    let features = all_features(alloc, config.features)?;
     let build = build_by(config.build, config.allow_build_scripts);
+    let Remade {
+        denied,
+        features,
+        build,
+    } = remade_of(alloc, config.deny, config.features, build, older_key, files)?;
     Ok(ValidConfig {
         file_id,
         multiple_versions: config.multiple_versions,
         multiple_versions_include_dev: config.multiple_versions_include_dev,
         highlight: config.highlight,
-        denied,
-        denied_multiple_versions,
+        denied: denied.bans,
+        denied_multiple_versions: denied.others,
         allowed: config.allow,
         allow_workspace: config.allow_workspace,
         external_default_features: config.external_default_features,
@@ -222,7 +279,7 @@ fn valid_of(
         allow_wildcard_paths: config.allow_wildcard_paths,
         workspace_dependencies: config.workspace_dependencies,
         std_replacements: config.std_replacements,
-        build: valid_build_of(alloc, build, older_key, files)?,
+        build,
     })
 }
 
@@ -258,6 +315,26 @@ fn tell(
     )
 }
 
+/// Tells what clashes in a configuration, and what is deprecated, and answers it without its clashes.
+fn validated(
+    alloc: Global,
+    file: FileId,
+    files: &mut Files,
+    told: &mut List<Diagnostic>,
+    config: Config,
+) -> Result<ValidConfig, NoMemory>
+    requires few { length files.old < 2 ^ 31 }
+    ensures valid { IfOk result (IsValidOf config file (length files.old)) }
+    ensures files { OnOk result (files.new ≡ files.old ++ files_asked config) }
+    ensures files_too { OnErr result (HasFiles (files_asked config) files.old files.new) }
+    ensures told { OnOk result (Gains (AreTold (source_in files.old file) config file) told.old told.new) }
+    ensures told_in_part { OnErr result
+        (GainsPrefixOf (AreTold (source_in files.old file) config file) told.old told.new) }
+{
+    tell(alloc, file, source_in(files, file), &config, told)?;
+    valid_of(alloc, file, files, config)
+}
+
 impl UnvalidatedConfig for Config {
     type ValidCfg = ValidConfig;
 
@@ -274,7 +351,6 @@ impl UnvalidatedConfig for Config {
             files,
             diagnostics,
         } = ctx;
-        tell(alloc, cfg_id, source_in(files, cfg_id), &self, diagnostics)?;
-        valid_of(alloc, cfg_id, files, self)
+        validated(alloc, cfg_id, files, diagnostics, self)
     }
 }

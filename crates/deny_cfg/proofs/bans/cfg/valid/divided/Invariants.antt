@@ -6,6 +6,6 @@ use Rattle.deny_cfg.proofs.bans.cfg.valid.divided.Given as goal
 
 abbrev pub invariant-deny : goal.invariant-deny
 invariant-deny l = record {
-  bans : l.bans ≡ map ban_of (filter is_ban l.yielded);
-  others : l.others ≡ map (λ e. e.spec) (filter is_multiple l.yielded);
+  bans : l.parts.bans ≡ map ban_of (filter is_ban l.yielded);
+  others : l.parts.others ≡ map (λ e. e.spec) (filter is_multiple l.yielded);
 }
