@@ -1,3 +1,4 @@
 pub mod CrateLemmas
+pub mod KeptLemmas
 pub mod PathLemmas
 pub mod ViewLemmas
