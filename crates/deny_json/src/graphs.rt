@@ -1,7 +1,7 @@
 //! Trees as JSON values. A value is put together from a list of the nodes that are open, so that the
 //! depth of a tree takes no stack.
-ghost use Rattle.std.specs.Prelude.{◌≡◌, ◌+◌, ◌<◌, ◌≤◌, IfOk, [], map, sum_by};
-ghost use Rattle.serde_json.specs.Data.{no_members};
+ghost use Rattle.std.specs.Prelude.{◌≡◌, ◌+◌, ◌<◌, ◌≤◌, IfOk, None, [], codes, map, sum_by};
+ghost use Rattle.serde_json.specs.Data.{member, no_members, object, string};
 ghost use Rattle.serde_json.specs.View.{members_view, view};
 ghost use Rattle.deny_trees.specs.declared.node.GraphNode.{out-GraphNode};
 ghost use Rattle.deny_json.specs.Graphs.{feature_value, graph_value, inner_member};
@@ -32,6 +32,21 @@ enum Turn<'g> {
     Made(Value),
 }
 
+/// A crate that is needed in the normal way as JSON.
+fn normal_krate(alloc: Global, name: &str, version: &str) -> Result<Value, AllocError>
+    ensures { IfOk result (λ value. view value ≡ krate_value name.now version.now None) }
+{
+    json!(in alloc; {"name": name, "version": version})
+}
+
+/// A crate with the word of its kind as JSON.
+fn krate_of_kind(alloc: Global, kind: &str, name: &str, version: &str) -> Result<Value, AllocError>
+    ensures { IfOk result (λ value. view value ≡ object (member (codes "kind") (string kind.now)
+        (member (codes "name") (string name.now) (member (codes "version") (string version.now) no_members)))) }
+{
+    json!(in alloc; {"kind": kind, "name": name, "version": version})
+}
+
 /// A crate as JSON.
 pub(crate) fn krate_value(
     alloc: Global,
@@ -42,11 +57,9 @@ pub(crate) fn krate_value(
     ensures { IfOk result (λ value. view value ≡ krate_value name.now version.now kind) }
 {
     match kind {
-        None | Some(DepKind::Normal) => json!(in alloc; {"name": name, "version": version}),
-        Some(DepKind::Dev) => { json!(in alloc; {"kind": "dev", "name": name, "version": version}) }
-        Some(DepKind::Build) => {
-            json!(in alloc; {"kind": "build", "name": name, "version": version})
-        }
+        None | Some(DepKind::Normal) => normal_krate(alloc, name, version),
+        Some(DepKind::Dev) => krate_of_kind(alloc, "dev", name, version),
+        Some(DepKind::Build) => krate_of_kind(alloc, "build", name, version),
     }
 }
 

@@ -1,6 +1,7 @@
 //! Labels as JSON: where they lie, and what they mark.
-ghost use Rattle.std.specs.Prelude.{◌≡◌, ◌<◌, ◌^◌, IsTrue, IfOk, OnOk, map};
+ghost use Rattle.std.specs.Prelude.{◌≡◌, ◌<◌, ◌^◌, IsTrue, IfOk, OnOk, codes, map};
 ghost use Rattle.std.specs.Str.{IsCharBoundary};
+ghost use Rattle.serde_json.specs.Data.{member, no_members, number, object, string, unsigned};
 ghost use Rattle.serde_json.specs.View.{view};
 ghost use Rattle.deny_base.specs.Files.{is_boundary, location_in};
 ghost use Rattle.deny_json.specs.Labels.{column_of, label_value, line_of, marked};
@@ -94,6 +95,21 @@ fn marked<'f>(files: &'f Files, label: &Label) -> &'f str
     }
 }
 
+/// A label with this line and column as JSON.
+fn label_at(
+    alloc: Global,
+    column: u64,
+    line: u64,
+    message: &str,
+    span: &str,
+) -> Result<Value, AllocError>
+    ensures { IfOk result (λ value. view value ≡ object
+        (member (codes "column") (number (unsigned column)) (member (codes "line") (number (unsigned line))
+        (member (codes "message") (string message.now) (member (codes "span") (string span.now) no_members))))) }
+{
+    json!(in alloc; {"column": column, "line": line, "message": message, "span": span})
+}
+
 /// A label as JSON.
 #[tactic(auto, unfolding(crate::specs::Labels::label_value), using(crate::proofs::PlainLemmas::label_told))]
 fn label_value(alloc: Global, files: &Files, label: &Label) -> Result<Value, AllocError>
@@ -103,12 +119,7 @@ fn label_value(alloc: Global, files: &Files, label: &Label) -> Result<Value, All
     let at = files.location(label.file_id, label.span.start);
     let message = label.message.as_str();
     let span = marked(files, label);
-    json!(in alloc; {
-        "column": column_of(at),
-        "line": line_of(at),
-        "message": message,
-        "span": span,
-    })
+    label_at(alloc, column_of(at), line_of(at), message, span)
 }
 
 /// Labels as JSON, in their order.
