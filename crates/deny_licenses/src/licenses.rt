@@ -2,13 +2,17 @@
 ghost use Rattle.std.specs.Prelude.{◌≡◌, ◌++◌, IfOk, OnErr, OnOk};
 ghost use Rattle.deny_licenses.specs.Check.{IsLicensed};
 ghost use Rattle.deny_cfg.specs.LicensingView.{licensing_view};
+ghost use Rattle.deny_licenses.specs.private.Found.{IsFound};
+ghost use Rattle.deny_licenses.specs.private.Told.{TellsUnused};
 
 use crate::counted::counted_places;
 use crate::entries::{granters_of, hits_of, unused_of};
-use crate::found::found_at;
+use crate::found::{Found, found_at};
+use crate::granter::Granter;
 use crate::granting::Granting;
 use crate::told::tell_unused;
-use deny_base::{FileId, Hit, Pack};
+use crate::witnesses::Witnesses;
+use deny_base::{FileId, Hit, LintLevel, Pack};
 use deny_cfg::licenses::ValidConfig;
 use deny_facts::are_placed;
 use deny_krates::Krates;
@@ -35,16 +39,46 @@ pub fn check(
     ensures unchanged { OnErr result (sink.new ≡ sink.old) }
 {
     are_placed(krates);
+    let found = found_in(alloc, cfg, krates)?;
+    let granters = granters_of(alloc, cfg)?;
+    let hits = hits_of(alloc, krates, granters.as_slice(), &found.witnesses)?;
+    let mut packs = found.packs;
+    add_unused(
+        alloc,
+        cfg.unused_allowed,
+        id,
+        granters.as_slice(),
+        &found.witnesses,
+        &mut packs,
+    )?;
+    append(sink, packs)?;
+    Ok(hits)
+}
+
+/// What is told of the crates that count, and the first of them to which each entry grants something.
+fn found_in(alloc: Global, cfg: &ValidConfig, krates: &Krates) -> Result<Found, NoMemory>
+    ensures { IfOk result (IsFound cfg.now.include_dev (licensing_view cfg.now) krates.now) }
+{
     let granting = Granting::new(alloc, cfg)?;
     let places = counted_places(alloc, cfg.include_dev, krates)?;
     let found = found_at(alloc, &granting, krates, places.as_slice())?;
-    let granters = granters_of(alloc, cfg)?;
-    let hits = hits_of(alloc, krates, granters.as_slice(), &found.witnesses)?;
-    let unused = unused_of(alloc, granters.as_slice(), &found.witnesses)?;
-    let mut packs = found.packs;
-    tell_unused(alloc, cfg.unused_allowed, id, unused.as_slice(), &mut packs)?;
-    append(sink, packs)?;
-    Ok(hits)
+    Ok(found)
+}
+
+/// Appends a pack for each entry that grants nothing, in their order.
+fn add_unused(
+    alloc: Global,
+    level: LintLevel,
+    id: FileId,
+    granters: &[Granter],
+    witnesses: &Witnesses,
+    packs: &mut List<Pack>,
+) -> Result<(), NoMemory>
+    ensures { OnOk result (TellsUnused level id granters.now witnesses.now packs.old packs.new) }
+{
+    let unused = unused_of(alloc, granters, witnesses)?;
+    tell_unused(alloc, level, id, unused.as_slice(), packs)?;
+    Ok(())
 }
 
 /// Moves packs behind others, all of them or none.

@@ -1,6 +1,8 @@
 -- What is told of a crate by what was found of it, and of an entry that grants nothing.
-use Rattle.std.specs.Prelude.{◌++◌, ◌∷◌, ℕ, List, [], None, Some, codes}
+use Rattle.std.specs.Prelude.{◌≡◌, ◌++◌, ◌∷◌, ℕ, Contains, List, [], None, Some, codes, map}
 use Rattle.std.specs.Fmt.{decimal}
+use Rattle.std.specs.List.{flat_map}
+use Rattle.deny_lists.specs.Ascending.{Lists}
 use Rattle.deny_base.specs.Level.{severity_of}
 use Rattle.deny_base.specs.declared.finding.Pack.{Pack}
 use Rattle.deny_base.specs.declared.key.Key.{Key}
@@ -18,8 +20,10 @@ use Rattle.deny_licenses.specs.declared.granter.Granter.{Granter}
 use Rattle.deny_licenses.specs.declared.granter.Granter.TheVariants as granter
 use Rattle.deny_licenses.specs.declared.judgement.Judgement.{Judgement}
 use Rattle.deny_licenses.specs.declared.judgement.Judgement.TheVariants as judgement
-use Rattle.deny_licenses.specs.private.Granters.{granter_range, unused_code}
+use Rattle.deny_licenses.specs.declared.witnesses.Witnesses.{Witnesses}
+use Rattle.deny_licenses.specs.private.Granters.{granter_cmp, granter_range, unused_code}
 use Rattle.deny_licenses.specs.private.Judgements.{code_of}
+use Rattle.deny_licenses.specs.private.Witnesses.{unused_at}
 
 abbrev pub crate_words : Crate → Severity → List ℕ → List (List ℕ) → Words
 crate_words c severity message notes = record (plainly severity message [] (Some (kid_of c))) { notes = notes }
@@ -64,3 +68,10 @@ unused_words level file (granter.Exception range) =
 
 unfoldable pub unused_pack : LintLevel → ℕ → Granter → Pack
 unused_pack level file by = pack_of (unused_key by) (unused_words level file by)
+
+-- a pack is told of each entry that grants nothing, in their order
+pub record TellsUnused (level : LintLevel) (file : ℕ) (granters : List Granter) (witnesses : Witnesses)
+    (old new : List Pack) : Type 0 where
+  pub unused : List Granter
+  pub listed : Lists granter_cmp (Contains (flat_map (unused_at witnesses) granters)) unused
+  pub told : new ≡ old ++ map (unused_pack level file) unused

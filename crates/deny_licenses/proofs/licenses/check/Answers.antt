@@ -4,9 +4,7 @@ use Rattle.std.specs.List.{flat_map}
 use Rattle.deny_lists.specs.Ascending.{Lists}
 use Rattle.deny_lists.specs.First.{FindsFirst}
 use Rattle.deny_base.specs.declared.finding.Pack.{Pack}
-use Rattle.deny_model.specs.Licensing.{Licensing}
 use Rattle.deny_facts.specs.Marks.{marked}
-use Rattle.deny_krates.proofs.PlaceLemmas.{place_of}
 use Rattle.deny_cfg.specs.LicensingView.{licensing_view}
 use Rattle.deny_licenses.specs.declared.granter.Granter.{Granter}
 use Rattle.deny_licenses.specs.private.Found.{crate_pack, packs_at, witnessed_at}
@@ -22,32 +20,25 @@ pub returns-clause-checked : goal.returns-clause-checked
 returns-clause-checked c =
     let l = licensing_view c.args.cfg.now in
     let g = c.args.krates.now in
-    let counted = c.in_ok-places.ensures in
+    let found = c.in_ok-found.found in
+    let founds = c.in_ok-found.ensures in
+    let counted = founds.counted in
     let counts = marked counted.marks in
     let placed = c.are_placed.ensures in
-    let found = c.in_ok-found.found in
-    let unused = c.in_ok-unused.unused in
-    let same : licensing_view c.in_ok-granting.granting.cfg.now ≡ l = ap licensing_view c.in_ok-granting.ensures in
-    let places : c.as_slice.result.now ≡ map place_of (filter counts g.crates) = c.as_slice.ensures ∙ counted.are in
+    let added = c.in_ok-add_unused.ensures in
     let granters = c.in_ok-granters.ensures in
     let packs : found.packs ≡ map (crate_pack l) (filter counts g.crates) =
-    c.in_ok-found.ensures.packs
-    ∙ (ap (λ (m : Licensing). flat_map (packs_at m g) c.as_slice.result.now) same
-    ∙ (ap (flat_map (packs_at l g)) places ∙ packs-are l g placed counts)) in
-    is-licensed l g c.args.id placed counts counted.counted.each found.witnesses unused c.in_ok-hits.hits
+    founds.packs ∙ (ap (flat_map (packs_at l g)) counted.are ∙ packs-are l g placed counts) in
+    is-licensed l g c.args.id placed counts counted.counted.each found.witnesses added.unused c.in_ok-hits.hits
     c.args.sink.now
-    c.append.new.sink c.tell_unused.new.packs
-    (subst (λ (ns : List ℕ). FindsFirst same_granter (flat_map (witnessed_at l g) ns) (place_in found.witnesses)) places
-    (subst (λ (m : Licensing). FindsFirst same_granter (flat_map (witnessed_at m g) c.as_slice.result.now)
-    (place_in found.witnesses)) same c.in_ok-found.ensures.witnesses))
-    (subst (λ (bys : List Granter). Lists granter_cmp (Contains bys) unused)
-    (flat-kept (is_unused found.witnesses) c.as_slice-3.result.now
-    ∙ ap (filter (is_unused found.witnesses)) (c.as_slice-3.ensures ∙ granters)) c.in_ok-unused.ensures)
+    c.append.new.sink c.add_unused.new.packs
+    (subst (λ (ns : List ℕ). FindsFirst same_granter (flat_map (witnessed_at l g) ns) (place_in found.witnesses))
+    counted.are founds.witnesses)
+    (subst (λ (bys : List Granter). Lists granter_cmp (Contains bys) added.unused)
+    (flat-kept (is_unused found.witnesses) c.as_slice-2.result.now
+    ∙ ap (filter (is_unused found.witnesses)) (c.as_slice-2.ensures ∙ granters)) added.listed)
     (c.in_ok-hits.ensures
-    ∙ (flat-given (hit_at g found.witnesses) c.as_slice-2.result.now
-    ∙ ap (filter_map (hit_at g found.witnesses)) (c.as_slice-2.ensures ∙ granters)))
-    (c.in_ok-tell_unused.ensures
-    ∙ (ap (λ (ps : List Pack). ps ++ map (unused_pack l.unused_allowed c.args.id) c.as_slice-4.result.now) packs
-    ∙ ap (λ (bys : List Granter). map (crate_pack l) (filter counts g.crates)
-    ++ map (unused_pack l.unused_allowed c.args.id) bys) c.as_slice-4.ensures))
+    ∙ (flat-given (hit_at g found.witnesses) c.as_slice.result.now
+    ∙ ap (filter_map (hit_at g found.witnesses)) (c.as_slice.ensures ∙ granters)))
+    (added.told ∙ ap (λ (ps : List Pack). ps ++ map (unused_pack l.unused_allowed c.args.id) added.unused) packs)
     c.in_ok-append.ensures.ok
