@@ -1,7 +1,7 @@
 -- The entry of a name, where names ascend, and the tables of a tree in which they do.
 use Rattle.std.proofs.Common.{◌≡◌, ◌+◌, inl, inr, ◌<◌, ◌≤◌, ℕ, List, [], ◌∷◌, Bool, true, false, Option, Some, None}
 use Rattle.std.proofs.Common.{length, map, refl, sym, ap, ◌∙◌, subst, arith, get_or}
-use Rattle.std.specs.Prelude.{cond, find, option_and_then, option_map, slice_get}
+use Rattle.std.specs.Prelude.{cond, find, if◌then◌else◌, option_and_then, option_map, slice_get}
 use Rattle.std.specs.Cmp.Lexicographic.{slice_cmp, nat_list_cmp_total}
 use Rattle.std.specs.List.Sorted.{IsStrictlySortedBy, IsSortedBy}
 use Rattle.std.specs.Ordering.{is_lt, nat_cmp}
@@ -11,6 +11,7 @@ use Rattle.std.proofs.lemmas.List.Folds.{find_at}
 use Rattle.std.proofs.lemmas.List.Sums.{position_or_len_is}
 use Rattle.std.proofs.lemmas.Option.{none-some, slice_get-get_or, slice_get_past, same_Some}
 use Rattle.std.proofs.lemmas.Slice.Eq.{bytes_eq-Decides}
+use Rattle.deny_base.specs.declared.span.Span.{Span}
 use Rattle.deny_krates.proofs.SearchLemmas.{not_above_itself}
 use Rattle.deny_lists.proofs.Members.{map_at}
 use Rattle.deny_lists.proofs.Orders.{not_below_itself, not_less, text_cmp-exact}
@@ -22,9 +23,11 @@ use Rattle.deny_toml.specs.TreeOrder.{AreOrderly, IsOrderly, IsOrderlyLayer, Nam
 use Rattle.deny_toml.specs.Value.{entries_in}
 use Rattle.deny_toml.specs.declared.value.Table.{Table}
 use Rattle.deny_toml.specs.declared.value.Value.{Value}
-use Rattle.deny_workspace.specs.Entries.{Ascends, table_below}
+use Rattle.deny_workspace.specs.Entries.{Ascends, Entry, may_be_patched, patch_of, patched_entry, replaced_by}
+use Rattle.deny_workspace.specs.Entries.{table_below}
 use Rattle.deny_workspace.specs.EntryKey.{name_of}
 use Rattle.deny_workspace.specs.Origin.{value_at_key}
+use Rattle.deny_workspace.specs.Wanted.{Wanted}
 use Rattle.deny_workspace.specs.declared.entry_key.EntryKey.{EntryKey}
 
 abbrev name_of_entry : Key × Value → List ℕ
@@ -149,3 +152,17 @@ pub names_ascend_in : (es : List (Key × Value)) (t : Table) → es ≡ entries_
     → IsStrictlySortedBy (slice_cmp nat_cmp) (map name_of_entry es)
 names_ascend_in es t is ascend =
     subst (λ es. IsStrictlySortedBy (slice_cmp nat_cmp) (map name_of_entry es)) (sym is) ascend
+
+-- ---- an entry, or the patch in its place
+
+pub replaced_so : (patches : List (Key × Value)) (key : Key) (value : Span) (wanted : Wanted) (name asked : List ℕ)
+    (patch : Option (Span × Wanted)) (e : Entry) → name ≡ key.name → asked ≡ key.name
+    → patch ≡ (if may_be_patched wanted.origin then patch_of patches asked else None)
+    → e ≡ replaced_by patch (record { name = name; span = key.span }) value wanted
+    → e ≡ patched_entry patches key value wanted
+unfolding patched_entry
+replaced_so patches key value wanted name asked patch e same sought is made =
+    made
+    ∙ ap (λ (n : List ℕ). replaced_by patch (record { name = n; span = key.span }) value wanted) same
+    ∙ ap (λ (p : Option (Span × Wanted)). replaced_by p key value wanted)
+    (is ∙ ap (λ (n : List ℕ). if may_be_patched wanted.origin then patch_of patches n else None) sought)

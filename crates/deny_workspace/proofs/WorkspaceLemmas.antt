@@ -122,6 +122,9 @@ none_pushed [] none (suc place) = refl
 none_pushed (x ∷ xs) none zero = none 0
 none_pushed (x ∷ xs) none (suc place) = none_pushed xs (λ p. none (suc p)) place
 
+pub no_spans_yet : (spans : List (Option WorkspaceSpan)) → spans ≡ [] → AreNone 0 spans
+no_spans_yet spans is = record { long = ap length is; none = λ place. ap (λ spans. span_at spans place) is }
+
 pub no_spans_more : (count : ℕ) (old new : List (Option WorkspaceSpan)) → AreNone count old → new ≡ old ++ None ∷ []
     → AreNone (count + 1) new
 no_spans_more count old new are is = record {

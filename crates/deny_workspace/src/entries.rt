@@ -1,10 +1,11 @@
 //! The entries of a workspace's dependencies, with the patches that stand in their places.
-ghost use Rattle.std.specs.Prelude.{◌≡◌, IfOk, map, option_copied, option_map};
+ghost use Rattle.std.specs.Prelude.{◌≡◌, IfOk, None, map, option_copied, option_map, if◌then◌else◌};
 ghost use Rattle.deny_toml.specs.Calls.{entry_at};
 ghost use Rattle.deny_toml.specs.TreeOrder.{NamesAscend};
 ghost use Rattle.deny_toml.specs.Value.{entries_in};
 ghost use Rattle.deny_workspace.specs.Entries.{Ascends, entries_of, entry_of, entry_view, keys_in};
-ghost use Rattle.deny_workspace.specs.Entries.{may_be_patched, patch_of, patch_view, patched_entry, table_below};
+ghost use Rattle.deny_workspace.specs.Entries.{may_be_patched, patch_of, patch_view, patched_entry};
+ghost use Rattle.deny_workspace.specs.Entries.{replaced_by, table_below};
 ghost use Rattle.deny_workspace.specs.Wanted.{wanted_view};
 
 use crate::entry_key::EntryKey;
@@ -102,7 +103,6 @@ fn entry_of<'t>(
 }
 
 // The entry, or the patch in its place.
-#[tactic(auto, unfolding(crate::specs::Entries::patched_entry))]
 fn patched_entry<'t>(
     alloc: Global,
     patches: Option<&Table<'t>>,
@@ -115,24 +115,55 @@ fn patched_entry<'t>(
         key.now value (wanted_view wanted)) }
 {
     let name = Text::from_str(alloc, key.name.as_str())?;
-    if may_be_patched(&wanted.origin) {
-        if let Some((patch, asked)) = patch_of(alloc, patches, name.as_str())? {
-            return Ok(Entry {
-                name,
-                key: patch,
-                value,
-                wanted: asked,
-                patched: Some(key.span),
-            });
-        }
+    let patch = patch_for(alloc, patches, &wanted.origin, key.name.as_str())?;
+    Ok(entry_with(patch, name, key.span, value, wanted))
+}
+
+// The patch of a name, where an entry from there may be patched.
+fn patch_for<'t>(
+    alloc: Global,
+    patches: Option<&Table<'t>>,
+    origin: &Origin,
+    name: &str,
+) -> Result<Option<(Span, Wanted)>, NoMemory>
+    requires { Ascends (option_copied patches) }
+    ensures { IfOk result (λ patch. option_map patch_view patch
+        ≡ (if may_be_patched origin.now then patch_of (keys_in (option_copied patches.entry)) name.now else None)) }
+{
+    if may_be_patched(origin) {
+        patch_of(alloc, patches, name)
+    } else {
+        Ok(None)
     }
-    Ok(Entry {
-        name,
-        key: key.span,
-        value,
-        wanted,
-        patched: None,
-    })
+}
+
+// The entry of a key, or the patch in its place.
+fn entry_with(
+    patch: Option<(Span, Wanted)>,
+    name: Text,
+    key: Span,
+    value: Span,
+    wanted: Wanted,
+) -> Entry
+    ensures { entry_view result
+        ≡ replaced_by (option_map patch_view patch) (record { name = name; span = key }) value (wanted_view wanted) }
+{
+    match patch {
+        Some((patch, asked)) => Entry {
+            name,
+            key: patch,
+            value,
+            wanted: asked,
+            patched: Some(key),
+        },
+        None => Entry {
+            name,
+            key,
+            value,
+            wanted,
+            patched: None,
+        },
+    }
 }
 
 /// The entries that are not passed over, in byte order of their keys.

@@ -1,8 +1,9 @@
 //! The entries of a workspace's dependencies, each with the crate that it resolves to.
-ghost use Rattle.std.specs.Prelude.{◌≡◌, ◌<◌, [], IfOk, IfSome, None, Some, length, map, option_map};
+ghost use Rattle.std.specs.Prelude.{◌≡◌, ◌&&◌, ◌<◌, [], IfOk, IfSome, None, Some, find, length, map, option_map};
 ghost use Rattle.std.specs.Option.{option_map_or};
 ghost use Rattle.deny_toml.specs.TreeOrder.{IsOrderly};
-ghost use Rattle.deny_workspace.specs.Agreement.{counting};
+ghost use Rattle.deny_model.specs.Groups.{has_name};
+ghost use Rattle.deny_workspace.specs.Agreement.{counting, fits, home_of, is_of_registry};
 ghost use Rattle.deny_workspace.specs.Entries.{dependencies_in, entries_of, entry_view, patches_in};
 ghost use Rattle.deny_manifests.specs.Found.{held_spanned, requirement_read};
 ghost use Rattle.deny_workspace.specs.Workspace.{AreSpans, IsPut, dep_view, entries_in, resolved_entry, unused_in};
@@ -10,6 +11,7 @@ ghost use Rattle.deny_workspace.specs.Workspace.{AreSpans, IsPut, dep_view, entr
 use crate::agreement::{home_of, is_of_registry, place_of};
 use crate::entries::{Entry, entries_of, table_below};
 use crate::entry_key::EntryKey;
+use crate::origin::Origin;
 use crate::registries::Registry;
 use crate::wanted::Wanted;
 use deny_base::{Span, Spanned};
@@ -178,15 +180,8 @@ fn resolve(
         version,
         rename,
     } = wanted;
-    let counts = is_of_registry(&origin);
-    let source = home_of(alloc, krates.workspace_root(), registries, origin)?;
-    let place = place_of(
-        alloc,
-        krates,
-        package_of(&rename, &name),
-        &source,
-        requirement_of(&version, counts),
-    )?;
+    let package = package_of(&rename, &name);
+    let place = place_led_to(alloc, krates, registries, origin, package, &version)?;
     Ok(Resolved {
         dep: UnusedWorkspaceDep {
             key,
@@ -197,6 +192,26 @@ fn resolve(
         },
         place,
     })
+}
+
+// The place of the first crate of a name that an origin and a requirement lead to.
+fn place_led_to(
+    alloc: Global,
+    krates: &Krates,
+    registries: &[Registry],
+    origin: Origin,
+    name: &str,
+    version: &Option<Spanned<VersionReq>>,
+) -> Result<Option<u32>, NoMemory>
+    ensures place { IfOk result (λ place. place ≡ option_map (λ c. c.place) (find (λ c.
+        fits (home_of krates.now.root registries.now origin)
+        (counting (is_of_registry origin) (option_map held_spanned version.now)) c && has_name name.now c)
+        krates.now.crates)) }
+    ensures within { IfOk result (λ place. IfSome place (λ p. p < length krates.now.crates)) }
+{
+    let counts = is_of_registry(&origin);
+    let home = home_of(alloc, krates.workspace_root(), registries, origin)?;
+    place_of(alloc, krates, name, &home, requirement_of(version, counts))
 }
 
 // The package that an entry names, or else its key.
