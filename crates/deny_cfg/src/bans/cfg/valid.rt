@@ -315,26 +315,6 @@ fn tell(
     )
 }
 
-/// Tells what clashes in a configuration, and what is deprecated, and answers it without its clashes.
-fn validated(
-    alloc: Global,
-    file: FileId,
-    files: &mut Files,
-    told: &mut List<Diagnostic>,
-    config: Config,
-) -> Result<ValidConfig, NoMemory>
-    requires few { length files.old < 2 ^ 31 }
-    ensures valid { IfOk result (IsValidOf config file (length files.old)) }
-    ensures files { OnOk result (files.new ≡ files.old ++ files_asked config) }
-    ensures files_too { OnErr result (HasFiles (files_asked config) files.old files.new) }
-    ensures told { OnOk result (Gains (AreTold (source_in files.old file) config file) told.old told.new) }
-    ensures told_in_part { OnErr result
-        (GainsPrefixOf (AreTold (source_in files.old file) config file) told.old told.new) }
-{
-    tell(alloc, file, source_in(files, file), &config, told)?;
-    valid_of(alloc, file, files, config)
-}
-
 impl UnvalidatedConfig for Config {
     type ValidCfg = ValidConfig;
 
@@ -351,6 +331,7 @@ impl UnvalidatedConfig for Config {
             files,
             diagnostics,
         } = ctx;
-        validated(alloc, cfg_id, files, diagnostics, self)
+        tell(alloc, cfg_id, source_in(files, cfg_id), &self, diagnostics)?;
+        valid_of(alloc, cfg_id, files, self)
     }
 }

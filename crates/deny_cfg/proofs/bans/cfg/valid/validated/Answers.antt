@@ -1,9 +1,0 @@
-use Rattle.deny_cfg.specs.Validating.{source_in}
-use Rattle.deny_cfg.proofs.PolicyLaws.{on_error, told_whole}
-use Rattle.deny_cfg.proofs.bans.cfg.valid.validated.Goals as goal
-
-pub returns-clause-told_in_part : goal.returns-clause-told_in_part
-returns-clause-told_in_part c =
-    on_error c.valid_of.result _
-    (told_whole (source_in c.args.files.now c.args.file) c.source_in.result.now c.args.config c.args.file
-    c.args.told.now c.tell.new.told c.source_in.ensures c.in_ok-tell.ensures.ok)
