@@ -16,15 +16,18 @@ ghost use Rattle.deny_codes.specs.PackagesTold.{required_features};
 ghost use Rattle.deny_model.specs.Text.{same_text};
 ghost use Rattle.deny_model.specs.Told.{crate_at, node_of, primary};
 ghost use Rattle.deny_model.specs.Wrappers.{same_span};
-ghost use Rattle.deny_telling.specs.private.Features.{feature_node, listed_features, named_features};
+ghost use Rattle.deny_telling.specs.private.Features.{feature_node, listed_features, mismatch_words, named_features};
+ghost use Rattle.deny_telling.specs.private.Features.{with_notes};
 ghost use Rattle.deny_telling.specs.private.Teller.{told_from};
 
+use crate::crate_words::crate_words;
 use crate::teller::Teller;
 use deny_base::{FileId, GraphNode, Key, Kid, Label, Severity, Span};
 use deny_cfg::bans::cfg::ValidKrateFeatures;
 use deny_codes::Words;
 use deny_facts::{are_placed, krate_at, krate_text, ranges_by_name};
 use deny_features::{default_level_at, enabled_at, has, unlisted};
+use deny_krates::Krates;
 use deny_lists::{List, NoMemory, Text};
 use deny_told::{Labels, kid_at, lone_label, of_crate, plainly, primary};
 use std::alloc::Global;
@@ -36,6 +39,23 @@ pub fn mismatched_told(alloc: Global, teller: &Teller<'_>, key: &Key) -> Result<
     ensures { IfOk result (λ words. let c = told_from teller.now in
         words ≡ mismatched_told c.policy c.graph c.files.policy key.now) }
 {
+    let entry = teller.feature_entry(key.entry);
+    let features = unlisted_of(alloc, teller, entry, key)?;
+    let words = mismatch_words(alloc, teller, entry, key)?;
+    with_unlisted(alloc, teller, entry, key, features.as_slice(), words)
+}
+
+// What is told of it but for the features that its entry does not list.
+fn mismatch_words(
+    alloc: Global,
+    teller: &Teller<'_>,
+    entry: &ValidKrateFeatures,
+    key: &Key,
+) -> Result<Words, NoMemory>
+    requires { Some (feature_view entry.now) ≡ feature_entry_at (told_from teller.now).policy key.now.entry }
+    ensures { IfOk result (λ words. let c = told_from teller.now in
+        words ≡ mismatch_words c.policy c.graph c.files.policy key.now) }
+{
     let message = of_crate(
         alloc,
         teller.told.krates,
@@ -43,21 +63,48 @@ pub fn mismatched_told(alloc: Global, teller: &Teller<'_>, key: &Key) -> Result<
         key,
         "' did not match exactly",
     )?;
-    let entry = teller.feature_entry(key.entry);
-    let features = unlisted_of(alloc, teller, entry, key)?;
     let labels = mismatch_labels(alloc, teller, entry, key)?;
-    let notes = unlisted_notes(alloc, features.as_slice())?;
-    let nodes = mismatch_nodes(alloc, teller, entry, key, features.as_slice())?;
-    let krate = kid_at(teller.told.krates, key.place)?;
-    Ok(Words {
-        severity: Severity::Error,
+    crate_words(
+        alloc,
+        teller.told.krates,
+        Severity::Error,
         message,
         labels,
-        notes,
-        nodes,
-        with_features: true,
-        krate,
-    })
+        key,
+    )
+}
+
+// Those words with the features that the entry does not list.
+#[tactic(auto, unfolding(deny_codes::specs::Features::mismatched_told))]
+fn with_unlisted(
+    alloc: Global,
+    teller: &Teller<'_>,
+    entry: &ValidKrateFeatures,
+    key: &Key,
+    features: &[Text],
+    words: Words,
+) -> Result<Words, NoMemory>
+    requires entry { Some (feature_view entry.now) ≡ feature_entry_at (told_from teller.now).policy key.now.entry }
+    requires features { let c = told_from teller.now in
+        features.now ≡ entry_and_crate c.policy c.graph key.now (unlisted c.policy c.graph) [] }
+    requires words { let c = told_from teller.now in
+        words ≡ mismatch_words c.policy c.graph c.files.policy key.now }
+    ensures { IfOk result (λ told. let c = told_from teller.now in
+        told ≡ mismatched_told c.policy c.graph c.files.policy key.now) }
+{
+    let notes = unlisted_notes(alloc, features)?;
+    let words = with_notes(words, notes);
+    let nodes = mismatch_nodes(alloc, teller, entry, key, features)?;
+    Ok(with_features(words, nodes))
+}
+
+// Words with these notes.
+fn with_notes(words: Words, notes: List<Text>) -> Words
+    ensures { result ≡ with_notes words notes }
+{
+    let mut words = words;
+    words.notes = notes;
+    words
 }
 
 // The enabled features of the crate of a key that its entry does not list.
@@ -262,7 +309,7 @@ pub fn feature_not_allowed_told(
 {
     let message = of_feature(
         alloc,
-        teller,
+        teller.told.krates,
         "feature '",
         key.text.as_str(),
         "' for crate '",
@@ -270,8 +317,14 @@ pub fn feature_not_allowed_told(
         "' was not explicitly allowed",
     )?;
     let labels = allow_labels(alloc, teller, key.entry)?;
-    let krate = kid_at(teller.told.krates, key.place)?;
-    let words = plainly(alloc, Severity::Error, message, labels, krate);
+    let words = crate_words(
+        alloc,
+        teller.told.krates,
+        Severity::Error,
+        message,
+        labels,
+        key,
+    )?;
     Ok(with_features(words, List::new(alloc)))
 }
 
@@ -302,7 +355,7 @@ pub fn feature_banned_told(alloc: Global, teller: &Teller<'_>, key: &Key) -> Res
     let feature = feature_at(teller, key.entry);
     let message = of_feature(
         alloc,
-        teller,
+        teller.told.krates,
         "feature '",
         feature,
         "' for crate '",
@@ -310,9 +363,15 @@ pub fn feature_banned_told(alloc: Global, teller: &Teller<'_>, key: &Key) -> Res
         "' is explicitly denied",
     )?;
     let labels = lone_label(alloc, teller.file(), key.entry, "feature denied here")?;
-    let krate = kid_at(teller.told.krates, key.place)?;
+    let words = crate_words(
+        alloc,
+        teller.told.krates,
+        Severity::Error,
+        message,
+        labels,
+        key,
+    )?;
     let nodes = feature_node_at(alloc, teller, key.place, feature)?;
-    let words = plainly(alloc, Severity::Error, message, labels, krate);
     Ok(with_features(words, nodes))
 }
 
@@ -330,7 +389,7 @@ pub fn unknown_feature_told(
 {
     let message = of_feature(
         alloc,
-        teller,
+        teller.told.krates,
         "found unknown feature '",
         named_at(teller, key.entry),
         "' for crate '",
@@ -338,8 +397,14 @@ pub fn unknown_feature_told(
         "'",
     )?;
     let labels = lone_label(alloc, teller.file(), key.entry, "unknown feature")?;
-    let krate = kid_at(teller.told.krates, key.place)?;
-    Ok(plainly(alloc, Severity::Warning, message, labels, krate))
+    crate_words(
+        alloc,
+        teller.told.krates,
+        Severity::Warning,
+        message,
+        labels,
+        key,
+    )
 }
 
 /// What is told of a crate whose feature `default` is enabled.
@@ -403,17 +468,17 @@ fn named_at<'t>(teller: &'t Teller<'_>, range: Span) -> &'t str
 // A sentence about a feature of the crate of a key.
 fn of_feature(
     alloc: Global,
-    teller: &Teller<'_>,
+    krates: &Krates,
     before: &str,
     feature: &str,
     between: &str,
     key: &Key,
     after: &str,
 ) -> Result<Text, NoMemory>
-    ensures { IfOk result (λ text. text ≡ of_feature before.now feature.now between.now (told_from teller.now).graph
+    ensures { IfOk result (λ text. text ≡ of_feature before.now feature.now between.now krates.now
         key.now after.now) }
 {
-    let krate = krate_text(alloc, teller.told.krates, key.place)?;
+    let krate = krate_text(alloc, krates, key.place)?;
     Ok(Text::from_string(format!(in alloc; "{before}{feature}{between}{krate}{after}")?))
 }
 

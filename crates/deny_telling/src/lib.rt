@@ -6,6 +6,7 @@
 
 mod allow_list;
 mod bans;
+mod crate_words;
 mod duplicates;
 mod entry_labels;
 mod entry_numbers;

@@ -4,12 +4,13 @@ ghost use Rattle.deny_codes.specs.SkippedTrees.{skipped_by_root_told, unmatched_
 ghost use Rattle.deny_model.specs.Told.{root_at};
 ghost use Rattle.deny_telling.specs.private.Teller.{told_from};
 
+use crate::crate_words::crate_words;
 use crate::entry_labels::root_labels_at;
 use crate::teller::Teller;
 use deny_base::{Key, Severity};
 use deny_codes::Words;
 use deny_lists::{NoMemory, Text};
-use deny_told::{kid_at, lone_label, of_crate, plainly};
+use deny_told::{lone_label, of_crate, plainly};
 use std::alloc::Global;
 
 /// What is told of a crate that lies in a skipped tree.
@@ -31,8 +32,14 @@ pub fn skipped_by_root_told(
         "' due to root skip",
     )?;
     let labels = root_labels_at(alloc, teller, "matched skip root", key.entry)?;
-    let krate = kid_at(teller.told.krates, key.place)?;
-    Ok(plainly(alloc, Severity::Note, message, labels, krate))
+    crate_words(
+        alloc,
+        teller.told.krates,
+        Severity::Note,
+        message,
+        labels,
+        key,
+    )
 }
 
 /// What is told of an entry that speaks of no crate.

@@ -5,13 +5,14 @@ ghost use Rattle.deny_codes.specs.Skips.{skipped_told, unmatched_skip_told, unne
 ghost use Rattle.deny_model.specs.Told.{skip_at, skip_text_at, spec_text};
 ghost use Rattle.deny_telling.specs.private.Teller.{told_from};
 
+use crate::crate_words::crate_words;
 use crate::entry_labels::skip_labels_at;
 use crate::teller::Teller;
 use deny_base::{Key, Severity, Span};
 use deny_cfg::PackageSpec;
 use deny_codes::Words;
 use deny_lists::{NoMemory, Text};
-use deny_told::{kid_at, of_crate, plainly};
+use deny_told::{of_crate, plainly};
 use std::alloc::Global;
 
 /// What is told of a crate that a skip speaks of.
@@ -24,8 +25,14 @@ pub fn skipped_told(alloc: Global, teller: &Teller<'_>, key: &Key) -> Result<Wor
     let after = "' skipped when checking for duplicates";
     let message = of_crate(alloc, teller.told.krates, "crate '", key, after)?;
     let labels = skip_labels_at(alloc, teller, "skipped here", key.entry)?;
-    let krate = kid_at(teller.told.krates, key.place)?;
-    Ok(plainly(alloc, Severity::Note, message, labels, krate))
+    crate_words(
+        alloc,
+        teller.told.krates,
+        Severity::Note,
+        message,
+        labels,
+        key,
+    )
 }
 
 /// What is told of a skip that speaks of no crate.

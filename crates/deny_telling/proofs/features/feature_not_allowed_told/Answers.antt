@@ -6,9 +6,8 @@ unfolding feature_not_allowed_told
 returns c = rw (
   c.with_features.ensures,
   c.new.ensures,
-  c.plainly-words.ensures,
+  c.in_ok-words.ensures,
   c.in_ok-message.ensures,
   c.in_ok-labels.ensures,
-  c.in_ok-krate.ensures,
   c.as_str.ensures,
 )
