@@ -1,14 +1,15 @@
 //! The text of trees. It is written from a list of what waits for its turn, and no value of a whole
 //! tree is made, so that the depth of a tree takes no stack.
-ghost use Rattle.std.specs.Prelude.{◌≡◌, ◌+◌, ◌<◌, ◌≤◌, ◌++◌, OnOk, sum_by, false};
+ghost use Rattle.std.specs.Prelude.{◌≡◌, ◌+◌, ◌<◌, ◌≤◌, ◌++◌, OnOk, codes, sum_by, false};
 ghost use Rattle.serde_json.specs.View.{view};
 ghost use Rattle.serde_json.specs.Written.{compact_text, has_float};
-ghost use Rattle.deny_json.specs.Graphs.{graph_value};
+ghost use Rattle.deny_json.specs.Graphs.{feature_value, graph_value, krate_value};
 ghost use Rattle.deny_json.specs.private.Weight.{weight};
 ghost use Rattle.deny_json.specs.private.Writing.{all_text, end_text, graphs_text};
 ghost use Rattle.deny_json.specs.private.Writing.{head_text, waiting_text, waiting_weight};
 
 use crate::graphs::{feature_value, krate_value};
+use deny_base::DepKind;
 use deny_lists::{NoMemory, Text};
 use deny_trees::grapher::{GraphNode, NodeInner};
 use serde_json::Value;
@@ -32,6 +33,38 @@ pub(crate) fn write_value(alloc: Global, value: &Value, out: &mut Text) -> Resul
     out.push_str(text.as_str())
 }
 
+/// Puts the text of a crate's node up to the crate at the end.
+fn write_krate(
+    alloc: Global,
+    name: &str,
+    version: &str,
+    kind: Option<DepKind>,
+    out: &mut Text,
+) -> Result<(), NoMemory>
+    ensures { OnOk result (out.new
+        ≡ out.old ++ (codes "{\"Krate\":" ++ compact_text (krate_value name.now version.now kind))) }
+{
+    out.push_str("{\"Krate\":")?;
+    let krate = krate_value(alloc, name, version, kind)?;
+    write_value(alloc, &krate, out)
+}
+
+/// Puts the text of a feature's node up to the feature at the end.
+fn write_feature(
+    alloc: Global,
+    crate_name: &str,
+    name: &str,
+    out: &mut Text,
+) -> Result<(), NoMemory>
+    ensures { OnOk result (out.new
+        ≡ out.old ++ (codes "{\"Feature\":" ++ compact_text (feature_value crate_name.now name.now))) }
+{
+    out.push_str("{\"Feature\":")?;
+    let feature = feature_value(alloc, crate_name, name)?;
+    write_value(alloc, &feature, out)?;
+    Ok(())
+}
+
 /// Puts the text of a node up to what it shows at the end.
 fn write_head(alloc: Global, inner: &NodeInner, out: &mut Text) -> Result<(), NoMemory>
     ensures { OnOk result (out.new ≡ out.old ++ head_text inner.now) }
@@ -41,18 +74,11 @@ fn write_head(alloc: Global, inner: &NodeInner, out: &mut Text) -> Result<(), No
             name,
             version,
             kind,
-        } => {
-            out.push_str("{\"Krate\":")?;
-            let krate = krate_value(alloc, name.as_str(), version.as_str(), *kind)?;
-            write_value(alloc, &krate, out)?;
-        }
+        } => write_krate(alloc, name.as_str(), version.as_str(), *kind, out),
         NodeInner::Feature { crate_name, name } => {
-            out.push_str("{\"Feature\":")?;
-            let feature = feature_value(alloc, crate_name.as_str(), name.as_str())?;
-            write_value(alloc, &feature, out)?;
+            write_feature(alloc, crate_name.as_str(), name.as_str(), out)
         }
     }
-    Ok(())
 }
 
 /// The text of a node from behind its parents.
