@@ -17,7 +17,7 @@ use Rattle.deny_packages.specs.Why.{AreFoldersOf, IsBecause}
 use Rattle.deny_rules.specs.Packages.{AreSeenBy, HaveCauses}
 use Rattle.deny_spans.specs.Seen.{IsSeen}
 use Rattle.deny_unread.proofs.CauseLemmas.{caused_wider}
-use Rattle.deny_unread.proofs.Later.{later_same}
+use Rattle.deny_outside.proofs.PieceLemmas.{later_same}
 use Rattle.deny_unread.specs.declared.unread.Unread.{Unread}
 use Rattle.deny_gate.proofs.IdsApart.{ids_apart}
 use Rattle.deny_gate.proofs.JoinedUnread.{because_wider}

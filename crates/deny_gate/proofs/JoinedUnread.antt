@@ -30,7 +30,8 @@ use Rattle.deny_spans.specs.Wanted.{AreWanted, IsWanted}
 use Rattle.deny_spans.specs.Wanted.IsWanted.{by_crate, by_workspace}
 use Rattle.deny_unread.proofs.BoundLemmas.{bound_wider}
 use Rattle.deny_unread.proofs.CauseLemmas.{caused_then}
-use Rattle.deny_unread.proofs.Later.{failed_wider, later_same}
+use Rattle.deny_outside.proofs.PieceLemmas.{later_same}
+use Rattle.deny_unread.proofs.Later.{failed_wider}
 use Rattle.deny_unread.proofs.UnreadEqual.{unread_cmp-total}
 use Rattle.deny_unread.specs.Bound.{Folders}
 use Rattle.deny_unread.specs.Causes.{AreCaused}

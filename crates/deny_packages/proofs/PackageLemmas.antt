@@ -27,7 +27,7 @@ use Rattle.deny_packages.specs.private.Scripts.{entries_of_script, gaps_of_scrip
 use Rattle.deny_packages.specs.private.Walks.{AreOfWalk, AreWantedOf, IsOfWalk}
 use Rattle.deny_packages.specs.private.Walks.IsOfWalk.{of_folder, of_header, of_sum}
 use Rattle.deny_unread.proofs.AddedLemmas.{added_is, added_then, longer_is}
-use Rattle.deny_unread.proofs.Later.{later_same}
+use Rattle.deny_outside.proofs.PieceLemmas.{later_same}
 use Rattle.deny_unread.proofs.ViewLemmas.{AreForOthers, is_left_out, stands_there, unread_last}
 use Rattle.deny_unread.specs.Added.{IsLonger, added}
 use Rattle.deny_unread.specs.Bound.{Folders}

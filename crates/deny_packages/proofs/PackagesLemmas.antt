@@ -27,7 +27,7 @@ use Rattle.deny_packages.specs.Why.{AreFoldersOf, IsBecause, IsOfPurpose}
 use Rattle.deny_packages.specs.private.Walks.{AreWantedOf}
 use Rattle.deny_unread.proofs.AddedLemmas.{added_then}
 use Rattle.deny_unread.proofs.CauseLemmas.{caused_then}
-use Rattle.deny_unread.proofs.Later.{later_same}
+use Rattle.deny_outside.proofs.PieceLemmas.{later_same}
 use Rattle.deny_unread.proofs.ViewLemmas.{is_left_out, stands_there}
 use Rattle.deny_unread.specs.Added.{IsLonger, added}
 use Rattle.deny_unread.specs.Bound.{Folders}

@@ -37,7 +37,7 @@ use Rattle.deny_packages.specs.declared.order.FilePath.{FilePath}
 use Rattle.deny_packages.specs.private.Deciding.{IsDecided, asks_by, is_among}
 use Rattle.deny_packages.specs.private.Entries.{IsFoundFor, asks_of, entries_for, entries_of, entries_of_all, gaps_of}
 use Rattle.deny_packages.specs.private.Reading.{AreOwnRead, AreRead, AreReadIf}
-use Rattle.deny_unread.proofs.Later.{later_same}
+use Rattle.deny_outside.proofs.PieceLemmas.{later_same}
 use Rattle.deny_unread.specs.Bound.{Folders}
 use Rattle.deny_unread.specs.declared.unread.Unread.{Unread}
 

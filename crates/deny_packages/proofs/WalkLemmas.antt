@@ -38,7 +38,8 @@ use Rattle.deny_packages.specs.private.Folders.{failure_of, folder_unseen}
 use Rattle.deny_packages.specs.private.Walks.{IsOfWalk}
 use Rattle.deny_packages.specs.private.Walks.IsOfWalk.{of_header, of_sum}
 use Rattle.deny_unread.proofs.BoundLemmas.{bound_wider}
-use Rattle.deny_unread.proofs.Later.{failed_wider, later_same}
+use Rattle.deny_outside.proofs.PieceLemmas.{later_same}
+use Rattle.deny_unread.proofs.Later.{failed_wider}
 use Rattle.deny_unread.proofs.ViewLemmas.{AreForOthers, is_left_out, stands_there, unread_behind}
 use Rattle.deny_unread.specs.Bound.{Folders}
 use Rattle.deny_unread.specs.Unread.{asked, is_unread}

@@ -11,7 +11,8 @@ use Rattle.deny_lists.proofs.Members.{at_member, no_member}
 use Rattle.deny_outside.specs.Count.{RoseBy}
 use Rattle.deny_outside.specs.Disk.{Disk, FailedAt, IsLater}
 use Rattle.deny_unread.proofs.BoundLemmas.{bound_wider}
-use Rattle.deny_unread.proofs.Later.{failed_wider, later_same}
+use Rattle.deny_outside.proofs.PieceLemmas.{later_same}
+use Rattle.deny_unread.proofs.Later.{failed_wider}
 use Rattle.deny_unread.specs.Bound.{Folders, is_bound}
 use Rattle.deny_unread.specs.Causes.{AreCaused, IsCaused}
 use Rattle.deny_unread.specs.Purpose.{call_for}

@@ -1,26 +1,8 @@
 -- A disk later, and calls that failed in a longer time.
-use Rattle.std.proofs.Common.{◌≤◌, ◌∙◌, ℕ, List, refl, arith}
+use Rattle.std.proofs.Common.{◌≤◌, ℕ, List, arith}
 use Rattle.deny_outside.specs.Count.{RoseBy}
 use Rattle.deny_outside.specs.Disk.{Disk, FailedAt, IsLater}
 use Rattle.deny_outside.specs.declared.disk.Call.{Call}
-
-pub later_same : (disk : Disk) → IsLater disk disk
-later_same disk = record {
-  files = refl;
-  faults = omega arith;
-  faults_at = λ call path. omega arith;
-  given = omega arith;
-  listed = omega arith;
-}
-
-pub later_later : (a b c : Disk) → IsLater a b → IsLater b c → IsLater a c
-later_later a b c first second = record {
-  files = second.files ∙ first.files;
-  faults = omega (arith, first.faults, second.faults);
-  faults_at = λ call path. omega (arith, first.faults_at call path, second.faults_at call path);
-  given = omega (arith, first.given, second.given);
-  listed = omega (arith, first.listed, second.listed);
-}
 
 pub rose_wider : (n a b c d : ℕ) → a ≤ b → c ≤ d → RoseBy n b c → RoseBy n a d
 rose_wider n a b c d before after rose = omega (arith, before, after, rose)

@@ -22,7 +22,8 @@ use Rattle.deny_base.specs.declared.span.Kid.{Kid}
 use Rattle.deny_unread.proofs.AddedLemmas.{added_is}
 use Rattle.deny_unread.proofs.BoundLemmas.{bound_wider, list_past}
 use Rattle.deny_unread.proofs.CauseLemmas.{caused_bounded, caused_by_call, caused_none, caused_then, caused_wider}
-use Rattle.deny_unread.proofs.Later.{failed_wider, later_later, later_same}
+use Rattle.deny_outside.proofs.PieceLemmas.{later_same, later_then}
+use Rattle.deny_unread.proofs.Later.{failed_wider}
 use Rattle.deny_unread.specs.Added.{added}
 use Rattle.deny_unread.specs.Bound.{Folders, entries_in, is_bound}
 use Rattle.deny_unread.specs.Causes.{AreCaused}
@@ -161,7 +162,7 @@ module _ (krate : Kid) (root : List ℕ) (by_git : Bool) (start : Disk) (first :
     walking_listed entries names are rose = record {
       own = walk.own;
       longer = walk.longer;
-      later = later_later start old new walk.later later;
+      later = later_then start old new walk.later later;
       lists = walk.lists;
       ordered = walk.ordered;
       above = λ path other there waits. nat_list_cmp_total.trans path next other
@@ -270,7 +271,7 @@ module _ (krate : Kid) (root : List ℕ) (by_git : Bool) (start : Disk) (first :
     walking_unlisted why room more full is unlisted = record {
       own = walk.own ++ entry ∷ [];
       longer = is ∙ ap (λ us. us ++ entry ∷ []) walk.longer ∙ append_assoc first walk.own (entry ∷ []);
-      later = later_later start old new walk.later later;
+      later = later_then start old new walk.later later;
       lists = lists_entry;
       ordered = entry_ordered;
       above = entry_above;

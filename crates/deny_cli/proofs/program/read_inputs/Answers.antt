@@ -4,7 +4,7 @@ use Rattle.deny_base.specs.declared.check.Which.TheVariants.{Policy, Metadata, R
 use Rattle.deny_cli.specs.Commands.{asked_view, text_view}
 use Rattle.deny_cli.proofs.ReadingLemmas.{handed_on, metadata_asked_for, policy_asked_for, replacements_asked_for}
 use Rattle.deny_cli.proofs.program.read_inputs.Goals as goal
-use Rattle.deny_unread.proofs.Later.{later_later, later_same}
+use Rattle.deny_outside.proofs.PieceLemmas.{later_same, later_then}
 
 pub returns-in_err-policy-clause-stop : goal.returns-in_err-policy-clause-stop
 returns-in_err-policy-clause-stop g c =
@@ -30,6 +30,6 @@ returns-in_err-read_text-in-Some-clause-stop g c =
     let second = c.in_ok-metadata.ensures in
     handed_on old _ _ asked Replacements _ c.from_residual-in_err-read_text-in-Some.result
     c.in_err-read_text-in-Some.field-0.0 c.from_residual-in_err-read_text-in-Some.ensures.1
-    (later_later old between _ first.later second.later)
+    (later_then old between _ first.later second.later)
     (replacements_asked_for old between asked _ _ _ (ap (option_map text_view) c.in-Some.is) first.later first.read
     second.read) c.in_err-read_text-in-Some.ensures.stop

@@ -14,7 +14,7 @@ use Rattle.deny_packages.specs.declared.order.FilePath.{FilePath}
 use Rattle.deny_packages.specs.private.Entries.{entries_of_all, gaps_of}
 use Rattle.deny_packages.specs.private.Reading.{AreOwnRead}
 use Rattle.deny_unread.proofs.AddedLemmas.{longer_is}
-use Rattle.deny_unread.proofs.Later.{later_later}
+use Rattle.deny_outside.proofs.PieceLemmas.{later_then}
 
 pub see_file-requires-clause-own : goal.see_file-requires-clause-own
 see_file-requires-clause-own g c =
@@ -50,7 +50,7 @@ loop-path-preserved g c =
           (longer_is a.unread.now _ l.unread (before.noted 0))
           (longer_is l.unread _ c.see_file.new.unread (step.noted 0))
           (before.caused folder) (step.caused folder);
-      later = later_later start mid end before.later later;
+      later = later_then start mid end before.later later;
     }
 
 pub returns-clause-seen : goal.returns-clause-seen

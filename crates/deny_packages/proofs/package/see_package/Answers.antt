@@ -10,7 +10,7 @@ use Rattle.deny_packages.proofs.PackageLemmas.{alone_seen, alone_wanted, walked_
 use Rattle.deny_packages.proofs.PackagesLemmas.{caused_next}
 use Rattle.deny_packages.proofs.package.see_package.Goals as goal
 use Rattle.deny_unread.proofs.AddedLemmas.{longer_is, longer_then}
-use Rattle.deny_unread.proofs.Later.{later_same}
+use Rattle.deny_outside.proofs.PieceLemmas.{later_same}
 
 -- what follows of all that is so of an outcome
 if_ok_all : {T E : Type 0} {P Q R S W : T → Type 0} (result : Result T E) → IfOk result P → IfOk result Q

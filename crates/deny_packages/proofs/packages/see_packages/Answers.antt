@@ -17,7 +17,7 @@ use Rattle.deny_packages.specs.Seen.{IsPackageSeen}
 use Rattle.deny_packages.specs.Why.{IsBecause}
 use Rattle.deny_packages.specs.private.Walks.{AreWantedOf}
 use Rattle.deny_unread.proofs.AddedLemmas.{added_then, longer_then}
-use Rattle.deny_unread.proofs.Later.{later_later}
+use Rattle.deny_outside.proofs.PieceLemmas.{later_then}
 use Rattle.deny_unread.specs.Added.{added}
 use Rattle.deny_unread.specs.declared.unread.Unread.{Unread}
 
@@ -71,7 +71,7 @@ loop-place-preserved g c =
       caused = λ folder right. caused_next folder start mid end a.unread.now l.unread c.see_package.new.unread
           before.later later before.longer step.longer (before.caused folder right)
           (step.caused folder (right here (from_there graph.crates l.place here at)));
-      later = later_later start mid end before.later later;
+      later = later_then start mid end before.later later;
     }
 
 pub returns-clause-seen : goal.returns-clause-seen

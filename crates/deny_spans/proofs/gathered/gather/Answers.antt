@@ -6,7 +6,7 @@ use Rattle.deny_spans.proofs.GatherLemmas.{gathered_all, gathered_next, kept_few
 use Rattle.deny_spans.proofs.OnceLemmas.{given_all, given_next}
 use Rattle.deny_spans.proofs.gathered.gather.Goals as goal
 use Rattle.deny_spans.specs.Look.{kept_as}
-use Rattle.deny_unread.proofs.Later.{later_later}
+use Rattle.deny_outside.proofs.PieceLemmas.{later_then}
 
 pub look_at-requires-clause-stands : goal.look_at-requires-clause-stands
 look_at-requires-clause-stands g c =
@@ -31,7 +31,7 @@ loop-place-preserved g c =
           c.look_at.ensures.later (before.caused folder) (step.caused folder);
       once = given_next c.args.krates.now place krate (seen c.args.disk.now) (seen c.loop-place.disk)
           (seen c.look_at.new.disk) at before.later.files before.once step.once;
-      later = later_later (seen c.args.disk.now) (seen c.loop-place.disk) (seen c.look_at.new.disk) before.later
+      later = later_then (seen c.args.disk.now) (seen c.loop-place.disk) (seen c.look_at.new.disk) before.later
           c.look_at.ensures.later;
       few = omega (
         arith,
