@@ -29,6 +29,7 @@ use Rattle.deny_codes.specs.Saying.{HasTable, IsBreakIn, bytes_of}
 use Rattle.deny_codes.specs.Standing.{AreKeys}
 use Rattle.deny_codes.specs.StdReplacements.{asks_for_table}
 use Rattle.deny_dup_edges.specs.DupEdges.{ShowsEach, is_of_duplicate}
+use Rattle.deny_laws.specs.Dead.{AreDead}
 use Rattle.deny_licenses.specs.Check.{IsLicensed}
 use Rattle.deny_packages.specs.Why.{AreFoldersOf}
 use Rattle.deny_rules.specs.Packages.{AreSeenBy, HaveCauses}
@@ -42,13 +43,15 @@ use Rattle.deny_unread.specs.Unread.{unread_cmp}
 use Rattle.deny_gate.specs.Hits.{AreHits}
 use Rattle.deny_workspace.specs.declared.registries.Registry.{Registry}
 use Rattle.deny_gate.specs.Labels.{AreLockLines}
-use Rattle.deny_gate.specs.Report.{IsReport, finding_told, lock_id, policy_id}
+use Rattle.deny_gate.specs.Report.{IsReport, finding_told, keys_in, lock_id, policy_id, verdict_of}
+use Rattle.deny_gate.specs.Stats.{all_stats}
 use Rattle.deny_gate.specs.Unread.{of_manifests, of_packages}
 use Rattle.deny_gate.specs.Unseeing.{unseeing_entries, unseeing_findings, unseeing_hits}
 use Rattle.deny_gate.specs.declared.checks.Checked.{Checked}
 use Rattle.deny_gate.specs.declared.checks.Extras as handed
 use Rattle.deny_gate.specs.declared.checks.Looked.{Looked}
 use Rattle.deny_gate.specs.declared.checks.Told.{Told}
+use Rattle.deny_gate.specs.declared.gating.Judged.{Judged}
 use Rattle.deny_gate.specs.declared.report.GateError.{GateError}
 use Rattle.deny_gate.specs.declared.report.GateError.TheVariants.{Config, Invalid, Metadata, Replacement, Memory}
 use Rattle.deny_gate.specs.declared.report.Inputs.{Inputs}
@@ -256,6 +259,27 @@ pub record IsReportSeen (old new : Disk) (said : Policy) (g : Graph) (extras : E
   pub ranges : ViewLies report.files view
   pub lines : AreLockLines g
   pub is_report : IsReport (circumstances_of said g extras.replacements view packages) report
+
+-- what is dead by what the checks tell, the counts of their findings, and the verdict on them
+pub record IsJudged (has_licenses : Bool) (judged : Judged) : Type 0 where
+  pub dead : AreDead (keys_in judged.looked.told.findings) judged.looked.told.hits judged.dead
+  pub stats : judged.stats ≡ all_stats has_licenses judged.looked.told.findings
+  pub verdict : judged.verdict ≡ verdict_of judged.looked.told.findings
+
+-- the report of what was judged on a graph, with these files
+abbrev pub report_with : List File → Graph → Judged → Report
+report_with files g judged = record {
+  files = files;
+  krates = g;
+  findings = judged.looked.told.findings;
+  dup_edges = judged.looked.told.dup_edges;
+  unread = judged.looked.unread;
+  malformed = judged.looked.malformed;
+  hits = judged.looked.told.hits;
+  dead = judged.dead;
+  stats = judged.stats;
+  verdict = judged.verdict;
+}
 
 -- the metadata has a graph, there is the table that a policy asks for, and this is the report of the policy on it
 pub record IsReportOn (old new : Disk) (said : Policy) (texts : Texts) (report : Report) : Type 0 where

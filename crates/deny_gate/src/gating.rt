@@ -1,5 +1,5 @@
 ghost use Rattle.std.specs.Prelude.{◌≡◌, ◌≢◌, ◌<◌, ◌^◌, ◌++◌, [], ◌∷◌, All, length, IfOk, IfErr, OnOk};
-ghost use Rattle.std.specs.Prelude.{option_copied};
+ghost use Rattle.std.specs.Prelude.{is_some, option_copied};
 ghost use Rattle.deny_cfg.specs.LabelRanges.{AreLabels, licence_ranges, older_range, word_labels};
 ghost use Rattle.deny_cfg.specs.PolicyText.{IsPolicyOf, policy_files};
 ghost use Rattle.deny_cfg.specs.PolicyView.{AreGlobsRead, builtin_file_of, policy_view};
@@ -14,9 +14,9 @@ ghost use Rattle.deny_toml.specs.Ranges.{IsRange};
 ghost use Rattle.deny_unread.specs.Bound.{Folders};
 ghost use Rattle.deny_unread.specs.Causes.{AreCaused};
 ghost use Rattle.deny_gate.specs.Gating.{AreEntriesApart, AreShort, IsCause, IsCauseBehind, IsCausedReport};
-ghost use Rattle.deny_gate.specs.Gating.{IsMetadataCause, IsPolicyCause, IsReportOf, IsReportOn};
-ghost use Rattle.deny_gate.specs.Gating.{IsReportSeen, IsTableCause, IsTableCauseFor, IsTableFor};
-ghost use Rattle.deny_gate.specs.Gating.{extras_in, extras_of, texts_in};
+ghost use Rattle.deny_gate.specs.Gating.{IsJudged, IsMetadataCause, IsPolicyCause, IsReportOf, IsReportOn};
+ghost use Rattle.deny_gate.specs.Gating.{IsReportSeen, IsTableCause, IsTableCauseFor, IsTableFor, IsToldOn};
+ghost use Rattle.deny_gate.specs.Gating.{extras_in, extras_of, report_with, texts_in};
 ghost use Rattle.deny_gate.specs.Dead.{CanDoWithoutDead};
 ghost use Rattle.deny_gate.specs.Headline.{IsHeadlineOf};
 ghost use Rattle.deny_gate.specs.Labels.{AreLabelled, IsLabelledCause};
@@ -28,13 +28,13 @@ ghost use Rattle.deny_gate.specs.declared.report.GateError.TheVariants.{Memory};
 use crate::checks::{Extras, Looked, looked_at};
 use crate::dead::dead_of;
 use crate::findings::verdict_of;
-use crate::report::{GateError, Inputs, Report};
-use crate::stats::all_stats;
-use deny_base::Files;
+use crate::report::{GateError, Inputs, Report, Verdict};
+use crate::stats::{AllStats, all_stats};
+use deny_base::{EntryId, Files};
 use deny_cfg::bans::cfg::ValidConfig;
 use deny_cfg::{Policy, PolicyError, Scope, read_policy};
 use deny_krates::{Krates, MetadataFault};
-use deny_lists::NoMemory;
+use deny_lists::{List, NoMemory};
 use deny_outside::PackageFiles;
 use deny_std::{ReplacementData, ReplacementError};
 use std::alloc::Global;
@@ -112,8 +112,85 @@ fn check_table_for(alloc: Global, cfg: &ValidConfig, table: Option<&[u8]>) -> Re
     }
 }
 
+/// What was seen, with what is dead by what the checks tell of it, the counts of their findings, and the
+/// verdict on them.
+#[derive(Drop)]
+struct Judged {
+    looked: Looked,
+    dead: List<EntryId>,
+    stats: AllStats,
+    verdict: Verdict,
+}
+
+/// What a policy comes to on a graph: the files of its manifests are put behind those of the policy.
+fn judged_on<D: PackageFiles>(
+    alloc: Global,
+    policy: &Policy,
+    krates: &Krates,
+    extras: &Extras<'_>,
+    disk: &mut D,
+    files: &mut Files,
+) -> Result<Judged, NoMemory>
+    requires file { policy.now.bans.file_id ≡ 0 }
+    requires read { AreGlobsRead policy.now.bans }
+    requires apart { AreEntriesApart policy.now }
+    requires table { IsTableFor (policy_view policy.now.bans) (option_copied extras.now.table) }
+    requires few { length files.old < 2 ^ 31 }
+    requires before { length files.old ≡ lock_id (builtin_file_of policy.now.bans) }
+    ensures told { IfOk result (λ judged. IsToldOn (D.seen disk.old) (D.seen disk.new) policy.now krates.now
+        (extras_in extras.now) (files.old ++ lock_file krates.now.root krates.now ∷ []) files.new judged.looked) }
+    ensures judged { IfOk result (IsJudged (is_some policy.now.licenses)) }
+    ensures wanted { IfOk result (λ judged. AreWanted krates.now (of_manifests judged.looked.unread)) }
+    ensures caused { IfOk result (λ judged. (folder : Folders) → AreFoldersOf krates.now folder →
+        AreCaused folder (D.seen disk.old) (D.seen disk.new) judged.looked.unread) }
+    ensures later { IsLater (D.seen disk.old) (D.seen disk.new) }
+{
+    let looked = looked_at(alloc, policy, krates, extras, disk, files)?;
+    let dead = dead_of(
+        alloc,
+        looked.told.findings.as_slice(),
+        looked.told.hits.as_slice(),
+    )?;
+    let stats = all_stats(policy.licenses.is_some(), looked.told.findings.as_slice());
+    let verdict = verdict_of(looked.told.findings.as_slice());
+    Ok(Judged {
+        looked,
+        dead,
+        stats,
+        verdict,
+    })
+}
+
+/// The report that tells what was judged on a graph, with these files.
+fn report_with(files: Files, krates: Krates, judged: Judged) -> Report
+    ensures { result ≡ report_with files krates judged }
+{
+    let Judged {
+        looked,
+        dead,
+        stats,
+        verdict,
+    } = judged;
+    let Looked {
+        told,
+        unread,
+        malformed,
+    } = looked;
+    Report {
+        files,
+        krates,
+        findings: told.findings,
+        dup_edges: told.dup_edges,
+        unread,
+        malformed,
+        hits: told.hits,
+        dead,
+        stats,
+        verdict,
+    }
+}
+
 /// The report of a policy on a graph, with the files of the policy.
-#[tactic(auto, using(crate::proofs::FindingLaws::seen_report))]
 fn report_on<D: PackageFiles>(
     alloc: Global,
     files: Files,
@@ -136,27 +213,8 @@ fn report_on<D: PackageFiles>(
     ensures later { IsLater (D.seen disk.old) (D.seen disk.new) }
 {
     let mut files = files;
-    let looked = looked_at(alloc, policy, &krates, extras, disk, &mut files)?;
-    let Looked {
-        told,
-        unread,
-        malformed,
-    } = looked;
-    let dead = dead_of(alloc, told.findings.as_slice(), told.hits.as_slice())?;
-    let stats = all_stats(policy.licenses.is_some(), told.findings.as_slice());
-    let verdict = verdict_of(told.findings.as_slice());
-    Ok(Report {
-        files,
-        krates,
-        findings: told.findings,
-        dup_edges: told.dup_edges,
-        unread,
-        malformed,
-        hits: told.hits,
-        dead,
-        stats,
-        verdict,
-    })
+    let judged = judged_on(alloc, policy, &krates, extras, disk, &mut files)?;
+    Ok(report_with(files, krates, judged))
 }
 
 /// What is handed in besides a policy and metadata.
