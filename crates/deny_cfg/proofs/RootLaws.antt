@@ -1,7 +1,8 @@
 -- What is read from a root, whose tables are taken out one after the other.
-use Rattle.std.proofs.Common.{◌≡◌, ◌++◌, ℕ, false, List, [], Option, None, Some, Bor, refl, sym, ap, subst, ◌∙◌}
+use Rattle.std.proofs.Common.{◌≡◌, ◌++◌, ℕ, false, List, [], Option, None, Some, Bor, append_assoc, refl, sym, ap}
+use Rattle.std.proofs.Common.{Ok, Err, subst, ◌∙◌}
 use Rattle.std.specs.List.Sorted.{IsStrictlySortedBy}
-use Rattle.std.specs.Prelude.{is_some, option_and_then, option_copied, unwrap_or}
+use Rattle.std.specs.Prelude.{IfOk, Result, is_some, option_and_then, option_copied, unwrap_or}
 use Rattle.deny_toml.proofs.FaultLaws.{in_order-empty, in_order-none, in_order_ascends}
 use Rattle.deny_toml.specs.Calls.{below_name, table_in, value_at, without}
 use Rattle.deny_toml.specs.Faults.{fault_cmp, in_order}
@@ -62,70 +63,94 @@ bans_or None read default x reads defaults is =
 bans_or (Some v) None default x reads defaults is = absurd reads
 bans_or (Some v) (Some y) default x reads defaults is = subst (ReadsTable ReadsConfig v) (sym is) reads
 
+-- the same by what the helper says of it
+pub bans_given : (o : Option Value) (read : Option Config) (default x : Config)
+    → helper.ReadsOptional faults_of_config (ReadsTable ReadsConfig) o read
+    → ReadsConfig [] default → x ≡ unwrap_or read default
+    → optional_faults faults_of_config bans_name o ≡ [] → ReadsBans o x
+bans_given o read default x says defaults is none =
+    bans_or o read default x (optional_read faults_of_config (ReadsTable ReadsConfig) bans_name o read says none)
+    defaults is
+
 -- `bans` was taken out of the root first
+module _ (entries rest : Entries) (left : rest ≡ without bans_name entries) where
+  licensing_left : value_at licenses_name rest ≡ value_at licenses_name entries
+  licensing_left =
+      ap (λ es. value_at licenses_name es) left ∙ value_at-without licenses_name bans_name entries refl
+
+  pub licensing_given : (read : Option licenses.Config)
+      → helper.ReadsOptional faults_of_licenses (ReadsTable ReadsLicenses) (value_at licenses_name rest) read
+      → optional_faults faults_of_licenses licenses_name (value_at licenses_name entries) ≡ []
+      → ReadsLicensing (value_at licenses_name entries) read
+  licensing_given read says none =
+      optional_read faults_of_licenses (ReadsTable ReadsLicenses) licenses_name (value_at licenses_name entries) read
+      (subst (λ o. helper.ReadsOptional faults_of_licenses (ReadsTable ReadsLicenses) o read) licensing_left says) none
+
+  -- the faults of both were kept
+  pub both_kept : (kept found end : List ConfigFault)
+      → found ≡ kept ++ optional_faults faults_of_config bans_name (value_at bans_name entries)
+      → end ≡ found ++ optional_faults faults_of_licenses licenses_name (value_at licenses_name rest)
+      → end ≡ kept
+      ++ (optional_faults faults_of_config bans_name (value_at bans_name entries)
+      ++ optional_faults faults_of_licenses licenses_name (value_at licenses_name entries))
+  both_kept kept found end bans licensing =
+      licensing
+      ∙ ((λ i. bans i ++ optional_faults faults_of_licenses licenses_name (licensing_left i))
+      ∙ append_assoc kept (optional_faults faults_of_config bans_name (value_at bans_name entries))
+      (optional_faults faults_of_licenses licenses_name (value_at licenses_name entries)))
+
+-- what is given where something holds is this, of which that says more
+pub ok_given : {T E : Type 0} (r : Result T E) (x : T) (Holds : Type 0) (P : T → Type 0) → IfOk r (λ y. Holds)
+    → IfOk r (λ y. y ≡ x) → (Holds → P x) → IfOk r P
+ok_given (Ok y) x Holds P holds same more = subst P (sym same) (more holds)
+ok_given (Err e) x Holds P holds same more = tt
+
+-- what a root of these entries says
 module _ (v : Value) (entries : Entries) (table : table_in v ≡ Some (table_with entries)) where
   bans_at : below_name bans_name v ≡ value_at bans_name entries
   bans_at = below_with bans_name v entries table
 
-  licensing_at : below_name licenses_name v ≡ value_at licenses_name (without bans_name entries)
-  licensing_at =
-      below_with licenses_name v entries table ∙ sym (value_at-without licenses_name bans_name entries refl)
+  licensing_at : below_name licenses_name v ≡ value_at licenses_name entries
+  licensing_at = below_with licenses_name v entries table
 
-  at_root : faults_at (below_name bans_name v) (below_name licenses_name v)
-      ≡ faults_at (value_at bans_name entries) (value_at licenses_name (without bans_name entries))
-  at_root = λ i. faults_at (bans_at i) (licensing_at i)
-
-  -- the faults that were kept of the tables, put in order
-  pub root_faults : (kept found end listed : List ConfigFault) (rest : Entries) → kept ≡ []
-      → found ≡ kept ++ optional_faults faults_of_config bans_name (value_at bans_name entries)
-      → rest ≡ without bans_name entries
-      → end ≡ found ++ optional_faults faults_of_licenses licenses_name (value_at licenses_name rest)
-      → listed ≡ in_order end → listed ≡ faults_of_tree v
+  -- its faults, which were kept after none, are those of its tables
+  pub root_faults : (kept found : List ConfigFault) → kept ≡ []
+      → found ≡ kept
+      ++ (optional_faults faults_of_config bans_name (value_at bans_name entries)
+      ++ optional_faults faults_of_licenses licenses_name (value_at licenses_name entries))
+      → in_order found ≡ faults_of_tree v
   unfolding faults_at
-  root_faults kept found end listed rest none bans left licensing order =
-      let first =
-      bans ∙ ap (λ fs. fs ++ optional_faults faults_of_config bans_name (value_at bans_name entries)) none in
-      order
-      ∙ (ap in_order (licensing ∙ λ i. first i
-      ++ optional_faults faults_of_licenses licenses_name (value_at licenses_name (left i)))
-      ∙ sym (of_root v ∙ ap in_order at_root))
+  root_faults kept found none both =
+      ap in_order (both
+      ∙ (ap (λ fs. fs ++ faults_at (value_at bans_name entries) (value_at licenses_name entries)) none
+      ∙ λ i. faults_at (sym bans_at i) (sym licensing_at i)))
+      ∙ sym (of_root v)
 
-  none_at : faults_of_tree v ≡ []
-      → faults_at (value_at bans_name entries) (value_at licenses_name (without bans_name entries)) ≡ []
+  none_at : faults_of_tree v ≡ [] → faults_at (value_at bans_name entries) (value_at licenses_name entries) ≡ []
   none_at none =
-      sym at_root
+      (λ i. faults_at (sym bans_at i) (sym licensing_at i))
       ∙ in_order-empty (faults_at (below_name bans_name v) (below_name licenses_name v)) (sym (of_root v) ∙ none)
 
   -- what was read of them where there are none
-  pub root_bans : (read : Option Config) (default x : Config) → faults_of_tree v ≡ []
-      → helper.ReadsOptional faults_of_config (ReadsTable ReadsConfig) (value_at bans_name entries) read
-      → ReadsConfig [] default → x ≡ unwrap_or read default → ReadsBans (below_name bans_name v) x
+  pub root_bans : (x : Config) → faults_of_tree v ≡ []
+      → (optional_faults faults_of_config bans_name (value_at bans_name entries) ≡ []
+      → ReadsBans (value_at bans_name entries) x)
+      → ReadsBans (below_name bans_name v) x
   unfolding faults_at
-  root_bans read default x none says defaults is =
-      let first =
-      none_first (optional_faults faults_of_config bans_name (value_at bans_name entries))
-      (optional_faults faults_of_licenses licenses_name (value_at licenses_name (without bans_name entries)))
-      (none_at none) in
+  root_bans x none reads =
       subst (λ o. ReadsBans o x) (sym bans_at)
-      (bans_or (value_at bans_name entries) read default x
-      (optional_read faults_of_config (ReadsTable ReadsConfig) bans_name (value_at bans_name entries) read says first)
-      defaults is)
+      (reads (none_first (optional_faults faults_of_config bans_name (value_at bans_name entries))
+      (optional_faults faults_of_licenses licenses_name (value_at licenses_name entries)) (none_at none)))
 
-  pub root_licensing : (read : Option licenses.Config) (rest : Entries) → faults_of_tree v ≡ []
-      → rest ≡ without bans_name entries
-      → helper.ReadsOptional faults_of_licenses (ReadsTable ReadsLicenses) (value_at licenses_name rest) read
+  pub root_licensing : (read : Option licenses.Config) → faults_of_tree v ≡ []
+      → (optional_faults faults_of_licenses licenses_name (value_at licenses_name entries) ≡ []
+      → ReadsLicensing (value_at licenses_name entries) read)
       → ReadsLicensing (below_name licenses_name v) read
   unfolding faults_at
-  root_licensing read rest none left says =
-      let second =
-      none_rest (optional_faults faults_of_config bans_name (value_at bans_name entries))
-      (optional_faults faults_of_licenses licenses_name (value_at licenses_name (without bans_name entries)))
-      (none_at none) in
-      let here = value_at licenses_name (without bans_name entries) in
+  root_licensing read none reads =
       subst (λ o. ReadsLicensing o read) (sym licensing_at)
-      (optional_read faults_of_licenses (ReadsTable ReadsLicenses) licenses_name here read
-      (subst (λ es. helper.ReadsOptional faults_of_licenses (ReadsTable ReadsLicenses) (value_at licenses_name es) read)
-      left says) second)
+      (reads (none_rest (optional_faults faults_of_config bans_name (value_at bans_name entries))
+      (optional_faults faults_of_licenses licenses_name (value_at licenses_name entries)) (none_at none)))
 
 pub root_ascends : (v : Value) → IsStrictlySortedBy fault_cmp (faults_of_tree v)
 root_ascends v =

@@ -1,10 +1,13 @@
 //! The text of a policy.
-ghost use Rattle.std.specs.Prelude.{◌≡◌, ℕ, ◌+◌, ◌++◌, ◌<◌, ◌^◌, ◌∷◌, [], All, IfOk, IfErr, IfSome, None, length, take};
+ghost use Rattle.std.specs.Prelude.{◌≡◌, ℕ, ◌+◌, ◌++◌, ◌<◌, ◌^◌, ◌∷◌, [], All, IfOk, IfErr, IfSome, None, OnOk, length, take};
 ghost use Rattle.deny_toml.specs.Apart.{AreApart};
-ghost use Rattle.deny_toml.specs.Calls.{below_name};
-ghost use Rattle.deny_toml.specs.Faults.{Reports, fault_at};
+ghost use Rattle.deny_toml.specs.Calls.{below_name, value_at, without};
+ghost use Rattle.deny_toml.specs.Faults.{Reports, fault_at, in_order};
 ghost use Rattle.deny_toml.specs.Parser.{IsTreeOf};
 ghost use Rattle.deny_toml.specs.Ranges.{IsRange, StandsIn};
+ghost use Rattle.deny_toml.specs.TableHelper.{optional_faults};
+ghost use Rattle.deny_tables.specs.Config.{faults_of_config};
+ghost use Rattle.deny_tables.specs.Licenses.{faults_of_licenses};
 ghost use Rattle.deny_cfg.specs.Deprecated.{warnings_of};
 ghost use Rattle.deny_cfg.specs.LabelRanges.{AreLabels, config_labels, licence_ranges};
 ghost use Rattle.deny_cfg.specs.LabelRanges.{list_ranges, older_range, word_labels};
@@ -130,7 +133,6 @@ impl Tables {
 }
 
 /// Reads the tables of a tree, whose other keys pass unread.
-#[tactic(auto, unfolding(crate::specs::PolicyText::faults_of_tree))]
 fn read_tables(alloc: Global, tree: &mut Value<'_>) -> Result<Tables, DeserError>
     ensures faultless { IfOk result (λ tables. faults_of_tree tree.old ≡ []) }
     ensures bans { IfOk result (λ tables. ReadsBans (below_name bans_name tree.old) tables.bans) }
@@ -141,15 +143,61 @@ fn read_tables(alloc: Global, tree: &mut Value<'_>) -> Result<Tables, DeserError
         return Ok(Tables::none(alloc));
     }
     let mut root = TableHelper::new(alloc, tree)?;
-    let bans = root.optional::<Config>("bans")?;
+    let tables = tables_in(alloc, &mut root)?;
+    tables_or_faults(tables, root.faults)
+}
+
+/// What the tables of a root say, whose faults it keeps.
+fn tables_in(alloc: Global, root: &mut TableHelper<'_>) -> Result<Tables, NoMemory>
+    ensures bans { IfOk result (λ tables.
+        optional_faults faults_of_config bans_name (value_at bans_name root.old.entries) ≡ []
+        → ReadsBans (value_at bans_name root.old.entries) tables.bans) }
+    ensures licenses { IfOk result (λ tables.
+        optional_faults faults_of_licenses licenses_name (value_at licenses_name root.old.entries) ≡ []
+        → ReadsLicensing (value_at licenses_name root.old.entries) tables.licenses) }
+    ensures kept { OnOk result (root.new.faults ≡ root.old.faults
+        ++ (optional_faults faults_of_config bans_name (value_at bans_name root.old.entries)
+        ++ optional_faults faults_of_licenses licenses_name (value_at licenses_name root.old.entries))) }
+{
+    let bans = bans_in(alloc, root)?;
     let licenses = root.optional::<licenses::Config>("licenses")?;
-    let mut faults = root.faults;
+    Ok(Tables { bans, licenses })
+}
+
+/// The table `bans` of a root, which keeps its faults; its defaults where the root has none, or has faults.
+fn bans_in(alloc: Global, root: &mut TableHelper<'_>) -> Result<Config, NoMemory>
+    ensures reads { IfOk result (λ bans.
+        optional_faults faults_of_config bans_name (value_at bans_name root.old.entries) ≡ []
+        → ReadsBans (value_at bans_name root.old.entries) bans) }
+    ensures kept { OnOk result (root.new ≡ record root.old {
+      entries = without bans_name root.old.entries;
+      faults = root.old.faults ++ optional_faults faults_of_config bans_name (value_at bans_name root.old.entries);
+    }) }
+{
+    let bans = root.optional::<Config>("bans")?;
+    Ok(bans.unwrap_or(Config::new(alloc)))
+}
+
+/// Tables, where these are no faults; else the faults, put in order.
+fn tables_or_faults(tables: Tables, faults: List<ConfigFault>) -> Result<Tables, DeserError>
+    ensures faultless { IfOk result (λ given. in_order faults ≡ []) }
+    ensures same { IfOk result (λ given. given ≡ tables) }
+    ensures faults { IfErr result (Reports (in_order faults)) }
+{
+    faultless(faults)?;
+    Ok(tables)
+}
+
+/// Faults are an error, put in order, where there are some.
+#[tactic(auto, using(deny_toml::proofs::FaultLaws::in_order_ascends))]
+fn faultless(faults: List<ConfigFault>) -> Result<(), DeserError>
+    ensures none { OnOk result (in_order faults ≡ []) }
+    ensures some { IfErr result (Reports (in_order faults)) }
+{
+    let mut faults = faults;
     put_faults_in_order(&mut faults)?;
     if faults.len() == 0 {
-        Ok(Tables {
-            bans: bans.unwrap_or(Config::new(alloc)),
-            licenses,
-        })
+        Ok(())
     } else {
         Err(DeserError::Faults(faults))
     }
