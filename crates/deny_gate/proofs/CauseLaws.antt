@@ -1,17 +1,19 @@
 -- When an answer may come, once the policy is there.
-use Rattle.std.proofs.Common.{◌≡◌, ℕ, List, Result, Ok, Err, subst}
+use Rattle.std.proofs.Common.{◌≡◌, ℕ, List, Option, Result, Ok, Err, subst}
 use Rattle.std.specs.Prelude.{IfOk, IfErr}
 use Rattle.deny_cfg.specs.PolicyText.{IsPolicyOf}
 use Rattle.deny_cfg.specs.PolicyView.{policy_view}
 use Rattle.deny_cfg.specs.declared.policy.Policy.{Policy}
 use Rattle.deny_laws.specs.Dead.{DeadCanGo}
 use Rattle.deny_laws.specs.Asking.{PackagesStay}
+use Rattle.deny_model.specs.Policy as model
 use Rattle.deny_outside.specs.Disk.{Disk}
 use Rattle.deny_packages.specs.Why.{AreFoldersOf}
 use Rattle.deny_unread.specs.Bound.{Folders}
 use Rattle.deny_unread.specs.Causes.{AreCaused}
 use Rattle.deny_gate.specs.Dead.{CanDoWithoutDead}
-use Rattle.deny_gate.specs.Gating.{IsCause, IsCauseBehind, IsCausedReport, IsReportBy, IsReportOf, IsReportOn, Texts}
+use Rattle.deny_gate.specs.Gating.{HasGraph, IsCause, IsCauseBehind, IsCausedReport, IsFirstFault, IsMetadataCause}
+use Rattle.deny_gate.specs.Gating.{IsReportBy, IsReportOf, IsReportOn, IsTableCauseFor, Texts}
 use Rattle.deny_gate.specs.Headline.{IsHeadlineOf}
 use Rattle.deny_gate.specs.Report.{policy_id}
 use Rattle.deny_gate.specs.declared.report.GateError.{GateError}
@@ -22,6 +24,25 @@ use Rattle.deny_gate.specs.Stats.{code_of, exit_code}
 use Rattle.deny_gate.proofs.DeadLaws.{without_dead}
 use Rattle.deny_gate.proofs.ExitLaws.{exit_of}
 use Rattle.deny_gate.proofs.HeadlineLaws.{headline_of}
+
+-- the metadata that was read has no graph, or it has one and the table is not there that a policy asks for
+pub no_graph_cause : (p : model.Policy) (texts : Texts) (metadata : List ℕ) (error : GateError)
+    → metadata ≡ texts.metadata → IsMetadataCause metadata error → IsCauseBehind p texts error
+no_graph_cause p texts metadata (Config faults) same cause = cause
+no_graph_cause p texts metadata (Invalid told) same cause = cause
+no_graph_cause p texts metadata (Metadata f) same cause = subst (λ (bytes : List ℕ). IsFirstFault bytes f) same cause
+no_graph_cause p texts metadata (Replacement at) same cause = absurd cause
+no_graph_cause p texts metadata Memory same cause = tt
+
+pub no_table_cause : (p : model.Policy) (texts : Texts) (replacements : Option (List ℕ)) (error : GateError)
+    → replacements ≡ texts.replacements → HasGraph texts.metadata → IsTableCauseFor p replacements error
+    → IsCauseBehind p texts error
+no_table_cause p texts replacements (Config faults) same graph cause = cause.1
+no_table_cause p texts replacements (Invalid told) same graph cause = cause.1
+no_table_cause p texts replacements (Metadata f) same graph cause = absurd cause.1
+no_table_cause p texts replacements (Replacement at) same graph cause =
+    (graph, subst (λ (table : Option (List ℕ)). IsTableCauseFor p table (Replacement at)) same cause)
+no_table_cause p texts replacements Memory same graph cause = tt
 
 -- the text that was read is the policy's
 module _ (texts : Texts) (said : Policy) (read : List ℕ) (same : read ≡ texts.policy)

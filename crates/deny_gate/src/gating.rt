@@ -15,7 +15,7 @@ ghost use Rattle.deny_unread.specs.Bound.{Folders};
 ghost use Rattle.deny_unread.specs.Causes.{AreCaused};
 ghost use Rattle.deny_gate.specs.Gating.{AreEntriesApart, AreShort, IsCause, IsCauseBehind, IsCausedReport};
 ghost use Rattle.deny_gate.specs.Gating.{IsJudged, IsMetadataCause, IsPolicyCause, IsReportOf, IsReportOn};
-ghost use Rattle.deny_gate.specs.Gating.{IsReportSeen, IsTableCause, IsTableCauseFor, IsTableFor, IsToldOn};
+ghost use Rattle.deny_gate.specs.Gating.{IsTableCause, IsTableCauseFor, IsTableFor, IsToldOn};
 ghost use Rattle.deny_gate.specs.Gating.{extras_in, extras_of, report_with, texts_in};
 ghost use Rattle.deny_gate.specs.Dead.{CanDoWithoutDead};
 ghost use Rattle.deny_gate.specs.Headline.{IsHeadlineOf};
@@ -161,6 +161,51 @@ fn judged_on<D: PackageFiles>(
     })
 }
 
+/// What is handed in besides a policy and metadata.
+fn extras_of(inputs: &Inputs) -> Extras<'_>
+    ensures { extras_in result ≡ extras_of (texts_in inputs.now) }
+{
+    Extras {
+        table: inputs.replacements.as_deref(),
+        home: inputs.home.as_ref().map(|home| home.as_str()),
+        registries: inputs.registries.as_slice(),
+    }
+}
+
+/// What a policy comes to on a graph with what is handed in, where the table is there that it asks for.
+#[tactic(auto, using(crate::proofs::CauseLaws::no_table_cause))]
+fn judged_for<D: PackageFiles>(
+    alloc: Global,
+    policy: &Policy,
+    krates: &Krates,
+    inputs: &Inputs,
+    disk: &mut D,
+    files: &mut Files,
+) -> Result<Judged, GateError>
+    requires file { policy.now.bans.file_id ≡ 0 }
+    requires read { AreGlobsRead policy.now.bans }
+    requires apart { AreEntriesApart policy.now }
+    requires graph { IsGraphOf inputs.now.metadata.items krates.now }
+    requires few { length files.old < 2 ^ 31 }
+    requires before { length files.old ≡ lock_id (builtin_file_of policy.now.bans) }
+    ensures told { IfOk result (λ judged. IsToldOn (D.seen disk.old) (D.seen disk.new) policy.now krates.now
+        (extras_of (texts_in inputs.now)) (files.old ++ lock_file krates.now.root krates.now ∷ []) files.new
+        judged.looked) }
+    ensures judged { IfOk result (IsJudged (is_some policy.now.licenses)) }
+    ensures table { OnOk result (IsTableFor (policy_view policy.now.bans) (texts_in inputs.now).replacements) }
+    ensures cause { IfErr result (IsCauseBehind (policy_view policy.now.bans) (texts_in inputs.now)) }
+    ensures wanted { IfOk result (λ judged. AreWanted krates.now (of_manifests judged.looked.unread)) }
+    ensures caused { IfOk result (λ judged. (folder : Folders) → AreFoldersOf krates.now folder →
+        AreCaused folder (D.seen disk.old) (D.seen disk.new) judged.looked.unread) }
+    ensures untouched { IfErr result (λ error. error ≢ Memory → disk.new ≡ disk.old) }
+    ensures later { IsLater (D.seen disk.old) (D.seen disk.new) }
+{
+    let extras = extras_of(inputs);
+    check_table_for(alloc, &policy.bans, extras.table)?;
+    let judged = judged_on(alloc, policy, krates, &extras, disk, files)?;
+    Ok(judged)
+}
+
 /// The report that tells what was judged on a graph, with these files.
 fn report_with(files: Files, krates: Krates, judged: Judged) -> Report
     ensures { result ≡ report_with files krates judged }
@@ -191,45 +236,36 @@ fn report_with(files: Files, krates: Krates, judged: Judged) -> Report
 }
 
 /// The report of a policy on a graph, with the files of the policy.
+#[tactic(auto, using(crate::proofs::PolicyFiles::few_files))]
 fn report_on<D: PackageFiles>(
     alloc: Global,
     files: Files,
     policy: &Policy,
     krates: Krates,
-    extras: &Extras<'_>,
+    inputs: &Inputs,
     disk: &mut D,
-) -> Result<Report, NoMemory>
+) -> Result<Report, GateError>
     requires file { policy.now.bans.file_id ≡ 0 }
     requires read { AreGlobsRead policy.now.bans }
     requires apart { AreEntriesApart policy.now }
-    requires table { IsTableFor (policy_view policy.now.bans) (option_copied extras.now.table) }
-    requires few { length files < 2 ^ 31 }
-    requires before { length files ≡ lock_id (builtin_file_of policy.now.bans) }
-    ensures report { IfOk result (IsReportSeen (D.seen disk.old) (D.seen disk.new) policy.now krates
-        (extras_in extras.now) (files ++ lock_file krates.root krates ∷ [])) }
+    requires graph { IsGraphOf inputs.now.metadata.items krates }
+    requires first { files ≡ policy_files inputs.now.policy.items policy.now.bans }
+    requires lock { length files ≡ lock_id (builtin_file_of policy.now.bans) }
+    ensures report { IfOk result (IsReportOn (D.seen disk.old) (D.seen disk.new) policy.now (texts_in inputs.now)) }
+    ensures cause { IfErr result (IsCauseBehind (policy_view policy.now.bans) (texts_in inputs.now)) }
     ensures wanted { IfOk result (λ report. AreWanted report.krates (of_manifests report.unread)) }
     ensures caused { IfOk result (λ report. (folder : Folders) → AreFoldersOf report.krates folder →
         AreCaused folder (D.seen disk.old) (D.seen disk.new) report.unread) }
+    ensures untouched { IfErr result (λ error. error ≢ Memory → disk.new ≡ disk.old) }
     ensures later { IsLater (D.seen disk.old) (D.seen disk.new) }
 {
     let mut files = files;
-    let judged = judged_on(alloc, policy, &krates, extras, disk, &mut files)?;
+    let judged = judged_for(alloc, policy, &krates, inputs, disk, &mut files)?;
     Ok(report_with(files, krates, judged))
 }
 
-/// What is handed in besides a policy and metadata.
-fn extras_of(inputs: &Inputs) -> Extras<'_>
-    ensures { extras_in result ≡ extras_of (texts_in inputs.now) }
-{
-    Extras {
-        table: inputs.replacements.as_deref(),
-        home: inputs.home.as_ref().map(|home| home.as_str()),
-        registries: inputs.registries.as_slice(),
-    }
-}
-
 /// The report of a policy on the graph of metadata, with the table that it asks for.
-#[tactic(auto, using(crate::proofs::FindingLaws::report_by_texts, crate::proofs::PolicyFiles::few_files))]
+#[tactic(auto, using(crate::proofs::CauseLaws::no_graph_cause))]
 fn report_of<D: PackageFiles>(
     alloc: Global,
     files: Files,
@@ -252,9 +288,7 @@ fn report_of<D: PackageFiles>(
     ensures later { IsLater (D.seen disk.old) (D.seen disk.new) }
 {
     let krates = read_graph(alloc, inputs.metadata.as_slice())?;
-    let extras = extras_of(inputs);
-    check_table_for(alloc, &policy.bans, extras.table)?;
-    Ok(report_on(alloc, files, policy, krates, &extras, disk)?)
+    report_on(alloc, files, policy, krates, inputs, disk)
 }
 
 /// Reads a policy, cargo's metadata and, where the policy asks for one, a table of replacements, and
