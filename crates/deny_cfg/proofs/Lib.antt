@@ -19,4 +19,5 @@ pub mod ClashLaws
 pub mod ViewLaws
 pub mod LicensingLaws
 pub mod RootLaws
+pub mod AddedLaws
 pub mod OnePolicyLaws

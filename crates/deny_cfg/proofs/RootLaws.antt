@@ -1,11 +1,10 @@
 -- What is read from a root, whose tables are taken out one after the other.
 use Rattle.std.proofs.Common.{◌≡◌, ◌++◌, ℕ, false, List, [], Option, None, Some, Bor, append_assoc, refl, sym, ap}
 use Rattle.std.proofs.Common.{Ok, Err, subst, ◌∙◌}
-use Rattle.std.specs.List.Sorted.{IsStrictlySortedBy}
 use Rattle.std.specs.Prelude.{IfOk, Result, is_some, option_and_then, option_copied, unwrap_or}
-use Rattle.deny_toml.proofs.FaultLaws.{in_order-empty, in_order-none, in_order_ascends}
+use Rattle.deny_toml.proofs.FaultLaws.{in_order-empty, in_order-none}
 use Rattle.deny_toml.specs.Calls.{below_name, table_in, value_at, without}
-use Rattle.deny_toml.specs.Faults.{fault_cmp, in_order}
+use Rattle.deny_toml.specs.Faults.{in_order}
 use Rattle.deny_toml.specs.TableHelper.{optional_faults}
 use Rattle.deny_toml.specs.TableHelper as helper
 use Rattle.deny_toml.specs.Value.{entries_in, table_with}
@@ -151,8 +150,3 @@ module _ (v : Value) (entries : Entries) (table : table_in v ≡ Some (table_wit
       subst (λ o. ReadsLicensing o read) (sym licensing_at)
       (reads (none_rest (optional_faults faults_of_config bans_name (value_at bans_name entries))
       (optional_faults faults_of_licenses licenses_name (value_at licenses_name entries)) (none_at none)))
-
-pub root_ascends : (v : Value) → IsStrictlySortedBy fault_cmp (faults_of_tree v)
-root_ascends v =
-    subst (IsStrictlySortedBy fault_cmp) (sym (of_root v))
-    (in_order_ascends (faults_at (below_name bans_name v) (below_name licenses_name v)))

@@ -1,15 +1,56 @@
-use Rattle.std.proofs.Common.{List, ◌++◌, ◌-◌, ap, length, subst, sym, ◌∙◌}
+use Rattle.std.proofs.Common.{List, ◌++◌, ◌-◌, ap, arith, length, subst, sym, ◌∙◌}
+use Rattle.std.proofs.lemmas.List.{length-append}
 use Rattle.deny_base.specs.declared.finding.Diagnostic.{Diagnostic}
 use Rattle.deny_cfg.specs.Clashes.{AreClashes}
 use Rattle.deny_cfg.specs.Deprecated.{AreTold, warnings_of}
+use Rattle.deny_cfg.specs.PolicyText.{AddsOnError, IsNoPolicy, ListsFaults}
 use Rattle.deny_cfg.specs.Valid.{IsValidOf}
 use Rattle.deny_cfg.specs.Validating.{source_in}
+use Rattle.deny_cfg.specs.declared.policy.PolicyError.TheVariants as error
+use Rattle.deny_cfg.proofs.AddedLaws.{handed_on, memory_adds}
 use Rattle.deny_cfg.proofs.BuiltLaws.{globs_asked, older_key_lies}
 use Rattle.deny_cfg.proofs.LabelValid.{valid_are_labels}
 use Rattle.deny_cfg.proofs.LawfulLaws.{lawful, lawful_licences}
-use Rattle.deny_cfg.proofs.PolicyLaws.{first_left, gained, none_before, none_told}
+use Rattle.deny_cfg.proofs.PolicyLaws.{first_left, gained, no_policy_of, none_added, none_before, none_told}
 use Rattle.deny_cfg.proofs.ToldLaws.{told_lie}
 use Rattle.deny_cfg.proofs.policy.policy_of.Goals as goal
+
+pub returns-in_err-tables-clause-cause : goal.returns-in_err-tables-clause-cause
+returns-in_err-tables-clause-cause c =
+    let e = c.in_err-tables.field-0.0 in
+    handed_on c.from_residual.result e (IsNoPolicy c.args.text.now c.args.file) c.from_residual.ensures.1
+    (no_policy_of c.args.text.now c.args.file e c.in_err-tables.ensures.faults)
+
+pub returns-in_err-tables-clause-files_too : goal.returns-in_err-tables-clause-files_too
+returns-in_err-tables-clause-files_too c =
+    let e = c.in_err-tables.field-0.0 in
+    let files = c.args.files.now in
+    handed_on c.from_residual.result e (λ f. AddsOnError f c.args.text.now files files) c.from_residual.ensures.1
+    (none_added e (ListsFaults c.args.text.now) c.args.text.now files c.in_err-tables.ensures.faults)
+
+pub returns-in_err-bans-clause-files_too : goal.returns-in_err-bans-clause-files_too
+returns-in_err-bans-clause-files_too c =
+    let files = c.args.files.now in
+    handed_on c.from_residual-in_err-bans.result error.Memory (λ f. AddsOnError f c.args.text.now files _)
+    c.from_residual-in_err-bans.ensures.1
+    (memory_adds c.args.text.now c.in_ok-tables.tables.bans c.in_ok-tables.tables.licenses files _
+    c.in_ok-tables.ensures.says c.in_err-bans.ensures.files_too)
+
+pub overflow_sub-clashes : goal.overflow_sub-clashes
+overflow_sub-clashes c =
+    let file = c.args.file in
+    let config = c.in_ok-tables.tables.bans in
+    let source = source_in c.args.files.now file in
+    let all = c.validate.new.ctx.1.1.1.0 in
+    let told = gained (AreTold source config file) c.new-told.result all c.new-told.ensures c.in_ok-bans.ensures.told in
+    let warnings = warnings_of file config in
+    omega (
+      arith,
+      c.len-else-len-warnings.ensures,
+      ap length told.is,
+      length-append told.clashes warnings,
+      c.warnings_len-warnings.ensures file,
+    )
 
 pub returns-then-len-warnings-clause-policy : goal.returns-then-len-warnings-clause-policy
 returns-then-len-warnings-clause-policy c =
@@ -88,3 +129,11 @@ returns-else-len-warnings-clause-cause c =
           told_lie c.args.text.now config file c.first_told.result c.utf8.text c.in_ok-tables.ensures.labels
           c.in_ok-tables.ensures.lists are;
     }
+
+pub returns-else-len-warnings-clause-files_too : goal.returns-else-len-warnings-clause-files_too
+returns-else-len-warnings-clause-files_too c = record {
+  config = c.in_ok-tables.tables.bans;
+  licensing = c.in_ok-tables.tables.licenses;
+  says = c.in_ok-tables.ensures.says;
+  is = c.in_ok-bans.ensures.files;
+}
