@@ -3,8 +3,9 @@ use Rattle.deny_entries.specs.Table.{ReadAt, ReadsOr, ReadsTable, optional, stat
 use Rattle.deny_entries.specs.declared.policy_key.PolicyKey.TheVariants as key
 use Rattle.deny_entries.proofs.RowLaws.{◌▷◌, all_read, read_rows}
 use Rattle.deny_tables.specs.Apart.{licenses-apart}
-use Rattle.deny_tables.specs.Licenses.{ReadsPrivate, faults_of_private, licenses_rows}
+use Rattle.deny_tables.specs.Licenses.{ReadsPrivate, faults_of_private, licenses_fields, licenses_rows}
 use Rattle.deny_tables.specs.declared.licenses.private.Private.{Private}
+use Rattle.deny_tables.proofs.Chain.{◌▸◌, ended, ends}
 use Rattle.deny_tables.proofs.licenses.config.ConfigKeyed.read_keys.Goals as goal
 
 pub returns-clause-read : goal.returns-clause-read
@@ -20,3 +21,14 @@ returns-clause-read c =
     ▷ (c.in_ok-include_dev.ensures.next, c.in_ok-include_dev.ensures.read)
     ▷ (c.in_ok-unused_allowed.ensures.next, c.in_ok-unused_allowed.ensures.read)
     ▷ all_read)
+
+pub returns-clause-next : goal.returns-clause-next
+returns-clause-next c = ends licenses_fields (state_of c.args.helper.now) _ (
+    c.pass_unread.ensures
+    ▸ c.pass_unread-2.ensures
+    ▸ c.in_ok-allow.ensures.next
+    ▸ c.in_ok-exceptions.ensures.next
+    ▸ c.in_ok-private.ensures.next
+    ▸ c.in_ok-include_dev.ensures.next
+    ▸ c.in_ok-unused_allowed.ensures.next
+    ▸ ended)

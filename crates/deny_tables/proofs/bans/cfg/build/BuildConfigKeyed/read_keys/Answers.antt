@@ -1,7 +1,8 @@
 use Rattle.deny_entries.specs.Table.{state_of}
 use Rattle.deny_entries.proofs.RowLaws.{◌▷◌, all_read, read_rows}
 use Rattle.deny_tables.specs.Apart.{build-apart}
-use Rattle.deny_tables.specs.Build.{build_rows}
+use Rattle.deny_tables.specs.Build.{build_fields, build_rows}
+use Rattle.deny_tables.proofs.Chain.{◌▸◌, ended, ends}
 use Rattle.deny_tables.proofs.bans.cfg.build.BuildConfigKeyed.read_keys.Goals as goal
 
 pub returns-clause-read : goal.returns-clause-read
@@ -16,3 +17,16 @@ returns-clause-read c = read_rows build_rows build-apart (state_of c.args.helper
     ▷ (c.in_ok-include_workspace.ensures.next, c.in_ok-include_workspace.ensures.read)
     ▷ (c.in_ok-include_archives.ensures.next, c.in_ok-include_archives.ensures.read)
     ▷ all_read)
+
+pub returns-clause-next : goal.returns-clause-next
+returns-clause-next c = ends build_fields (state_of c.args.helper.now) _ (
+    c.in_ok-allow_build_scripts.ensures.next
+    ▸ c.in_ok-executables.ensures.next
+    ▸ c.in_ok-interpreted.ensures.next
+    ▸ c.in_ok-script_extensions.ensures.next
+    ▸ c.in_ok-bypass.ensures.next
+    ▸ c.in_ok-enable_builtin_globs.ensures.next
+    ▸ c.in_ok-include_dependencies.ensures.next
+    ▸ c.in_ok-include_workspace.ensures.next
+    ▸ c.in_ok-include_archives.ensures.next
+    ▸ ended)

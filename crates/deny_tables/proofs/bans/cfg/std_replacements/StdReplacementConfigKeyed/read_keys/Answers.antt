@@ -1,7 +1,8 @@
 use Rattle.deny_entries.specs.Table.{state_of}
 use Rattle.deny_entries.proofs.RowLaws.{◌▷◌, all_read, read_rows}
 use Rattle.deny_tables.specs.Apart.{std-apart}
-use Rattle.deny_tables.specs.StdReplacements.{std_rows}
+use Rattle.deny_tables.specs.StdReplacements.{std_fields, std_rows}
+use Rattle.deny_tables.proofs.Chain.{◌▸◌, ended, ends}
 use Rattle.deny_tables.proofs.bans.cfg.std_replacements.StdReplacementConfigKeyed.read_keys.Goals as goal
 
 pub returns-clause-read : goal.returns-clause-read
@@ -12,3 +13,12 @@ returns-clause-read c = read_rows std_rows std-apart (state_of c.args.helper.now
     ▷ (c.in_ok-ignore.ensures.next, c.in_ok-ignore.ensures.read)
     ▷ (c.in_ok-ignore_rust_version.ensures.next, c.in_ok-ignore_rust_version.ensures.read)
     ▷ all_read)
+
+pub returns-clause-next : goal.returns-clause-next
+returns-clause-next c = ends std_fields (state_of c.args.helper.now) _ (
+    c.in_ok-scope.ensures.next
+    ▸ c.in_ok-level.ensures.next
+    ▸ c.in_ok-rust_version.ensures.next
+    ▸ c.in_ok-ignore.ensures.next
+    ▸ c.in_ok-ignore_rust_version.ensures.next
+    ▸ ended)
