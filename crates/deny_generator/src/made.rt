@@ -21,8 +21,7 @@ pub fn push_name(alloc: Global, text: &mut Text, number: u32) -> Result<(), NoMe
     ensures { OnOk result (text.new ≡ text.old ++ name_of number) }
 {
     let name = format!(in alloc; "c{number}")?;
-    text.push_str(name.as_str())?;
-    Ok(())
+    text.push_str(name.as_str())
 }
 
 /// The same by the number of a crate: two crates share a name.
@@ -30,8 +29,7 @@ pub fn push_name(alloc: Global, text: &mut Text, number: u32) -> Result<(), NoMe
 pub fn push_name_at(alloc: Global, text: &mut Text, number: u32) -> Result<(), NoMemory>
     ensures { OnOk result (text.new ≡ text.old ++ name_at number) }
 {
-    push_name(alloc, text, number / 2)?;
-    Ok(())
+    push_name(alloc, text, number / 2)
 }
 
 /// The version of a crate.
@@ -51,8 +49,7 @@ pub fn push_id_at(alloc: Global, text: &mut Text, number: u32) -> Result<(), NoM
     text.push_str("#")?;
     push_name_at(alloc, text, number)?;
     text.push_str("@")?;
-    text.push_str(version_at(number))?;
-    Ok(())
+    text.push_str(version_at(number))
 }
 
 /// What divides an element of a list from the one before it.

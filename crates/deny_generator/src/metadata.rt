@@ -18,8 +18,7 @@ fn push_declaration(alloc: Global, text: &mut Text, number: u32) -> Result<(), N
     push_name_at(alloc, text, number)?;
     text.push_str("\",\"req\":\"")?;
     text.push_str(version_at(number))?;
-    text.push_str("\"}")?;
-    Ok(())
+    text.push_str("\"}")
 }
 
 #[tactic(auto, unfolding(crate::specs::MetadataText::naming_text))]
@@ -31,8 +30,7 @@ fn push_naming(alloc: Global, text: &mut Text, number: u32) -> Result<(), NoMemo
     text.push_str("\",\"version\":\"")?;
     text.push_str(version_at(number))?;
     text.push_str("\",\"id\":\"")?;
-    push_id_at(alloc, text, number)?;
-    Ok(())
+    push_id_at(alloc, text, number)
 }
 
 #[tactic(auto, unfolding(crate::specs::MetadataText::member_text))]
@@ -56,8 +54,7 @@ fn push_path(alloc: Global, text: &mut Text, number: u32) -> Result<(), NoMemory
     push_name_at(alloc, text, number)?;
     text.push_str("-")?;
     text.push_str(version_at(number))?;
-    text.push_str("/Cargo.toml")?;
-    Ok(())
+    text.push_str("/Cargo.toml")
 }
 
 fn push_placing(alloc: Global, text: &mut Text, number: u32) -> Result<(), NoMemory>
@@ -67,8 +64,7 @@ fn push_placing(alloc: Global, text: &mut Text, number: u32) -> Result<(), NoMem
     text.push_str(registry())?;
     text.push_str("\",\"manifest_path\":\"")?;
     push_path(alloc, text, number)?;
-    text.push_str("\"}")?;
-    Ok(())
+    text.push_str("\"}")
 }
 
 #[tactic(auto, unfolding(crate::specs::MetadataText::package_text))]
@@ -76,8 +72,7 @@ fn push_package(alloc: Global, text: &mut Text, number: u32) -> Result<(), NoMem
     ensures { OnOk result (text.new ≡ text.old ++ package_text number) }
 {
     push_naming(alloc, text, number)?;
-    push_placing(alloc, text, number)?;
-    Ok(())
+    push_placing(alloc, text, number)
 }
 
 #[tactic(auto, unfolding(crate::specs::MetadataText::dep_text))]
@@ -87,8 +82,7 @@ fn push_dep(alloc: Global, text: &mut Text, number: u32) -> Result<(), NoMemory>
     text.push_str(divided(number, ","))?;
     text.push_str("{\"pkg\":\"")?;
     push_id_at(alloc, text, number)?;
-    text.push_str("\"}")?;
-    Ok(())
+    text.push_str("\"}")
 }
 
 #[tactic(auto, unfolding(crate::specs::MetadataText::node_text))]
@@ -97,8 +91,7 @@ fn push_node(alloc: Global, text: &mut Text, number: u32) -> Result<(), NoMemory
 {
     text.push_str(",{\"id\":\"")?;
     push_id_at(alloc, text, number)?;
-    text.push_str("\"}")?;
-    Ok(())
+    text.push_str("\"}")
 }
 
 fn push_declarations(alloc: Global, text: &mut Text, numbers: &[u32]) -> Result<(), NoMemory>
@@ -144,8 +137,7 @@ fn push_all_packages(alloc: Global, text: &mut Text, numbers: &[u32]) -> Result<
     text.push_str(",\"dependencies\":[")?;
     push_declarations(alloc, text, numbers)?;
     text.push_str("]}")?;
-    push_packages(alloc, text, numbers)?;
-    Ok(())
+    push_packages(alloc, text, numbers)
 }
 
 #[tactic(auto, unfolding(crate::specs::MetadataText::nodes_text))]
@@ -155,8 +147,7 @@ fn push_all_nodes(alloc: Global, text: &mut Text, numbers: &[u32]) -> Result<(),
     text.push_str("{\"id\":\"app\",\"deps\":[")?;
     push_deps(alloc, text, numbers)?;
     text.push_str("]}")?;
-    push_nodes(alloc, text, numbers)?;
-    Ok(())
+    push_nodes(alloc, text, numbers)
 }
 
 /// The metadata of so many crates, on each of which the one member depends.

@@ -17,8 +17,7 @@ fn push_skip(alloc: Global, text: &mut Text, number: u32) -> Result<(), NoMemory
     text.push_str(divided(number, ", "))?;
     text.push_str("\"")?;
     push_name(alloc, text, number)?;
-    text.push_str("@=1.0.0\"")?;
-    Ok(())
+    text.push_str("@=1.0.0\"")
 }
 
 fn push_skips(alloc: Global, text: &mut Text, numbers: &[u32]) -> Result<(), NoMemory>
