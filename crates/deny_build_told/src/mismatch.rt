@@ -1,5 +1,5 @@
 //! What is told of the checksums of build scripts and of files.
-ghost use Rattle.std.specs.Prelude.{◌≡◌, ◌++◌, IfOk, Some, codes, option_map, if◌then◌else◌};
+ghost use Rattle.std.specs.Prelude.{◌≡◌, ◌++◌, ◌∷◌, [], IfOk, Some, codes, option_map, if◌then◌else◌};
 ghost use Rattle.deny_base.specs.declared.level.Severity.TheVariants as severity;
 ghost use Rattle.deny_build_cfg.specs.BuildingView.{building_view};
 ghost use Rattle.deny_build_model.specs.Unseen.{package_at};
@@ -9,7 +9,8 @@ ghost use Rattle.deny_build_told.specs.private.Found.{found_or_unasked, script_e
 ghost use Rattle.deny_codes.specs.BuildScripts.{script_found};
 ghost use Rattle.deny_codes.specs.PackagesTold.{checksum_match_told, checksum_mismatch_told};
 ghost use Rattle.deny_codes.specs.PackagesTold.{file_of_key, found_of_file};
-ghost use Rattle.deny_codes.specs.PackagesTold.{mismatch_text, package_of_key, script_failed, told_of_build};
+ghost use Rattle.deny_codes.specs.PackagesTold.{mismatch_text, package_of_key, path_note, quoted};
+ghost use Rattle.deny_codes.specs.PackagesTold.{script_failed, told_of_build};
 ghost use Rattle.deny_told.specs.Told.{told_from};
 ghost use Rattle.hex.specs.Hex.{encode_lower};
 
@@ -22,7 +23,7 @@ use deny_build_cfg::ValidBuildConfig;
 use deny_build_model::{Found, Package};
 use deny_cfg::bans::cfg::Checksum;
 use deny_codes::Words;
-use deny_lists::{NoMemory, Text};
+use deny_lists::{List, NoMemory, Text};
 use deny_told::{ByRange, Told, lone_label, not_built};
 use std::alloc::Global;
 
@@ -70,11 +71,9 @@ fn mismatch_told(
     ensures { IfOk result (λ words. words
         ≡ checksum_mismatch_told (building_view build.now) (told_from told.now) key.now) }
 {
-    let labels = lone_label(alloc, told.cfg.file_id, key.entry, "expected checksum")?;
     let is_script = is_script_sum(told, build, sums, key.entry);
-    let error = mismatch_error(alloc, told, is_script, at, key)?;
-    let mut notes = path_notes(alloc, key)?;
-    notes.push(quoted(alloc, "error", error.as_str())?)?;
+    let notes = mismatch_notes(alloc, told, is_script, at, key)?;
+    let labels = lone_label(alloc, told.cfg.file_id, key.entry, "expected checksum")?;
     let severity = mismatch_severity(is_script);
     let message = "file did not match the expected checksum";
     with_notes(alloc, told, key, severity, message, labels, notes)
@@ -88,6 +87,26 @@ fn mismatch_severity(is_script: bool) -> Severity
     } else {
         Severity::Error
     }
+}
+
+// The path, and why what is there has another checksum than is expected.
+fn mismatch_notes(
+    alloc: Global,
+    told: &Told<'_>,
+    is_script: bool,
+    at: &AtHand<'_>,
+    key: &Key,
+) -> Result<List<Text>, NoMemory>
+    requires { IsAtHand told.now.packages.now key.now.place at.now }
+    ensures { IfOk result (λ notes. let c = told_from told.now in notes
+        ≡ path_note key.now ∷ quoted (codes "error")
+        (if is_script then script_error (script_found (package_of_key c key.now))
+        else mismatch_text (found_of_file (file_of_key c key.now))) ∷ []) }
+{
+    let error = mismatch_error(alloc, told, is_script, at, key)?;
+    let mut notes = path_notes(alloc, key)?;
+    notes.push(quoted(alloc, "error", error.as_str())?)?;
+    Ok(notes)
 }
 
 // Why a build script, or a file, has another checksum than is expected.
