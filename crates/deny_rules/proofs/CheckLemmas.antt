@@ -16,12 +16,9 @@ use Rattle.deny_base.specs.declared.code.DiagnosticCode.TheVariants.{Bans}
 use Rattle.deny_base.specs.declared.entry.Hit.{Hit}
 use Rattle.deny_base.specs.declared.finding.Pack.{Pack}
 use Rattle.deny_base.specs.declared.key.Key.{Key}
-use Rattle.deny_model.specs.Hits.{all_hits}
 use Rattle.deny_model.specs.Policy.{Replacing}
 use Rattle.deny_codes.specs.Circumstances.{Circumstances, tabled}
 use Rattle.deny_codes.specs.Facts.{Facts}
-use Rattle.deny_codes.specs.Hits.{hits_in}
-use Rattle.deny_codes.specs.Packages.{bypass_hits_in}
 use Rattle.deny_codes.specs.Saying.{said_by}
 use Rattle.deny_codes.specs.StdReplacements.{ignore_hits, ignore_hits_in}
 use Rattle.deny_codes.specs.Told.{pack_told}
@@ -99,14 +96,10 @@ module _ (c : Circumstances) (table : List ℕ) (rules : List Key) (here : AreTo
   )
 
 -- hits one after the other
-pub hits_then : (c : Circumstances) (facts : Facts) (one two all : List Hit)
-    → one ≡ all_hits c.policy c.graph facts.chains → two ≡ one ++ ignore_hits_in c
-    → all ≡ two ++ bypass_hits_in c facts → all ≡ hits_in c facts
-hits_then c facts one two all first second third =
-    third
-    ∙ (ap (λ (hits : List Hit). hits ++ bypass_hits_in c facts)
-    (second ∙ ap (λ (hits : List Hit). hits ++ ignore_hits_in c) first)
-    ∙ append_assoc (all_hits c.policy c.graph facts.chains) (ignore_hits_in c) (bypass_hits_in c facts))
+pub hits_then : (one two three mid all : List Hit) → mid ≡ one ++ two → all ≡ mid ++ three
+    → all ≡ one ++ (two ++ three)
+hits_then one two three mid all second third =
+    third ∙ (ap (λ (hits : List Hit). hits ++ three) second ∙ append_assoc one two three)
 
 -- ---- what was found
 

@@ -1,20 +1,25 @@
 //! The bans check.
-ghost use Rattle.std.specs.Prelude.{◌≡◌, IfOk, None, OnErr, option_copied};
+ghost use Rattle.std.specs.Prelude.{◌≡◌, ◌++◌, IfOk, None, OnErr, option_copied};
 ghost use Rattle.deny_cfg.specs.PolicyView.{AreGlobsRead, building_of, policy_view};
 ghost use Rattle.deny_lists.specs.Ascending.{Lists};
 ghost use Rattle.deny_outside.specs.Disk.{IsLater};
 ghost use Rattle.deny_base.specs.KeyOrder.{key_cmp};
+ghost use Rattle.deny_codes.specs.Circumstances.{Circumstances};
+ghost use Rattle.deny_codes.specs.Saying.{said_by};
+ghost use Rattle.deny_codes.specs.StdReplacements.{ignore_hits_in};
 ghost use Rattle.deny_facts.specs.Marks.{facts_of};
 ghost use Rattle.deny_manifest_rules.specs.Uses.{AreUses};
 ghost use Rattle.deny_model.specs.Facts.{AreFacts};
+ghost use Rattle.deny_model.specs.Hits.{all_hits};
 ghost use Rattle.deny_spans.specs.SpansView.{AreSpansOf, spans_view};
 ghost use Rattle.deny_packages.specs.Why.{AreFoldersOf};
 ghost use Rattle.deny_told.specs.Told.{told_by};
 ghost use Rattle.deny_unread.specs.Bound.{Folders};
 ghost use Rattle.deny_unread.specs.Causes.{AreCaused};
 ghost use Rattle.deny_rules.specs.Check.{IsCheckOf, IsTableThere, TellsPrefixOf};
-ghost use Rattle.deny_rules.specs.private.OfPackages.{facts_by};
+ghost use Rattle.deny_rules.specs.private.OfPackages.{bypass_hits_by, facts_by};
 ghost use Rattle.deny_rules.specs.private.OwnRules.{IsByRule};
+ghost use Rattle.deny_rules.specs.private.Replaced.{IsFoundBy};
 
 use crate::packages::{Looked, add_bypass_hits, add_package_keys, looked_at};
 use crate::replaced::{add_ignore_hits, replacements_in, tell_replaced};
@@ -29,6 +34,7 @@ use deny_lists::{List, NoMemory, put_in_order};
 use deny_manifest_rules::{Uses, add_manifest_keys, uses_of};
 use deny_outside::PackageFiles;
 use deny_spans::KrateSpans;
+use deny_std::Replacements;
 use deny_telling::tell_all;
 use deny_unread::Unread;
 use std::alloc::Global;
@@ -85,6 +91,25 @@ fn keys_of(
     add_package_keys(alloc, cfg, krates, looked, &mut keys)?;
     put_in_order(&mut keys)?;
     Ok(keys)
+}
+
+/// The hits of the entries for crates, of those that pass replaced crates over, and of those that let
+/// packages pass.
+fn hits_found(
+    alloc: Global,
+    found: &Matches<'_>,
+    replaced: &Option<Replacements<'_>>,
+    looked: &Looked,
+) -> Result<List<Hit>, NoMemory>
+    ensures { IfOk result (λ hits. (c : Circumstances) → IsFoundBy c.policy c.graph (said_by c.table) replaced.now
+        → hits ≡ all_hits (policy_view found.now.cfg.now) found.now.krates.now (facts_of found.now.marks)
+        ++ (ignore_hits_in c ++ bypass_hits_by (building_of found.now.cfg.now) found.now.krates.now
+        looked.now.reached.items looked.now.packages)) }
+{
+    let mut hits = hits_of(alloc, found)?;
+    add_ignore_hits(replaced, &mut hits)?;
+    add_bypass_hits(alloc, found.cfg, found.krates, looked, &mut hits)?;
+    Ok(hits)
 }
 
 /// Appends the findings of the rules on crates, on their features, on what manifests write and on
@@ -154,9 +179,7 @@ fn check_found<D: PackageFiles>(
     let uses = uses_of(alloc, cfg, krates, spans)?;
     let keys = keys_of(alloc, found, spans, &uses, &looked)?;
     let replaced = replacements_in(alloc, cfg, krates, table)?;
-    let mut hits = hits_of(alloc, found)?;
-    add_ignore_hits(&replaced, &mut hits)?;
-    add_bypass_hits(alloc, cfg, krates, &looked, &mut hits)?;
+    let hits = hits_found(alloc, found, &replaced, &looked)?;
     let rules = keys.as_slice();
     let packages = looked.packages.as_slice();
     let dup_edges = dup_edges_of(alloc, cfg, krates, rules)?;

@@ -12,7 +12,7 @@ use Rattle.deny_telling.specs.Here.{AreToldHere}
 use Rattle.deny_telling.specs.Telling.{AreStanding, TellsPrefix}
 use Rattle.deny_told.specs.Told.{told_by}
 use Rattle.deny_rules.specs.private.OfPackages.{facts_by}
-use Rattle.deny_rules.proofs.CheckLemmas.{both_told, first_cut, found_of, hits_then, same_duplicates, second_cut}
+use Rattle.deny_rules.proofs.CheckLemmas.{both_told, first_cut, found_of, same_duplicates, second_cut}
 use Rattle.deny_rules.proofs.CheckLemmas.{standing_by_rules, told_by_rules}
 use Rattle.deny_rules.proofs.OwnRuleLemmas.{lists_own}
 use Rattle.deny_rules.proofs.StdLemmas.{std_ordered}
@@ -68,8 +68,7 @@ returns-clause-checked g c =
             ∙ (ap (λ (ps : List Package). c.args.sink.now ++ map (pack_told (told_by found.cfg.now found.krates.now
             spans ps)) c.as_slice-rules.result.now) c.as_slice-packages.ensures
             ∙ ap (λ (ks : List Key). c.args.sink.now ++ map (pack_told seen) ks) c.as_slice-rules.ensures)) std.told;
-        hits = hits_then d facts _ _ _ c.in_ok-hits.ensures (c.in_ok-add_ignore_hits.ensures d c.in_ok-replaced.ensures)
-            c.in_ok-add_bypass_hits.ensures;
+        hits = c.in_ok-hits.ensures d c.in_ok-replaced.ensures;
         dup_edges = subst (λ (ks : List Key). ShowsEach d.policy d.graph ks c.in_ok-dup_edges.dup_edges)
             (ap (filter is_of_duplicate) c.as_slice-rules.ensures ∙ same_duplicates d rules std.keys std.listed)
             c.in_ok-dup_edges.ensures;
