@@ -3,9 +3,11 @@ ghost use Rattle.std.specs.Prelude.{◌≡◌, IfOk};
 ghost use Rattle.serde_json.specs.View.{view};
 ghost use Rattle.deny_cli.specs.Dead.{dead_value, entry_word};
 
+use crate::told_value::told_value;
 use deny_base::{EntryId, EntryKind};
+use deny_lists::NoMemory;
 use serde_json::{Value, json};
-use std::alloc::{AllocError, Global};
+use std::alloc::Global;
 
 /// The word of a kind of entry.
 fn entry_word(kind: EntryKind) -> &'static str
@@ -25,12 +27,12 @@ fn entry_word(kind: EntryKind) -> &'static str
 }
 
 /// A dead entry as JSON.
-pub fn dead_value(alloc: Global, entry: EntryId) -> Result<Value, AllocError>
+pub fn dead_value(alloc: Global, entry: EntryId) -> Result<Value, NoMemory>
     ensures { IfOk result (λ value. view value ≡ dead_value entry) }
 {
     let kind = entry_word(entry.kind);
-    json!(in alloc; {
-        "fields": {"end": entry.range.end, "kind": kind, "start": entry.range.start},
-        "type": "dead",
-    })
+    let fields = json!(in alloc; {
+        "end": entry.range.end, "kind": kind, "start": entry.range.start,
+    })?;
+    told_value(alloc, "dead", fields)
 }

@@ -12,6 +12,7 @@ mod registries;
 mod status;
 mod stops;
 mod summary;
+mod told_value;
 mod unread;
 mod words;
 

@@ -10,6 +10,7 @@ ghost use Rattle.deny_json.specs.Reading.{IsPlain};
 
 use crate::dead::dead_value;
 use crate::outcome::bits;
+use crate::told_value::told_value;
 use crate::unread::{malformed_value, unread_value};
 use deny_base::{EntryId, Files};
 use deny_gate::{Finding, Report, Verdict};
@@ -19,7 +20,7 @@ use deny_lists::{NoMemory, Text};
 use deny_trees::InclusionGrapher;
 use deny_unread::Unread;
 use serde_json::{Value, json};
-use std::alloc::{AllocError, Global};
+use std::alloc::Global;
 
 /// The word of a verdict.
 pub fn verdict_word(verdict: Verdict) -> &'static str
@@ -32,15 +33,13 @@ pub fn verdict_word(verdict: Verdict) -> &'static str
 }
 
 /// A verdict as JSON.
-fn verdict_value(alloc: Global, verdict: Verdict) -> Result<Value, AllocError>
+fn verdict_value(alloc: Global, verdict: Verdict) -> Result<Value, NoMemory>
     ensures value { IfOk result (λ value. view value ≡ verdict_value verdict) }
     ensures fits { OnOk result (bits_of verdict < 2 ^ 64) }
 {
     let word = verdict_word(verdict);
-    json!(in alloc; {
-        "fields": {"bits": bits(verdict), "verdict": word},
-        "type": "verdict",
-    })
+    let fields = json!(in alloc; {"bits": bits(verdict), "verdict": word})?;
+    told_value(alloc, "verdict", fields)
 }
 
 /// The line of a finding, with its trees.

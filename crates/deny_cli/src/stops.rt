@@ -1,14 +1,16 @@
 //! The line that tells why a run stopped.
 ghost use Rattle.std.specs.Prelude.{◌≡◌, ◌<◌, ◌^◌, ◌∷◌, [], All, IfOk, IsUtf8, OnOk, codes, length, map};
+ghost use Rattle.serde_json.specs.Data.{member, number, unsigned};
 ghost use Rattle.serde_json.specs.View.{view};
 ghost use Rattle.deny_cfg.specs.PolicyText.{policy_file};
 ghost use Rattle.deny_json.specs.Diagnostics.{diagnostic_value, tells};
 ghost use Rattle.deny_json.specs.Reading.{AreJsonLines};
 ghost use Rattle.deny_cli.specs.Stops.{HasSpan, HasStopNumbers, IsTextOf, config_fields, fault_value, fault_detail};
 ghost use Rattle.deny_cli.specs.Stops.{fault_fields, fault_word, file_word, invalid_fields, kind_word};
-ghost use Rattle.deny_cli.specs.Stops.{memory_line, replacement_fields, stop_at_file, stop_line, stop_told};
+ghost use Rattle.deny_cli.specs.Stops.{memory_line, replacement_fields, stop_at_file, stop_line, stop_told, stop_word};
 
 use crate::outcome::Outcome;
+use crate::told_value::told_value;
 use deny_base::{Diagnostic, Files, Which};
 use deny_gate::GateError;
 use deny_json::{diagnostic_value, line};
@@ -30,12 +32,16 @@ fn file_word(which: Which) -> &'static str
 }
 
 /// A stop that a text is the cause of, as JSON.
-fn stop_at_file(alloc: Global, word: &str, which: Which) -> Result<Value, AllocError>
+fn stop_at_file(alloc: Global, word: &str, which: Which) -> Result<Value, NoMemory>
     ensures { IfOk result (λ value. view value
         ≡ tells (codes "stop") (stop_at_file word.now which)) }
 {
     let file = file_word(which);
-    json!(in alloc; {"fields": {"file": file, "stop": word}, "type": "stop"})
+    told_value(
+        alloc,
+        "stop",
+        json!(in alloc; {"file": file, "stop": word})?,
+    )
 }
 
 /// The word of a fault of the policy.
@@ -82,12 +88,16 @@ fn fault_values(alloc: Global, faults: &[ConfigFault]) -> Result<Vec<Value>, All
 }
 
 /// A stop that faults of the policy are the cause of, as JSON.
-fn config_value(alloc: Global, faults: &List<ConfigFault>) -> Result<Value, AllocError>
+fn config_value(alloc: Global, faults: &List<ConfigFault>) -> Result<Value, NoMemory>
     ensures value { IfOk result (λ value. view value ≡ tells (codes "stop") (config_fields faults.now)) }
     ensures fit { OnOk result (All HasSpan faults.now) }
 {
     let faults = fault_values(alloc, faults.as_slice())?;
-    json!(in alloc; {"fields": {"faults": faults, "stop": "config"}, "type": "stop"})
+    told_value(
+        alloc,
+        "stop",
+        json!(in alloc; {"faults": faults, "stop": "config"})?,
+    )
 }
 
 /// Diagnostics as JSON, in their order.
@@ -130,7 +140,11 @@ fn invalid_value(alloc: Global, policy: &[u8], told: &List<Diagnostic>) -> Resul
 {
     let files = policy_files(alloc, policy)?;
     let told = diagnostic_values(alloc, &files, told.as_slice())?;
-    Ok(json!(in alloc; {"fields": {"diagnostics": told, "stop": "invalid"}, "type": "stop"})?)
+    told_value(
+        alloc,
+        "stop",
+        json!(in alloc; {"diagnostics": told, "stop": "invalid"})?,
+    )
 }
 
 /// The word of a fault of the metadata.
@@ -172,25 +186,43 @@ fn fault_detail(fault: &MetadataFault) -> &str
 }
 
 /// A stop that a fault of the metadata is the cause of, as JSON.
-fn metadata_value(alloc: Global, fault: &MetadataFault) -> Result<Value, AllocError>
+fn metadata_value(alloc: Global, fault: &MetadataFault) -> Result<Value, NoMemory>
     ensures { IfOk result (λ value. view value
         ≡ tells (codes "stop") (fault_fields fault.now)) }
 {
     let detail = fault_detail(fault);
     let word = fault_word(fault);
-    json!(in alloc; {
-        "fields": {"detail": detail, "fault": word, "stop": "metadata"},
-        "type": "stop",
-    })
+    let fields = json!(in alloc; {"detail": detail, "fault": word, "stop": "metadata"})?;
+    told_value(alloc, "stop", fields)
 }
 
 /// A stop that a table of replacements is the cause of, as JSON: its first break, or 0 where there is
 /// none.
-fn replacement_value(alloc: Global, offset: usize) -> Result<Value, AllocError>
+fn replacement_value(alloc: Global, offset: usize) -> Result<Value, NoMemory>
     ensures value { IfOk result (λ value. view value ≡ tells (codes "stop") (replacement_fields offset)) }
     ensures fits { offset < 2 ^ 64 }
 {
-    json!(in alloc; {"fields": {"offset": offset, "stop": "replacement"}, "type": "stop"})
+    told_value(
+        alloc,
+        "stop",
+        json!(in alloc; {"offset": offset, "stop": "replacement"})?,
+    )
+}
+
+/// A stop that words are the cause of, as JSON: the place of the one that is not accepted.
+fn usage_value(alloc: Global, at: usize) -> Result<Value, NoMemory>
+    ensures value { IfOk result (λ value. view value ≡ tells (codes "stop")
+        (member (codes "at") (number (unsigned at)) (stop_word (codes "usage")))) }
+    ensures fits { at < 2 ^ 64 }
+{
+    told_value(alloc, "stop", json!(in alloc; {"at": at, "stop": "usage"})?)
+}
+
+/// A stop that the output is the cause of, as JSON.
+fn write_value(alloc: Global) -> Result<Value, NoMemory>
+    ensures { IfOk result (λ value. view value ≡ tells (codes "stop") (stop_word (codes "write"))) }
+{
+    told_value(alloc, "stop", json!(in alloc; {"stop": "write"})?)
 }
 
 /// Why a run stopped, as JSON. There is none of want of memory, which has a line of its own, and
@@ -201,16 +233,14 @@ fn stop_value(alloc: Global, outcome: &Outcome, policy: &[u8]) -> Result<Value, 
     ensures fit { OnOk result (HasStopNumbers outcome.now) }
 {
     match outcome {
-        Outcome::Usage(at) => {
-            Ok(json!(in alloc; {"fields": {"at": *at, "stop": "usage"}, "type": "stop"})?)
-        }
-        Outcome::Read(which) => Ok(stop_at_file(alloc, "read", *which)?),
-        Outcome::Long(which) => Ok(stop_at_file(alloc, "long", *which)?),
-        Outcome::Gate(GateError::Config(faults)) => Ok(config_value(alloc, faults)?),
-        Outcome::Gate(GateError::Invalid(told)) => Ok(invalid_value(alloc, policy, told)?),
-        Outcome::Gate(GateError::Metadata(fault)) => Ok(metadata_value(alloc, fault)?),
-        Outcome::Gate(GateError::Replacement(at)) => Ok(replacement_value(alloc, *at)?),
-        Outcome::Write(_) => Ok(json!(in alloc; {"fields": {"stop": "write"}, "type": "stop"})?),
+        Outcome::Usage(at) => usage_value(alloc, *at),
+        Outcome::Read(which) => stop_at_file(alloc, "read", *which),
+        Outcome::Long(which) => stop_at_file(alloc, "long", *which),
+        Outcome::Gate(GateError::Config(faults)) => config_value(alloc, faults),
+        Outcome::Gate(GateError::Invalid(told)) => invalid_value(alloc, policy, told),
+        Outcome::Gate(GateError::Metadata(fault)) => metadata_value(alloc, fault),
+        Outcome::Gate(GateError::Replacement(at)) => replacement_value(alloc, *at),
+        Outcome::Write(_) => write_value(alloc),
         Outcome::Done(_) | Outcome::Gate(GateError::Memory) | Outcome::Memory => Err(NoMemory),
     }
 }

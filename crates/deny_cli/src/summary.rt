@@ -8,6 +8,7 @@ ghost use Rattle.deny_cli.specs.Told.{answer_told};
 ghost use Rattle.deny_json.specs.Reading.{IsPlain};
 
 use crate::lines::{lines, verdict_word};
+use crate::told_value::told_value;
 use crate::words::Command;
 use deny_base::Severity;
 use deny_gate::{Finding, Report};
@@ -15,7 +16,7 @@ use deny_json::line;
 use deny_krates::Krates;
 use deny_lists::{NoMemory, Text};
 use serde_json::{Value, json};
-use std::alloc::{AllocError, Global};
+use std::alloc::Global;
 
 /// Whether a finding has severity error.
 #[tactic(auto, unfolding(deny_gate::specs::Report::has_error))]
@@ -49,7 +50,7 @@ fn crate_count(krates: &Krates) -> usize
 
 /// A report on so many crates that were made, as JSON.
 #[tactic(auto, using(crate::proofs::ToldLemmas::summary_plain))]
-fn report_summary(alloc: Global, made: u32, report: &Report) -> Result<Value, AllocError>
+fn report_summary(alloc: Global, made: u32, report: &Report) -> Result<Value, NoMemory>
     ensures value { IfOk result (λ value. view value ≡ report_summary made report.now) }
     ensures plain { OnOk result (IsPlain (report_summary made report.now)) }
 {
@@ -57,10 +58,10 @@ fn report_summary(alloc: Global, made: u32, report: &Report) -> Result<Value, Al
     let dead = report.dead.len();
     let errors = error_count(report.findings.as_slice());
     let word = verdict_word(report.verdict);
-    json!(in alloc; {
-        "fields": {"crates": crates, "dead": dead, "errors": errors, "generated": made, "verdict": word},
-        "type": "summary",
-    })
+    let fields = json!(in alloc; {
+        "crates": crates, "dead": dead, "errors": errors, "generated": made, "verdict": word,
+    })?;
+    told_value(alloc, "summary", fields)
 }
 
 /// The line of a report on so many crates that were made.

@@ -4,8 +4,10 @@ ghost use Rattle.std.specs.Option.{option_copied};
 ghost use Rattle.serde_json.specs.View.{view};
 ghost use Rattle.deny_cli.specs.Unread.{malformed_value, purpose_word, unread_value, wanted_for};
 
+use crate::told_value::told_value;
 use deny_base::Kid;
 use deny_krates::Krates;
+use deny_lists::NoMemory;
 use deny_unread::{Purpose, Unread};
 use serde_json::{Value, json};
 use std::alloc::{AllocError, Global};
@@ -37,21 +39,19 @@ fn wanted_for(alloc: Global, krates: &Krates, krate: Option<&Kid>) -> Result<Val
 }
 
 /// What could not be read as JSON.
-pub fn unread_value(alloc: Global, krates: &Krates, entry: &Unread) -> Result<Value, AllocError>
+pub fn unread_value(alloc: Global, krates: &Krates, entry: &Unread) -> Result<Value, NoMemory>
     ensures { IfOk result (λ value. view value ≡ unread_value krates.now entry.now) }
 {
     let krate = wanted_for(alloc, krates, entry.krate.as_ref())?;
     let path = entry.path.as_str();
     let purpose = purpose_word(entry.purpose);
-    json!(in alloc; {
-        "fields": {"crate": krate, "path": path, "purpose": purpose},
-        "type": "unread",
-    })
+    let fields = json!(in alloc; {"crate": krate, "path": path, "purpose": purpose})?;
+    told_value(alloc, "unread", fields)
 }
 
 /// The path of a malformed manifest as JSON.
-pub fn malformed_value(alloc: Global, path: &str) -> Result<Value, AllocError>
+pub fn malformed_value(alloc: Global, path: &str) -> Result<Value, NoMemory>
     ensures { IfOk result (λ value. view value ≡ malformed_value path.now) }
 {
-    json!(in alloc; {"fields": {"path": path}, "type": "malformed"})
+    told_value(alloc, "malformed", json!(in alloc; {"path": path})?)
 }
