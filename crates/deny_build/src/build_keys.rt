@@ -2,6 +2,7 @@
 ghost use Rattle.std.specs.Prelude.{◌≡◌, ◌++◌, Contains, OnOk};
 ghost use Rattle.std.specs.List.{flat_map};
 ghost use Rattle.deny_build_cfg.specs.BuildingView.{bypass_view};
+ghost use Rattle.deny_build_model.specs.Unseen.{unseen_package};
 ghost use Rattle.deny_codes.specs.Packages.{build_keys, is_used, package_keys, unmatched_bypass_keys};
 ghost use Rattle.deny_lists.specs.Ascending.{Adds};
 ghost use Rattle.deny_build.specs.LookingOf.{looking_of};
@@ -19,6 +20,7 @@ use crate::script_keys::{add_denied_script_keys, add_script_keys};
 use crate::users::{Users, has_user, users_of};
 use deny_base::{Code, Key};
 use deny_build_cfg::ValidBypass;
+use deny_build_model::Package;
 use deny_lists::{List, NoMemory, TextMap};
 use std::alloc::Global;
 
@@ -95,7 +97,20 @@ pub fn add_build_keys(
     ensures { OnOk result (Adds (Contains (build_keys (looking_of ctx.now))) keys.old keys.new) }
 {
     let unseen = unseen_package(alloc);
-    let all = look_at_each(alloc, ctx, &unseen)?;
+    add_keys_of_all(alloc, ctx, &unseen, keys)
+}
+
+/// The same; `unseen` is what was seen of a package of which there is nothing.
+fn add_keys_of_all<'a>(
+    alloc: Global,
+    ctx: &'a BuildCtx<'a>,
+    unseen: &'a Package,
+    keys: &mut List<Key>,
+) -> Result<(), NoMemory>
+    requires { unseen.now ≡ unseen_package }
+    ensures { OnOk result (Adds (Contains (build_keys (looking_of ctx.now))) keys.old keys.new) }
+{
+    let all = look_at_each(alloc, ctx, unseen)?;
     add_keys_of_each(alloc, ctx, all.as_slice(), keys)?;
     let users = users_of(alloc, ctx, all.as_slice())?;
     add_unmatched_bypass_keys(alloc, ctx, &users, keys)

@@ -25,6 +25,7 @@ use crate::met::{Met, firsts_by_glob, firsts_by_path, meet};
 use crate::users::{Users, first_user, users_of};
 use deny_base::{EntryId, EntryKind, Hit, Span, Spanned, Witness};
 use deny_build_cfg::{GlobPattern, ValidBypass};
+use deny_build_model::Package;
 use deny_bypasses::Allowed;
 use deny_lists::{List, NoMemory, Text, TextMap};
 use deny_tables::bans::cfg::BypassPath;
@@ -248,12 +249,36 @@ pub fn bypass_hits(alloc: Global, ctx: &BuildCtx<'_>) -> Result<List<Hit>, NoMem
     ensures { IfOk result (λ hits. hits ≡ bypass_hits (looking_of ctx.now)) }
 {
     let unseen = unseen_package(alloc);
-    let all = look_at_each(alloc, ctx, &unseen)?;
+    hits_of_all(alloc, ctx, &unseen)
+}
+
+/// The same; `unseen` is what was seen of a package of which there is nothing.
+fn hits_of_all<'a>(
+    alloc: Global,
+    ctx: &'a BuildCtx<'a>,
+    unseen: &'a Package,
+) -> Result<List<Hit>, NoMemory>
+    requires { unseen.now ≡ unseen_package }
+    ensures { IfOk result (λ hits. hits ≡ bypass_hits (looking_of ctx.now)) }
+{
+    let all = look_at_each(alloc, ctx, unseen)?;
     let users = users_of(alloc, ctx, all.as_slice())?;
+    hits_by(alloc, ctx, &users)
+}
+
+/// The hits of all bypasses, by the crates that use them.
+fn hits_by<'a>(
+    alloc: Global,
+    ctx: &'a BuildCtx<'a>,
+    users: &Users<'_, 'a>,
+) -> Result<List<Hit>, NoMemory>
+    requires { AreUsers (looking_of ctx.now) users.now }
+    ensures { IfOk result (λ hits. hits ≡ bypass_hits (looking_of ctx.now)) }
+{
     let entries = ctx.config.bypass.as_slice();
     let mut hits = List::new(alloc);
     for bypass in entries {
-        add_hits_of(alloc, ctx, &users, bypass, &mut hits)?;
+        add_hits_of(alloc, ctx, users, bypass, &mut hits)?;
     }
     Ok(hits)
 }

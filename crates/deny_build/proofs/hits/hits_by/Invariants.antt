@@ -3,7 +3,7 @@ use Rattle.std.specs.List.{flat_map}
 use Rattle.deny_build_cfg.specs.BuildingView.{bypass_view}
 use Rattle.deny_codes.specs.Packages.{bypass_hits_of}
 use Rattle.deny_build.specs.LookingOf.{looking_of}
-use Rattle.deny_build.proofs.hits.bypass_hits.Given as goal
+use Rattle.deny_build.proofs.hits.hits_by.Given as goal
 
 abbrev pub invariant-loop-bypass : goal.invariant-loop-bypass
 invariant-loop-bypass l =
