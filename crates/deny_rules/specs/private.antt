@@ -1,3 +1,4 @@
 pub mod OfPackages
 pub mod OwnRules
 pub mod Replaced
+pub mod Shown

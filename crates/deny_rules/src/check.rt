@@ -16,10 +16,12 @@ ghost use Rattle.deny_packages.specs.Why.{AreFoldersOf};
 ghost use Rattle.deny_told.specs.Told.{told_by};
 ghost use Rattle.deny_unread.specs.Bound.{Folders};
 ghost use Rattle.deny_unread.specs.Causes.{AreCaused};
-ghost use Rattle.deny_rules.specs.Check.{IsCheckOf, IsTableThere, TellsPrefixOf};
+ghost use Rattle.deny_reach.specs.Reached.{AreReached};
+ghost use Rattle.deny_rules.specs.Check.{IsCheckOf, IsTableThere, TellsPrefixOf, circumstances_of};
 ghost use Rattle.deny_rules.specs.private.OfPackages.{bypass_hits_by, facts_by};
 ghost use Rattle.deny_rules.specs.private.OwnRules.{IsByRule};
 ghost use Rattle.deny_rules.specs.private.Replaced.{IsFoundBy};
+ghost use Rattle.deny_rules.specs.private.Shown.{IsShown, TellsPrefixBy};
 
 use crate::packages::{Looked, add_bypass_hits, add_package_keys, looked_at};
 use crate::replaced::{add_ignore_hits, replacements_in, tell_replaced};
@@ -61,6 +63,13 @@ pub struct BansEnd {
     pub dup_edges: List<DupEdges>,
     /// What could not be read of packages.
     pub unread: List<Unread>,
+}
+
+/// What is shown of what stands besides its findings.
+#[derive(Drop)]
+struct Shown {
+    hits: List<Hit>,
+    dup_edges: List<DupEdges>,
 }
 
 /// The keys of what stands by the rules on crates, their features, what manifests write, and packages,
@@ -173,21 +182,79 @@ fn check_found<D: PackageFiles>(
     ensures untouched { building_of found.now.cfg.now ≡ None → disk.new ≡ disk.old }
     ensures later { IsLater (D.seen disk.old) (D.seen disk.new) }
 {
-    let cfg = found.cfg;
-    let krates = found.krates;
-    let looked = looked_at(alloc, cfg, krates, home, disk)?;
-    let uses = uses_of(alloc, cfg, krates, spans)?;
-    let keys = keys_of(alloc, found, spans, &uses, &looked)?;
-    let replaced = replacements_in(alloc, cfg, krates, table)?;
-    let hits = hits_found(alloc, found, &replaced, &looked)?;
-    let rules = keys.as_slice();
-    let packages = looked.packages.as_slice();
-    let dup_edges = dup_edges_of(alloc, cfg, krates, rules)?;
-    tell_all(alloc, found, spans, &uses, packages, rules, sink)?;
-    tell_replaced(alloc, krates, replaced, cfg.file_id, sink)?;
+    let looked = looked_at(alloc, found.cfg, found.krates, home, disk)?;
+    let shown = tell_looked(alloc, found, spans, table, &looked, sink)?;
     Ok(BansEnd {
-        hits,
-        dup_edges,
+        hits: shown.hits,
+        dup_edges: shown.dup_edges,
         unread: looked.unread,
     })
+}
+
+/// Tells what stands, by what was looked at.
+fn tell_looked(
+    alloc: Global,
+    found: &Matches<'_>,
+    spans: &KrateSpans<'_>,
+    table: Option<&[u8]>,
+    looked: &Looked,
+    sink: &mut List<Pack>,
+) -> Result<Shown, NoMemory>
+    requires table { IsTableThere found.now.cfg.now (option_copied table) }
+    requires read { AreGlobsRead found.now.cfg.now }
+    requires spans { AreSpansOf found.now.krates.now spans.now }
+    requires facts { AreFacts (policy_view found.now.cfg.now) found.now.krates.now (facts_of found.now.marks) }
+    requires reached { AreReached found.now.krates.now looked.now.reached.items }
+    ensures checked { IfOk result (IsShown (circumstances_of found.now.cfg.now found.now.krates.now
+        (option_copied table.entry) spans.now looked.now.packages) sink.old sink.new) }
+    ensures prefix { OnErr result (TellsPrefixBy (circumstances_of found.now.cfg.now found.now.krates.now
+        (option_copied table.entry) spans.now looked.now.packages) sink.old sink.new) }
+{
+    let uses = uses_of(alloc, found.cfg, found.krates, spans)?;
+    let keys = keys_of(alloc, found, spans, &uses, looked)?;
+    tell_keys(
+        alloc,
+        found,
+        spans,
+        table,
+        &uses,
+        looked,
+        keys.as_slice(),
+        sink,
+    )
+}
+
+/// The same, by the keys of what stands by the rules, and what manifests write.
+fn tell_keys(
+    alloc: Global,
+    found: &Matches<'_>,
+    spans: &KrateSpans<'_>,
+    table: Option<&[u8]>,
+    uses: &Uses<'_, '_>,
+    looked: &Looked,
+    rules: &[Key],
+    sink: &mut List<Pack>,
+) -> Result<Shown, NoMemory>
+    requires table { IsTableThere found.now.cfg.now (option_copied table) }
+    requires spans { AreSpansOf found.now.krates.now spans.now }
+    requires facts { AreFacts (policy_view found.now.cfg.now) found.now.krates.now (facts_of found.now.marks) }
+    requires reached { AreReached found.now.krates.now looked.now.reached.items }
+    requires uses { AreUses (policy_view found.now.cfg.now) found.now.krates.now (spans_view spans.now) uses.now }
+    requires rules { Lists key_cmp (IsByRule
+        (told_by found.now.cfg.now found.now.krates.now spans.now looked.now.packages)
+        (facts_by found.now.marks looked.now.reached.items)) rules.now }
+    ensures checked { IfOk result (IsShown (circumstances_of found.now.cfg.now found.now.krates.now
+        (option_copied table.entry) spans.now looked.now.packages) sink.old sink.new) }
+    ensures prefix { OnErr result (TellsPrefixBy (circumstances_of found.now.cfg.now found.now.krates.now
+        (option_copied table.entry) spans.now looked.now.packages) sink.old sink.new) }
+{
+    let cfg = found.cfg;
+    let krates = found.krates;
+    let replaced = replacements_in(alloc, cfg, krates, table)?;
+    let hits = hits_found(alloc, found, &replaced, looked)?;
+    let dup_edges = dup_edges_of(alloc, cfg, krates, rules)?;
+    let packages = looked.packages.as_slice();
+    tell_all(alloc, found, spans, uses, packages, rules, sink)?;
+    tell_replaced(alloc, krates, replaced, cfg.file_id, sink)?;
+    Ok(Shown { hits, dup_edges })
 }

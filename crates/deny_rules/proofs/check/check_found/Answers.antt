@@ -1,141 +1,18 @@
-use Rattle.std.proofs.Common.{◌++◌, List, ap, inr, refl, subst, sym, ◌∙◌}
-use Rattle.std.specs.Prelude.{filter, map, option_copied}
-use Rattle.deny_lists.proofs.Results.{on_err_always}
-use Rattle.deny_base.specs.declared.key.Key.{Key}
-use Rattle.deny_build_model.specs.declared.package.Package.{Package}
-use Rattle.deny_codes.specs.Circumstances.{Circumstances, tabled}
-use Rattle.deny_codes.specs.Facts.{Facts}
-use Rattle.deny_codes.specs.Saying.{bytes_of}
-use Rattle.deny_codes.specs.Told.{pack_told}
-use Rattle.deny_dup_edges.specs.DupEdges.{ShowsEach, is_of_duplicate}
-use Rattle.deny_telling.specs.Here.{AreToldHere}
-use Rattle.deny_telling.specs.Telling.{AreStanding, TellsPrefix}
-use Rattle.deny_told.specs.Told.{told_by}
-use Rattle.deny_rules.specs.private.OfPackages.{facts_by}
-use Rattle.deny_rules.proofs.CheckLemmas.{both_told, first_cut, found_of, same_duplicates, second_cut}
-use Rattle.deny_rules.proofs.CheckLemmas.{standing_by_rules, told_by_rules}
-use Rattle.deny_rules.proofs.OwnRuleLemmas.{lists_own}
-use Rattle.deny_rules.proofs.StdLemmas.{std_ordered}
 use Rattle.deny_rules.proofs.check.check_found.Goals as goal
-
-pub tell_all-requires : goal.tell_all-requires
-tell_all-requires g c =
-    let found = c.args.found.now in
-    let spans = c.args.spans.now in
-    let looked = c.in_ok-looked.looked in
-    let seen : Circumstances = told_by found.cfg.now found.krates.now spans looked.packages in
-    let facts : Facts = facts_by found.marks looked.reached.items in
-    record {
-      told_here = subst AreToldHere (sym c.as_slice-rules.ensures)
-          (told_by_rules seen facts c.in_ok-keys.keys c.in_ok-keys.ensures);
-      stand = subst (λ (ks : List Key). AreStanding
-          (told_by found.cfg.now found.krates.now spans c.as_slice-packages.result.now) ks)
-          (sym c.as_slice-rules.ensures)
-          (subst (λ (ps : List Package). AreStanding (told_by found.cfg.now found.krates.now spans ps)
-          c.in_ok-keys.keys) (sym c.as_slice-packages.ensures)
-          (standing_by_rules seen facts c.in_ok-keys.keys c.in_ok-keys.ensures));
-      spans = c.requires.spans;
-      uses = c.in_ok-uses.ensures;
-    }
 
 pub returns-clause-checked : goal.returns-clause-checked
 returns-clause-checked g c =
-    let found = c.args.found.now in
-    let spans = c.args.spans.now in
-    let looked = c.in_ok-looked.looked in
-    let seen : Circumstances = told_by found.cfg.now found.krates.now spans looked.packages in
-    let table = bytes_of (option_copied c.args.table) in
-    let d : Circumstances = tabled seen table in
-    let facts : Facts = facts_by found.marks looked.reached.items in
-    let rules = c.in_ok-keys.keys in
-    let listed = c.in_ok-keys.ensures in
-    let std = c.in_ok-tell_replaced.ensures.told d refl (found_of d found.cfg.now.file_id c.in_ok-replaced.replaced refl
-    c.in_ok-replaced.ensures) in
+    let looked = c.in_ok-looked in
+    let shown = c.in_ok-shown.ensures.checked in
     record {
-      packages = looked.packages;
-      seen = c.in_ok-looked.ensures.seen;
-      causes = c.in_ok-looked.ensures.causes;
+      packages = looked.looked.packages;
+      seen = looked.ensures.seen;
+      causes = looked.ensures.causes;
       is = record {
-        keys = rules ++ std.keys;
-        listed = record {
-          facts = facts;
-          true_facts = record { chains = c.requires.facts; reached = c.in_ok-looked.ensures.reached.each };
-          listed = lists_own d facts rules std.keys listed std.listed;
-        };
-        told = both_told seen table rules (told_by_rules d facts rules listed) std.keys
-            c.args.sink.now c.tell_all.new.sink c.tell_replaced.new.sink
-            (c.in_ok-tell_all.ensures.ok
-            ∙ (ap (λ (ps : List Package). c.args.sink.now ++ map (pack_told (told_by found.cfg.now found.krates.now
-            spans ps)) c.as_slice-rules.result.now) c.as_slice-packages.ensures
-            ∙ ap (λ (ks : List Key). c.args.sink.now ++ map (pack_told seen) ks) c.as_slice-rules.ensures)) std.told;
-        hits = c.in_ok-hits.ensures d c.in_ok-replaced.ensures;
-        dup_edges = subst (λ (ks : List Key). ShowsEach d.policy d.graph ks c.in_ok-dup_edges.dup_edges)
-            (ap (filter is_of_duplicate) c.as_slice-rules.ensures ∙ same_duplicates d rules std.keys std.listed)
-            c.in_ok-dup_edges.ensures;
+        keys = shown.keys;
+        listed = shown.listed;
+        told = shown.told;
+        hits = shown.hits;
+        dup_edges = shown.dup_edges;
       };
     }
-
-pub returns-in_err-tell_all-clause-prefix : goal.returns-in_err-tell_all-clause-prefix
-returns-in_err-tell_all-clause-prefix g c =
-    let found = c.args.found.now in
-    let spans = c.args.spans.now in
-    let looked = c.in_ok-looked.looked in
-    let seen : Circumstances = told_by found.cfg.now found.krates.now spans looked.packages in
-    let table = bytes_of (option_copied c.args.table) in
-    let d : Circumstances = tabled seen table in
-    let facts : Facts = facts_by found.marks looked.reached.items in
-    let rules = c.in_ok-keys.keys in
-    let listed = c.in_ok-keys.ensures in
-    let std = std_ordered d in
-    on_err_always c.from_residual-in_err-tell_all.result (inr (record {
-      unread = looked.unread;
-      packages = looked.packages;
-      seen = c.in_ok-looked.ensures.seen;
-      is = record {
-        keys = rules ++ std.list;
-        listed = record {
-          facts = facts;
-          true_facts = record { chains = c.requires.facts; reached = c.in_ok-looked.ensures.reached.each };
-          listed = lists_own d facts rules std.list listed std.listed;
-        };
-        told = first_cut seen table rules (told_by_rules d facts rules listed) std.list
-            c.args.sink.now c.tell_all.new.sink
-            (subst (λ (ks : List Key). TellsPrefix seen ks c.args.sink.now c.tell_all.new.sink) c.as_slice-rules.ensures
-            (subst (λ (ps : List Package). TellsPrefix (told_by found.cfg.now found.krates.now spans ps)
-            c.as_slice-rules.result.now c.args.sink.now c.tell_all.new.sink) c.as_slice-packages.ensures
-            c.in_err-tell_all.ensures.prefix));
-      };
-    }))
-
-pub returns-in_err-tell_replaced-clause-prefix : goal.returns-in_err-tell_replaced-clause-prefix
-returns-in_err-tell_replaced-clause-prefix g c =
-    let found = c.args.found.now in
-    let spans = c.args.spans.now in
-    let looked = c.in_ok-looked.looked in
-    let seen : Circumstances = told_by found.cfg.now found.krates.now spans looked.packages in
-    let table = bytes_of (option_copied c.args.table) in
-    let d : Circumstances = tabled seen table in
-    let facts : Facts = facts_by found.marks looked.reached.items in
-    let rules = c.in_ok-keys.keys in
-    let listed = c.in_ok-keys.ensures in
-    let std = c.in_err-tell_replaced.ensures.prefix d refl
-    (found_of d found.cfg.now.file_id c.in_ok-replaced.replaced refl c.in_ok-replaced.ensures) in
-    on_err_always c.from_residual-in_err-tell_replaced.result (inr (record {
-      unread = looked.unread;
-      packages = looked.packages;
-      seen = c.in_ok-looked.ensures.seen;
-      is = record {
-        keys = rules ++ std.keys;
-        listed = record {
-          facts = facts;
-          true_facts = record { chains = c.requires.facts; reached = c.in_ok-looked.ensures.reached.each };
-          listed = lists_own d facts rules std.keys listed std.listed;
-        };
-        told = second_cut seen table rules (told_by_rules d facts rules listed) std.keys std.number
-            c.args.sink.now c.tell_all.new.sink c.tell_replaced.new.sink
-            (c.in_ok-tell_all.ensures.ok
-            ∙ (ap (λ (ps : List Package). c.args.sink.now ++ map (pack_told (told_by found.cfg.now found.krates.now
-            spans ps)) c.as_slice-rules.result.now) c.as_slice-packages.ensures
-            ∙ ap (λ (ks : List Key). c.args.sink.now ++ map (pack_told seen) ks) c.as_slice-rules.ensures)) std.told;
-      };
-    }))
