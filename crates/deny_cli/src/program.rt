@@ -259,7 +259,10 @@ fn write_answer<W: Out>(alloc: Global, answer: Answer<'_>, out: &mut W) -> Outco
             Ok(()) => Outcome::Done(answer.report),
             Err(OutFault) => Outcome::Write(answer.report),
         },
-        Err(NoMemory) => Outcome::Memory,
+        Err(NoMemory) => {
+            drop(answer);
+            Outcome::Memory
+        }
     }
 }
 

@@ -25,5 +25,8 @@ pub fn status_of_run<D: PackageFiles, W: Out, E: Out>(
         × ((policy : List ℕ) × IsTextOfClashes (D.seen disk.old) (texts words.now) outcome policy
         × LeavesErr E.written E.faults err.old err.new outcome policy) }
 {
-    run(alloc, words, disk, out, err).status
+    let ended = run(alloc, words, disk, out, err);
+    let status = ended.status;
+    drop(ended);
+    status
 }
