@@ -288,7 +288,11 @@ fn is_graph(krates: &Krates) -> bool {
 
 fn all_answer(alloc: Global) -> bool {
     match built(alloc, GRAPH) {
-        Ok(krates) => is_answered(alloc, &krates),
+        Ok(krates) => {
+            let all = is_answered(alloc, &krates);
+            drop(krates);
+            all
+        }
         Err(_) => false,
     }
 }
@@ -360,7 +364,11 @@ fn are_resolved(krates: &Krates) -> bool {
 
 fn all_resolve(alloc: Global) -> bool {
     match built(alloc, RESOLVED) {
-        Ok(krates) => are_resolved(&krates),
+        Ok(krates) => {
+            let all = are_resolved(&krates);
+            drop(krates);
+            all
+        }
         Err(_) => false,
     }
 }
@@ -399,7 +407,11 @@ fn is_git_in(
     value: Option<&str>,
 ) -> bool {
     match built(alloc, text) {
-        Ok(krates) => comes_from(&krates, address, named, value),
+        Ok(krates) => {
+            let all = comes_from(&krates, address, named, value);
+            drop(krates);
+            all
+        }
         Err(_) => false,
     }
 }
@@ -468,7 +480,10 @@ fn is_told(alloc: Global, fault: &MetadataFault, told: &str) -> bool {
 
 fn tells(alloc: Global, text: &str, told: &str) -> bool {
     match built(alloc, text) {
-        Ok(_) => false,
+        Ok(krates) => {
+            drop(krates);
+            false
+        }
         Err(fault) => is_told(alloc, &fault, told),
     }
 }
