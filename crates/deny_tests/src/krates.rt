@@ -288,11 +288,7 @@ fn is_graph(krates: &Krates) -> bool {
 
 fn all_answer(alloc: Global) -> bool {
     match built(alloc, GRAPH) {
-        Ok(krates) => {
-            let all = is_answered(alloc, &krates);
-            drop(krates);
-            all
-        }
+        Ok(krates) => is_answered(alloc, &krates),
         Err(_) => false,
     }
 }
@@ -364,11 +360,7 @@ fn are_resolved(krates: &Krates) -> bool {
 
 fn all_resolve(alloc: Global) -> bool {
     match built(alloc, RESOLVED) {
-        Ok(krates) => {
-            let all = are_resolved(&krates);
-            drop(krates);
-            all
-        }
+        Ok(krates) => are_resolved(&krates),
         Err(_) => false,
     }
 }
@@ -407,11 +399,7 @@ fn is_git_in(
     value: Option<&str>,
 ) -> bool {
     match built(alloc, text) {
-        Ok(krates) => {
-            let all = comes_from(&krates, address, named, value);
-            drop(krates);
-            all
-        }
+        Ok(krates) => comes_from(&krates, address, named, value),
         Err(_) => false,
     }
 }
@@ -480,10 +468,7 @@ fn is_told(alloc: Global, fault: &MetadataFault, told: &str) -> bool {
 
 fn tells(alloc: Global, text: &str, told: &str) -> bool {
     match built(alloc, text) {
-        Ok(krates) => {
-            drop(krates);
-            false
-        }
+        Ok(_) => false,
         Err(fault) => is_told(alloc, &fault, told),
     }
 }

@@ -4,7 +4,6 @@ use deny_gate::{Inputs, gate};
 use deny_lists::{List, NoMemory};
 use deny_outside::MemoryDisk;
 use deny_rules::{DupEdges, DupSet};
-use std::mem::replace;
 
 // `app` leads to `a` and to `c` 1.0.0, and `a` to `c` 2.0.0, for itself and for its tests.
 const GRAPH: &[u8] = b"{\"packages\":[\
@@ -29,11 +28,7 @@ fn edges_shown(rt: &HostRuntime) -> Result<List<DupEdges>, NoMemory> {
     };
     let mut disk = MemoryDisk::new(rt.alloc(), 1);
     match gate(rt.alloc(), &inputs, &mut disk) {
-        Ok(mut report) => {
-            let edges = replace(&mut report.dup_edges, List::new(rt.alloc()));
-            drop(report);
-            Ok(edges)
-        }
+        Ok(report) => Ok(report.dup_edges),
         Err(_) => Ok(List::new(rt.alloc())),
     }
 }
