@@ -3,7 +3,7 @@ ghost use Rattle.std.specs.Prelude.{◌≡◌, IfOk};
 ghost use Rattle.serde_json.specs.View.{view};
 ghost use Rattle.deny_cli.specs.Dead.{dead_value, entry_word};
 
-use crate::told_value::told_value;
+use crate::line_value::line_value;
 use deny_base::{EntryId, EntryKind};
 use deny_lists::NoMemory;
 use serde_json::{Value, json};
@@ -34,5 +34,5 @@ pub fn dead_value(alloc: Global, entry: EntryId) -> Result<Value, NoMemory>
     let fields = json!(in alloc; {
         "end": entry.range.end, "kind": kind, "start": entry.range.start,
     })?;
-    told_value(alloc, "dead", fields)
+    line_value(alloc, "dead", fields)
 }

@@ -4,6 +4,7 @@
 mod dead;
 mod home;
 mod laws;
+mod line_value;
 mod lines;
 mod options;
 mod outcome;
@@ -12,7 +13,6 @@ mod registries;
 mod status;
 mod stops;
 mod summary;
-mod told_value;
 mod unread;
 mod words;
 

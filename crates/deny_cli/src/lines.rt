@@ -9,8 +9,8 @@ ghost use Rattle.deny_cli.specs.Told.{HasNumbers, IsCounted, told};
 ghost use Rattle.deny_json.specs.Reading.{IsPlain};
 
 use crate::dead::dead_value;
+use crate::line_value::line_value;
 use crate::outcome::bits;
-use crate::told_value::told_value;
 use crate::unread::{malformed_value, unread_value};
 use deny_base::{EntryId, Files};
 use deny_gate::{Finding, Report, Verdict};
@@ -39,7 +39,7 @@ fn verdict_value(alloc: Global, verdict: Verdict) -> Result<Value, NoMemory>
 {
     let word = verdict_word(verdict);
     let fields = json!(in alloc; {"bits": bits(verdict), "verdict": word})?;
-    told_value(alloc, "verdict", fields)
+    line_value(alloc, "verdict", fields)
 }
 
 /// The line of a finding, with its trees.

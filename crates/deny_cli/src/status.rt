@@ -27,6 +27,7 @@ pub fn status_of_run<D: PackageFiles, W: Out, E: Out>(
 {
     let ended = run(alloc, words, disk, out, err);
     let status = ended.status;
+    // By a call, since what lets go of an end, variant by variant, is proved once for the type and not here again.
     drop(ended);
     status
 }

@@ -9,8 +9,8 @@ ghost use Rattle.deny_cli.specs.Stops.{HasSpan, HasStopNumbers, IsTextOf, config
 ghost use Rattle.deny_cli.specs.Stops.{fault_fields, fault_word, file_word, invalid_fields, kind_word};
 ghost use Rattle.deny_cli.specs.Stops.{memory_line, replacement_fields, stop_at_file, stop_line, stop_told, stop_word};
 
+use crate::line_value::line_value;
 use crate::outcome::Outcome;
-use crate::told_value::told_value;
 use deny_base::{Diagnostic, Files, Which};
 use deny_gate::GateError;
 use deny_json::{diagnostic_value, line};
@@ -37,7 +37,7 @@ fn stop_at_file(alloc: Global, word: &str, which: Which) -> Result<Value, NoMemo
         ≡ tells (codes "stop") (stop_at_file word.now which)) }
 {
     let file = file_word(which);
-    told_value(
+    line_value(
         alloc,
         "stop",
         json!(in alloc; {"file": file, "stop": word})?,
@@ -93,7 +93,7 @@ fn config_value(alloc: Global, faults: &List<ConfigFault>) -> Result<Value, NoMe
     ensures fit { OnOk result (All HasSpan faults.now) }
 {
     let faults = fault_values(alloc, faults.as_slice())?;
-    told_value(
+    line_value(
         alloc,
         "stop",
         json!(in alloc; {"faults": faults, "stop": "config"})?,
@@ -140,7 +140,7 @@ fn invalid_value(alloc: Global, policy: &[u8], told: &List<Diagnostic>) -> Resul
 {
     let files = policy_files(alloc, policy)?;
     let told = diagnostic_values(alloc, &files, told.as_slice())?;
-    told_value(
+    line_value(
         alloc,
         "stop",
         json!(in alloc; {"diagnostics": told, "stop": "invalid"})?,
@@ -193,7 +193,7 @@ fn metadata_value(alloc: Global, fault: &MetadataFault) -> Result<Value, NoMemor
     let detail = fault_detail(fault);
     let word = fault_word(fault);
     let fields = json!(in alloc; {"detail": detail, "fault": word, "stop": "metadata"})?;
-    told_value(alloc, "stop", fields)
+    line_value(alloc, "stop", fields)
 }
 
 /// A stop that a table of replacements is the cause of, as JSON: its first break, or 0 where there is
@@ -202,7 +202,7 @@ fn replacement_value(alloc: Global, offset: usize) -> Result<Value, NoMemory>
     ensures value { IfOk result (λ value. view value ≡ tells (codes "stop") (replacement_fields offset)) }
     ensures fits { offset < 2 ^ 64 }
 {
-    told_value(
+    line_value(
         alloc,
         "stop",
         json!(in alloc; {"offset": offset, "stop": "replacement"})?,
@@ -215,14 +215,14 @@ fn usage_value(alloc: Global, at: usize) -> Result<Value, NoMemory>
         (member (codes "at") (number (unsigned at)) (stop_word (codes "usage")))) }
     ensures fits { at < 2 ^ 64 }
 {
-    told_value(alloc, "stop", json!(in alloc; {"at": at, "stop": "usage"})?)
+    line_value(alloc, "stop", json!(in alloc; {"at": at, "stop": "usage"})?)
 }
 
 /// A stop that the output is the cause of, as JSON.
 fn write_value(alloc: Global) -> Result<Value, NoMemory>
     ensures { IfOk result (λ value. view value ≡ tells (codes "stop") (stop_word (codes "write"))) }
 {
-    told_value(alloc, "stop", json!(in alloc; {"stop": "write"})?)
+    line_value(alloc, "stop", json!(in alloc; {"stop": "write"})?)
 }
 
 /// Why a run stopped, as JSON. There is none of want of memory, which has a line of its own, and

@@ -7,8 +7,8 @@ ghost use Rattle.deny_cli.specs.Summary.{answer_lines, report_summary, summary_l
 ghost use Rattle.deny_cli.specs.Told.{answer_told};
 ghost use Rattle.deny_json.specs.Reading.{IsPlain};
 
+use crate::line_value::line_value;
 use crate::lines::{lines, verdict_word};
-use crate::told_value::told_value;
 use crate::words::Command;
 use deny_base::Severity;
 use deny_gate::{Finding, Report};
@@ -61,7 +61,7 @@ fn report_summary(alloc: Global, made: u32, report: &Report) -> Result<Value, No
     let fields = json!(in alloc; {
         "crates": crates, "dead": dead, "errors": errors, "generated": made, "verdict": word,
     })?;
-    told_value(alloc, "summary", fields)
+    line_value(alloc, "summary", fields)
 }
 
 /// The line of a report on so many crates that were made.

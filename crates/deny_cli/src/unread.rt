@@ -4,7 +4,7 @@ ghost use Rattle.std.specs.Option.{option_copied};
 ghost use Rattle.serde_json.specs.View.{view};
 ghost use Rattle.deny_cli.specs.Unread.{malformed_value, purpose_word, unread_value, wanted_for};
 
-use crate::told_value::told_value;
+use crate::line_value::line_value;
 use deny_base::Kid;
 use deny_krates::Krates;
 use deny_lists::NoMemory;
@@ -46,12 +46,12 @@ pub fn unread_value(alloc: Global, krates: &Krates, entry: &Unread) -> Result<Va
     let path = entry.path.as_str();
     let purpose = purpose_word(entry.purpose);
     let fields = json!(in alloc; {"crate": krate, "path": path, "purpose": purpose})?;
-    told_value(alloc, "unread", fields)
+    line_value(alloc, "unread", fields)
 }
 
 /// The path of a malformed manifest as JSON.
 pub fn malformed_value(alloc: Global, path: &str) -> Result<Value, NoMemory>
     ensures { IfOk result (λ value. view value ≡ malformed_value path.now) }
 {
-    told_value(alloc, "malformed", json!(in alloc; {"path": path})?)
+    line_value(alloc, "malformed", json!(in alloc; {"path": path})?)
 }

@@ -8,7 +8,7 @@ use serde_json::{Value, json};
 use std::alloc::Global;
 
 /// What a line tells: its fields, and the word for their kind.
-pub fn told_value(alloc: Global, kind: &str, fields: Value) -> Result<Value, NoMemory>
+pub fn line_value(alloc: Global, kind: &str, fields: Value) -> Result<Value, NoMemory>
     ensures { IfOk result (λ value. view value ≡ object (member (codes "fields") (view fields)
         (member (codes "type") (string kind.now) no_members))) }
 {
