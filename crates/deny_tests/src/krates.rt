@@ -27,7 +27,7 @@ const GRAPH: &str = r#"{"packages":[
 {"id":"g#x@1.9.0","features":["std"],"deps":[]},
 {"id":"r#x@1.10.0","deps":[]}]}}"#;
 
-fn built(alloc: Global, text: &str) -> Result<Krates, MetadataFault> {
+pub(crate) fn built(alloc: Global, text: &str) -> Result<Krates, MetadataFault> {
     if text.len() >= 1 << 28 {
         return Err(MetadataFault::Memory);
     }

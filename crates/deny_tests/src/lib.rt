@@ -5,6 +5,8 @@
 
 #[cfg(test)]
 mod base;
+#[cfg(test)]
+mod dup_edges;
 pub mod examples;
 #[cfg(test)]
 mod krates;
@@ -17,6 +19,6 @@ mod outside;
 #[cfg(test)]
 mod policy;
 #[cfg(test)]
-mod rules;
-#[cfg(test)]
 mod toml;
+#[cfg(test)]
+mod walking;

@@ -1,12 +1,15 @@
-//! What the gate shows of duplicates.
-use deny_base::{DepKind, Edge};
-use deny_gate::{Inputs, gate};
-use deny_lists::{List, NoMemory};
-use deny_outside::MemoryDisk;
-use deny_rules::{DupEdges, DupSet};
+//! What is shown of duplicates.
+use crate::krates::built;
+use deny_base::{Code, DepKind, DiagnosticCode, Edge, Files, Key, Section, Span};
+use deny_cfg::bans::cfg::ValidConfig;
+use deny_cfg::read_policy;
+use deny_dup_edges::{DupEdges, DupSet, dup_edges_of};
+use deny_krates::Krates;
+use deny_lists::{List, NoMemory, Text};
+use std::alloc::Global;
 
 // `app` leads to `a` and to `c` 1.0.0, and `a` to `c` 2.0.0, for itself and for its tests.
-const GRAPH: &[u8] = b"{\"packages\":[\
+const GRAPH: &str = "{\"packages\":[\
     {\"name\":\"a\",\"version\":\"1.0.0\",\"id\":\"a\",\"manifest_path\":\"/a/Cargo.toml\"},\
     {\"name\":\"app\",\"version\":\"1.0.0\",\"id\":\"app\",\"manifest_path\":\"/app/Cargo.toml\"},\
     {\"name\":\"c\",\"version\":\"1.0.0\",\"id\":\"c1\",\"manifest_path\":\"/c1/Cargo.toml\"},\
@@ -16,20 +19,42 @@ const GRAPH: &[u8] = b"{\"packages\":[\
     {\"id\":\"app\",\"deps\":[{\"pkg\":\"a\"},{\"pkg\":\"c1\"}]},\
     {\"id\":\"c1\"},{\"id\":\"c2\"}]}}";
 
-// The edges that the report shows, apart from all else, so that no test holds a report.
-fn edges_shown(rt: &HostRuntime) -> Result<List<DupEdges>, NoMemory> {
-    let policy = b"[bans]\nmultiple-versions = \"deny\"\nhighlight = \"all\"\n";
-    let inputs = Inputs {
-        policy: Vec::from_slice(rt.alloc(), policy)?,
-        metadata: Vec::from_slice(rt.alloc(), GRAPH)?,
-        replacements: None,
-        registries: List::new(rt.alloc()),
-        home: None,
-    };
-    let mut disk = MemoryDisk::new(rt.alloc(), 1);
-    match gate(rt.alloc(), &inputs, &mut disk) {
-        Ok(report) => Ok(report.dup_edges),
-        Err(_) => Ok(List::new(rt.alloc())),
+const POLICY: &[u8] = b"[bans]\nmultiple-versions = \"deny\"\nhighlight = \"all\"\n";
+
+// The key of the two versions of `c`.
+fn duplicate(alloc: Global) -> Result<Key, NoMemory> {
+    let mut places = List::new(alloc);
+    places.push(2)?;
+    places.push(3)?;
+    Ok(Key {
+        section: Section::Groups,
+        place: 2,
+        code: DiagnosticCode::Bans(Code::Duplicate),
+        entry: Span { start: 0, end: 0 },
+        text: Text::new(alloc),
+        other: 0,
+        places,
+    })
+}
+
+fn edges_in(alloc: Global, cfg: &ValidConfig, krates: &Krates) -> Result<List<DupEdges>, NoMemory> {
+    let keys = [duplicate(alloc)?];
+    dup_edges_of(alloc, cfg, krates, &keys)
+}
+
+fn edges_by(alloc: Global, cfg: &ValidConfig) -> Result<List<DupEdges>, NoMemory> {
+    match built(alloc, GRAPH) {
+        Ok(krates) => edges_in(alloc, cfg, &krates),
+        Err(_) => Ok(List::new(alloc)),
+    }
+}
+
+// The edges that are shown, apart from all else, so that no test holds a policy or a graph.
+fn edges_shown(alloc: Global) -> Result<List<DupEdges>, NoMemory> {
+    let mut files = Files::new(alloc);
+    match read_policy(alloc, POLICY, &mut files) {
+        Ok(policy) => edges_by(alloc, &policy.bans),
+        Err(_) => Ok(List::new(alloc)),
     }
 }
 
@@ -67,14 +92,14 @@ fn is_shown(shown: &DupEdges) -> bool {
 
 #[test]
 fn edges_ascend_by_parent_child_and_kind(rt: HostRuntime) -> Result<(), NoMemory> {
-    let edges = edges_shown(&rt)?;
+    let edges = edges_shown(rt.alloc())?;
     assert!(rt; matches!(edges.as_slice(), [shown] if are_in_order(shown)));
     Ok(())
 }
 
 #[test]
 fn a_set_has_the_edges_above_its_crate(rt: HostRuntime) -> Result<(), NoMemory> {
-    let edges = edges_shown(&rt)?;
+    let edges = edges_shown(rt.alloc())?;
     assert!(rt; matches!(edges.as_slice(), [shown] if is_shown(shown) && are_sets(shown)));
     Ok(())
 }

@@ -41,19 +41,27 @@ fn push_unread(text: &mut Text, unread: &[Unread]) -> Result<(), NoMemory> {
     Ok(())
 }
 
-/// The files of the package and then the folders that were not listed, a blank behind each, where
-/// the calls on this path fail.
-fn walked(alloc: Global, by_git: bool, failing: &str) -> Result<Text, NoMemory> {
-    let mut text = Text::new(alloc);
-    let Some(mut disk) = disk_of(alloc)? else {
-        return Ok(text);
-    };
-    disk.fail_path(failing)?;
+/// Writes the files of the package and then the folders that were not listed, a blank behind each.
+fn push_walk(
+    alloc: Global,
+    disk: &mut MemoryDisk,
+    by_git: bool,
+    text: &mut Text,
+) -> Result<(), NoMemory> {
     let krate = Kid(Text::from_str(alloc, "p")?);
     let mut unread = List::new(alloc);
-    let walked = walk_package(alloc, &mut disk, &krate, "/p", by_git, &mut unread)?;
-    push_paths(&mut text, walked.files.as_slice())?;
-    push_unread(&mut text, unread.as_slice())?;
+    let walked = walk_package(alloc, disk, &krate, "/p", by_git, &mut unread)?;
+    push_paths(text, walked.files.as_slice())?;
+    push_unread(text, unread.as_slice())
+}
+
+/// What is walked where the calls on this path fail.
+fn walked(alloc: Global, by_git: bool, failing: &str) -> Result<Text, NoMemory> {
+    let mut text = Text::new(alloc);
+    if let Some(mut disk) = disk_of(alloc)? {
+        disk.fail_path(failing)?;
+        push_walk(alloc, &mut disk, by_git, &mut text)?;
+    }
     Ok(text)
 }
 
