@@ -1,11 +1,13 @@
 -- What reading one file comes to, where it fails.
-use Rattle.std.proofs.Common.{◌≡◌, ◌∷◌, ◌++◌, ◌≤◌, ◌^◌, [], ℕ, Bool, List, Option, length, refl, subst, sym, true}
+use Rattle.std.proofs.Common.{◌≡◌, ◌∙◌, ◌∷◌, ◌++◌, ◌≤◌, ◌^◌, [], ℕ, Bool, Err, IfOk, List, Ok, OnOk, Option}
+use Rattle.std.proofs.Common.{Result, ap, length, refl, subst, sym, true}
 use Rattle.std.specs.Prelude.{IfSome}
 use Rattle.deny_base.specs.declared.span.Kid.{Kid}
 use Rattle.deny_build_model.specs.declared.package.Failure.{Failure}
 use Rattle.deny_build_model.specs.declared.package.Failure.TheVariants.{Long, Unreadable}
 use Rattle.deny_build_model.specs.declared.package.Found.{Found}
 use Rattle.deny_build_model.specs.declared.package.Found.TheVariants.{Failed}
+use Rattle.deny_lists.specs.declared.memory.NoMemory.{NoMemory}
 use Rattle.deny_outside.specs.Count.{RoseBy}
 use Rattle.deny_outside.specs.Disk.{Disk, FailedAt, Files, IsLater, bytes_at}
 use Rattle.deny_outside.specs.declared.disk.Call.TheVariants.{Read}
@@ -14,9 +16,9 @@ use Rattle.deny_packages.specs.Seen.IsKindSeen.{unknown}
 use Rattle.deny_packages.specs.Seen.IsSumSeen.{failed}
 use Rattle.deny_packages.specs.Why.{IsBecause}
 use Rattle.deny_packages.specs.Why.CanFail.{file, header, long_file, long_script, script}
-use Rattle.deny_packages.specs.private.Entries.{IsSummed, is_failed}
+use Rattle.deny_packages.specs.private.Entries.{IsSummed, is_failed, noted}
 use Rattle.deny_unread.proofs.BoundLemmas.{script_past, sum_past}
-use Rattle.deny_unread.proofs.CauseLemmas.{caused_by_bound}
+use Rattle.deny_unread.proofs.CauseLemmas.{caused_by_bound, caused_by_call}
 use Rattle.deny_unread.proofs.ManifestLemmas.{caused_added}
 use Rattle.deny_unread.specs.Added.{added}
 use Rattle.deny_unread.specs.Bound.{Folders, is_bound}
@@ -25,6 +27,13 @@ use Rattle.deny_unread.specs.Unread.{asked}
 use Rattle.deny_unread.specs.declared.purpose.Purpose.{Purpose}
 use Rattle.deny_unread.specs.declared.purpose.Purpose.TheVariants as purpose
 use Rattle.deny_unread.specs.declared.unread.Unread.{Unread}
+
+-- the entry of a failure is noted
+pub failure_noted : (u : Unread) (us vs : List Unread) (failure : Failure) (result : Result Found NoMemory)
+    → IfOk result (λ found. found ≡ Failed failure) → OnOk result (vs ≡ us ++ u ∷ [])
+    → IfOk result (λ found. vs ≡ us ++ noted u found)
+failure_noted u us vs failure (Ok found) is behind = behind ∙ ap (λ (f : Found). us ++ noted u f) (sym is)
+failure_noted u us vs failure (Err end) is behind = tt
 
 module _ (folder : Folders) (old new : Disk) (krate : Option Kid) (path : List ℕ) where
   because_unreadable : (p : Purpose) → IsSummed p → FailedAt old new Read path
@@ -71,6 +80,18 @@ module _ (folder : Folders) (old new : Disk) (krate : Option Kid) (path : List �
       → IsSumSeen (IsBecause folder old new (asked krate p path)) told path (is_failed found) found
   sum_long p told found summed rose large =
       sum_failed p told found Long (because_long p summed (past p summed rose large))
+
+  pub caused_unreadable : (p : Purpose) (us vs : List Unread) → IsSummed p → FailedAt old new Read path
+      → vs ≡ us ++ asked krate p path ∷ [] → AreCaused folder old new (added us vs)
+  caused_unreadable p us vs summed failed_at is =
+      caused_added folder old new us vs (asked krate p path ∷ []) is (by_call p summed)
+    where
+      by_call : (q : Purpose) → IsSummed q → AreCaused folder old new (asked krate q path ∷ [])
+      by_call purpose.Manifest is = absurd is
+      by_call purpose.Script is = caused_by_call folder old new (asked krate purpose.Script path) failed_at
+      by_call purpose.List is = absurd is
+      by_call purpose.Header is = absurd is
+      by_call purpose.Sum is = caused_by_call folder old new (asked krate purpose.Sum path) failed_at
 
   pub caused_long : (p : Purpose) (us vs : List Unread) → IsSummed p → IsLater old new
       → RoseBy (2 ^ 40) old.given new.given → IfSome old.files (λ files. 2 ^ 40 ≤ length (bytes_at files path))

@@ -36,6 +36,7 @@ use Rattle.deny_packages.specs.declared.decide.Decision.{Decision}
 use Rattle.deny_packages.specs.declared.order.FilePath.{FilePath}
 use Rattle.deny_packages.specs.private.Deciding.{IsDecided, asks_by, is_among}
 use Rattle.deny_packages.specs.private.Entries.{IsFoundFor, asks_of, entries_for, entries_of, entries_of_all, gaps_of}
+use Rattle.deny_packages.specs.private.Files.{file_of}
 use Rattle.deny_packages.specs.private.Reading.{AreOwnRead, AreRead, AreReadIf}
 use Rattle.deny_outside.proofs.PieceLemmas.{later_same}
 use Rattle.deny_unread.specs.Bound.{Folders}
@@ -43,33 +44,42 @@ use Rattle.deny_unread.specs.declared.unread.Unread.{Unread}
 
 -- ---- one file
 
-module _ (b : Building) (c : Crate) (owner : Option Bypass) (used_is : used b c ≡ owner) (rest text : List ℕ)
-    (text_is : text ≡ rest) (d : Decision) (decided : IsDecided b owner rest d) (shown : List ℕ) (found : Found) where
-  abbrev pub made : PackageFile
-  made = record { path = text; globs = d.globs; seen = record { shown = shown; found = found } }
+module _ (b : Building) (c : Crate) (owner : Option Bypass) (used_is : used b c ≡ owner) (path root rest : List ℕ)
+    (root_is : root ≡ crates.folder c) (rest_is : rest ≡ below root path) (d : Decision)
+    (decided : IsDecided b owner rest d) (home : Option (List ℕ)) (found : Found) (file : PackageFile)
+    (is : file ≡ file_of root home path d.globs found) where
+  abbrev made : PackageFile
+  made = file_of root home path d.globs found
 
   asks_same : d.asks ≡ asks_of b c made
   unfolding is_decided_by
-  asks_same = decided.asks ∙ (λ i. asks_by (step_of b (sym used_is i) (sym text_is i) (is_among d.globs)))
+  asks_same = decided.asks ∙ (λ i. asks_by (step_of b (sym used_is i) (rest_is i) (is_among d.globs)))
 
-  pub file_noted : (krate : Option Kid) (path : List ℕ) (old new : List Unread) → krate ≡ Some (kid_of c)
-      → new ≡ old ++ entries_for d.asks krate path found → new ≡ old ++ entries_of b c path made
-  file_noted krate path old new of_c is =
-      is ∙ (λ i. old ++ entries_for (asks_same i) (of_c i) path found)
+  pub file_noted : (krate : Option Kid) (old new : List Unread) → krate ≡ Some (kid_of c)
+      → new ≡ old ++ entries_for d.asks krate path found → new ≡ old ++ entries_of b c path file
+  file_noted krate old new of_c noted =
+      noted ∙ (λ i. old ++ entries_for (asks_same i) (of_c i) path found)
+      ∙ ap (λ f. old ++ entries_of b c path f) (sym is)
 
-  pub file_seen : (why : Why) (told : Option Files) (home : Option (List ℕ)) (path root : List ℕ)
-      → rest ≡ below root path → root ≡ crates.folder c → shown ≡ home_path path root home
+  made_seen : (why : Why) (told : Option Files)
       → IsFoundFor (of_crate why c) told (not b.with_archives) path d.asks found
       → IsFileSeen why told b home (gaps_of made) c path made
-  file_seen why told home path root rest_is root_is shown_is is = record {
-    rest = text_is ∙ rest_is ∙ ap (λ r. below r path) root_is;
-    globs = subst (λ (o : Option Bypass). AreDeciding b o text d.globs) (sym used_is)
-        (subst (λ (p : List ℕ). AreDeciding b owner p d.globs) (sym text_is) decided.globs);
-    shown = shown_is ∙ ap (λ r. home_path path r home) root_is;
+  made_seen why told found_for = record {
+    rest = ap (λ r. below r path) root_is;
+    globs = subst (λ (o : Option Bypass). AreDeciding b o made.path d.globs) (sym used_is)
+        (subst (λ (p : List ℕ). AreDeciding b owner p d.globs) rest_is decided.globs);
+    shown = ap (λ r. home_path path r home) root_is;
     found = found_by_asks (of_crate why c) told (not b.with_archives) path
-        (step_of b (used b c) text (is_decided_by made)) found
-        (subst (λ (a : Asks). IsFoundFor (of_crate why c) told (not b.with_archives) path a found) asks_same is);
+        (step_of b (used b c) made.path (is_decided_by made)) found
+        (subst (λ (a : Asks). IsFoundFor (of_crate why c) told (not b.with_archives) path a found) asks_same found_for);
   }
+
+  pub file_seen : (why : Why) (told : Option Files)
+      → IsFoundFor (of_crate why c) told (not b.with_archives) path d.asks found
+      → IsFileSeen why told b home (gaps_of file) c path file
+  file_seen why told found_for =
+      subst (λ (f : PackageFile). IsFileSeen why told b home (gaps_of f) c path f) (sym is)
+      (made_seen why told found_for)
 
 -- ---- one file more
 

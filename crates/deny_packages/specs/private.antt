@@ -1,5 +1,6 @@
 pub mod Deciding
 pub mod Entries
+pub mod Files
 pub mod Folders
 pub mod Order
 pub mod Reading

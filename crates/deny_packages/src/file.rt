@@ -13,6 +13,7 @@ ghost use Rattle.deny_model.specs.Crates as crates;
 ghost use Rattle.deny_packages.specs.Seen.{IsFileSeen, of_crate};
 ghost use Rattle.deny_packages.specs.Why.{IsBecause};
 ghost use Rattle.deny_packages.specs.private.Entries.{IsFoundFor, entries_for, entries_of, gaps_of};
+ghost use Rattle.deny_packages.specs.private.Files.{file_of};
 ghost use Rattle.deny_packages.specs.private.Reading.{AreOwnRead, AreRead};
 
 use crate::decide::{Asks, decide};
@@ -60,9 +61,23 @@ pub(crate) fn see_file<D: PackageFiles>(
     let rest = below(root, path);
     let decision = decide(alloc, config, allowed, rest, indices)?;
     let found = find(alloc, config, krate, disk, path, decision.asks, unread)?;
+    file_of(alloc, root, home, path, decision.globs, found)
+}
+
+/// The file at a path of a crate with this folder, where these globs decide of it and this was found.
+fn file_of(
+    alloc: Global,
+    root: &str,
+    home: Option<&str>,
+    path: &str,
+    globs: List<Text>,
+    found: Found,
+) -> Result<PackageFile, NoMemory>
+    ensures { IfOk result (λ file. file ≡ file_of root.now (option_copied home.entry) path.now globs found) }
+{
     Ok(PackageFile {
-        path: Text::from_str(alloc, rest)?,
-        globs: decision.globs,
+        path: Text::from_str(alloc, below(root, path))?,
+        globs,
         seen: Seen {
             shown: home_path(alloc, path, root, home)?,
             found,

@@ -1,5 +1,5 @@
 //! What is seen of the files of a package.
-ghost use Rattle.std.specs.Prelude.{◌≡◌, ◌++◌, ℕ, IfOk, map, option_map};
+ghost use Rattle.std.specs.Prelude.{◌≡◌, ◌++◌, [], ℕ, IfOk, OnOk, map, option_map};
 ghost use Rattle.std.specs.List.{AllZip};
 ghost use Rattle.std.specs.Option.{option_copied};
 ghost use Rattle.deny_outside.specs.Disk.{IsLater};
@@ -52,22 +52,66 @@ pub(crate) fn see_files<D: PackageFiles>(
     ensures later { IsLater (D.seen disk.old) (D.seen disk.new) }
 {
     let allowed = Allowed::new(alloc, bypass)?;
-    let root = krate.folder();
     let mut indices = Vec::new(alloc);
     let mut files = List::with_capacity(alloc, paths.len())?;
+    see_each(
+        alloc,
+        config,
+        &allowed,
+        home,
+        krate,
+        disk,
+        paths,
+        &mut indices,
+        &mut files,
+        unread,
+    )?;
+    Ok(files)
+}
+
+/// The same of a crate with the bypass of these allowed paths, where no file was seen before. `indices` is of no matter
+/// before and after.
+fn see_each<D: PackageFiles>(
+    alloc: Global,
+    config: &ValidBuildConfig,
+    allowed: &Allowed<'_>,
+    home: Option<&str>,
+    krate: &Krate,
+    disk: &mut D,
+    paths: &[FilePath],
+    indices: &mut Vec<usize>,
+    files: &mut List<PackageFile>,
+    unread: &mut List<Unread>,
+) -> Result<(), NoMemory>
+    requires none { files.old ≡ [] }
+    requires scripts { AreRead extension_text config.now.script_extensions }
+    requires own { AreOwnRead (option_copied allowed.now.bypass) }
+    requires used { (place : ℕ) → used (building_view config.now) (crate_view place krate.now)
+        ≡ option_map bypass_view (option_copied allowed.now.bypass) }
+    ensures seen { OnOk result ((place : ℕ) (folder : Folders) → AllZip (λ path file.
+        IsFileSeen (IsBecause folder (D.seen disk.old) (D.seen disk.new)) (D.seen disk.old).files
+        (building_view config.now) (option_copied home.entry) (gaps_of file) (crate_view place krate.now) path file)
+        (map (λ p. p.path) paths.now) files.new) }
+    ensures noted { OnOk result ((place : ℕ) → unread.new ≡ unread.old ++ entries_of_all
+        (building_view config.now) (crate_view place krate.now) (map (λ p. p.path) paths.now) files.new) }
+    ensures caused { OnOk result ((folder : Folders) →
+        AreCaused folder (D.seen disk.old) (D.seen disk.new) (added unread.old unread.new)) }
+    ensures later { IsLater (D.seen disk.old) (D.seen disk.new) }
+{
+    let root = krate.folder();
     for path in paths {
         files.push(see_file(
             alloc,
             config,
-            &allowed,
+            allowed,
             home,
             krate,
             root,
             disk,
             path.path.as_str(),
-            &mut indices,
+            indices,
             unread,
         )?)?;
     }
-    Ok(files)
+    Ok(())
 }

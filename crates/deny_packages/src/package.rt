@@ -20,7 +20,7 @@ use crate::folders::folders_unseen;
 use crate::order::in_order;
 use crate::script::see_script;
 use deny_build_cfg::ValidBuildConfig;
-use deny_build_model::{Package, Seen};
+use deny_build_model::Package;
 use deny_bypasses::{Checking, is_walked, used};
 use deny_krates::Krate;
 use deny_lists::{List, NoMemory};
@@ -57,37 +57,37 @@ pub(crate) fn see_package<D: PackageFiles>(
     ensures later { IsLater (D.seen disk.old) (D.seen disk.new) }
 {
     let script = see_script(alloc, by, home, place, krate, disk, unread)?;
-    let package = Package {
+    let mut package = Package {
         script,
         unlisted: List::new(alloc),
         files: List::new(alloc),
     };
-    if is_walked(by, place, krate, &package) {
-        walk(alloc, by.config, home, krate, package.script, disk, unread)
-    } else {
-        Ok(package)
+    if !is_walked(by, place, krate, &package) {
+        return Ok(package);
     }
+    walk(alloc, by.config, home, krate, &mut package, disk, unread)?;
+    Ok(package)
 }
 
-/// The package of a crate with this script, whose files are looked at.
+/// Puts the folders without a list and the files into the package of a crate whose files are looked at.
 fn walk<D: PackageFiles>(
     alloc: Global,
     config: &ValidBuildConfig,
     home: Option<&str>,
     krate: &Krate,
-    script: Option<Seen>,
+    contents: &mut Package,
     disk: &mut D,
     unread: &mut List<Unread>,
-) -> Result<Package, NoMemory>
+) -> Result<(), NoMemory>
     requires { IsReadBuild config.now }
-    ensures script { IfOk result (λ contents. contents.script ≡ script) }
-    ensures seen { IfOk result (λ contents. (place : ℕ) (folder : Folders) → folder (Some krate.now.id)
+    ensures script { OnOk result (contents.new.script ≡ contents.old.script) }
+    ensures seen { OnOk result ((place : ℕ) (folder : Folders) → folder (Some krate.now.id)
         ≡ crates.folder (crate_view place krate.now) →
         IsWalkSeen (IsBecause folder (D.seen disk.old) (D.seen disk.new)) (D.seen disk.old).files
         (building_view config.now) (option_copied home.entry)
-        (is_unread (added unread.old unread.new) (Some krate.now.id)) (crate_view place krate.now) contents) }
-    ensures wanted { IfOk result (λ contents. (place : ℕ) → AreOfWalk (D.seen disk.old).files
-        (building_view config.now) (added unread.old unread.new) (crate_view place krate.now) contents) }
+        (is_unread (added unread.old unread.new) (Some krate.now.id)) (crate_view place krate.now) contents.new) }
+    ensures wanted { OnOk result ((place : ℕ) → AreOfWalk (D.seen disk.old).files
+        (building_view config.now) (added unread.old unread.new) (crate_view place krate.now) contents.new) }
     ensures longer { OnOk result (IsLonger unread.old unread.new) }
     ensures caused { OnOk result ((place : ℕ) (folder : Folders) → folder (Some krate.now.id)
         ≡ crates.folder (crate_view place krate.now)
@@ -102,10 +102,10 @@ fn walk<D: PackageFiles>(
         krate.is_git_source(),
         unread,
     )?;
-    let unlisted = folders_unseen(alloc, krate.folder(), home, walked.unlisted.as_slice())?;
+    contents.unlisted = folders_unseen(alloc, krate.folder(), home, walked.unlisted.as_slice())?;
     let paths = in_order(alloc, walked.files)?;
     let bypass = used(config, krate);
-    let files = see_files(
+    contents.files = see_files(
         alloc,
         config,
         bypass,
@@ -115,9 +115,5 @@ fn walk<D: PackageFiles>(
         paths.as_slice(),
         unread,
     )?;
-    Ok(Package {
-        script,
-        unlisted,
-        files,
-    })
+    Ok(())
 }

@@ -9,6 +9,7 @@ use Rattle.deny_krates.specs.Crates.{crate_view}
 use Rattle.deny_lists.specs.Ascending.{Lists}
 use Rattle.deny_model.specs.Crates as crates
 use Rattle.deny_model.specs.Graph.{kid_of}
+use Rattle.deny_outside.proofs.PieceLemmas.{later_then}
 use Rattle.deny_packages.proofs.PackagesLemmas.{caused_next}
 use Rattle.deny_packages.proofs.StepLemmas.{own_read, scripts_read}
 use Rattle.deny_packages.proofs.WalkLemmas.{told_all, walk_seen}
@@ -54,24 +55,24 @@ returns-clause-seen g c = λ place folder right.
     let home = option_copied a.home in
     let walked = c.in_ok-walked.walked in
     let w = c.in_ok-walked.ensures in
-    let f = c.in_ok-files.ensures in
+    let f = c.in_ok-contents-2.ensures in
     let first : List Unread = added a.unread.now c.walk_package.new.unread in
     let paths : List (List ℕ) = map (λ (p : FilePath). p.path) c.as_slice-2.result.now in
-    let files = c.in_ok-files.files in
+    let files = c.in_ok-contents-2.field-0 in
     let why = IsBecause folder start end in
     let root : c.folder.result.now ≡ crates.folder cr = c.folder.ensures in
     let git : c.is_git_source.result ≡ crates.is_git_source cr = c.is_git_source.ensures in
-    let unlisted : c.in_ok-unlisted.unlisted ≡ map (folder_unseen (crates.folder cr) home) walked.unlisted =
-    c.in_ok-unlisted.ensures ∙ (λ i. map (folder_unseen (c.folder-2.ensures i) home) (c.as_slice.ensures i)) in
+    let unlisted : c.in_ok-contents.field-0 ≡ map (folder_unseen (crates.folder cr) home) walked.unlisted =
+    c.in_ok-contents.ensures ∙ (λ i. map (folder_unseen (c.folder-2.ensures i) home) (c.as_slice.ensures i)) in
     subst (λ (us : List Unread). IsWalkSeen why start.files b home (is_unread us (Some (kid_of cr))) cr
-    (record { script = a.script; unlisted = c.in_ok-unlisted.unlisted; files = files }))
+    (record { script = a.contents.now.script; unlisted = c.in_ok-contents.field-0; files = files }))
     (sym (own_is a.unread.now c.walk_package.new.unread c.see_files.new.unread (entries_of_all b cr paths files)
     w.longer (f.noted place)))
     (subst (λ (ul : List Seen). IsWalkSeen why start.files b home
     (is_unread (first ++ entries_of_all b cr paths files) (Some (kid_of cr))) cr
-    (record { script = a.script; unlisted = ul; files = files })) (sym unlisted)
+    (record { script = a.contents.now.script; unlisted = ul; files = files })) (sym unlisted)
     (walk_seen b home cr start mid end c.walk_package.ensures.later c.see_files.ensures.later first w.lists paths files
-    folder a.script walked.files walked.unlisted w.ordered w.unlisted (w.why folder (right ∙ sym root))
+    folder a.contents.now.script walked.files walked.unlisted w.ordered w.unlisted (w.why folder (right ∙ sym root))
     (subst (λ (r : List ℕ). IfSome start.files (λ fs. Lists (slice_cmp nat_cmp) (IsFile (crates.is_git_source cr) r
     (view_of fs first (Some (kid_of cr))).list) walked.files)) root
     (subst (λ (by_git : Bool). IfSome start.files (λ fs. Lists (slice_cmp nat_cmp) (IsFile by_git c.folder.result.now
@@ -92,10 +93,10 @@ returns-clause-wanted g c = λ place u there.
     let home = option_copied a.home in
     let walked = c.in_ok-walked.walked in
     let w = c.in_ok-walked.ensures in
-    let f = c.in_ok-files.ensures in
+    let f = c.in_ok-contents-2.ensures in
     let first : List Unread = added a.unread.now c.walk_package.new.unread in
     let paths : List (List ℕ) = map (λ (p : FilePath). p.path) c.as_slice-2.result.now in
-    let files = c.in_ok-files.files in
+    let files = c.in_ok-contents-2.field-0 in
     let root : c.folder.result.now ≡ crates.folder cr = c.folder.ensures in
     let git : c.is_git_source.result ≡ crates.is_git_source cr = c.is_git_source.ensures in
     let own = own_is a.unread.now c.walk_package.new.unread c.see_files.new.unread (entries_of_all b cr paths files)
@@ -103,9 +104,9 @@ returns-clause-wanted g c = λ place u there.
     let before = c.walk_package.ensures.later in
     let after = c.see_files.ensures.later in
     subst (λ (us : List Unread). IsOfWalk start.files b us cr
-    (record { script = a.script; unlisted = c.in_ok-unlisted.unlisted; files = files }) u) (sym own)
+    (record { script = a.contents.now.script; unlisted = c.in_ok-contents.field-0; files = files }) u) (sym own)
     (walk_wanted b home cr start mid end before after first w.lists paths files
-    (record { script = a.script; unlisted = c.in_ok-unlisted.unlisted; files = files }) refl
+    (record { script = a.contents.now.script; unlisted = c.in_ok-contents.field-0; files = files }) refl
     (zip_weaker (λ path file. IsFileSeen (IsBecause (λ k. []) mid end) mid.files b home (gaps_of file) cr path file)
     (λ path file. file.path ≡ below (crates.folder cr) path) paths files (λ path file is. is.rest)
     (f.seen place (λ k. [])))
@@ -125,7 +126,7 @@ returns-clause-wanted g c = λ place u there.
 pub returns-clause-longer : goal.returns-clause-longer
 returns-clause-longer g c =
     longer_then c.args.unread.now c.walk_package.new.unread c.see_files.new.unread c.in_ok-walked.ensures.longer
-    (longer_is c.walk_package.new.unread _ c.see_files.new.unread (c.in_ok-files.ensures.noted 0))
+    (longer_is c.walk_package.new.unread _ c.see_files.new.unread (c.in_ok-contents-2.ensures.noted 0))
 
 pub returns-clause-caused : goal.returns-clause-caused
 returns-clause-caused g c = λ place folder right.
@@ -134,5 +135,11 @@ returns-clause-caused g c = λ place folder right.
     caused_next folder (seen c.args.disk.now) (seen c.walk_package.new.disk) (seen c.see_files.new.disk)
     c.args.unread.now c.walk_package.new.unread c.see_files.new.unread c.walk_package.ensures.later
     c.see_files.ensures.later c.in_ok-walked.ensures.longer
-    (longer_is c.walk_package.new.unread _ c.see_files.new.unread (c.in_ok-files.ensures.noted 0))
-    (c.in_ok-walked.ensures.caused folder (right ∙ sym root)) (c.in_ok-files.ensures.caused folder)
+    (longer_is c.walk_package.new.unread _ c.see_files.new.unread (c.in_ok-contents-2.ensures.noted 0))
+    (c.in_ok-walked.ensures.caused folder (right ∙ sym root)) (c.in_ok-contents-2.ensures.caused folder)
+
+pub returns-in_err-contents-2-clause-later : goal.returns-in_err-contents-2-clause-later
+returns-in_err-contents-2-clause-later g c = later_then _ _ _ c.walk_package.ensures.later c.see_files.ensures.later
+
+pub returns-clause-later : goal.returns-clause-later
+returns-clause-later g c = later_then _ _ _ c.walk_package.ensures.later c.see_files.ensures.later

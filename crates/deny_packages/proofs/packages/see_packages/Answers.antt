@@ -1,4 +1,4 @@
-use Rattle.std.proofs.Common.{◌≤◌, ◌+◌, ◌++◌, ◌∷◌, [], List, Option, length, subst, sym, take}
+use Rattle.std.proofs.Common.{◌≤◌, ◌+◌, ◌++◌, ◌∷◌, [], List, Option, append-nil, length, subst, sym, take}
 use Rattle.std.specs.Option.{option_copied}
 use Rattle.std.proofs.lemmas.List.{take_all}
 use Rattle.deny_build_cfg.specs.BuildingView.{building_view}
@@ -10,14 +10,16 @@ use Rattle.deny_lists.proofs.Members.{from_there}
 use Rattle.deny_lists.proofs.Places.{take-next}
 use Rattle.deny_model.specs.Graph.{Crate}
 use Rattle.deny_packages.proofs.GraphLemmas.{all_long, front_apart, front_long, front_places}
-use Rattle.deny_packages.proofs.PackagesLemmas.{AreSoFar, all_because, all_seen, all_wanted, caused_next, so_far_more}
+use Rattle.deny_packages.proofs.PackagesLemmas.{AreSoFar, all_because, all_seen, all_wanted, caused_next, so_far_more, so_far_none}
 use Rattle.deny_outside.specs.Disk.{Files}
 use Rattle.deny_packages.proofs.packages.see_packages.Goals as goal
 use Rattle.deny_packages.specs.Seen.{IsPackageSeen}
 use Rattle.deny_packages.specs.Why.{IsBecause}
 use Rattle.deny_packages.specs.private.Walks.{AreWantedOf}
-use Rattle.deny_unread.proofs.AddedLemmas.{added_then, longer_then}
-use Rattle.deny_outside.proofs.PieceLemmas.{later_then}
+use Rattle.deny_unread.proofs.AddedLemmas.{added_is, added_then, longer_is, longer_then}
+use Rattle.deny_unread.proofs.CauseLemmas.{caused_none}
+use Rattle.deny_unread.proofs.ManifestLemmas.{caused_added}
+use Rattle.deny_outside.proofs.PieceLemmas.{later_same, later_then}
 use Rattle.deny_unread.specs.Added.{added}
 use Rattle.deny_unread.specs.declared.unread.Unread.{Unread}
 
@@ -26,6 +28,22 @@ see_package-requires-clause-member g c =
     from_there c.args.krates.now.crates c.loop-place.place (crate_view c.loop-place.place c.krate-item.result)
     (krate_at c.args.krates.now c.krates-krate-items.result.now c.loop-place.place c.krate-item.result
     c.krates-krate-items.ensures.crates c.loop-place-test.true c.krate-item.is)
+
+pub loop-place-init : goal.loop-place-init
+loop-place-init g c =
+    let a = c.args in
+    let seen = g.D.PackageFiles.seen in
+    let start = seen a.disk.now in
+    let same = sym (append-nil a.unread.now) in
+    record {
+      so_far = so_far_none start.files (building_view a.config.now) (reached_by a.marks.now) (option_copied a.home)
+          a.krates.now start start (added a.unread.now a.unread.now) c.new-packages.result
+          (added_is a.unread.now [] a.unread.now same) c.new-packages.ensures;
+      longer = longer_is a.unread.now [] a.unread.now same;
+      caused = λ folder right. caused_added folder start start a.unread.now a.unread.now [] same
+          (caused_none folder start start (later_same start));
+      later = later_same start;
+    }
 
 pub loop-place-preserved : goal.loop-place-preserved
 loop-place-preserved g c =
@@ -115,3 +133,10 @@ returns-clause-wanted g c =
     (subst (λ (cs : List Crate). AreSoFar (seen a.disk.now).files (building_view a.config.now) (reached_by a.marks.now)
     (option_copied a.home) a.krates.now (seen a.disk.now) (seen l.disk) (added a.unread.now l.unread) cs l.packages)
     (take_all l.place a.krates.now.crates all) l.invariant.so_far)
+
+pub returns-in_err-see_package-clause-later : goal.returns-in_err-see_package-clause-later
+returns-in_err-see_package-clause-later g c =
+    later_then _ _ _ c.loop-place.invariant.later c.see_package.ensures.later
+
+pub returns-in_err-push-clause-later : goal.returns-in_err-push-clause-later
+returns-in_err-push-clause-later g c = later_then _ _ _ c.loop-place.invariant.later c.see_package.ensures.later

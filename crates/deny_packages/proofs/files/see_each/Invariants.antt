@@ -10,7 +10,7 @@ use Rattle.deny_packages.specs.private.Entries.{entries_of_all, gaps_of}
 use Rattle.deny_unread.specs.Added.{added}
 use Rattle.deny_unread.specs.Bound.{Folders}
 use Rattle.deny_unread.specs.Causes.{AreCaused}
-use Rattle.deny_packages.proofs.files.see_files.Given as goal
+use Rattle.deny_packages.proofs.files.see_each.Given as goal
 
 abbrev pub invariant-loop-path : goal.invariant-loop-path
 invariant-loop-path g l = record {
