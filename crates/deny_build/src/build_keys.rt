@@ -111,7 +111,20 @@ fn add_keys_of_all<'a>(
     ensures { OnOk result (Adds (Contains (build_keys (looking_of ctx.now))) keys.old keys.new) }
 {
     let all = look_at_each(alloc, ctx, unseen)?;
-    add_keys_of_each(alloc, ctx, all.as_slice(), keys)?;
-    let users = users_of(alloc, ctx, all.as_slice())?;
+    add_keys_of_looked(alloc, ctx, all.as_slice(), keys)
+}
+
+/// The same, by the crates as they are looked at.
+fn add_keys_of_looked(
+    alloc: Global,
+    ctx: &BuildCtx<'_>,
+    all: &[Looked<'_>],
+    keys: &mut List<Key>,
+) -> Result<(), NoMemory>
+    requires { AreLooked (looking_of ctx.now) all.now }
+    ensures { OnOk result (Adds (Contains (build_keys (looking_of ctx.now))) keys.old keys.new) }
+{
+    add_keys_of_each(alloc, ctx, all, keys)?;
+    let users = users_of(alloc, ctx, all)?;
     add_unmatched_bypass_keys(alloc, ctx, &users, keys)
 }

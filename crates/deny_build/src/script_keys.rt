@@ -1,6 +1,5 @@
 //! What stands of build scripts.
 ghost use Rattle.std.specs.Prelude.{◌≡◌, ◌++◌, ◌∷◌, [], IfOk, OnOk, map};
-ghost use Rattle.deny_base.specs.declared.code.Code.TheVariants.{ChecksumMismatch};
 ghost use Rattle.deny_build_cfg.specs.BuildingView.{checksum_view};
 ghost use Rattle.deny_codes.specs.BuildScripts.{required_enabled, used};
 ghost use Rattle.deny_codes.specs.Packages.{denied_script_keys, features_enabled_keys, path_key};
@@ -42,6 +41,21 @@ fn add_words(
     Ok(())
 }
 
+/// Adds the key that shows a build script of which a checksum is wanted.
+fn add_shown_key(
+    alloc: Global,
+    code: Code,
+    at: &Looked<'_>,
+    sum: &Spanned<Checksum>,
+    keys: &mut List<Key>,
+) -> Result<(), NoMemory>
+    ensures { OnOk result (keys.new
+        ≡ keys.old ++ path_key code at.now.place sum.now.span (script_shown at.now.contents.now) ∷ []) }
+{
+    let shown = script_shown(alloc, at.contents)?;
+    keys.push(path_key(alloc, code, at.place, sum.span, &shown)?)
+}
+
 /// Adds the keys of a build script that has the checksum which it is to have.
 fn add_right_keys(
     alloc: Global,
@@ -52,8 +66,7 @@ fn add_right_keys(
     ensures { OnOk result (keys.new
         ≡ keys.old ++ right_script_keys (looking_at at.now) (krate_of at.now) sum.now.span) }
 {
-    let shown = script_shown(alloc, at.contents)?;
-    keys.push(path_key(alloc, Code::ChecksumMatch, at.place, sum.span, &shown)?)?;
+    add_shown_key(alloc, Code::ChecksumMatch, at, sum, keys)?;
     let unknown = required_unknown(alloc, at.ctx.config, at.krate)?;
     add_words(
         alloc,
@@ -80,19 +93,6 @@ fn add_enabled_key(alloc: Global, at: &Looked<'_>, keys: &mut List<Key>) -> Resu
     keys.push(crate_key(alloc, Code::FeaturesEnabled, at.place, range))
 }
 
-fn add_mismatch_key(
-    alloc: Global,
-    at: &Looked<'_>,
-    sum: &Spanned<Checksum>,
-    keys: &mut List<Key>,
-) -> Result<(), NoMemory>
-    ensures { OnOk result (keys.new
-        ≡ keys.old ++ path_key ChecksumMismatch at.now.place sum.now.span (script_shown at.now.contents.now) ∷ []) }
-{
-    let shown = script_shown(alloc, at.contents)?;
-    keys.push(path_key(alloc, Code::ChecksumMismatch, at.place, sum.span, &shown)?)
-}
-
 /// Adds the keys of a build script of which a checksum is wanted.
 #[tactic(auto, unfolding(deny_codes::specs::Packages::sum_keys))]
 fn add_sum_keys(
@@ -105,7 +105,7 @@ fn add_sum_keys(
         ≡ keys.old ++ sum_keys (looking_at at.now) (krate_of at.now) (checksum_view sum.now)) }
 {
     if !is_script_right(at.ctx.config, at.krate, at.contents) {
-        return add_mismatch_key(alloc, at, sum, keys);
+        return add_shown_key(alloc, Code::ChecksumMismatch, at, sum, keys);
     }
     add_right_keys(alloc, at, sum, keys)?;
     add_enabled_key(alloc, at, keys)

@@ -1,5 +1,6 @@
-use Rattle.std.proofs.Common.{◌∙◌, List, Some, ap, option_map, sym}
+use Rattle.std.proofs.Common.{◌∙◌, List, Some, ap, arith, option_map, sym}
 use Rattle.std.specs.Prelude.{slice_get}
+use Rattle.std.proofs.lemmas.Grind.{common_steps}
 use Rattle.std.proofs.lemmas.Option.{slice_get-get_or}
 use Rattle.deny_krates.specs.Crates.{crate_view}
 use Rattle.deny_krates.proofs.ResolutionLemmas.{crates-at}
@@ -15,3 +16,6 @@ look-requires-clause-placed c =
     ∙ (crates-at krates place
     ∙ ap (option_map (crate_view place))
     (slice_get-get_or krates place krate c.loop-place-test.true ∙ ap Some (sym c.index-krates-place.is)))
+
+pub loop-place-preserved : goal.loop-place-preserved
+loop-place-preserved c = grind (arith, common_steps)

@@ -1,4 +1,4 @@
-use Rattle.std.proofs.Common.{◌∙◌, ◌++◌, ◌∷◌, [], Bor, List, ap, append_assoc, map}
+use Rattle.std.proofs.Common.{◌∙◌, ◌++◌, Bor, List, ap, append_assoc, map, refl}
 use Rattle.std.proofs.lemmas.Result.{on_ok_weaker}
 use Rattle.deny_base.specs.declared.code.Code.TheVariants.{UnknownFeature}
 use Rattle.deny_base.specs.declared.key.Key.{Key}
@@ -17,10 +17,10 @@ returns c =
     on_ok_weaker c.add_words.result
     (λ added. added
     ∙ (ap (λ (keys : List Key). keys ++ unknown)
-    (c.in_ok-push.ensures.ok ∙ ap (λ (key : Key). old ++ key ∷ []) c.in_ok-path_key.ensures)
+    c.in_ok-add_shown_key.ensures
     ∙ (append_assoc old _ unknown
     ∙ ap (λ (keys : List Key). old ++ keys)
     (right_are (looking_at at)
-    (krate_of at) c.args.sum.now.span c.in_ok-shown.shown at.contents.now words c.in_ok-shown.ensures
+    (krate_of at) c.args.sum.now.span _ at.contents.now words refl
     at.seen (ap (map (λ (w : Bor Words). w.now)) c.as_slice.ensures.value ∙ c.in_ok-unknown.ensures at.place)))))
     c.add_words.ensures

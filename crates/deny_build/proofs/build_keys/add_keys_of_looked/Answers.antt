@@ -5,7 +5,7 @@ use Rattle.deny_base.specs.declared.key.Key.{Key}
 use Rattle.deny_codes.specs.Packages.{build_keys, package_keys, unmatched_bypass_keys}
 use Rattle.deny_lists.proofs.Adding.{adds_list}
 use Rattle.deny_build.specs.LookingOf.{looking_of}
-use Rattle.deny_build.proofs.build_keys.add_keys_of_all.Goals as goal
+use Rattle.deny_build.proofs.build_keys.add_keys_of_looked.Goals as goal
 
 pub returns : goal.returns
 returns c =
