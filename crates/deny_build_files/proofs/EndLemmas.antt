@@ -1,5 +1,5 @@
 -- How a check of a file ends, and what was read until then.
-use Rattle.std.proofs.Common.{◌≡◌, ℕ, ◌≤◌, Result, Ok, Err, IsErrAnd, refl, arith}
+use Rattle.std.proofs.Common.{◌≡◌, ℕ, ◌≤◌, Result, Ok, Err, IfOk, IsErrAnd, refl, arith}
 use Rattle.std.specs.Prelude.{IsErrOf}
 use Rattle.deny_outside.specs.Count.{RoseBy}
 use Rattle.deny_outside.specs.declared.disk.DiskError.{DiskError}
@@ -29,6 +29,12 @@ pub disk_not_long : {T : Type 0} (r : Result T CheckEnd) (error : DiskError)
 disk_not_long (Ok x) error ended is = ended
 disk_not_long (Err e) Failed ended is = cc
 disk_not_long (Err e) Memory ended is = cc
+
+-- nothing is owed of a value that there is not
+pub no_value : {T : Type 0} (Q : T → Type 0) (r : Result T CheckEnd) (end : CheckEnd) → IsErrAnd r (λ e. e ≡ end)
+    → IfOk r Q
+no_value Q (Ok x) end ended = absurd ended
+no_value Q (Err e) end ended = tt
 
 -- an end that was handed on
 pub end_handed : {T : Type 0} (r : Result T CheckEnd) (first end : CheckEnd) → IsErrAnd r (λ e. e ≡ first)

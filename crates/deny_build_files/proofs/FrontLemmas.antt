@@ -12,11 +12,24 @@ use Rattle.std.specs.List.{list_any, position_or_len}
 use Rattle.deny_outside.specs.Count.{counted}
 use Rattle.deny_outside.specs.Disk.{Disk, Files, IsLater, IsPieceOf, bytes_at}
 use Rattle.deny_outside.specs.Read.{IsReading}
-use Rattle.deny_outside.proofs.PieceLemmas.{reading_more}
+use Rattle.deny_outside.proofs.PieceLemmas.{later_same, reading_more}
 use Rattle.deny_build_files.specs.Header.{executable_in, executable_by, native_kind}
 use Rattle.deny_build_files.specs.Script.{begins, is_newline, line_in, first_line, interpreter_by, interpreter_in}
 use Rattle.deny_build_model.specs.declared.package.ExecutableKind.{ExecutableKind}
 use Rattle.deny_build_files.specs.private.Front.{IsFront, is_enough, is_open_script}
+
+-- before the first piece nothing was read
+none_read : (known : Option Files) (path : List ℕ) → IfSome known (λ files. [] ≡ take 0 (bytes_at files path))
+none_read None path = tt
+none_read (Some files) path = refl
+
+pub nothing_read : (start : Disk) (path : List ℕ) → IsReading start start path []
+nothing_read start path = record {
+  later = later_same start;
+  given = omega arith;
+  once = omega arith;
+  text = none_read start.files path;
+}
 
 -- behind the first `at` bytes of a buffer, which are a front of the text, stands the piece that was read there
 pub reading_in_place : (start old new : Disk) (path buffer piece rest : List ℕ) (at n : ℕ) → at ≤ length buffer

@@ -27,3 +27,12 @@ returns-clause-ended g c = λ start hashing last.
     hashing_ended start (g.D.PackageFiles.seen c.args.disk.now) c.args.path.now c.read_at.new.buf c.args.hasher.now
     c.update.new.self c.args.count.now c.in_ok-n.n (none_left c.in_ok-n.n last)
     (omega arith) hashing read.bytes c.update.ensures
+
+pub returns-clause-later : goal.returns-clause-later
+returns-clause-later g c = c.read_at.ensures.later
+
+pub returns-clause-fault : goal.returns-clause-fault
+returns-clause-fault g c = λ is. absurd (cc is)
+
+pub returns-clause-never_long : goal.returns-clause-never_long
+returns-clause-never_long g c = λ is. absurd (cc is)

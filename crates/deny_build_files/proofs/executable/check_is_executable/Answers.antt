@@ -4,6 +4,9 @@ use Rattle.deny_build_files.proofs.FrontLemmas.{kind_told}
 use Rattle.deny_build_files.proofs.executable.check_is_executable.Goals as goal
 
 -- the front was not read
+pub returns-in_err-n-clause-later : goal.returns-in_err-n-clause-later
+returns-in_err-n-clause-later g c = c.front_of.ensures.later
+
 pub returns-in_err-n-clause-fault : goal.returns-in_err-n-clause-fault
 returns-in_err-n-clause-fault g c = λ is.
     let handed = end_handed _ c.in_err-n.field-0.0 _ c.from_residual.ensures.1 is in
@@ -15,6 +18,9 @@ returns-in_err-n-clause-never_long g c = λ is.
     c.in_err-n.ensures.never_long (λ i. Err (handed i))
 
 -- memory was wanting
+pub returns-in_err-executable_in-clause-later : goal.returns-in_err-executable_in-clause-later
+returns-in_err-executable_in-clause-later g c = c.front_of.ensures.later
+
 pub returns-in_err-executable_in-clause-fault : goal.returns-in_err-executable_in-clause-fault
 returns-in_err-executable_in-clause-fault g c = λ is.
     absurd (memory_no_fault _ c.from_residual-in_err-executable_in.ensures.1 is)
@@ -28,3 +34,9 @@ pub returns-clause-kind : goal.returns-clause-kind
 returns-clause-kind g c = kind_told (g.D.PackageFiles.seen c.args.disk.now).files c.args.exclude_archives
     c.args.path.now (take c.in_ok-n.n c.front_of.new.buffer) c.in_ok-executable_in.field-0
     c.in_ok-executable_in.ensures c.in_ok-n.ensures.front
+
+pub returns-clause-few : goal.returns-clause-few
+returns-clause-few g c = c.in_ok-n.ensures.few
+
+pub returns-clause-later : goal.returns-clause-later
+returns-clause-later g c = c.front_of.ensures.later

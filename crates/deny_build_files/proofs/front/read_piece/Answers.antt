@@ -19,3 +19,6 @@ returns-clause-reading g c = λ start reading.
     let read = c.in_ok-read_at.ensures in
     reading_in_place start _ (g.D.PackageFiles.seen c.read_at.new.self) _ _ _ _ _ _ (omega (arith, c.requires))
     read.bound reading read.later read.given read.bytes
+
+pub returns-clause-later : goal.returns-clause-later
+returns-clause-later g c = c.read_at.ensures.later
