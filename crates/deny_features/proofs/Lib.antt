@@ -1,4 +1,5 @@
 pub mod CrateLemmas
+pub mod KeptLemmas
 pub mod KeyLemmas
 pub mod ListedLemmas
 pub mod NameLemmas

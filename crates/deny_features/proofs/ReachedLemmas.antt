@@ -278,17 +278,13 @@ module _ (features : TextFinMap (List (List ℕ))) (names : List (List ℕ)) (nu
     pub are_reached : AreReached features words set
     are_reached = record { whole = is_whole; sound = is_sound }
 
-  pub are_reached_by : (rs : List (List ℕ)) (starts : List ℕ) (words : List Words) (marks : List Bool)
-      (found : List (List ℕ))
-      (set : TextFinMap Bool) → rs ≡ rows → starts ≡ filter_map (λ w. finite.get numbers w.value) words
+  pub marks_are : (rs : List (List ℕ)) (starts : List ℕ) (words : List Words) (marks : List Bool) → rs ≡ rows
+      → starts ≡ filter_map (λ w. finite.get numbers w.value) words
       → AreMarks (λ n. Contains (slice_index_or rs n [])) (length rs) starts marks
-      → found ≡ flat_map (led_to_by features names marks) (range_with_len 0 (length names)) → IsSetOf found set
-      → AreReached features words set
-  are_reached_by rs starts words marks found set is are marked texts_are held =
-      are_reached words marks set
-      (subst (λ (count : ℕ). AreMarks leads count (filter_map (λ w. finite.get numbers w.value) words) marks)
+      → AreMarks leads (length names) (filter_map (λ w. finite.get numbers w.value) words) marks
+  marks_are rs starts words marks is are marked =
+      subst (λ (count : ℕ). AreMarks leads count (filter_map (λ w. finite.get numbers w.value) words) marks)
       (length-map names (row_of features numbers))
       (subst (λ (from : List ℕ). AreMarks leads (length rows) from marks) are
       (subst (λ (all : List (List ℕ)). AreMarks (λ n. Contains (slice_index_or all n [])) (length all) starts marks) is
-      marked)))
-      (subst (λ (ts : List (List ℕ)). IsSetOf ts set) texts_are held)
+      marked))

@@ -1,9 +1,10 @@
 //! The features to which others lead by the table of their crate, by one step or more.
 ghost use Rattle.std.specs.Prelude.{◌≡◌, ◌++◌, ◌<◌, ◌^◌, IfOk, OnOk, filter, length};
 ghost use Rattle.std.specs.List.{flat_map, range_with_len};
+ghost use Rattle.deny_lists.specs.Walk.{AreMarks};
 ghost use Rattle.deny_codes.specs.Features.{is_plain};
 ghost use Rattle.deny_features.specs.private.Reached.{AreReached, AreReachedAt, IsSetOf, led_to_by};
-ghost use Rattle.deny_features.specs.private.Steps.{plain_of};
+ghost use Rattle.deny_features.specs.private.Steps.{AreNames, AreNumbers, leads_by, plain_of, roots_by};
 
 use crate::steps::{FeatureSteps, is_plain, names_of, numbers_of, roots_of, rows_of};
 use deny_base::Spanned;
@@ -42,13 +43,44 @@ fn reached(
     if names.len() >= MANY {
         return Err(NoMemory);
     }
-    let numbers = numbers_of(alloc, names.as_slice())?;
-    let rows = rows_of(alloc, features, names.as_slice(), &numbers)?;
-    let roots = roots_of(alloc, words, &numbers)?;
-    let steps = FeatureSteps { rows };
-    let marks = reach(alloc, &steps, roots.as_slice())?;
-    let texts = led_to(alloc, features, names.as_slice(), marks.as_slice())?;
+    reached_by(alloc, features, names.as_slice(), words)
+}
+
+/// The same by the names of the table.
+fn reached_by(
+    alloc: Global,
+    features: &TextMap<List<Text>>,
+    names: &[Text],
+    words: &[Spanned<Text>],
+) -> Result<TextMap<bool>, NoMemory>
+    requires few { length names.now < 2 ^ 28 }
+    requires named { AreNames features.now names.now }
+    ensures { IfOk result (AreReached features.now words.now) }
+{
+    let numbers = numbers_of(alloc, names)?;
+    let marks = marks_by(alloc, features, names, &numbers, words)?;
+    let texts = led_to(alloc, features, names, marks.as_slice())?;
     set_of(alloc, texts.as_slice())
+}
+
+/// Marks for the features to which some words lead by numbers, by no step or more.
+fn marks_by(
+    alloc: Global,
+    features: &TextMap<List<Text>>,
+    names: &[Text],
+    numbers: &TextMap<u32>,
+    words: &[Spanned<Text>],
+) -> Result<List<bool>, NoMemory>
+    requires few { length names.now < 2 ^ 28 }
+    requires named { AreNames features.now names.now }
+    requires numbered { AreNumbers names.now numbers.now }
+    ensures { IfOk result (AreMarks (leads_by features.now numbers.now names.now) (length names.now)
+        (roots_by numbers.now words.now)) }
+{
+    let rows = rows_of(alloc, features, names, numbers)?;
+    let roots = roots_of(alloc, words, numbers)?;
+    let steps = FeatureSteps { rows };
+    reach(alloc, &steps, roots.as_slice())
 }
 
 /// What the marked ones of some features lead to by one step.

@@ -1,9 +1,10 @@
 -- The features of a table by their numbers, and where plain entries lead.
 use Rattle.std.specs.Prelude.{◌≡◌, ◌↔◌, ℕ, IsTrue, is_some, List, [], Option, None, Some, Contains, filter, filter_map}
-use Rattle.std.specs.Prelude.{slice_get, if◌then◌else◌}
+use Rattle.std.specs.Prelude.{map, slice_get, slice_index_or, if◌then◌else◌}
 use Rattle.std.specs.FinMap as finite
 use Rattle.std.specs.Option.{option_map_or}
 use Rattle.deny_lists.specs.TextMap.{TextFinMap}
+use Rattle.deny_model.specs.Policy as policy
 use Rattle.deny_codes.specs.Features.{is_plain}
 
 -- what a feature enables; nothing, where the table does not have it
@@ -29,3 +30,11 @@ plain_number numbers entry = if is_plain entry then finite.get numbers entry els
 -- the numbers of those to which a feature leads
 unfoldable pub row_of : TextFinMap (List (List ℕ)) → TextFinMap ℕ → List ℕ → List ℕ
 row_of features numbers name = filter_map (plain_number numbers) (enables features name)
+
+-- where a step leads from a number
+abbrev pub leads_by : TextFinMap (List (List ℕ)) → TextFinMap ℕ → List (List ℕ) → ℕ → ℕ → Type 0
+leads_by features numbers names n = Contains (slice_index_or (map (row_of features numbers) names) n [])
+
+-- the numbers of those of some words that are features
+abbrev pub roots_by : TextFinMap ℕ → List policy.Words → List ℕ
+roots_by numbers words = filter_map (λ w. finite.get numbers w.value) words

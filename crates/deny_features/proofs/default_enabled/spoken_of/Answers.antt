@@ -1,9 +1,25 @@
-use Rattle.std.proofs.Common.{◌+◌, map, take}
+use Rattle.std.proofs.Common.{◌+◌, List, ap, arith, length, map, subst, sym, take, ◌∙◌}
 use Rattle.std.specs.List.{list_any}
+use Rattle.std.proofs.lemmas.List.{length-map, take_all}
 use Rattle.deny_model.specs.Match.{matches}
 use Rattle.deny_facts.proofs.MarkLemmas.{any_next_view, more_marks}
-use Rattle.deny_features.specs.private.FeatureMatches.{said_of}
+use Rattle.deny_features.specs.declared.feature_match.FeatureMatch.{FeatureMatch}
+use Rattle.deny_features.specs.private.FeatureMatches.{IsFeatureMatch, said_of}
 use Rattle.deny_features.proofs.default_enabled.spoken_of.Goals as goal
+
+pub loop-entry-init : goal.loop-entry-init
+loop-entry-init c = c.in_ok-marks.ensures
+
+pub mark_spoken-requires-clause-is : goal.mark_spoken-requires-clause-is
+mark_spoken-requires-clause-is c =
+    subst (IsFeatureMatch c.args.krates.now) (sym c.entry-item.is)
+    (c.requires c.loop-entry.entry-index c.entry-item.result c.loop-entry-test.true)
+
+pub mark_spoken-requires-clause-long : goal.mark_spoken-requires-clause-long
+mark_spoken-requires-clause-long c =
+    ap length c.loop-entry.invariant
+    ∙ length-map c.args.krates.now.crates
+    (λ d. list_any (λ e. matches e.spec d) (map said_of (take c.loop-entry.entry-index c.args.found.now)))
 
 pub loop-entry-preserved : goal.loop-entry-preserved
 loop-entry-preserved c =
@@ -15,3 +31,9 @@ loop-entry-preserved c =
     (matches (said_of item).spec) c.loop-entry.marks c.mark_spoken.new.marks c.loop-entry.invariant
     c.mark_spoken.ensures
     (λ d. any_next_view said_of (λ e. matches e.spec d) found i item c.loop-entry-test.true c.entry-item.is)
+
+pub returns : goal.returns
+returns c =
+    c.loop-entry.invariant
+    ∙ ap (λ (ms : List FeatureMatch). map (λ d. list_any (λ e. matches e.spec d) (map said_of ms))
+    c.args.krates.now.crates) (take_all c.loop-entry.entry-index c.args.found.now (omega arith))
