@@ -1,9 +1,10 @@
 -- The answers to requirements by what was found of what grants them.
-use Rattle.std.proofs.Common.{◌≡◌, List, Option, is_some, map, sym, ap, ◌∙◌}
-use Rattle.std.specs.Prelude.{option_map}
+use Rattle.std.proofs.Common.{◌≡◌, IfOk, List, Option, is_some, map, sym, ap, ◌∙◌}
+use Rattle.std.specs.Prelude.{Result, Ok, Err, option_map}
 use Rattle.std.specs.List.{flat_map}
 use Rattle.std.specs.Option.{option_or}
 use Rattle.deny_lists.proofs.Agreement.{flat_map_on, map_on}
+use Rattle.deny_lists.specs.declared.memory.NoMemory.{NoMemory}
 use Rattle.deny_spdx.specs.declared.requirement.Requirement.{Requirement}
 use Rattle.deny_krates.specs.Crates.{crate_view}
 use Rattle.deny_krates.specs.krate.Krate.{Krate}
@@ -31,12 +32,12 @@ module _ (granting : Granting) (excepted : Grants) (k : Krate)
       ∙ ap (option_or (option_map exception_granter (exception_of (licensing_view granting.cfg.now) (asked_of c r))))
       (granting.found.at (wanted_of r) ∙ allowed-is c r granting.cfg.now.allow)
 
-  pub are-answers : (rs : List Requirement) (answers : Answers)
+  are-answers-of : (rs : List Requirement) (answers : Answers)
       → answers.allowed ≡ map (λ r. is_some (granter_from excepted granting r)) rs
       → answers.granters ≡ flat_map (λ r. granters_by (granter_from excepted granting r)) rs
       → answers.notes ≡ flat_map (λ r. notes_by (granter_from excepted granting r) r) rs
       → AreAnswers (licensing_view granting.cfg.now) (crate_view 0 k) rs answers
-  are-answers rs answers allowed granters notes =
+  are-answers-of rs answers allowed granters notes =
       let l = licensing_view granting.cfg.now in
       let c = crate_view 0 k in
       record {
@@ -51,3 +52,11 @@ module _ (granting : Granting) (excepted : Grants) (k : Krate)
             ∙ flat_map_on (λ r. notes_by (granter_from excepted granting r) r) (λ r. notes_by (granter_for l c r) r) rs
             (λ r _. ap (λ o. notes_by o r) (granter-is r));
       }
+
+  pub are-answers : (rs : List Requirement) (result : Result Answers NoMemory)
+      → IfOk result (λ answers. answers.allowed ≡ map (λ r. is_some (granter_from excepted granting r)) rs)
+      → IfOk result (λ answers. answers.granters ≡ flat_map (λ r. granters_by (granter_from excepted granting r)) rs)
+      → IfOk result (λ answers. answers.notes ≡ flat_map (λ r. notes_by (granter_from excepted granting r) r) rs)
+      → IfOk result (AreAnswers (licensing_view granting.cfg.now) (crate_view 0 k) rs)
+  are-answers rs (Ok answers) = are-answers-of rs answers
+  are-answers rs (Err error) = λ allowed granters notes. tt

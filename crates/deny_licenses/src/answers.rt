@@ -1,12 +1,15 @@
 //! What a policy answers to the requirements of a crate's expression.
-ghost use Rattle.std.specs.Prelude.{◌≡◌, ◌++◌, ◌∷◌, [], IfOk, OnOk, is_some};
+ghost use Rattle.std.specs.Prelude.{◌≡◌, ◌++◌, ◌∷◌, [], IfOk, OnOk, codes, is_some, map};
+ghost use Rattle.std.specs.List.{flat_map};
 ghost use Rattle.deny_codes.specs.Licences.{requirement_text};
 ghost use Rattle.deny_krates.specs.Crates.{crate_view};
 ghost use Rattle.deny_cfg.specs.LicensingView.{licensing_view};
-ghost use Rattle.deny_licenses.specs.private.Answers.{AreAnswers, granters_by, notes_by, rejected_note};
+ghost use Rattle.deny_licenses.specs.private.Answers.{AreAnswers, granter_from, granters_by, notes_by};
+ghost use Rattle.deny_licenses.specs.private.Answers.{rejected_note};
 
 use crate::granter::Granter;
 use crate::granting::Granting;
+use crate::grants::Grants;
 use deny_krates::Krate;
 use deny_lists::{List, NoMemory, Text};
 use deny_spdx::Requirement;
@@ -47,15 +50,10 @@ impl Answers {
         ensures granters { OnOk result (self.new.granters ≡ self.old.granters ++ granters_by by) }
         ensures notes { OnOk result (self.new.notes ≡ self.old.notes ++ notes_by by requirement.now) }
     {
+        self.allowed.push(by.is_some())?;
         match by {
-            Some(granter) => {
-                self.allowed.push(true)?;
-                self.granters.push(granter)
-            }
-            None => {
-                self.allowed.push(false)?;
-                self.notes.push(rejected_note(alloc, requirement)?)
-            }
+            Some(granter) => self.granters.push(granter),
+            None => self.notes.push(rejected_note(alloc, requirement)?),
         }
     }
 }
@@ -71,9 +69,26 @@ pub fn answers_to(
         requirements.now) }
 {
     let excepted = granting.excepted(alloc, krate)?;
+    answers_by(alloc, granting, &excepted, requirements)
+}
+
+/// The same by what the exceptions grant that speak of the crate.
+fn answers_by(
+    alloc: Global,
+    granting: &Granting<'_>,
+    excepted: &Grants,
+    requirements: &[Requirement],
+) -> Result<Answers, NoMemory>
+    ensures allowed { IfOk result (λ answers. answers.allowed
+        ≡ map (λ r. is_some (granter_from excepted.now granting.now r)) requirements.now) }
+    ensures granters { IfOk result (λ answers. answers.granters
+        ≡ flat_map (λ r. granters_by (granter_from excepted.now granting.now r)) requirements.now) }
+    ensures notes { IfOk result (λ answers. answers.notes
+        ≡ flat_map (λ r. notes_by (granter_from excepted.now granting.now r) r) requirements.now) }
+{
     let mut answers = Answers::new(alloc);
     for requirement in requirements {
-        let by = granting.granter_of(&excepted, requirement)?;
+        let by = granting.granter_of(excepted, requirement)?;
         answers.add(alloc, requirement, by)?;
     }
     Ok(answers)
@@ -83,19 +98,23 @@ pub fn answers_to(
 fn rejected_note(alloc: Global, requirement: &Requirement) -> Result<Text, NoMemory>
     ensures { IfOk result (λ note. note ≡ rejected_note requirement.now) }
 {
-    let text = requirement_text(requirement)?;
+    let text = requirement_text(alloc, requirement)?;
     Ok(Text::from_string(format!(in alloc; "rejected = '{text}'")?))
 }
 
 /// A licence, and its exception where it has one.
 #[tactic(auto, unfolding(deny_codes::specs::Licences::requirement_text))]
-fn requirement_text(requirement: &Requirement) -> Result<Text, NoMemory>
+fn requirement_text(alloc: Global, requirement: &Requirement) -> Result<Text, NoMemory>
     ensures { IfOk result (λ text. text ≡ requirement_text requirement.now) }
 {
-    let mut text = requirement.id.clone()?;
-    if let Some(exception) = &requirement.exception {
-        text.push_str(" WITH ")?;
-        text.push_str(exception.as_str())?;
+    match &requirement.exception {
+        Some(exception) => with_exception(alloc, &requirement.id, exception),
+        None => Ok(requirement.id.clone()?),
     }
-    Ok(text)
+}
+
+fn with_exception(alloc: Global, id: &Text, exception: &Text) -> Result<Text, NoMemory>
+    ensures { IfOk result (λ text. text ≡ id.now ++ (codes " WITH " ++ exception.now)) }
+{
+    Ok(Text::from_string(format!(in alloc; "{id} WITH {exception}")?))
 }

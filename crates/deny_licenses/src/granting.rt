@@ -73,10 +73,7 @@ impl<'c> Granting<'c> {
             (granter_in self.now.allowed (wanted_of requirement.now))) }
     {
         let wanted = Wanted::of(requirement)?;
-        match excepted.find(&wanted) {
-            Some(by) => Ok(Some(by)),
-            None => Ok(self.allowed.find(&wanted)),
-        }
+        Ok(excepted.find(&wanted).or(self.allowed.find(&wanted)))
     }
 }
 

@@ -1,9 +1,12 @@
 //! The licence check.
 ghost use Rattle.std.specs.Prelude.{◌≡◌, ◌++◌, IfOk, OnErr, OnOk};
+ghost use Rattle.std.specs.List.{flat_map};
 ghost use Rattle.deny_licenses.specs.Check.{IsLicensed};
 ghost use Rattle.deny_cfg.specs.LicensingView.{licensing_view};
 ghost use Rattle.deny_licenses.specs.private.Found.{IsFound};
+ghost use Rattle.deny_licenses.specs.private.Granters.{policy_granters};
 ghost use Rattle.deny_licenses.specs.private.Told.{TellsUnused};
+ghost use Rattle.deny_licenses.specs.private.Witnesses.{hits_at};
 
 use crate::counted::counted_places;
 use crate::entries::{granters_of, hits_of, unused_of};
@@ -39,20 +42,35 @@ pub fn check(
     ensures unchanged { OnErr result (sink.new ≡ sink.old) }
 {
     are_placed(krates);
-    let found = found_in(alloc, cfg, krates)?;
+    let mut found = found_in(alloc, cfg, krates)?;
+    let hits = tell_granters(alloc, cfg, krates, id, &mut found)?;
+    append(sink, &mut found.packs)?;
+    Ok(hits)
+}
+
+/// Tells of the entries that grant nothing, and gives the hits of those that grant something.
+fn tell_granters(
+    alloc: Global,
+    cfg: &ValidConfig,
+    krates: &Krates,
+    id: FileId,
+    found: &mut Found,
+) -> Result<List<Hit>, NoMemory>
+    ensures told { OnOk result (TellsUnused (licensing_view cfg.now).unused_allowed id
+        (policy_granters (licensing_view cfg.now)) found.old.witnesses found.old.packs found.new.packs) }
+    ensures hits { IfOk result (λ hits. hits
+        ≡ flat_map (hits_at krates.now found.old.witnesses) (policy_granters (licensing_view cfg.now))) }
+{
     let granters = granters_of(alloc, cfg)?;
-    let hits = hits_of(alloc, krates, granters.as_slice(), &found.witnesses)?;
-    let mut packs = found.packs;
     add_unused(
         alloc,
         cfg.unused_allowed,
         id,
         granters.as_slice(),
         &found.witnesses,
-        &mut packs,
+        &mut found.packs,
     )?;
-    append(sink, packs)?;
-    Ok(hits)
+    hits_of(alloc, krates, granters.as_slice(), &found.witnesses)
 }
 
 /// What is told of the crates that count, and the first of them to which each entry grants something.
@@ -60,9 +78,15 @@ fn found_in(alloc: Global, cfg: &ValidConfig, krates: &Krates) -> Result<Found, 
     ensures { IfOk result (IsFound cfg.now.include_dev (licensing_view cfg.now) krates.now) }
 {
     let granting = Granting::new(alloc, cfg)?;
-    let places = counted_places(alloc, cfg.include_dev, krates)?;
-    let found = found_at(alloc, &granting, krates, places.as_slice())?;
-    Ok(found)
+    found_by(alloc, &granting, krates)
+}
+
+/// The same by what the policy grants.
+fn found_by(alloc: Global, granting: &Granting<'_>, krates: &Krates) -> Result<Found, NoMemory>
+    ensures { IfOk result (IsFound granting.now.cfg.now.include_dev (licensing_view granting.now.cfg.now) krates.now) }
+{
+    let places = counted_places(alloc, granting.cfg.include_dev, krates)?;
+    found_at(alloc, granting, krates, places.as_slice())
 }
 
 /// Appends a pack for each entry that grants nothing, in their order.
@@ -77,16 +101,14 @@ fn add_unused(
     ensures { OnOk result (TellsUnused level id granters.now witnesses.now packs.old packs.new) }
 {
     let unused = unused_of(alloc, granters, witnesses)?;
-    tell_unused(alloc, level, id, unused.as_slice(), packs)?;
-    Ok(())
+    tell_unused(alloc, level, id, unused.as_slice(), packs)
 }
 
 /// Moves packs behind others, all of them or none.
-fn append(sink: &mut List<Pack>, packs: List<Pack>) -> Result<(), NoMemory>
-    ensures ok { OnOk result (sink.new ≡ sink.old ++ packs) }
+fn append(sink: &mut List<Pack>, packs: &mut List<Pack>) -> Result<(), NoMemory>
+    ensures ok { OnOk result (sink.new ≡ sink.old ++ packs.old) }
     ensures err { OnErr result (sink.new ≡ sink.old) }
 {
-    let mut packs = packs;
     sink.vec.append(&mut packs.vec)?;
     Ok(())
 }

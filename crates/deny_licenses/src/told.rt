@@ -5,7 +5,9 @@ ghost use Rattle.deny_codes.specs.Licences.{license_key, licence_text, with_text
 ghost use Rattle.deny_codes.specs.Telling.{plainly};
 ghost use Rattle.deny_codes.specs.Told.{pack_of};
 ghost use Rattle.deny_krates.specs.Crates.{crate_view};
+ghost use Rattle.deny_model.specs.Graph.{crate_text};
 ghost use Rattle.deny_model.specs.Told.{primary};
+ghost use Rattle.deny_licenses.specs.declared.judgement.Judgement.TheVariants.{Unreadable};
 ghost use Rattle.deny_licenses.specs.private.Told.{crate_words, judged_message, judged_notes, judged_pack};
 ghost use Rattle.deny_licenses.specs.private.Told.{judged_severity, judged_words, unused_pack, unused_words};
 
@@ -62,22 +64,18 @@ fn unused_words(alloc: Global, level: LintLevel, id: FileId, by: Granter) -> Res
         Granter::Allowance(range) => entry_words(
             alloc,
             level.severity(),
-            Text::from_str(alloc, "license was not encountered")?,
-            primary(
-                id,
-                range,
-                Text::from_str(alloc, "unmatched license allowance")?,
-            ),
+            "license was not encountered",
+            id,
+            range,
+            "unmatched license allowance",
         ),
         Granter::Exception(range) => entry_words(
             alloc,
             Severity::Warning,
-            Text::from_str(alloc, "license exception was not encountered")?,
-            primary(
-                id,
-                range,
-                Text::from_str(alloc, "unmatched license exception")?,
-            ),
+            "license exception was not encountered",
+            id,
+            range,
+            "unmatched license exception",
         ),
     }
 }
@@ -93,17 +91,22 @@ fn primary(id: FileId, span: Span, message: Text) -> Label
     }
 }
 
-/// What is told of an entry, with one label.
+/// What is told of an entry, with a label at its range.
 fn entry_words(
     alloc: Global,
     severity: Severity,
-    message: Text,
-    label: Label,
+    message: &str,
+    id: FileId,
+    range: Span,
+    label: &str,
 ) -> Result<Words, NoMemory>
-    ensures { IfOk result (λ words. words ≡ plainly severity message (label ∷ []) None) }
+    ensures { IfOk result (λ words. words
+        ≡ plainly severity message.now (primary id range label.now ∷ []) None) }
 {
+    let message = Text::from_str(alloc, message)?;
+    let label = Text::from_str(alloc, label)?;
     let mut labels = List::new(alloc);
-    labels.push(label)?;
+    labels.push(primary(id, range, label))?;
     Ok(Words {
         severity,
         message,
@@ -137,6 +140,7 @@ fn judged_words(alloc: Global, krate: &Krate, judgement: Judgement) -> Result<Wo
     let severity = severity_of(&judgement);
     let message = message_of(alloc, krate, &judgement)?;
     let notes = notes_of(alloc, krate, judgement)?;
+    let kid = krate.id.clone()?;
     Ok(Words {
         severity,
         message,
@@ -144,7 +148,7 @@ fn judged_words(alloc: Global, krate: &Krate, judgement: Judgement) -> Result<Wo
         notes,
         nodes: List::new(alloc),
         with_features: false,
-        krate: Some(krate.id.clone()?),
+        krate: Some(kid),
     })
 }
 
@@ -162,15 +166,31 @@ fn severity_of(judgement: &Judgement) -> Severity
 fn message_of(alloc: Global, krate: &Krate, judgement: &Judgement) -> Result<Text, NoMemory>
     ensures { IfOk result (λ text. text ≡ judged_message (crate_view 0 krate.now) judgement.now) }
 {
-    Ok(Text::from_string(match judgement {
-        Judgement::Private => format!(in alloc; "skipping private workspace crate '{krate}'")?,
-        Judgement::Unlicensed => format!(in alloc; "crate '{krate}' is unlicensed")?,
-        Judgement::Unreadable(place) => format!(in alloc;
-            "license expression of crate '{krate}' can't be read at byte {place}"
-        )?,
-        Judgement::Accepted(_) => format!(in alloc; "license requirements satisfied")?,
-        Judgement::Rejected(_, _) => format!(in alloc; "failed to satisfy license requirements")?,
-    }))
+    match judgement {
+        Judgement::Private => around(alloc, "skipping private workspace crate '", krate, "'"),
+        Judgement::Unlicensed => around(alloc, "crate '", krate, "' is unlicensed"),
+        Judgement::Unreadable(place) => unreadable_message(alloc, krate, *place),
+        Judgement::Accepted(_) => Text::from_str(alloc, "license requirements satisfied"),
+        Judgement::Rejected(_, _) => Text::from_str(
+            alloc,
+            "failed to satisfy license requirements",
+        ),
+    }
+}
+
+/// A crate between two texts.
+fn around(alloc: Global, before: &str, krate: &Krate, after: &str) -> Result<Text, NoMemory>
+    ensures { IfOk result (λ text. text ≡ before.now ++ (crate_text (crate_view 0 krate.now) ++ after.now)) }
+{
+    Ok(Text::from_string(format!(in alloc; "{before}{krate}{after}")?))
+}
+
+fn unreadable_message(alloc: Global, krate: &Krate, place: usize) -> Result<Text, NoMemory>
+    ensures { IfOk result (λ text. text ≡ judged_message (crate_view 0 krate.now) (Unreadable place)) }
+{
+    Ok(Text::from_string(format!(in alloc;
+        "license expression of crate '{krate}' can't be read at byte {place}"
+    )?))
 }
 
 fn notes_of(alloc: Global, krate: &Krate, judgement: Judgement) -> Result<List<Text>, NoMemory>

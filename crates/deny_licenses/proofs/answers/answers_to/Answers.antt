@@ -1,42 +1,8 @@
-use Rattle.std.proofs.Common.{◌++◌, ◌∷◌, [], Option, arith, is_some, map, ap, ◌∙◌}
-use Rattle.std.specs.List.{flat_map}
-use Rattle.std.proofs.lemmas.List.{take_all}
-use Rattle.deny_licenses.specs.declared.granter.Granter.{Granter}
-use Rattle.deny_licenses.specs.private.Answers.{granter_from, granters_by, notes_by}
 use Rattle.deny_licenses.proofs.AnswerLemmas.{are-answers}
-use Rattle.deny_licenses.proofs.MapLemmas.{flat-more, mapped-more}
 use Rattle.deny_licenses.proofs.answers.answers_to.Goals as goal
-
-pub loop-requirement-preserved : goal.loop-requirement-preserved
-loop-requirement-preserved c =
-    let from = granter_from c.in_ok-excepted.excepted c.args.granting.now in
-    let rs = c.args.requirements.now in
-    let i = c.loop-requirement.requirement-index in
-    let r = c.requirement-item.result in
-    let old = c.loop-requirement.answers in
-    let new = c.add.new.self in
-    record {
-      allowed = mapped-more (λ q. is_some (from q)) rs i r old.allowed new.allowed
-          (omega (arith, c.loop-requirement-test.true)) c.requirement-item.is c.loop-requirement.invariant.allowed
-          (c.in_ok-add.ensures.allowed
-          ∙ ap (λ (o : Option Granter). old.allowed ++ is_some o ∷ []) c.in_ok-by.ensures);
-      granters = flat-more (λ q. granters_by (from q)) rs i r old.granters new.granters
-          (omega (arith, c.loop-requirement-test.true)) c.requirement-item.is c.loop-requirement.invariant.granters
-          (c.in_ok-add.ensures.granters
-          ∙ ap (λ (o : Option Granter). old.granters ++ granters_by o) c.in_ok-by.ensures);
-      notes = flat-more (λ q. notes_by (from q) q) rs i r old.notes new.notes
-          (omega (arith, c.loop-requirement-test.true)) c.requirement-item.is c.loop-requirement.invariant.notes
-          (c.in_ok-add.ensures.notes
-          ∙ ap (λ (o : Option Granter). old.notes ++ notes_by o r) c.in_ok-by.ensures);
-    }
 
 pub returns : goal.returns
 returns c =
-    let from = granter_from c.in_ok-excepted.excepted c.args.granting.now in
-    let rs = c.args.requirements.now in
-    let all = take_all c.loop-requirement.requirement-index rs (omega (arith, c.loop-requirement-test.false)) in
-    let answers = c.loop-requirement.answers in
-    are-answers c.args.granting.now c.in_ok-excepted.excepted c.args.krate.now c.in_ok-excepted.ensures rs answers
-    (c.loop-requirement.invariant.allowed ∙ ap (map (λ q. is_some (from q))) all)
-    (c.loop-requirement.invariant.granters ∙ ap (flat_map (λ q. granters_by (from q))) all)
-    (c.loop-requirement.invariant.notes ∙ ap (flat_map (λ q. notes_by (from q) q)) all)
+    are-answers c.args.granting.now c.in_ok-excepted.excepted c.args.krate.now c.in_ok-excepted.ensures
+    c.args.requirements.now c.answers_by.result c.answers_by.ensures.allowed c.answers_by.ensures.granters
+    c.answers_by.ensures.notes

@@ -1,5 +1,4 @@
 use Rattle.std.proofs.Common.{◌≡◌, ◌++◌, ℕ, List, Contains, filter, map, ap, ◌∙◌, subst}
-use Rattle.std.specs.Prelude.{filter_map}
 use Rattle.std.specs.List.{flat_map}
 use Rattle.deny_lists.specs.Ascending.{Lists}
 use Rattle.deny_lists.specs.First.{FindsFirst}
@@ -8,7 +7,7 @@ use Rattle.deny_facts.specs.Marks.{marked}
 use Rattle.deny_cfg.specs.LicensingView.{licensing_view}
 use Rattle.deny_licenses.specs.declared.granter.Granter.{Granter}
 use Rattle.deny_licenses.specs.private.Found.{crate_pack, packs_at, witnessed_at}
-use Rattle.deny_licenses.specs.private.Granters.{granter_cmp}
+use Rattle.deny_licenses.specs.private.Granters.{granter_cmp, policy_granters}
 use Rattle.deny_licenses.specs.private.Told.{unused_pack}
 use Rattle.deny_licenses.specs.private.Witnesses.{hit_at, is_unused, place_in, same_granter}
 use Rattle.deny_licenses.proofs.FoundLemmas.{packs-are}
@@ -25,20 +24,15 @@ returns-clause-checked c =
     let counted = founds.counted in
     let counts = marked counted.marks in
     let placed = c.are_placed.ensures in
-    let added = c.in_ok-add_unused.ensures in
-    let granters = c.in_ok-granters.ensures in
+    let added = c.in_ok-hits.ensures.told in
     let packs : found.packs ≡ map (crate_pack l) (filter counts g.crates) =
     founds.packs ∙ (ap (flat_map (packs_at l g)) counted.are ∙ packs-are l g placed counts) in
     is-licensed l g c.args.id placed counts counted.counted.each found.witnesses added.unused c.in_ok-hits.hits
-    c.args.sink.now
-    c.append.new.sink c.add_unused.new.packs
+    c.args.sink.now c.append.new.sink c.tell_granters.new.found.packs
     (subst (λ (ns : List ℕ). FindsFirst same_granter (flat_map (witnessed_at l g) ns) (place_in found.witnesses))
     counted.are founds.witnesses)
     (subst (λ (bys : List Granter). Lists granter_cmp (Contains bys) added.unused)
-    (flat-kept (is_unused found.witnesses) c.as_slice-2.result.now
-    ∙ ap (filter (is_unused found.witnesses)) (c.as_slice-2.ensures ∙ granters)) added.listed)
-    (c.in_ok-hits.ensures
-    ∙ (flat-given (hit_at g found.witnesses) c.as_slice.result.now
-    ∙ ap (filter_map (hit_at g found.witnesses)) (c.as_slice.ensures ∙ granters)))
+    (flat-kept (is_unused found.witnesses) (policy_granters l)) added.listed)
+    (c.in_ok-hits.ensures.hits ∙ flat-given (hit_at g found.witnesses) (policy_granters l))
     (added.told ∙ ap (λ (ps : List Pack). ps ++ map (unused_pack l.unused_allowed c.args.id) added.unused) packs)
     c.in_ok-append.ensures.ok

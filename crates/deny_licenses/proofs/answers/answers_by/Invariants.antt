@@ -1,7 +1,7 @@
 use Rattle.std.proofs.Common.{◌≡◌, is_some, map, take}
 use Rattle.std.specs.List.{flat_map}
 use Rattle.deny_licenses.specs.private.Answers.{granter_from, granters_by, notes_by}
-use Rattle.deny_licenses.proofs.answers.answers_to.Given as goal
+use Rattle.deny_licenses.proofs.answers.answers_by.Given as goal
 
 abbrev pub invariant-loop-requirement : goal.invariant-loop-requirement
 invariant-loop-requirement l =
