@@ -183,3 +183,9 @@ pub replaced-written : (code : List ℕ) (r : ReplacementText) (note a b d e new
     → e ≡ d ++ codes "```\n\n" → new ≡ e ++ remark r.note → new ≡ note ++ replaced_lines code r
 replaced-written code r note a b d e new first second third fourth fifth =
     rw (fifth, fourth, third, second, first) (simp append_assoc)
+
+-- the parts of a link, and the end of its line
+pub link-written : (sign code divider name between url behind end : List ℕ)
+    → sign ++ (code ++ (divider ++ (name ++ (between ++ (url ++ (behind ++ end))))))
+    ≡ (sign ++ (code ++ (divider ++ (name ++ (between ++ (url ++ behind)))))) ++ end
+link-written sign code divider name between url behind end = simp append_assoc

@@ -1,5 +1,5 @@
 //! The entries that passed crates over, and those that passed none.
-ghost use Rattle.std.specs.Prelude.{◌≡◌, ◌++◌, Contains, IfOk, OnOk, filter_map, map, option_map};
+ghost use Rattle.std.specs.Prelude.{◌≡◌, ◌++◌, Contains, IfOk, OnOk, codes, filter_map, map, option_map};
 ghost use Rattle.std.specs.FinMap.{IsAntisymmetric};
 ghost use Rattle.deny_lists.specs.Ascending.{AreFirst, Lists};
 ghost use Rattle.deny_base.specs.KeyOrder.{span_cmp};
@@ -74,12 +74,13 @@ pub fn unmatched_of(
 {
     ranges_differ();
     let mut unmatched = List::new(alloc);
-    add_unmatched(entries, passed, &mut unmatched)?;
+    add_unmatched(alloc, entries, passed, &mut unmatched)?;
     put_records_in_order(&mut unmatched)?;
     Ok(unmatched)
 }
 
 fn add_unmatched(
+    alloc: Global,
     entries: &[SpecAndReason],
     passed: &FirstWitnesses,
     unmatched: &mut List<Unmatched>,
@@ -88,34 +89,38 @@ fn add_unmatched(
 {
     for entry in entries {
         if passed.find(entry.spec.name.span).is_none() {
-            unmatched.push(unmatched_entry(entry)?)?;
+            unmatched.push(unmatched_entry(alloc, entry)?)?;
         }
     }
     Ok(())
 }
 
 /// What is kept of an entry that passed none over.
-fn unmatched_entry(entry: &SpecAndReason) -> Result<Unmatched, NoMemory>
+fn unmatched_entry(alloc: Global, entry: &SpecAndReason) -> Result<Unmatched, NoMemory>
     ensures { IfOk result (λ unmatched. unmatched ≡ unmatched_of (entry_view entry.now)) }
 {
     Ok(Unmatched {
         range: entry.spec.name.span,
-        spec: spec_text(&entry.spec)?,
+        spec: spec_text(alloc, &entry.spec)?,
         reason: reason_range(&entry.inner),
     })
 }
 
 /// The name of a spec, and its requirement as it is written.
 #[tactic(auto, unfolding(deny_model::specs::Told::spec_text))]
-fn spec_text(spec: &PackageSpec) -> Result<Text, NoMemory>
+fn spec_text(alloc: Global, spec: &PackageSpec) -> Result<Text, NoMemory>
     ensures { IfOk result (λ text. text ≡ spec_text (spec_view spec.now)) }
 {
-    let mut text = spec.name.value.clone()?;
-    if let Some(written) = &spec.req_text {
-        text.push_str(" = ")?;
-        text.push_str(written.as_str())?;
+    match &spec.req_text {
+        Some(written) => with_requirement(alloc, &spec.name.value, written),
+        None => Ok(spec.name.value.clone()?),
     }
-    Ok(text)
+}
+
+fn with_requirement(alloc: Global, name: &Text, written: &Text) -> Result<Text, NoMemory>
+    ensures { IfOk result (λ text. text ≡ name.now ++ (codes " = " ++ written.now)) }
+{
+    Ok(Text::from_string(format!(in alloc; "{name} = {written}")?))
 }
 
 fn reason_range(reason: &Option<Reason>) -> Option<Span>

@@ -139,8 +139,7 @@ fn add_replacement(
     add_link(alloc, note, "- [", code, "::", &replacement.krate)?;
     add_link(alloc, note, "+ [", "", "", &replacement.std)?;
     note.push_str("```\n\n")?;
-    add_remark(alloc, note, replacement.note)?;
-    Ok(())
+    add_remark(alloc, note, replacement.note)
 }
 
 fn add_link(

@@ -54,6 +54,24 @@ impl<'d> Replacements<'d> {
             → IsFoundIn c id self.entry
             → TellsStdPrefix c sink.old sink.new) }
     {
+        self.tell(alloc, krates, sink, id)
+    }
+
+    /// The same of what is kept.
+    fn tell(
+        &self,
+        alloc: Global,
+        krates: &Krates,
+        sink: &mut List<Pack>,
+        id: FileId,
+    ) -> Result<(), NoMemory>
+        ensures told { OnOk result ((c : Circumstances) → c.graph ≡ krates.now
+            → IsFoundIn c id self.now
+            → TellsStd c sink.old sink.new) }
+        ensures prefix { OnErr result ((c : Circumstances) → c.graph ≡ krates.now
+            → IsFoundIn c id self.now
+            → TellsStdPrefix c sink.old sink.new) }
+    {
         tell_unmatched(alloc, self.unmatched.as_slice(), id, sink)?;
         tell_replaced(
             alloc,

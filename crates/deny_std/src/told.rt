@@ -8,8 +8,8 @@ ghost use Rattle.deny_codes.specs.Telling.{kid_at};
 ghost use Rattle.deny_codes.specs.Told.{pack_of};
 ghost use Rattle.deny_model.specs.Keys.{key_of};
 ghost use Rattle.deny_model.specs.Told.{crate_text_at, primary};
-ghost use Rattle.deny_std.specs.private.Told.{TellsFirst, note_of, reason_label, replaced_pack};
-ghost use Rattle.deny_std.specs.private.Told.{replaced_words, unmatched_pack, unmatched_words};
+ghost use Rattle.deny_std.specs.private.Told.{TellsFirst, note_of, reason_label, replaced_message};
+ghost use Rattle.deny_std.specs.private.Told.{replaced_pack, replaced_words, unmatched_pack, unmatched_words};
 
 use crate::note::replacement_note;
 use crate::places::krate_at;
@@ -187,19 +187,27 @@ fn replaced_words(
     ensures { IfOk result (λ words. words ≡ replaced_words level krates.now
         (said_in table.now) place) }
 {
-    let krate = krate_text(alloc, krates, place)?;
-    let message = Text::from_string(format!(in alloc;
-        "crate '{krate}' is partially or fully replaced in std and/or core"
-    )?);
+    let message = replaced_message(alloc, krates, place)?;
+    let notes = notes_of(alloc, table, krates, place)?;
+    let kid = kid_at(krates, place)?;
     Ok(Words {
         severity: level.severity(),
         message,
         labels: List::new(alloc),
-        notes: notes_of(alloc, table, krates, place)?,
+        notes,
         nodes: List::new(alloc),
         with_features: false,
-        krate: kid_at(krates, place)?,
+        krate: kid,
     })
+}
+
+fn replaced_message(alloc: Global, krates: &Krates, place: u32) -> Result<Text, NoMemory>
+    ensures { IfOk result (λ text. text ≡ replaced_message krates.now place) }
+{
+    let krate = krate_text(alloc, krates, place)?;
+    Ok(Text::from_string(format!(in alloc;
+        "crate '{krate}' is partially or fully replaced in std and/or core"
+    )?))
 }
 
 fn krate_text(alloc: Global, krates: &Krates, place: u32) -> Result<Text, NoMemory>

@@ -44,10 +44,13 @@ unmatched_pack file u = pack_of (unused_key UnmatchedReplacementIgnore u.range) 
 abbrev pub note_of : Saying → List ℕ → List (List ℕ)
 note_of said name = option_map_or (λ items. replacement_note name items ∷ []) (said name) []
 
+abbrev pub replaced_message : Graph → ℕ → List ℕ
+replaced_message g place =
+    codes "crate '" ++ (crate_text_at g place ++ codes "' is partially or fully replaced in std and/or core")
+
 abbrev pub replaced_words : LintLevel → Graph → Saying → ℕ → Words
-replaced_words level g said place = record (plainly (severity_of level)
-    (codes "crate '" ++ (crate_text_at g place ++ codes "' is partially or fully replaced in std and/or core")) []
-    (kid_at g place)) {
+replaced_words level g said place =
+    record (plainly (severity_of level) (replaced_message g place) [] (kid_at g place)) {
       notes = note_at g said place;
     }
 
