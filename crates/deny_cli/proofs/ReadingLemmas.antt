@@ -8,7 +8,7 @@ use Rattle.deny_base.specs.declared.check.Which.TheVariants.{Policy, Metadata, R
 use Rattle.deny_outside.specs.declared.disk.Call.TheVariants as call
 use Rattle.deny_gate.specs.Gating.{Texts}
 use Rattle.deny_cli.specs.Causes.{AreShortBefore, IsAskedFor, IsFaultAt, IsFirstLong, IsLong, IsLongAt, IsLongThere}
-use Rattle.deny_cli.specs.Causes.{IsReadAt, IsReadStop, IsShort, StopsAt, known_texts, texts_at}
+use Rattle.deny_cli.specs.Causes.{IsReadAt, IsReadIfNamed, IsReadStop, IsShort, StopsAt, known_texts, texts_at}
 use Rattle.deny_cli.specs.Words.{Asked, check, path_of}
 use Rattle.deny_cli.specs.declared.outcome.Outcome.{Outcome}
 use Rattle.deny_cli.specs.declared.outcome.Outcome.TheVariants.{Done, Usage, Read, Long, Gate, Write, Memory}
@@ -31,6 +31,20 @@ both_told : {P Q R : Files → Type 0} (told : Option Files) → ((files : Files
     → IfSome told P → IfSome told Q → IfSome told R
 both_told None by p q = tt
 both_told (Some files) by p q = by files p q
+
+-- what was read on a later disk stands on the earlier one
+pub read_since : (old between : Disk) (path text : List ℕ) → IsLater old between → IsReadAt between path text
+    → IsReadAt old path text
+read_since old between path text later read = record {
+  whole = subst (λ (f : Option Files). IfSome f (λ files. text ≡ bytes_at files path)) later.files read.whole;
+  short = read.short;
+}
+
+pub read_if_named_since : (old between : Disk) (path text : Option (List ℕ)) → IsLater old between
+    → IsReadIfNamed between path text → IsReadIfNamed old path text
+read_if_named_since old between None text later read = read
+read_if_named_since old between (Some path) None later read = read
+read_if_named_since old between (Some path) (Some text) later read = read_since old between path text later read
 
 -- ---- texts that are asked for
 

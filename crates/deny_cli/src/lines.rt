@@ -145,20 +145,28 @@ fn push_malformed(alloc: Global, malformed: &[Text], text: &mut Text) -> Result<
     Ok(())
 }
 
+/// Adds the lines of a report.
+#[tactic(auto, unfolding(crate::specs::Lines::lines))]
+fn push_lines(alloc: Global, report: &Report, text: &mut Text) -> Result<(), NoMemory>
+    ensures text { OnOk result (text.new ≡ text.old ++ lines report.now) }
+    ensures plain { OnOk result (All IsPlain (told report.now)) }
+{
+    let grapher = InclusionGrapher::new(&report.krates);
+    let findings = report.findings.as_slice();
+    push_findings(alloc, &report.files, &grapher, findings, text)?;
+    push_dead(alloc, report.dead.as_slice(), text)?;
+    push_unread(alloc, &report.krates, report.unread.as_slice(), text)?;
+    push_malformed(alloc, report.malformed.as_slice(), text)?;
+    text.push_str(verdict_line(alloc, report.verdict)?.as_str())
+}
+
 /// The lines of a report: its findings in order, with their trees, its dead entries, what could not be
 /// read, which manifests are malformed, and its verdict. All numbers that they tell have 64 bits.
-#[tactic(auto, unfolding(crate::specs::Lines::lines), using(crate::proofs::ToldLemmas::told_plain))]
 pub fn lines(alloc: Global, report: &Report) -> Result<Text, NoMemory>
     ensures text { IfOk result (λ text. text ≡ lines report.now) }
     ensures plain { OnOk result (All IsPlain (told report.now)) }
 {
     let mut text = Text::new(alloc);
-    let grapher = InclusionGrapher::new(&report.krates);
-    let findings = report.findings.as_slice();
-    push_findings(alloc, &report.files, &grapher, findings, &mut text)?;
-    push_dead(alloc, report.dead.as_slice(), &mut text)?;
-    push_unread(alloc, &report.krates, report.unread.as_slice(), &mut text)?;
-    push_malformed(alloc, report.malformed.as_slice(), &mut text)?;
-    text.push_str(verdict_line(alloc, report.verdict)?.as_str())?;
+    push_lines(alloc, report, &mut text)?;
     Ok(text)
 }

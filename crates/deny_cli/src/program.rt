@@ -1,19 +1,19 @@
-ghost use Rattle.std.specs.Prelude.{◌≡◌, ◌==◌, ◌≤◌, ℕ, All, List, [], Some, IfOk, IfErr, not};
+ghost use Rattle.std.specs.Prelude.{◌≡◌, ◌==◌, ◌≤◌, ℕ, All, List, [], Some, IfOk, IfErr, not, option_map};
 ghost use Rattle.std.specs.List.{list_any};
+ghost use Rattle.deny_base.specs.declared.check.Which.TheVariants.{Replacements};
 ghost use Rattle.deny_outside.specs.Count.{Rose};
 ghost use Rattle.deny_outside.specs.Disk.{Disk, IsLater};
 ghost use Rattle.deny_gate.specs.Gating.{AreShort, IsCausedReport, IsReportOf, texts_in};
 ghost use Rattle.deny_gate.specs.Labels.{AreLabelled};
 ghost use Rattle.deny_gate.specs.Report.{has_error};
 ghost use Rattle.deny_cli.specs.Causes.{IsCausedAt, IsCausedOn, AreTextsOf, ComesBy, StopsBy, StopsAt};
-ghost use Rattle.deny_cli.specs.Causes.{IsHeadlineOn, CanDoWithoutDeadOn, IsReadAt, IsReadStop};
+ghost use Rattle.deny_cli.specs.Causes.{IsHeadlineOn, CanDoWithoutDeadOn, IsReadAt, IsReadIfNamed, IsReadStop};
 ghost use Rattle.deny_cli.specs.Causes.{IsReportAt, IsReportOn, IsValidRun, IsRefusedRun, IsReadable};
 ghost use Rattle.deny_cli.specs.Causes.{IsGateStop, IsTextOfClashes, end_stop, made_files, made_texts};
 ghost use Rattle.deny_cli.specs.Commands.{asked_view, command_view};
 ghost use Rattle.deny_cli.specs.Outcome.{IfDone, IfReported, IsUsage, IsDoneOrMemory};
 ghost use Rattle.deny_cli.specs.Outcome.{IsStopOrMemory, failing_bits, status_of};
 ghost use Rattle.deny_cli.specs.declared.outcome.Outcome.{Outcome};
-ghost use Rattle.deny_cli.specs.declared.outcome.Outcome.TheVariants.{Memory};
 ghost use Rattle.deny_cli.specs.Stops.{IsTextOf};
 ghost use Rattle.deny_cli.specs.Outputs.{LeavesOut, LeavesErr, PutsLine, WritesReport};
 ghost use Rattle.deny_cli.specs.Told.{TellsJson, answer_told, told_for};
@@ -30,7 +30,6 @@ use deny_gate::{Inputs, Report, gate};
 use deny_generator::{disk_of, metadata_of, policy_of};
 use deny_lists::{List, NoMemory, Text};
 use deny_outside::{Out, OutFault, PackageFiles, ReadEnd, read_whole};
-use deny_workspace::Registry;
 use std::alloc::Global;
 
 /// What a run comes to, and the policy's text, in which the labels of clashes lie; it is empty where
@@ -87,29 +86,63 @@ fn read_text<D: PackageFiles>(
     }
 }
 
-/// The registries that a check names, or why there are none.
-fn registries_of(alloc: Global, asked: Asked<'_>) -> Result<List<Registry>, Outcome>
-    ensures ok { IfOk result (λ registries. registries ≡ (asked_view asked.entry).registries) }
-    ensures stop { IfErr result (λ outcome. outcome ≡ Memory) }
+/// The table of replacements that a check names, if it names one, or why it stops the run.
+fn read_replacements<D: PackageFiles>(
+    alloc: Global,
+    asked: Asked<'_>,
+    disk: &mut D,
+) -> Result<Option<Vec<u8>>, Outcome>
+    ensures read { IfOk result (λ table. IsReadIfNamed (D.seen disk.old) (asked_view asked.entry).replacements
+        (option_map (λ bytes. bytes.items) table)) }
+    ensures stop { IfErr result (λ outcome. (path : List ℕ)
+        × ((asked_view asked.entry).replacements ≡ Some path)
+        × IsReadStop (D.seen disk.old) (D.seen disk.new) Replacements path outcome) }
+    ensures later { IsLater (D.seen disk.old) (D.seen disk.new) }
 {
-    match registries_in(alloc, asked.words) {
-        Ok(registries) => Ok(registries),
-        Err(NoMemory) => Err(Outcome::Memory),
-    }
-}
-
-/// The home that a check names, or why there is none.
-fn home_in(alloc: Global, asked: Asked<'_>) -> Result<Option<Text>, Outcome>
-    ensures ok { IfOk result (λ home. home ≡ (asked_view asked.entry).home) }
-    ensures stop { IfErr result (λ outcome. outcome ≡ Memory) }
-{
-    match asked.home {
-        Some(path) => match Text::from_str(alloc, path) {
-            Ok(home) => Ok(Some(home)),
-            Err(NoMemory) => Err(Outcome::Memory),
+    match asked.replacements {
+        Some(path) => match read_text(alloc, Which::Replacements, path, disk) {
+            Ok(table) => Ok(Some(table)),
+            Err(outcome) => Err(outcome),
         },
         None => Ok(None),
     }
+}
+
+/// The home that a check names.
+fn home_in(alloc: Global, asked: Asked<'_>) -> Result<Option<Text>, NoMemory>
+    ensures { IfOk result (λ home. home ≡ (asked_view asked.entry).home) }
+{
+    match asked.home {
+        Some(path) => Ok(Some(Text::from_str(alloc, path)?)),
+        None => Ok(None),
+    }
+}
+
+/// These texts, with what else a check hands to the gate.
+fn inputs_with(
+    alloc: Global,
+    asked: Asked<'_>,
+    policy: Vec<u8>,
+    metadata: Vec<u8>,
+    replacements: Option<Vec<u8>>,
+) -> Result<Inputs, NoMemory>
+    ensures { IfOk result (λ inputs. texts_in inputs ≡ record {
+      policy = policy.items;
+      metadata = metadata.items;
+      replacements = option_map (λ bytes. bytes.items) replacements;
+      home = (asked_view asked.entry).home;
+      registries = (asked_view asked.entry).registries;
+    }) }
+{
+    let home = home_in(alloc, asked)?;
+    let registries = registries_in(alloc, asked.words)?;
+    Ok(Inputs {
+        policy,
+        metadata,
+        replacements,
+        home,
+        registries,
+    })
 }
 
 /// The texts of a check, or why there are none. A text is read once those before it are.
@@ -126,19 +159,11 @@ fn read_inputs<D: PackageFiles>(
 {
     let policy = read_text(alloc, Which::Policy, asked.policy, disk)?;
     let metadata = read_text(alloc, Which::Metadata, asked.metadata, disk)?;
-    let replacements = match asked.replacements {
-        Some(path) => Some(read_text(alloc, Which::Replacements, path, disk)?),
-        None => None,
-    };
-    let home = home_in(alloc, asked)?;
-    let registries = registries_of(alloc, asked)?;
-    Ok(Inputs {
-        policy,
-        metadata,
-        replacements,
-        home,
-        registries,
-    })
+    let replacements = read_replacements(alloc, asked, disk)?;
+    match inputs_with(alloc, asked, policy, metadata, replacements) {
+        Ok(inputs) => Ok(inputs),
+        Err(NoMemory) => Err(Outcome::Memory),
+    }
 }
 
 /// The report on texts, or why there is none.

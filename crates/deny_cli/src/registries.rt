@@ -38,7 +38,6 @@ fn named_by(text: &str) -> Option<Named<'_>>
 }
 
 /// The registry that an option names: `--registry=NAME=ADDRESS`.
-#[tactic(auto, unfolding(crate::specs::Registries::registry_of))]
 pub fn registry_of(word: &str) -> Option<Named<'_>>
     ensures { option_map named_view result ≡ registry_of word.now }
 {

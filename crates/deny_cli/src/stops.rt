@@ -1,6 +1,6 @@
 //! The line that tells why a run stopped.
 ghost use Rattle.std.specs.Prelude.{◌≡◌, ◌<◌, ◌^◌, ◌∷◌, [], All, IfOk, IsUtf8, OnOk, codes, length, map};
-ghost use Rattle.serde_json.specs.Data.{member, number, unsigned};
+ghost use Rattle.serde_json.specs.Data.{member, no_members, number, put as with_member, string, unsigned};
 ghost use Rattle.serde_json.specs.View.{view};
 ghost use Rattle.deny_cfg.specs.PolicyText.{policy_file};
 ghost use Rattle.deny_json.specs.Diagnostics.{diagnostic_value, tells};
@@ -29,6 +29,14 @@ fn file_word(which: Which) -> &'static str
         Which::Metadata => "metadata",
         Which::Replacements => "replacements",
     }
+}
+
+/// A stop as JSON: its word, and what else is told of it under a name.
+fn stop_with(alloc: Global, name: &str, value: Value, word: &str) -> Result<Value, NoMemory>
+    ensures { IfOk result (λ stop. view stop ≡ tells (codes "stop")
+        (with_member (codes "stop") (string word.now) (with_member name.now (view value) no_members))) }
+{
+    line_value(alloc, "stop", json!(in alloc; {name: value, "stop": word})?)
 }
 
 /// A stop that a text is the cause of, as JSON.
@@ -93,11 +101,7 @@ fn config_value(alloc: Global, faults: &List<ConfigFault>) -> Result<Value, NoMe
     ensures fit { OnOk result (All HasSpan faults.now) }
 {
     let faults = fault_values(alloc, faults.as_slice())?;
-    line_value(
-        alloc,
-        "stop",
-        json!(in alloc; {"faults": faults, "stop": "config"})?,
-    )
+    stop_with(alloc, "faults", Value::from(faults), "config")
 }
 
 /// Diagnostics as JSON, in their order.
@@ -131,6 +135,17 @@ fn policy_files(alloc: Global, policy: &[u8]) -> Result<Files, NoMemory>
     }
 }
 
+/// Clashes of the policy as JSON, in their order.
+fn clash_values(alloc: Global, policy: &[u8], told: &[Diagnostic]) -> Result<Vec<Value>, NoMemory>
+    requires text { IsUtf8 policy.now }
+    requires small { length policy.now < 2 ^ 28 }
+    ensures { IfOk result (λ values. map view values.items
+        ≡ map (diagnostic_value (policy_file policy.now ∷ [])) told.now) }
+{
+    let files = policy_files(alloc, policy)?;
+    Ok(diagnostic_values(alloc, &files, told)?)
+}
+
 /// A stop that clashes of the policy are the cause of, as JSON.
 fn invalid_value(alloc: Global, policy: &[u8], told: &List<Diagnostic>) -> Result<Value, NoMemory>
     requires text { IsUtf8 policy.now }
@@ -138,13 +153,8 @@ fn invalid_value(alloc: Global, policy: &[u8], told: &List<Diagnostic>) -> Resul
     ensures { IfOk result (λ value. view value
         ≡ tells (codes "stop") (invalid_fields (policy_file policy.now ∷ []) told.now)) }
 {
-    let files = policy_files(alloc, policy)?;
-    let told = diagnostic_values(alloc, &files, told.as_slice())?;
-    line_value(
-        alloc,
-        "stop",
-        json!(in alloc; {"diagnostics": told, "stop": "invalid"})?,
-    )
+    let told = clash_values(alloc, policy, told.as_slice())?;
+    stop_with(alloc, "diagnostics", Value::from(told), "invalid")
 }
 
 /// The word of a fault of the metadata.
@@ -202,11 +212,7 @@ fn replacement_value(alloc: Global, offset: usize) -> Result<Value, NoMemory>
     ensures value { IfOk result (λ value. view value ≡ tells (codes "stop") (replacement_fields offset)) }
     ensures fits { offset < 2 ^ 64 }
 {
-    line_value(
-        alloc,
-        "stop",
-        json!(in alloc; {"offset": offset, "stop": "replacement"})?,
-    )
+    stop_with(alloc, "offset", Value::from(offset), "replacement")
 }
 
 /// A stop that words are the cause of, as JSON: the place of the one that is not accepted.
@@ -215,7 +221,7 @@ fn usage_value(alloc: Global, at: usize) -> Result<Value, NoMemory>
         (member (codes "at") (number (unsigned at)) (stop_word (codes "usage")))) }
     ensures fits { at < 2 ^ 64 }
 {
-    line_value(alloc, "stop", json!(in alloc; {"at": at, "stop": "usage"})?)
+    stop_with(alloc, "at", Value::from(at), "usage")
 }
 
 /// A stop that the output is the cause of, as JSON.

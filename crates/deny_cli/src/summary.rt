@@ -1,5 +1,6 @@
 //! The line of a report on crates that were made, and what a command tells of a report.
-ghost use Rattle.std.specs.Prelude.{◌≡◌, ◌<◌, ◌^◌, All, filter, length, IfOk, OnOk};
+ghost use Rattle.std.specs.Prelude.{◌≡◌, ◌<◌, ◌^◌, All, codes, filter, length, IfOk, OnOk};
+ghost use Rattle.serde_json.specs.Data.{member, no_members, number, object, string, unsigned};
 ghost use Rattle.serde_json.specs.View.{view};
 ghost use Rattle.deny_gate.specs.Report.{has_error};
 ghost use Rattle.deny_cli.specs.Commands.{command_view};
@@ -16,7 +17,7 @@ use deny_json::line;
 use deny_krates::Krates;
 use deny_lists::{NoMemory, Text};
 use serde_json::{Value, json};
-use std::alloc::Global;
+use std::alloc::{AllocError, Global};
 
 /// Whether a finding has severity error.
 #[tactic(auto, unfolding(deny_gate::specs::Report::has_error))]
@@ -48,6 +49,27 @@ fn crate_count(krates: &Krates) -> usize
     krates.krates().len()
 }
 
+/// The fields of a report on so many crates that were made, as JSON.
+fn summary_fields(
+    alloc: Global,
+    made: u32,
+    crates: usize,
+    dead: usize,
+    errors: usize,
+    word: &str,
+) -> Result<Value, AllocError>
+    ensures { IfOk result (λ value. view value ≡ object
+        (member (codes "crates") (number (unsigned crates))
+        (member (codes "dead") (number (unsigned dead))
+        (member (codes "errors") (number (unsigned errors))
+        (member (codes "generated") (number (unsigned made))
+        (member (codes "verdict") (string word.now) no_members)))))) }
+{
+    json!(in alloc; {
+        "crates": crates, "dead": dead, "errors": errors, "generated": made, "verdict": word,
+    })
+}
+
 /// A report on so many crates that were made, as JSON.
 #[tactic(auto, using(crate::proofs::ToldLemmas::summary_plain))]
 fn report_summary(alloc: Global, made: u32, report: &Report) -> Result<Value, NoMemory>
@@ -58,9 +80,7 @@ fn report_summary(alloc: Global, made: u32, report: &Report) -> Result<Value, No
     let dead = report.dead.len();
     let errors = error_count(report.findings.as_slice());
     let word = verdict_word(report.verdict);
-    let fields = json!(in alloc; {
-        "crates": crates, "dead": dead, "errors": errors, "generated": made, "verdict": word,
-    })?;
+    let fields = summary_fields(alloc, made, crates, dead, errors, word)?;
     line_value(alloc, "summary", fields)
 }
 

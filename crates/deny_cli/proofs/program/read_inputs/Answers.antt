@@ -1,8 +1,11 @@
-use Rattle.std.proofs.Common.{ap}
-use Rattle.std.specs.Prelude.{option_map}
+use Rattle.std.proofs.Common.{refl, subst, sym}
 use Rattle.deny_base.specs.declared.check.Which.TheVariants.{Policy, Metadata, Replacements}
-use Rattle.deny_cli.specs.Commands.{asked_view, text_view}
-use Rattle.deny_cli.proofs.ReadingLemmas.{handed_on, metadata_asked_for, policy_asked_for, replacements_asked_for}
+use Rattle.deny_gate.specs.Gating.{Texts}
+use Rattle.deny_cli.specs.Causes.{AreTextsOf}
+use Rattle.deny_cli.specs.Commands.{asked_view}
+use Rattle.deny_cli.specs.Words.{check}
+use Rattle.deny_cli.proofs.ReadingLemmas.{handed_on, metadata_asked_for, policy_asked_for, read_if_named_since}
+use Rattle.deny_cli.proofs.ReadingLemmas.{read_since, replacements_asked_for}
 use Rattle.deny_cli.proofs.program.read_inputs.Goals as goal
 use Rattle.deny_outside.proofs.PieceLemmas.{later_same, later_then}
 
@@ -21,15 +24,31 @@ returns-in_err-metadata-clause-stop g c =
     c.from_residual-in_err-metadata.ensures.1 c.in_ok-policy.ensures.later
     (metadata_asked_for old asked _ c.in_ok-policy.ensures.read) c.in_err-metadata.ensures.stop
 
-pub returns-in_err-read_text-in-Some-clause-stop : goal.returns-in_err-read_text-in-Some-clause-stop
-returns-in_err-read_text-in-Some-clause-stop g c =
+pub returns-in_err-replacements-clause-stop : goal.returns-in_err-replacements-clause-stop
+returns-in_err-replacements-clause-stop g c =
     let old = g.D.PackageFiles.seen c.args.disk.now in
     let between = g.D.PackageFiles.seen c.read_text.new.disk in
     let asked = asked_view c.args.asked in
     let first = c.in_ok-policy.ensures in
     let second = c.in_ok-metadata.ensures in
-    handed_on old _ _ asked Replacements _ c.from_residual-in_err-read_text-in-Some.result
-    c.in_err-read_text-in-Some.field-0.0 c.from_residual-in_err-read_text-in-Some.ensures.1
+    let stop = c.in_err-replacements.ensures.stop in
+    handed_on old _ _ asked Replacements stop.0 c.from_residual-in_err-replacements.result
+    c.in_err-replacements.field-0.0 c.from_residual-in_err-replacements.ensures.1
     (later_then old between _ first.later second.later)
-    (replacements_asked_for old between asked _ _ _ (ap (option_map text_view) c.in-Some.is) first.later first.read
-    second.read) c.in_err-read_text-in-Some.ensures.stop
+    (replacements_asked_for old between asked _ _ _ stop.1 first.later first.read second.read) stop.2
+
+pub returns-in-Ok-clause-read : goal.returns-in-Ok-clause-read
+returns-in-Ok-clause-read g c =
+    let old = g.D.PackageFiles.seen c.args.disk.now in
+    let between = g.D.PackageFiles.seen c.read_text.new.disk in
+    let asked = asked_view c.args.asked in
+    let first = c.in_ok-policy.ensures in
+    let second = c.in_ok-metadata.ensures in
+    subst (λ (texts : Texts). AreTextsOf old (check asked) texts) (sym c.in-Ok.ensures) (record {
+      policy = first.read;
+      metadata = read_since old between _ _ first.later second.read;
+      replacements = read_if_named_since old _ _ _ (later_then old between _ first.later second.later)
+          c.in_ok-replacements.ensures.read;
+      home = refl;
+      registries = refl;
+    })
