@@ -4,12 +4,12 @@ ghost use Rattle.deny_codes.specs.AllowList.{allowed_told, not_allowed_told};
 ghost use Rattle.deny_model.specs.Told.{allow_at};
 ghost use Rattle.deny_telling.specs.private.Teller.{told_from};
 
+use crate::crate_words::sentence_words;
 use crate::entry_labels::allow_labels_at;
 use crate::teller::Teller;
 use deny_base::{Key, Severity};
 use deny_codes::Words;
 use deny_lists::{List, NoMemory};
-use deny_told::{kid_at, of_crate, plainly};
 use std::alloc::Global;
 
 /// What is told of a crate that an entry allows.
@@ -19,16 +19,16 @@ pub fn allowed_told(alloc: Global, teller: &Teller<'_>, key: &Key) -> Result<Wor
     ensures { IfOk result (λ words. let c = told_from teller.now in
         words ≡ allowed_told c.policy c.graph c.files.policy key.now) }
 {
-    let message = of_crate(
+    let labels = allow_labels_at(alloc, teller, "allowed here", key.entry)?;
+    sentence_words(
         alloc,
         teller.told.krates,
+        Severity::Note,
         "crate '",
         key,
         "' is explicitly allowed",
-    )?;
-    let labels = allow_labels_at(alloc, teller, "allowed here", key.entry)?;
-    let krate = kid_at(teller.told.krates, key.place)?;
-    Ok(plainly(alloc, Severity::Note, message, labels, krate))
+        labels,
+    )
 }
 
 /// What is told of a crate that no entry allows.
@@ -36,13 +36,13 @@ pub fn allowed_told(alloc: Global, teller: &Teller<'_>, key: &Key) -> Result<Wor
 pub fn not_allowed_told(alloc: Global, teller: &Teller<'_>, key: &Key) -> Result<Words, NoMemory>
     ensures { IfOk result (λ words. words ≡ not_allowed_told (told_from teller.now).graph key.now) }
 {
-    let message = of_crate(
+    sentence_words(
         alloc,
         teller.told.krates,
+        Severity::Error,
         "crate '",
         key,
         "' is not explicitly allowed",
-    )?;
-    let krate = kid_at(teller.told.krates, key.place)?;
-    Ok(plainly(alloc, Severity::Error, message, List::new(alloc), krate))
+        List::new(alloc),
+    )
 }

@@ -1,12 +1,13 @@
 //! Words about the crate of a key.
 ghost use Rattle.std.specs.Prelude.{◌≡◌, IfOk};
 ghost use Rattle.deny_codes.specs.Telling.{kid_at, plainly};
+ghost use Rattle.deny_model.specs.Told.{of_crate};
 
 use deny_base::{Key, Label, Severity};
 use deny_codes::Words;
 use deny_krates::Krates;
 use deny_lists::{List, NoMemory, Text};
-use deny_told::{kid_at, plainly};
+use deny_told::{kid_at, of_crate, plainly};
 use std::alloc::Global;
 
 /// Plain words about the crate of a key. They are made here alone, so that no other function lets go of
@@ -23,4 +24,21 @@ pub fn crate_words(
 {
     let krate = kid_at(krates, key.place)?;
     Ok(plainly(alloc, severity, message, labels, krate))
+}
+
+/// Those words with a sentence about the crate as their message.
+pub fn sentence_words(
+    alloc: Global,
+    krates: &Krates,
+    severity: Severity,
+    before: &str,
+    key: &Key,
+    after: &str,
+    labels: List<Label>,
+) -> Result<Words, NoMemory>
+    ensures { IfOk result (λ words. words ≡ plainly severity
+        (of_crate before.now krates.now key.now after.now) labels (kid_at krates.now key.now.place)) }
+{
+    let message = of_crate(alloc, krates, before, key, after)?;
+    crate_words(alloc, krates, severity, message, labels, key)
 }

@@ -11,6 +11,7 @@ use crate::teller::Teller;
 use deny_base::{GraphNode, Key, LintLevel, Span};
 use deny_codes::Words;
 use deny_facts::{krate_at, krate_name};
+use deny_krates::Krates;
 use deny_lists::{List, NoMemory, Text};
 use deny_told::{Labels, lone_label};
 use std::alloc::Global;
@@ -22,9 +23,9 @@ pub fn duplicate_told(alloc: Global, teller: &Teller<'_>, key: &Key) -> Result<W
     ensures { IfOk result (λ words. let c = told_from teller.now in
         words ≡ duplicate_told c.policy c.graph c.files.lock key.now) }
 {
-    let message = duplicate_message(alloc, teller, key)?;
+    let message = duplicate_message(alloc, teller.told.krates, key)?;
     let labels = lock_labels(alloc, teller, key.places.as_slice())?;
-    let nodes = nodes_at(alloc, teller, key.places.as_slice())?;
+    let nodes = nodes_at(alloc, teller.told.krates, key.places.as_slice())?;
     Ok(Words {
         severity: duplicate_level(teller, key.places.as_slice()).severity(),
         message,
@@ -36,13 +37,13 @@ pub fn duplicate_told(alloc: Global, teller: &Teller<'_>, key: &Key) -> Result<W
     })
 }
 
-fn duplicate_message(alloc: Global, teller: &Teller<'_>, key: &Key) -> Result<Text, NoMemory>
+fn duplicate_message(alloc: Global, krates: &Krates, key: &Key) -> Result<Text, NoMemory>
     ensures { IfOk result (λ text. text ≡ codes "found "
         ++ (decimal (length key.now.places) ++ (codes " duplicate entries for crate '"
-        ++ (crate_name_at teller.now.told.krates.now key.now.place ++ codes "'")))) }
+        ++ (crate_name_at krates.now key.now.place ++ codes "'")))) }
 {
     let count = key.places.len();
-    let name = krate_name(alloc, teller.told.krates, key.place)?;
+    let name = krate_name(alloc, krates, key.place)?;
     Ok(Text::from_string(format!(in alloc; "found {count} duplicate entries for crate '{name}'")?))
 }
 
@@ -94,12 +95,12 @@ fn lock_label(alloc: Global, teller: &Teller<'_>, first: u32, last: u32) -> Labe
 
 // The crates at these places, as they are shown.
 #[tactic(auto, unfolding(deny_model::specs::Told::crates_at))]
-fn nodes_at(alloc: Global, teller: &Teller<'_>, places: &[u32]) -> Result<List<GraphNode>, NoMemory>
-    ensures { IfOk result (λ nodes. nodes ≡ map node_of (crates_at teller.now.told.krates.now places.now)) }
+fn nodes_at(alloc: Global, krates: &Krates, places: &[u32]) -> Result<List<GraphNode>, NoMemory>
+    ensures { IfOk result (λ nodes. nodes ≡ map node_of (crates_at krates.now places.now)) }
 {
     let mut nodes = List::new(alloc);
     for place in places {
-        if let Some(krate) = krate_at(teller.told.krates, *place) {
+        if let Some(krate) = krate_at(krates, *place) {
             nodes.push(GraphNode {
                 kid: krate.id.clone()?,
                 feature: None,

@@ -59,7 +59,7 @@ pub fn ban_labels_at(alloc: Global, teller: &Teller<'_>, message: &str, range: S
     let ban = teller.ban(range).ban;
     spec_labels(
         alloc,
-        teller.file(),
+        teller.told.cfg.file_id,
         message,
         &ban.spec,
         reason_of_ban(ban),
@@ -98,7 +98,14 @@ pub fn allow_labels_at(alloc: Global, teller: &Teller<'_>, message: &str, range:
 {
     let entry = teller.allow(range);
     let reason = reason_of(entry);
-    spec_labels(alloc, teller.file(), message, &entry.spec, reason, None)
+    spec_labels(
+        alloc,
+        teller.told.cfg.file_id,
+        message,
+        &entry.spec,
+        reason,
+        None,
+    )
 }
 
 /// The labels of the skip of a range.
@@ -109,7 +116,14 @@ pub fn skip_labels_at(alloc: Global, teller: &Teller<'_>, message: &str, range: 
 {
     let entry = teller.skip(range);
     let reason = reason_of(entry);
-    spec_labels(alloc, teller.file(), message, &entry.spec, reason, None)
+    spec_labels(
+        alloc,
+        teller.told.cfg.file_id,
+        message,
+        &entry.spec,
+        reason,
+        None,
+    )
 }
 
 fn reason_of(entry: &PackageSpecOrExtended<Reason>) -> Option<&Spanned<Text>>
@@ -129,7 +143,14 @@ pub fn root_labels_at(alloc: Global, teller: &Teller<'_>, message: &str, range: 
 {
     let root = teller.root(range);
     let reason = reason_of_root(root);
-    spec_labels(alloc, teller.file(), message, &root.spec, reason, None)
+    spec_labels(
+        alloc,
+        teller.told.cfg.file_id,
+        message,
+        &root.spec,
+        reason,
+        None,
+    )
 }
 
 fn reason_of_root(root: &PackageSpecOrExtended<TreeSkipExtended>) -> Option<&Spanned<Text>>

@@ -13,6 +13,7 @@ ghost use Rattle.deny_codes.specs.Features.{feature_not_allowed_told, mismatch_l
 ghost use Rattle.deny_codes.specs.Features.{named_at, of_feature, unknown_feature_told, unlisted, unlisted_note};
 ghost use Rattle.deny_codes.specs.Features.{with_features};
 ghost use Rattle.deny_codes.specs.PackagesTold.{required_features};
+ghost use Rattle.deny_codes.specs.Telling.{kid_at, plainly};
 ghost use Rattle.deny_model.specs.Text.{same_text};
 ghost use Rattle.deny_model.specs.Told.{crate_at, node_of, primary};
 ghost use Rattle.deny_model.specs.Wrappers.{same_span};
@@ -20,7 +21,7 @@ ghost use Rattle.deny_telling.specs.private.Features.{feature_node, listed_featu
 ghost use Rattle.deny_telling.specs.private.Features.{with_notes};
 ghost use Rattle.deny_telling.specs.private.Teller.{told_from};
 
-use crate::crate_words::crate_words;
+use crate::crate_words::{crate_words, sentence_words};
 use crate::teller::Teller;
 use deny_base::{FileId, GraphNode, Key, Kid, Label, Severity, Span};
 use deny_cfg::bans::cfg::ValidKrateFeatures;
@@ -29,7 +30,7 @@ use deny_facts::{are_placed, krate_at, krate_text, ranges_by_name};
 use deny_features::{default_level_at, enabled_at, has, unlisted};
 use deny_krates::Krates;
 use deny_lists::{List, NoMemory, Text};
-use deny_told::{Labels, kid_at, lone_label, of_crate, plainly, primary};
+use deny_told::{Labels, lone_label, primary};
 use std::alloc::Global;
 
 /// What is told of a crate whose features are not exactly those of an entry.
@@ -41,8 +42,7 @@ pub fn mismatched_told(alloc: Global, teller: &Teller<'_>, key: &Key) -> Result<
 {
     let entry = teller.feature_entry(key.entry);
     let features = unlisted_of(alloc, teller, entry, key)?;
-    let words = mismatch_words(alloc, teller, entry, key)?;
-    with_unlisted(alloc, teller, entry, key, features.as_slice(), words)
+    with_unlisted(alloc, teller, entry, key, features.as_slice())
 }
 
 // What is told of it but for the features that its entry does not list.
@@ -56,25 +56,19 @@ fn mismatch_words(
     ensures { IfOk result (λ words. let c = told_from teller.now in
         words ≡ mismatch_words c.policy c.graph c.files.policy key.now) }
 {
-    let message = of_crate(
-        alloc,
-        teller.told.krates,
-        "feature set for crate '",
-        key,
-        "' did not match exactly",
-    )?;
     let labels = mismatch_labels(alloc, teller, entry, key)?;
-    crate_words(
+    sentence_words(
         alloc,
         teller.told.krates,
         Severity::Error,
-        message,
-        labels,
+        "feature set for crate '",
         key,
+        "' did not match exactly",
+        labels,
     )
 }
 
-// Those words with the features that the entry does not list.
+// What is told of it, with the features that its entry does not list.
 #[tactic(auto, unfolding(deny_codes::specs::Features::mismatched_told))]
 fn with_unlisted(
     alloc: Global,
@@ -82,20 +76,17 @@ fn with_unlisted(
     entry: &ValidKrateFeatures,
     key: &Key,
     features: &[Text],
-    words: Words,
 ) -> Result<Words, NoMemory>
     requires entry { Some (feature_view entry.now) ≡ feature_entry_at (told_from teller.now).policy key.now.entry }
     requires features { let c = told_from teller.now in
         features.now ≡ entry_and_crate c.policy c.graph key.now (unlisted c.policy c.graph) [] }
-    requires words { let c = told_from teller.now in
-        words ≡ mismatch_words c.policy c.graph c.files.policy key.now }
-    ensures { IfOk result (λ told. let c = told_from teller.now in
-        told ≡ mismatched_told c.policy c.graph c.files.policy key.now) }
+    ensures { IfOk result (λ words. let c = told_from teller.now in
+        words ≡ mismatched_told c.policy c.graph c.files.policy key.now) }
 {
     let notes = unlisted_notes(alloc, features)?;
-    let words = with_notes(words, notes);
     let nodes = mismatch_nodes(alloc, teller, entry, key, features)?;
-    Ok(with_features(words, nodes))
+    let words = mismatch_words(alloc, teller, entry, key)?;
+    Ok(with_features(with_notes(words, notes), nodes))
 }
 
 // Words with these notes.
@@ -146,7 +137,7 @@ fn mismatch_labels(
     };
     missing_labels(
         alloc,
-        teller,
+        teller.told.cfg.file_id,
         entry,
         enabled_at(teller.told.krates, key.place),
     )
@@ -155,17 +146,16 @@ fn mismatch_labels(
 // By the features that are enabled.
 fn missing_labels(
     alloc: Global,
-    teller: &Teller<'_>,
+    file: FileId,
     entry: &ValidKrateFeatures,
     enabled: &[Text],
 ) -> Labels
     requires { IsStrictlySortedBy (slice_cmp nat_cmp) enabled.now }
-    ensures { IfOk result (λ labels. let e = feature_view entry.now in let file = teller.now.told.cfg.now.file_id in
+    ensures { IfOk result (λ labels. let e = feature_view entry.now in
         labels ≡ primary file e.exact.span (codes "exact enabled here")
         ∷ map (λ w. primary file w.span (codes "allowed feature not present"))
         (filter (λ w. not (list_any (same_text w.value) enabled.now)) e.allow.value)) }
 {
-    let file = teller.file();
     let mut labels = lone_label(alloc, file, entry.features.exact.span, "exact enabled here")?;
     for word in entry.features.allow.value.as_slice() {
         if !has(enabled, &word.value) {
@@ -222,22 +212,17 @@ fn mismatch_nodes(
 {
     are_placed(teller.told.krates);
     if features.len() != 0 {
-        return feature_nodes_at(alloc, teller, key.place, features);
+        return feature_nodes_at(alloc, teller.told.krates, key.place, features);
     }
-    crate_nodes_at(alloc, teller, key.place)
+    crate_nodes_at(alloc, teller.told.krates, key.place)
 }
 
 // The crate at a place, as it is shown.
-fn crate_nodes_at(
-    alloc: Global,
-    teller: &Teller<'_>,
-    place: u32,
-) -> Result<List<GraphNode>, NoMemory>
-    ensures { IfOk result (λ nodes. nodes ≡ option_map_or (λ c. node_of c ∷ [])
-        (crate_at (told_from teller.now).graph place) []) }
+fn crate_nodes_at(alloc: Global, krates: &Krates, place: u32) -> Result<List<GraphNode>, NoMemory>
+    ensures { IfOk result (λ nodes. nodes ≡ option_map_or (λ c. node_of c ∷ []) (crate_at krates.now place) []) }
 {
     let mut nodes = List::new(alloc);
-    if let Some(krate) = krate_at(teller.told.krates, place) {
+    if let Some(krate) = krate_at(krates, place) {
         nodes.push(GraphNode {
             kid: krate.id.clone()?,
             feature: None,
@@ -250,13 +235,13 @@ fn crate_nodes_at(
 #[tactic(auto, unfolding(deny_codes::specs::Features::feature_nodes_at))]
 fn feature_nodes_at(
     alloc: Global,
-    teller: &Teller<'_>,
+    krates: &Krates,
     place: u32,
     features: &[Text],
 ) -> Result<List<GraphNode>, NoMemory>
-    ensures { IfOk result (λ nodes. nodes ≡ feature_nodes_at (told_from teller.now).graph place features.now) }
+    ensures { IfOk result (λ nodes. nodes ≡ feature_nodes_at krates.now place features.now) }
 {
-    match krate_at(teller.told.krates, place) {
+    match krate_at(krates, place) {
         Some(krate) => feature_nodes(alloc, &krate.id, features),
         None => Ok(List::new(alloc)),
     }
@@ -284,16 +269,15 @@ fn feature_node(kid: &Kid, feature: &Text) -> Result<GraphNode, NoMemory>
 // A feature of the crate at a place, as it is shown.
 fn feature_node_at(
     alloc: Global,
-    teller: &Teller<'_>,
+    krates: &Krates,
     place: u32,
     feature: &str,
 ) -> Result<List<GraphNode>, NoMemory>
-    ensures { IfOk result (λ nodes. nodes
-        ≡ feature_nodes_at (told_from teller.now).graph place (feature.now ∷ [])) }
+    ensures { IfOk result (λ nodes. nodes ≡ feature_nodes_at krates.now place (feature.now ∷ [])) }
 {
     let mut features = List::new(alloc);
     features.push(Text::from_str(alloc, feature)?)?;
-    feature_nodes_at(alloc, teller, place, features.as_slice())
+    feature_nodes_at(alloc, krates, place, features.as_slice())
 }
 
 /// What is told of a feature that an entry does not allow.
@@ -307,23 +291,16 @@ pub fn feature_not_allowed_told(
     ensures { IfOk result (λ words. let c = told_from teller.now in
         words ≡ feature_not_allowed_told c.policy c.graph c.files.policy key.now) }
 {
-    let message = of_feature(
-        alloc,
-        teller.told.krates,
-        "feature '",
-        key.text.as_str(),
-        "' for crate '",
-        key,
-        "' was not explicitly allowed",
-    )?;
     let labels = allow_labels(alloc, teller, key.entry)?;
-    let words = crate_words(
+    let words = feature_words(
         alloc,
         teller.told.krates,
         Severity::Error,
-        message,
-        labels,
+        "feature '",
+        key.text.as_str(),
         key,
+        "' was not explicitly allowed",
+        labels,
     )?;
     Ok(with_features(words, List::new(alloc)))
 }
@@ -338,7 +315,7 @@ fn allow_labels(alloc: Global, teller: &Teller<'_>, range: Span) -> Labels
     let entry = teller.feature_entry(range);
     lone_label(
         alloc,
-        teller.file(),
+        teller.told.cfg.file_id,
         entry.features.allow.span,
         "allowed features",
     )
@@ -353,26 +330,23 @@ pub fn feature_banned_told(alloc: Global, teller: &Teller<'_>, key: &Key) -> Res
         words ≡ feature_banned_told c.policy c.graph c.files.policy key.now) }
 {
     let feature = feature_at(teller, key.entry);
-    let message = of_feature(
+    let labels = lone_label(
         alloc,
-        teller.told.krates,
-        "feature '",
-        feature,
-        "' for crate '",
-        key,
-        "' is explicitly denied",
+        teller.told.cfg.file_id,
+        key.entry,
+        "feature denied here",
     )?;
-    let labels = lone_label(alloc, teller.file(), key.entry, "feature denied here")?;
-    let words = crate_words(
+    let words = feature_words(
         alloc,
         teller.told.krates,
         Severity::Error,
-        message,
-        labels,
+        "feature '",
+        feature,
         key,
+        "' is explicitly denied",
+        labels,
     )?;
-    let nodes = feature_node_at(alloc, teller, key.place, feature)?;
-    Ok(with_features(words, nodes))
+    with_feature(alloc, teller.told.krates, key.place, feature, words)
 }
 
 /// What is told of a listed feature that the crate does not have.
@@ -387,23 +361,16 @@ pub fn unknown_feature_told(
     ensures { IfOk result (λ words. let c = told_from teller.now in words
         ≡ unknown_feature_told c.policy (required_features c.building) c.graph c.files.policy key.now) }
 {
-    let message = of_feature(
-        alloc,
-        teller.told.krates,
-        "found unknown feature '",
-        named_at(teller, key.entry),
-        "' for crate '",
-        key,
-        "'",
-    )?;
-    let labels = lone_label(alloc, teller.file(), key.entry, "unknown feature")?;
-    crate_words(
+    let labels = lone_label(alloc, teller.told.cfg.file_id, key.entry, "unknown feature")?;
+    feature_words(
         alloc,
         teller.told.krates,
         Severity::Warning,
-        message,
-        labels,
+        "found unknown feature '",
+        named_at(teller, key.entry),
         key,
+        "'",
+        labels,
     )
 }
 
@@ -417,19 +384,17 @@ pub fn default_enabled_told(
     ensures { IfOk result (λ words. let c = told_from teller.now in
         words ≡ default_enabled_told c.policy c.graph c.files.policy key.now) }
 {
-    let message = of_crate(
+    let labels = lone_label(alloc, teller.told.cfg.file_id, key.entry, "lint level")?;
+    let words = sentence_words(
         alloc,
         teller.told.krates,
+        default_severity(teller, key),
         "'default' feature enabled for crate '",
         key,
         "'",
+        labels,
     )?;
-    let labels = lone_label(alloc, teller.file(), key.entry, "lint level")?;
-    let krate = kid_at(teller.told.krates, key.place)?;
-    let nodes = feature_node_at(alloc, teller, key.place, "default")?;
-    let severity = default_severity(teller, key);
-    let words = plainly(alloc, severity, message, labels, krate);
-    Ok(with_features(words, nodes))
+    with_feature(alloc, teller.told.krates, key.place, "default", words)
 }
 
 // The severity of the level of the feature `default` of the crate of a key.
@@ -446,13 +411,13 @@ fn default_severity(teller: &Teller<'_>, key: &Key) -> Severity
     }
 }
 
-// The feature of a range.
+// The feature of a range, of those that entries allow or deny.
 #[tactic(auto, unfolding(deny_codes::specs::Features::feature_at))]
 fn feature_at<'t>(teller: &'t Teller<'_>, range: Span) -> &'t str
     requires { IsTrue (is_some (find (λ w. same_span w.span range) (listed_features teller.now.told.cfg.now))) }
     ensures { result.now ≡ feature_at (told_from teller.now).policy range }
 {
-    teller.feature(range).value.as_str()
+    teller.named_feature(range).value.as_str()
 }
 
 // The same, of those features and those that bypasses require.
@@ -463,6 +428,26 @@ fn named_at<'t>(teller: &'t Teller<'_>, range: Span) -> &'t str
         result.now ≡ named_at (required_features c.building) c.policy range }
 {
     teller.named_feature(range).value.as_str()
+}
+
+// Plain words about the crate of a key, with a sentence about a feature of it as their message.
+fn feature_words(
+    alloc: Global,
+    krates: &Krates,
+    severity: Severity,
+    before: &str,
+    feature: &str,
+    key: &Key,
+    after: &str,
+    labels: List<Label>,
+) -> Result<Words, NoMemory>
+    ensures { IfOk result (λ words. words ≡ plainly severity
+        (of_feature before.now feature.now (codes "' for crate '") krates.now key.now after.now) labels
+        (kid_at krates.now key.now.place)) }
+{
+    let between = "' for crate '";
+    let message = of_feature(alloc, krates, before, feature, between, key, after)?;
+    crate_words(alloc, krates, severity, message, labels, key)
 }
 
 // A sentence about a feature of the crate of a key.
@@ -480,6 +465,21 @@ fn of_feature(
 {
     let krate = krate_text(alloc, krates, key.place)?;
     Ok(Text::from_string(format!(in alloc; "{before}{feature}{between}{krate}{after}")?))
+}
+
+// Words with a feature of the crate at a place shown, with all features that lead to it.
+fn with_feature(
+    alloc: Global,
+    krates: &Krates,
+    place: u32,
+    feature: &str,
+    words: Words,
+) -> Result<Words, NoMemory>
+    ensures { IfOk result
+        (λ told. told ≡ with_features words (feature_nodes_at krates.now place (feature.now ∷ []))) }
+{
+    let nodes = feature_node_at(alloc, krates, place, feature)?;
+    Ok(with_features(words, nodes))
 }
 
 // Words with these crates and features shown, each with all features that lead to it.

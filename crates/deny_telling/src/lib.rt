@@ -10,6 +10,7 @@ mod crate_words;
 mod duplicates;
 mod entry_labels;
 mod entry_numbers;
+mod entry_warning;
 mod features;
 mod features_by_range;
 mod skipped_trees;

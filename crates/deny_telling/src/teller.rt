@@ -11,12 +11,12 @@ ghost use Rattle.deny_facts.specs.Marks.{mark_at};
 ghost use Rattle.deny_facts.specs.Matches.{AreBanMatches, IsBanMatch, ban_of};
 ghost use Rattle.deny_manifest_told.specs.Found.{AreUnusedOf, AreUsesOf};
 ghost use Rattle.deny_telling.specs.private.EntryNumbers.{NumbersEntries};
-ghost use Rattle.deny_telling.specs.private.Features.{listed_features, named_features};
+ghost use Rattle.deny_telling.specs.private.Features.{named_features};
 ghost use Rattle.deny_told.specs.ByRange.{IsByRange};
 
 use crate::entry_numbers::{EntryList, EntryNumbers};
 use crate::features_by_range::named_by_range;
-use deny_base::{FileId, Span, Spanned};
+use deny_base::{Span, Spanned};
 use deny_build_told::script_sums;
 use deny_cfg::bans::cfg::{Checksum, TreeSkipExtended, ValidKrateFeatures};
 use deny_cfg::{PackageSpecOrExtended, Reason};
@@ -75,13 +75,6 @@ impl<'c> Teller<'c> {
         })
     }
 
-    /// The file of the policy.
-    pub fn file(&self) -> FileId
-        ensures { result ≡ self.now.told.cfg.now.file_id }
-    {
-        self.told.cfg.file_id
-    }
-
     /// The ban of a range, with what it speaks of.
     pub fn ban(&self, range: Span) -> &'c BanMatch<'c>
         requires { IsTrue (is_some (ban_at (policy_view self.now.told.cfg.now) range)) }
@@ -129,15 +122,7 @@ impl<'c> Teller<'c> {
         self.numbers.first(EntryList::Features, entries, range)
     }
 
-    /// The feature of a range, of those that entries allow or deny.
-    pub fn feature(&self, range: Span) -> &'c Spanned<Text>
-        requires { IsTrue (is_some (find (λ w. same_span w.span range) (listed_features self.now.told.cfg.now))) }
-        ensures { Some result.now ≡ find (λ w. same_span w.span range) (listed_features self.now.told.cfg.now) }
-    {
-        self.named_feature(range)
-    }
-
-    /// The feature of a range, of those and of those that bypasses require.
+    /// The feature of a range, of those that entries allow or deny or that bypasses require.
     pub fn named_feature(&self, range: Span) -> &'c Spanned<Text>
         requires { IsTrue (is_some (find (λ w. same_span w.span range) (named_features self.now.told.cfg.now))) }
         ensures { Some result.now ≡ find (λ w. same_span w.span range) (named_features self.now.told.cfg.now) }

@@ -1,5 +1,5 @@
 //! What a report tells of each key, code by code.
-ghost use Rattle.std.specs.Prelude.{◌≡◌, ◌++◌, IfOk, IsTrue, OnErr, OnOk, map};
+ghost use Rattle.std.specs.Prelude.{◌≡◌, ◌++◌, ◌∷◌, [], IfOk, IsTrue, OnErr, OnOk, map};
 ghost use Rattle.deny_base.specs.Code.{bans_told_here, is_told_here};
 ghost use Rattle.deny_base.specs.declared.code.DiagnosticCode.TheVariants.{Bans};
 ghost use Rattle.deny_build_told.specs.AtHand.{IsAtHand};
@@ -92,21 +92,28 @@ fn add_packs(
     let mut at = AtHand::new(alloc, packages, 0)?;
     for key in keys {
         at = at.turn_to(alloc, packages, key.place)?;
-        sink.push(tell(alloc, teller, &at, key)?)?;
+        add_pack(alloc, teller, &at, key, sink)?;
     }
     Ok(())
 }
 
-// What is told of a key.
-fn tell(alloc: Global, teller: &Teller<'_>, at: &AtHand<'_>, key: &Key) -> Result<Pack, NoMemory>
+// Appends what is told of a key.
+fn add_pack(
+    alloc: Global,
+    teller: &Teller<'_>,
+    at: &AtHand<'_>,
+    key: &Key,
+    sink: &mut List<Pack>,
+) -> Result<(), NoMemory>
     requires told_here { IsTrue (is_told_here key.now.code) }
     requires stands { IsStanding (told_from teller.now) key.now }
     requires spans { AreSpansOf teller.now.told.krates.now teller.now.told.spans.now }
     requires at_hand { IsAtHand teller.now.told.packages.now key.now.place at.now }
-    ensures { IfOk result (λ pack. pack ≡ pack_told (told_from teller.now) key.now) }
+    ensures ok { OnOk result (sink.new ≡ sink.old ++ pack_told (told_from teller.now) key.now ∷ []) }
+    ensures err { OnErr result (sink.new ≡ sink.old) }
 {
     let words = words_told(alloc, teller, at, key)?;
-    pack_of(alloc, key, words)
+    sink.push(pack_of(alloc, key, words)?)
 }
 
 #[tactic(auto, unfolding(deny_codes::specs::EachCode::words_licensed))]

@@ -4,5 +4,5 @@ use Rattle.deny_telling.proofs.duplicates.nodes_at.Given as goal
 
 abbrev pub invariant-loop-place : goal.invariant-loop-place
 invariant-loop-place l =
-    l.nodes ++ map node_of (filter_map (crate_at l.teller.told.krates.now) (drop l.place-index l.places)) ≡ map node_of
-    (filter_map (crate_at l.teller.told.krates.now) l.places)
+    l.nodes ++ map node_of (filter_map (crate_at l.krates) (drop l.place-index l.places)) ≡ map node_of
+    (filter_map (crate_at l.krates) l.places)

@@ -7,7 +7,6 @@ returns c = rw (
   c.with_features.ensures,
   c.new.ensures,
   c.in_ok-words.ensures,
-  c.in_ok-message.ensures,
   c.in_ok-labels.ensures,
   c.as_str.ensures,
 )

@@ -11,5 +11,5 @@ returns c =
     let teller = c.args.teller.now in
     let told = noted (policy_view teller.told.cfg.now) teller.told.krates.now c.args.key.now c.args.features.now
     c.in_ok-notes.notes c.requires.features c.in_ok-notes.ensures in
-    let words = c.with_notes-words.ensures ∙ (λ i. with_notes (c.requires.words i) (told i)) in
+    let words = c.with_notes.ensures ∙ (λ i. with_notes (c.in_ok-words.ensures i) (told i)) in
     c.with_features.ensures ∙ (λ i. with_features (words i) (c.in_ok-nodes.ensures i))

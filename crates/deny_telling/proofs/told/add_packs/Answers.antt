@@ -7,18 +7,17 @@ use Rattle.deny_telling.specs.Telling.{IsStanding}
 use Rattle.deny_telling.specs.private.Teller.{told_from}
 use Rattle.deny_telling.proofs.told.add_packs.Goals as goal
 
-pub tell-requires-clause-stands : goal.tell-requires-clause-stands
-tell-requires-clause-stands c =
+pub add_pack-requires-clause-stands : goal.add_pack-requires-clause-stands
+add_pack-requires-clause-stands c =
     subst (IsStanding (told_from c.args.teller.now)) (sym c.key-item.is)
     (c.requires.stand c.loop-key.key-index c.key-item.result c.loop-key-test.true)
 
 pub loop-key-preserved : goal.loop-key-preserved
 loop-key-preserved c = record {
-  told = c.in_ok-push.ensures.ok
-      ∙ ap (λ packs. packs ++ c.in_ok-tell.field-0 ∷ []) c.loop-key.invariant.told
-      ∙ append_assoc c.args.sink.now told-before (c.in_ok-tell.field-0 ∷ [])
-      ∙ ap (λ packs. c.args.sink.now ++ packs)
-      (ap (λ pack. told-before ++ pack ∷ []) c.in_ok-tell.ensures ∙ sym one-more);
+  told = c.in_ok-add_pack.ensures.ok
+      ∙ ap (λ packs. packs ++ telling c.key-item.result ∷ []) c.loop-key.invariant.told
+      ∙ append_assoc c.args.sink.now told-before (telling c.key-item.result ∷ [])
+      ∙ ap (λ packs. c.args.sink.now ++ packs) (sym one-more);
   at_hand = search rules;
 }
   where

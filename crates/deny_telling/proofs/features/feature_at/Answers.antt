@@ -1,21 +1,26 @@
-use Rattle.std.proofs.Common.{◌∙◌}
+use Rattle.std.proofs.Common.{[], Option, ap, ◌∙◌}
+use Rattle.std.specs.Option.{option_map_or}
 use Rattle.deny_cfg.specs.PolicyView.{building_of}
+use Rattle.deny_codes.specs.Features.{feature_at}
 use Rattle.deny_codes.specs.PackagesTold.{required_features}
 use Rattle.deny_model.specs.Policy.{Words}
 use Rattle.deny_model.specs.Wrappers.{same_span}
 use Rattle.deny_telling.specs.private.Features.{listed_features}
 use Rattle.deny_telling.proofs.ToldLemmas.{first_found, found_in_first}
-use Rattle.deny_telling.proofs.teller.Teller.feature.Goals as goal
+use Rattle.deny_telling.proofs.features.feature_at.Goals as goal
 
 pub named_feature-requires : goal.named_feature-requires
 named_feature-requires c =
-    let cfg = c.args.self.now.told.cfg.now in
+    let cfg = c.args.teller.now.told.cfg.now in
     found_in_first (λ (w : Words). same_span w.span c.args.range) (listed_features cfg)
     (required_features (building_of cfg)) c.requires
 
 pub returns : goal.returns
+unfolding feature_at
 returns c =
-    let cfg = c.args.self.now.told.cfg.now in
-    c.named_feature.ensures
+    let cfg = c.args.teller.now.told.cfg.now in
+    c.as_str.ensures
+    ∙ ap (λ (o : Option Words). option_map_or (λ w. w.value) o [])
+    (c.named_feature.ensures
     ∙ first_found (λ (w : Words). same_span w.span c.args.range) (listed_features cfg)
-    (required_features (building_of cfg)) c.requires
+    (required_features (building_of cfg)) c.requires)
