@@ -3,12 +3,13 @@ ghost use Rattle.std.specs.Prelude.{◌≡◌, ◌++◌, ◌∷◌, [], IfOk, On
 ghost use Rattle.std.specs.Option.{option_map_or};
 ghost use Rattle.deny_base.specs.declared.level.Severity.TheVariants as severity;
 ghost use Rattle.deny_build_cfg.specs.BuildingView.{building_view};
+ghost use Rattle.deny_build_model.specs.Unseen.{package_at};
 ghost use Rattle.deny_build_told.specs.AtHand.{IsAtHand};
 ghost use Rattle.deny_build_told.specs.private.Found.{found_or_unasked};
 ghost use Rattle.deny_codes.specs.PackagesTold.{bypassed_by_glob_told, denied_by_extension_told, detected_told};
 ghost use Rattle.deny_codes.specs.PackagesTold.{extension_labels, failure_notes, file_of_key, found_at, glob_labels};
-ghost use Rattle.deny_codes.specs.PackagesTold.{folder_shown, found_of_file, kind_notes};
-ghost use Rattle.deny_codes.specs.PackagesTold.{package_of_key, path_bypassed_told, script_told};
+ghost use Rattle.deny_codes.specs.PackagesTold.{file_shown, folder_shown, found_of_file, kind_notes};
+ghost use Rattle.deny_codes.specs.PackagesTold.{path_bypassed_told, script_told};
 ghost use Rattle.deny_codes.specs.PackagesTold.{told_of_build, unable_to_check_told};
 ghost use Rattle.deny_told.specs.Told.{told_from};
 
@@ -18,7 +19,7 @@ use crate::notes::{add_failure_notes, add_kind_notes, path_notes};
 use crate::words::{at_entry, file_of_key, used_by_key, with_notes};
 use deny_base::{Key, Severity};
 use deny_build_cfg::ValidBuildConfig;
-use deny_build_model::{Found, PackageFile};
+use deny_build_model::{Found, Package, PackageFile};
 use deny_codes::Words;
 use deny_lists::{List, NoMemory, Text};
 use deny_told::{Labels, Told, not_built};
@@ -64,7 +65,8 @@ fn bypassed_told(
     let labels = glob_labels_at(alloc, told, build, at, key)?;
     let notes = path_notes(alloc, key)?;
     let message = "file allowed by glob";
-    with_notes(alloc, told, key, Severity::Help, message, labels, notes)
+    let severity = Severity::Help;
+    with_notes(alloc, told.krates, key, severity, message, labels, notes)
 }
 
 // The globs of the bypass of a key's crate that decide of its file.
@@ -79,7 +81,7 @@ fn glob_labels_at(
     ensures { IfOk result (λ labels. let c = told_from told.now in labels
         ≡ option_map_or (glob_labels (building_view build.now) c key.now) (file_of_key c key.now) []) }
 {
-    match file_of_key(told, at, key) {
+    match file_of_key(told.packages, at, key) {
         Some(file) => glob_labels(alloc, told, build, key, file),
         None => Ok(List::new(alloc)),
     }
@@ -134,7 +136,8 @@ fn extension_told(
     let labels = extension_labels_at(alloc, told, build, at, key)?;
     let notes = path_notes(alloc, key)?;
     let message = "path disallowed by extension";
-    with_notes(alloc, told, key, Severity::Error, message, labels, notes)
+    let severity = Severity::Error;
+    with_notes(alloc, told.krates, key, severity, message, labels, notes)
 }
 
 // The globs of scripts that decide of the file of a key.
@@ -150,7 +153,7 @@ fn extension_labels_at(
     ensures { IfOk result (λ labels. let c = told_from told.now in labels
         ≡ option_map_or (extension_labels (building_view build.now) c) (file_of_key c key.now) []) }
 {
-    match file_of_key(told, at, key) {
+    match file_of_key(told.packages, at, key) {
         Some(file) => extension_labels(alloc, told, build, file),
         None => Ok(List::new(alloc)),
     }
@@ -197,24 +200,31 @@ fn detected_as(
     ensures { IfOk result (λ words. words ≡ detected_told level (told_from told.now) key.now) }
 {
     let mut notes = path_notes(alloc, key)?;
-    add_kind_notes_at(alloc, told, at, key, &mut notes)?;
-    let message = "detected executable";
-    with_notes(alloc, told, key, level, message, List::new(alloc), notes)
+    add_kind_notes_at(alloc, told.packages, at, key, &mut notes)?;
+    with_notes(
+        alloc,
+        told.krates,
+        key,
+        level,
+        "detected executable",
+        List::new(alloc),
+        notes,
+    )
 }
 
 // Appends how the file of a key is executed.
 fn add_kind_notes_at(
     alloc: Global,
-    told: &Told<'_>,
+    packages: &[Package],
     at: &AtHand<'_>,
     key: &Key,
     notes: &mut List<Text>,
 ) -> Result<(), NoMemory>
-    requires { IsAtHand told.now.packages.now key.now.place at.now }
-    ensures { OnOk result (notes.new
-        ≡ notes.old ++ kind_notes (found_of_file (file_of_key (told_from told.now) key.now))) }
+    requires { IsAtHand packages.now key.now.place at.now }
+    ensures { OnOk result (notes.new ≡ notes.old
+        ++ kind_notes (found_of_file (file_shown (package_at packages.now key.now.place) key.now.text))) }
 {
-    match file_of_key(told, at, key) {
+    match file_of_key(packages, at, key) {
         Some(file) => add_kind_notes(alloc, &file.seen.found, notes),
         None => Ok(()),
     }
@@ -233,13 +243,12 @@ pub fn unable_to_check_told(
 {
     let mut notes = bare_path_notes(alloc, key)?;
     add_failure_notes_at(alloc, told, at, key, &mut notes)?;
-    let message = "unable to check if path is an executable";
     with_notes(
         alloc,
-        told,
+        told.krates,
         key,
         Severity::Error,
-        message,
+        "unable to check if path is an executable",
         List::new(alloc),
         notes,
     )
@@ -278,16 +287,16 @@ fn found_at<'c>(told: &Told<'_>, at: &AtHand<'c>, key: &Key) -> Option<&'c Found
     requires { IsAtHand told.now.packages.now key.now.place at.now }
     ensures { found_or_unasked (option_map (λ found. found.now) result) ≡ found_at (told_from told.now) key.now }
 {
-    match file_of_key(told, at, key) {
+    match file_of_key(told.packages, at, key) {
         Some(file) => Some(&file.seen.found),
-        None => folder_found(told, at, key),
+        None => folder_found(told.packages, at, key),
     }
 }
 
-fn folder_found<'c>(_told: &Told<'_>, at: &AtHand<'c>, key: &Key) -> Option<&'c Found>
-    requires { IsAtHand _told.now.packages.now key.now.place at.now }
+fn folder_found<'c>(_packages: &[Package], at: &AtHand<'c>, key: &Key) -> Option<&'c Found>
+    requires { IsAtHand _packages.now key.now.place at.now }
     ensures { option_map (λ found. found.now) result
-        ≡ option_map (λ seen. seen.found) (folder_shown (package_of_key (told_from _told.now) key.now) key.now.text) }
+        ≡ option_map (λ seen. seen.found) (folder_shown (package_at _packages.now key.now.place) key.now.text) }
 {
     match at.folder(key.text.as_str()) {
         Some(folder) => Some(&folder.found),

@@ -8,14 +8,14 @@ ghost use Rattle.deny_build_told.specs.Sums.{AreSumsOf};
 ghost use Rattle.deny_build_told.specs.private.Found.{found_or_unasked, script_error};
 ghost use Rattle.deny_codes.specs.BuildScripts.{script_found};
 ghost use Rattle.deny_codes.specs.PackagesTold.{checksum_match_told, checksum_mismatch_told};
-ghost use Rattle.deny_codes.specs.PackagesTold.{file_of_key, found_of_file};
-ghost use Rattle.deny_codes.specs.PackagesTold.{mismatch_text, package_of_key, path_note, quoted};
+ghost use Rattle.deny_codes.specs.PackagesTold.{file_shown, found_of_file};
+ghost use Rattle.deny_codes.specs.PackagesTold.{mismatch_text, path_note, quoted};
 ghost use Rattle.deny_codes.specs.PackagesTold.{script_failed, told_of_build};
 ghost use Rattle.deny_told.specs.Told.{told_from};
 ghost use Rattle.hex.specs.Hex.{encode_lower};
 
 use crate::at_hand::AtHand;
-use crate::notes::{digits, failure_text, path_notes, quoted};
+use crate::notes::{add_quoted, digits, failure_text, path_notes};
 use crate::sums::is_script_sum;
 use crate::words::{file_of_key, with_notes};
 use deny_base::{Key, Severity, Spanned};
@@ -35,7 +35,8 @@ pub fn checksum_match_told(alloc: Global, told: &Told<'_>, key: &Key) -> Result<
     let labels = lone_label(alloc, told.cfg.file_id, key.entry, "checksum")?;
     let notes = path_notes(alloc, key)?;
     let message = "file checksum matched";
-    with_notes(alloc, told, key, Severity::Help, message, labels, notes)
+    let severity = Severity::Help;
+    with_notes(alloc, told.krates, key, severity, message, labels, notes)
 }
 
 /// What is told of one that has not.
@@ -72,11 +73,11 @@ fn mismatch_told(
         ≡ checksum_mismatch_told (building_view build.now) (told_from told.now) key.now) }
 {
     let is_script = is_script_sum(told, build, sums, key.entry);
-    let notes = mismatch_notes(alloc, told, is_script, at, key)?;
+    let notes = mismatch_notes(alloc, told.packages, is_script, at, key)?;
     let labels = lone_label(alloc, told.cfg.file_id, key.entry, "expected checksum")?;
     let severity = mismatch_severity(is_script);
     let message = "file did not match the expected checksum";
-    with_notes(alloc, told, key, severity, message, labels, notes)
+    with_notes(alloc, told.krates, key, severity, message, labels, notes)
 }
 
 fn mismatch_severity(is_script: bool) -> Severity
@@ -92,40 +93,40 @@ fn mismatch_severity(is_script: bool) -> Severity
 // The path, and why what is there has another checksum than is expected.
 fn mismatch_notes(
     alloc: Global,
-    told: &Told<'_>,
+    packages: &[Package],
     is_script: bool,
     at: &AtHand<'_>,
     key: &Key,
 ) -> Result<List<Text>, NoMemory>
-    requires { IsAtHand told.now.packages.now key.now.place at.now }
-    ensures { IfOk result (λ notes. let c = told_from told.now in notes
+    requires { IsAtHand packages.now key.now.place at.now }
+    ensures { IfOk result (λ notes. let seen = package_at packages.now key.now.place in notes
         ≡ path_note key.now ∷ quoted (codes "error")
-        (if is_script then script_error (script_found (package_of_key c key.now))
-        else mismatch_text (found_of_file (file_of_key c key.now))) ∷ []) }
+        (if is_script then script_error (script_found seen)
+        else mismatch_text (found_of_file (file_shown seen key.now.text))) ∷ []) }
 {
-    let error = mismatch_error(alloc, told, is_script, at, key)?;
+    let error = mismatch_error(alloc, packages, is_script, at, key)?;
     let mut notes = path_notes(alloc, key)?;
-    notes.push(quoted(alloc, "error", error.as_str())?)?;
+    add_quoted(alloc, &mut notes, "error", error.as_str())?;
     Ok(notes)
 }
 
 // Why a build script, or a file, has another checksum than is expected.
 fn mismatch_error(
     alloc: Global,
-    told: &Told<'_>,
+    packages: &[Package],
     is_script: bool,
     at: &AtHand<'_>,
     key: &Key,
 ) -> Result<Text, NoMemory>
-    requires { IsAtHand told.now.packages.now key.now.place at.now }
-    ensures { IfOk result (λ error. let c = told_from told.now in error
-        ≡ (if is_script then script_error (script_found (package_of_key c key.now))
-        else mismatch_text (found_of_file (file_of_key c key.now)))) }
+    requires { IsAtHand packages.now key.now.place at.now }
+    ensures { IfOk result (λ error. let seen = package_at packages.now key.now.place in error
+        ≡ (if is_script then script_error (script_found seen)
+        else mismatch_text (found_of_file (file_shown seen key.now.text)))) }
 {
     if is_script {
-        return script_error(alloc, script_found(told.packages, key.place));
+        return script_error(alloc, script_found(packages, key.place));
     }
-    match file_of_key(told, at, key) {
+    match file_of_key(packages, at, key) {
         Some(file) => mismatch_text(alloc, &file.seen.found),
         None => Ok(Text::new(alloc)),
     }

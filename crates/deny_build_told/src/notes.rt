@@ -16,12 +16,25 @@ pub fn quoted(alloc: Global, name: &str, text: &str) -> Result<Text, NoMemory>
     Ok(Text::from_string(format!(in alloc; "{name} = '{text}'")?))
 }
 
+/// Appends a note that names a text.
+pub fn add_quoted(
+    alloc: Global,
+    notes: &mut List<Text>,
+    name: &str,
+    text: &str,
+) -> Result<(), NoMemory>
+    ensures { OnOk result (notes.new ≡ notes.old ++ quoted name.now text.now ∷ []) }
+{
+    notes.push(quoted(alloc, name, text)?)?;
+    Ok(())
+}
+
 /// The note on the path that a key shows, alone.
 pub fn path_notes(alloc: Global, key: &Key) -> Result<List<Text>, NoMemory>
     ensures { IfOk result (λ notes. notes ≡ path_note key.now ∷ []) }
 {
     let mut notes = List::new(alloc);
-    notes.push(quoted(alloc, "path", key.text.as_str())?)?;
+    add_quoted(alloc, &mut notes, "path", key.text.as_str())?;
     Ok(notes)
 }
 

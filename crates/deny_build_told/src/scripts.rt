@@ -1,15 +1,17 @@
 //! What is told of build scripts that may not be there, and of features by which files are looked at all the same.
-ghost use Rattle.std.specs.Prelude.{◌≡◌, ◌++◌, ℕ, IfOk, codes, length, map};
+ghost use Rattle.std.specs.Prelude.{◌≡◌, ◌++◌, ◌∷◌, [], ℕ, IfOk, codes, length, map};
 ghost use Rattle.std.specs.Fmt.{decimal};
 ghost use Rattle.deny_build_cfg.specs.BuildingView.{building_view};
 ghost use Rattle.deny_build_model.specs.Unseen.{package_at};
 ghost use Rattle.deny_codes.specs.BuildScripts.{script_found};
 ghost use Rattle.deny_codes.specs.Packages.{script_shown};
 ghost use Rattle.deny_codes.specs.PackagesTold.{enabled_by_key, features_enabled_told, glob_label, script_denied_told};
-ghost use Rattle.deny_codes.specs.PackagesTold.{script_notes, told_of_build};
+ghost use Rattle.deny_codes.specs.PackagesTold.{quoted, script_notes, told_of_build};
 ghost use Rattle.deny_told.specs.Told.{told_from};
+ghost use Rattle.hex.specs.Hex.{encode_lower};
 
-use crate::notes::{digits, quoted};
+use crate::notes::{add_quoted, digits};
+use crate::words::crate_words;
 use deny_base::{FileId, Key, Severity, Spanned};
 use deny_build_cfg::ValidBuildConfig;
 use deny_build_model::{Found, Package, Seen};
@@ -17,7 +19,7 @@ use deny_bypasses::required_enabled;
 use deny_codes::Words;
 use deny_facts::krate_at;
 use deny_lists::{List, NoMemory, Text};
-use deny_told::{Labels, Told, kid_at, not_built, of_crate, plainly, secondary};
+use deny_told::{Labels, Told, not_built, of_crate, secondary};
 use std::alloc::Global;
 
 /// What is told of a crate that has a build script and may not.
@@ -25,13 +27,18 @@ use std::alloc::Global;
 pub fn script_denied_told(alloc: Global, told: &Told<'_>, key: &Key) -> Result<Words, NoMemory>
     ensures { IfOk result (λ words. words ≡ script_denied_told (told_from told.now) key.now) }
 {
+    let notes = script_notes_at(alloc, told.packages, key.place)?;
     let after = "' has a build script but is not allowed to have one";
     let message = of_crate(alloc, told.krates, "crate '", key, after)?;
-    let notes = script_notes_at(alloc, told.packages, key.place)?;
-    let krate = kid_at(told.krates, key.place)?;
-    let mut words = plainly(alloc, Severity::Error, message, List::new(alloc), krate);
-    words.notes = notes;
-    Ok(words)
+    crate_words(
+        alloc,
+        told.krates,
+        key,
+        Severity::Error,
+        message,
+        List::new(alloc),
+        notes,
+    )
 }
 
 // The path and the checksum of the build script of the crate at a place, where it was read.
@@ -51,15 +58,21 @@ fn script_notes_at(alloc: Global, packages: &[Package], place: u32) -> Result<Li
 fn script_notes(alloc: Global, script: &Seen) -> Result<List<Text>, NoMemory>
     ensures { IfOk result (λ notes. notes ≡ script_notes script.now.shown script.now.found) }
 {
-    let mut notes = List::new(alloc);
     match &script.found {
-        Found::Sum(sum) => {
-            notes.push(quoted(alloc, "path", script.shown.as_str())?)?;
-            notes.push(quoted(alloc, "checksum", digits(alloc, sum)?.as_str())?)?;
-            Ok(notes)
-        }
-        Found::Unasked | Found::Kind(_) | Found::Failed(_) => Ok(notes),
+        Found::Sum(sum) => sum_notes(alloc, script.shown.as_str(), sum),
+        Found::Unasked | Found::Kind(_) | Found::Failed(_) => Ok(List::new(alloc)),
     }
+}
+
+fn sum_notes(alloc: Global, shown: &str, sum: &[u8; 32]) -> Result<List<Text>, NoMemory>
+    ensures { IfOk result (λ notes. notes ≡ quoted (codes "path") shown.now
+        ∷ quoted (codes "checksum") (encode_lower sum.now) ∷ []) }
+{
+    let digits = digits(alloc, sum)?;
+    let mut notes = List::new(alloc);
+    add_quoted(alloc, &mut notes, "path", shown)?;
+    add_quoted(alloc, &mut notes, "checksum", digits.as_str())?;
+    Ok(notes)
 }
 
 /// What is told of features by which the files of a crate are looked at, though its script is right.
@@ -85,8 +98,15 @@ fn enabled_told(
     let enabled = enabled_by_key(alloc, told, build, key)?;
     let message = enabled_message(alloc, enabled.len())?;
     let labels = labels_of(alloc, told.cfg.file_id, enabled.as_slice())?;
-    let krate = kid_at(told.krates, key.place)?;
-    Ok(plainly(alloc, Severity::Note, message, labels, krate))
+    crate_words(
+        alloc,
+        told.krates,
+        key,
+        Severity::Note,
+        message,
+        labels,
+        List::new(alloc),
+    )
 }
 
 fn enabled_message(alloc: Global, count: usize) -> Result<Text, NoMemory>
