@@ -14,17 +14,19 @@ ghost use Rattle.deny_manifest_rules.specs.Uses.{use_view};
 ghost use Rattle.deny_model.specs.Told.{crate_at};
 ghost use Rattle.deny_model.specs.View.{shared_at};
 ghost use Rattle.deny_manifest_told.specs.Found.{AreUnusedOf, AreUsesOf};
+ghost use Rattle.deny_spans.specs.SpansView.{spans_view};
 ghost use Rattle.deny_told.specs.Told.{told_from};
 ghost use Rattle.deny_workspace.specs.Workspace.{dep_view, span_view};
 
+use crate::words::crate_words;
 use deny_base::{FileId, Key, Label, Span, Spanned};
 use deny_cfg::bans::cfg::WorkspaceDepsConfig;
 use deny_codes::Words;
 use deny_facts::{krate_at, krate_text};
 use deny_lists::{List, NoMemory, Text};
 use deny_manifest_rules::{Use, Uses, is_unshared};
-use deny_spans::{UnusedWorkspaceDep, WorkspaceSpan};
-use deny_told::{ByRange, Labels, Told, kid_at, not_built, plainly, primary, secondary};
+use deny_spans::{KrateSpans, UnusedWorkspaceDep, WorkspaceSpan};
+use deny_told::{ByRange, Labels, Told, lone_label, not_built, plainly, primary, secondary};
 use std::alloc::Global;
 
 /// What is told of a crate that members declare several times, and not always by the shared entry.
@@ -60,8 +62,8 @@ fn workspace_duplicate_told_by(
 {
     let message = workspace_duplicate_message(alloc, told, uses, key.place, shared)?;
     let labels = workspace_duplicate_labels(alloc, told, uses, key.place, shared)?;
-    let krate = kid_at(told.krates, key.place)?;
-    Ok(plainly(alloc, shared.duplicates.severity(), message, labels, krate))
+    let severity = shared.duplicates.severity();
+    crate_words(alloc, told.krates, key, severity, message, labels)
 }
 
 #[tactic(auto, unfolding(deny_codes::specs::Sharing::workspace_duplicate_message))]
@@ -82,7 +84,7 @@ fn workspace_duplicate_message(
     };
     let krate = krate_text(alloc, told.krates, place)?;
     let count = uses_at(told, uses, place).len();
-    let words = sharing_words(told, place);
+    let words = sharing_words(told.spans, place);
     Ok(Text::from_string(format!(in alloc;
         "crate {krate} is used {count} times in the workspace, {words}"
     )?))
@@ -98,10 +100,10 @@ fn uses_at<'u, 's, 'k>(_told: &Told<'_>, uses: &'u Uses<'s, 'k>, place: u32) -> 
 }
 
 #[tactic(auto, unfolding(deny_codes::specs::Sharing::not_all_shared, deny_codes::specs::Sharing::none_shared))]
-fn sharing_words(told: &Told<'_>, place: u32) -> &'static str
-    ensures { result.now ≡ sharing_words (told_from told.now).view place }
+fn sharing_words(spans: &KrateSpans<'_>, place: u32) -> &'static str
+    ensures { result.now ≡ sharing_words (spans_view spans.now) place }
 {
-    match told.spans.shared_at(place) {
+    match spans.shared_at(place) {
         Some(_) => "but not all declarations use the shared workspace dependency",
         None => "and there is no shared workspace dependency for it",
     }
@@ -122,7 +124,7 @@ fn workspace_duplicate_labels(
     ensures { IfOk result (λ labels. let c = told_from told.now in
         labels ≡ workspace_duplicate_labels (sharing_view shared.now) c.graph c.view place) }
 {
-    let mut labels = entry_labels_at(alloc, told, place)?;
+    let mut labels = entry_labels_at(alloc, told.spans, place)?;
     add_unshared_labels(alloc, uses_at(told, uses, place), &mut labels)?;
     Ok(labels)
 }
@@ -144,14 +146,14 @@ fn add_unshared_labels(
 }
 
 // At the entry that stands for the crate at a place.
-fn entry_labels_at(alloc: Global, told: &Told<'_>, place: u32) -> Labels
-    ensures { IfOk result (λ labels. let c = told_from told.now in
-        labels ≡ option_map_or (entry_labels_in c.view) (shared_at c.view place) []) }
+fn entry_labels_at(alloc: Global, spans: &KrateSpans<'_>, place: u32) -> Labels
+    ensures { IfOk result (λ labels. let view = spans_view spans.now in
+        labels ≡ option_map_or (entry_labels_in view) (shared_at view place) []) }
 {
-    let Some(entry) = told.spans.shared_at(place) else {
+    let Some(entry) = spans.shared_at(place) else {
         return Ok(List::new(alloc));
     };
-    let Some(file) = told.spans.workspace_id else {
+    let Some(file) = spans.workspace_id else {
         return Ok(List::new(alloc));
     };
     entry_labels(alloc, file, entry)
@@ -341,9 +343,7 @@ fn unused_at<'u>(
 fn unused_labels(alloc: Global, file: FileId, entry: &UnusedWorkspaceDep) -> Labels
     ensures { IfOk result (λ labels. labels ≡ unused_labels file (dep_view None entry.now)) }
 {
-    let mut labels = List::new(alloc);
-    let words = unused_words(entry);
-    labels.push(primary(alloc, file, entry.key, words)?)?;
+    let mut labels = lone_label(alloc, file, entry.key, unused_words(entry))?;
     add_patched_note(alloc, &mut labels, file, entry.patched)?;
     add_renamed_note(alloc, &mut labels, file, &entry.rename)?;
     Ok(labels)

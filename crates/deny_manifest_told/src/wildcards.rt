@@ -12,18 +12,19 @@ ghost use Rattle.deny_manifests.specs.Manifest.{dep_view};
 ghost use Rattle.deny_model.specs.Told.{primary};
 ghost use Rattle.deny_model.specs.View.{shared_at};
 ghost use Rattle.deny_model.specs.Wrappers.{same_span};
-ghost use Rattle.deny_spans.specs.SpansView.{manifest_view};
+ghost use Rattle.deny_spans.specs.SpansView.{manifest_view, spans_view};
 ghost use Rattle.deny_told.specs.Told.{told_from};
 ghost use Rattle.deny_workspace.specs.Workspace.{span_view};
 
+use crate::words::crate_words;
 use deny_base::{FileId, Key, Label, Severity, Span};
 use deny_codes::Words;
 use deny_facts::{krate_at, krate_name};
 use deny_krates::Krate;
 use deny_lists::{List, NoMemory, Text};
 use deny_manifest_rules::{is_minded_in, is_shared};
-use deny_spans::{Manifest, ManifestDep, WorkspaceSpan};
-use deny_told::{Labels, Told, kid_at, plainly, primary, secondary};
+use deny_spans::{KrateSpans, Manifest, ManifestDep, WorkspaceSpan};
+use deny_told::{Labels, Told, primary, secondary};
 use std::alloc::Global;
 
 /// What is told of the dependencies of a crate whose requirement any version meets.
@@ -34,9 +35,8 @@ pub fn wildcard_told(alloc: Global, told: &Told<'_>, key: &Key) -> Result<Words,
 {
     let labels = wildcard_labels(alloc, told, key)?;
     let message = wildcard_message(alloc, told, key.place, labels.len())?;
-    let krate = kid_at(told.krates, key.place)?;
     let severity = told.cfg.wildcards.severity();
-    Ok(plainly(alloc, severity, message, labels, krate))
+    crate_words(alloc, told.krates, key, severity, message, labels)
 }
 
 // Those of the crate of a key, each with the entry of the workspace that declares it.
@@ -68,7 +68,7 @@ fn labels_of_wildcards(
     let mut labels = List::new(alloc);
     for dep in manifest.deps(false) {
         if is_minded_in(told.cfg, told.krates, place, krate, dep) {
-            add_wildcard_labels(alloc, told, manifest.id, dep, &mut labels)?;
+            add_wildcard_labels(alloc, told.spans, manifest.id, dep, &mut labels)?;
         }
     }
     Ok(labels)
@@ -78,16 +78,16 @@ fn labels_of_wildcards(
 #[tactic(auto, unfolding(deny_codes::specs::Wildcards::labels_of_wildcard, deny_codes::specs::Wildcards::wildcard_label))]
 fn add_wildcard_labels(
     alloc: Global,
-    told: &Told<'_>,
+    spans: &KrateSpans<'_>,
     file: FileId,
     dep: &ManifestDep<'_>,
     labels: &mut List<Label>,
 ) -> Result<(), NoMemory>
     ensures { OnOk result (labels.new
-        ≡ labels.old ++ labels_of_wildcard (told_from told.now).view file (dep_view dep.now)) }
+        ≡ labels.old ++ labels_of_wildcard (spans_view spans.now) file (dep_view dep.now)) }
 {
     labels.push(primary(alloc, file, version_range(dep), "wildcard dependency")?)?;
-    add_shared_label(alloc, told, dep, labels)?;
+    add_shared_label(alloc, spans, dep, labels)?;
     Ok(())
 }
 
@@ -105,15 +105,15 @@ fn version_range(dep: &ManifestDep<'_>) -> Span
 #[tactic(auto, unfolding(deny_codes::specs::Wildcards::shared_labels))]
 fn add_shared_label(
     alloc: Global,
-    told: &Told<'_>,
+    spans: &KrateSpans<'_>,
     dep: &ManifestDep<'_>,
     labels: &mut List<Label>,
 ) -> Result<(), NoMemory>
     ensures { OnOk result (labels.new
-        ≡ labels.old ++ shared_labels (told_from told.now).view (dep_view dep.now)) }
+        ≡ labels.old ++ shared_labels (spans_view spans.now) (dep_view dep.now)) }
 {
     if is_shared(dep) {
-        add_entry_label(alloc, told, dep.place, labels)?;
+        add_entry_label(alloc, spans, dep.place, labels)?;
     }
     Ok(())
 }
@@ -121,17 +121,17 @@ fn add_shared_label(
 // Appends a label at the entry of the workspace that stands for the crate at a place.
 fn add_entry_label(
     alloc: Global,
-    told: &Told<'_>,
+    spans: &KrateSpans<'_>,
     place: u32,
     labels: &mut List<Label>,
 ) -> Result<(), NoMemory>
-    ensures { OnOk result (let view = (told_from told.now).view in labels.new
+    ensures { OnOk result (let view = spans_view spans.now in labels.new
         ≡ labels.old ++ option_map_or (workspace_label_at view place) (shared_at view place) []) }
 {
-    let Some(entry) = told.spans.shared_at(place) else {
+    let Some(entry) = spans.shared_at(place) else {
         return Ok(());
     };
-    let Some(file) = told.spans.workspace_id else {
+    let Some(file) = spans.workspace_id else {
         return Ok(());
     };
     labels.push(secondary(alloc, file, shared_range(entry), "workspace dependency")?)?;
@@ -194,10 +194,9 @@ pub fn unresolved_told(alloc: Global, told: &Told<'_>, key: &Key) -> Result<Word
     ensures { IfOk result (λ words. let c = told_from told.now in
         words ≡ unresolved_told c.graph c.view key.now) }
 {
-    let message = Text::from_str(alloc, "failed to resolve a workspace dependency")?;
     let labels = unresolved_labels(alloc, told, key)?;
-    let krate = kid_at(told.krates, key.place)?;
-    Ok(plainly(alloc, Severity::Bug, message, labels, krate))
+    let message = Text::from_str(alloc, "failed to resolve a workspace dependency")?;
+    crate_words(alloc, told.krates, key, Severity::Bug, message, labels)
 }
 
 // At the declaration of a key.

@@ -11,7 +11,7 @@ use Rattle.deny_manifest_told.proofs.sharing.entry_labels_at.Goals as goal
 pub returns-in_default-workspace_id : goal.returns-in_default-workspace_id
 unfolding entry_labels_in
 returns-in_default-workspace_id c =
-    let view = spans_view c.args.told.now.spans.now in
+    let view = spans_view c.args.spans.now in
     let place = c.args.place in
     c.new-in_default-workspace_id.ensures
     ∙ in_no_file entry_labels (shared_at view place) (span_view place c.in-Some.entry.now) c.in-Some.ensures.is
@@ -20,7 +20,7 @@ returns-in_default-workspace_id c =
 pub returns : goal.returns
 unfolding entry_labels_in
 returns c =
-    let view = spans_view c.args.told.now.spans.now in
+    let view = spans_view c.args.spans.now in
     let file = c.in-Some-workspace_id.file in
     let entry = c.in-Some.entry.now in
     let place = c.args.place in

@@ -11,7 +11,7 @@ use Rattle.deny_manifest_told.proofs.wildcards.add_entry_label.Goals as goal
 
 pub returns-in_default-workspace_id : goal.returns-in_default-workspace_id
 returns-in_default-workspace_id c =
-    let view = spans_view c.args.told.now.spans.now in
+    let view = spans_view c.args.spans.now in
     let place = c.args.place in
     sym (append-nil c.args.labels.now)
     ∙ ap (λ (more : List Label). c.args.labels.now ++ more)
@@ -20,7 +20,7 @@ returns-in_default-workspace_id c =
 
 pub returns : goal.returns
 returns c =
-    let view = spans_view c.args.told.now.spans.now in
+    let view = spans_view c.args.spans.now in
     let place = c.args.place in
     let file = c.in-Some-workspace_id.file in
     c.in_ok-push.ensures.ok

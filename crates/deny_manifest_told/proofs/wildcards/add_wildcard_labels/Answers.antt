@@ -13,7 +13,7 @@ returns c =
     let file = c.args.file in
     let dep = dep_view c.args.dep.now in
     let old = c.args.labels.now in
-    let shared = shared_labels (spans_view c.args.told.now.spans.now) dep in
+    let shared = shared_labels (spans_view c.args.spans.now) dep in
     let label = c.in_ok-primary.ensures
     ∙ ap (λ range. primary file range (codes "wildcard dependency")) c.version_range.ensures in
     c.in_ok-add_shared_label.ensures
