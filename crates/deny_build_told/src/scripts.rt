@@ -11,7 +11,7 @@ ghost use Rattle.deny_told.specs.Told.{told_from};
 ghost use Rattle.hex.specs.Hex.{encode_lower};
 
 use crate::notes::{add_quoted, digits};
-use crate::words::crate_words;
+use crate::words::noted_words;
 use deny_base::{FileId, Key, Severity, Spanned};
 use deny_build_cfg::ValidBuildConfig;
 use deny_build_model::{Found, Package, Seen};
@@ -30,7 +30,7 @@ pub fn script_denied_told(alloc: Global, told: &Told<'_>, key: &Key) -> Result<W
     let notes = script_notes_at(alloc, told.packages, key.place)?;
     let after = "' has a build script but is not allowed to have one";
     let message = of_crate(alloc, told.krates, "crate '", key, after)?;
-    crate_words(
+    noted_words(
         alloc,
         told.krates,
         key,
@@ -98,7 +98,7 @@ fn enabled_told(
     let enabled = enabled_by_key(alloc, told, build, key)?;
     let message = enabled_message(alloc, enabled.len())?;
     let labels = labels_of(alloc, told.cfg.file_id, enabled.as_slice())?;
-    crate_words(
+    noted_words(
         alloc,
         told.krates,
         key,

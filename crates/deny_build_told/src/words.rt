@@ -20,9 +20,9 @@ use deny_lists::{List, NoMemory, Text};
 use deny_told::{Told, kid_at, lone_label};
 use std::alloc::Global;
 
-/// Words about the crate of a key. They are made here alone, so that no other function lets go of a message,
-/// its labels and its notes where memory for the crate's name runs out.
-pub fn crate_words(
+/// Words about the crate of a key, with notes. They are made here alone, so that no other function lets go of
+/// a message, its labels and its notes where memory for the crate's name runs out.
+pub fn noted_words(
     alloc: Global,
     krates: &Krates,
     key: &Key,
@@ -60,7 +60,7 @@ pub fn with_notes(
         (plainly severity message.now labels (kid_at krates.now key.now.place)) { notes = notes }) }
 {
     let message = Text::from_str(alloc, message)?;
-    crate_words(alloc, krates, key, severity, message, labels, notes)
+    noted_words(alloc, krates, key, severity, message, labels, notes)
 }
 
 /// Words with one label, at the entry of the key.

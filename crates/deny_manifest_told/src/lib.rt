@@ -4,7 +4,6 @@
 
 mod sharing;
 mod wildcards;
-mod words;
 
 pub use sharing::{unused_entry_told, workspace_duplicate_told};
 pub use wildcards::{unresolved_told, wildcard_told};

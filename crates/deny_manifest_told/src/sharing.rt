@@ -18,7 +18,6 @@ ghost use Rattle.deny_spans.specs.SpansView.{spans_view};
 ghost use Rattle.deny_told.specs.Told.{told_from};
 ghost use Rattle.deny_workspace.specs.Workspace.{dep_view, span_view};
 
-use crate::words::crate_words;
 use deny_base::{FileId, Key, Label, Span, Spanned};
 use deny_cfg::bans::cfg::WorkspaceDepsConfig;
 use deny_codes::Words;
@@ -26,7 +25,9 @@ use deny_facts::{krate_at, krate_text};
 use deny_lists::{List, NoMemory, Text};
 use deny_manifest_rules::{Use, Uses, is_unshared};
 use deny_spans::{KrateSpans, UnusedWorkspaceDep, WorkspaceSpan};
-use deny_told::{ByRange, Labels, Told, lone_label, not_built, plainly, primary, secondary};
+use deny_told::{
+    ByRange, Labels, Told, crate_words, lone_label, not_built, plainly, primary, secondary,
+};
 use std::alloc::Global;
 
 /// What is told of a crate that members declare several times, and not always by the shared entry.

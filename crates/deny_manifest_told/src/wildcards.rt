@@ -16,7 +16,6 @@ ghost use Rattle.deny_spans.specs.SpansView.{manifest_view, spans_view};
 ghost use Rattle.deny_told.specs.Told.{told_from};
 ghost use Rattle.deny_workspace.specs.Workspace.{span_view};
 
-use crate::words::crate_words;
 use deny_base::{FileId, Key, Label, Severity, Span};
 use deny_codes::Words;
 use deny_facts::{krate_at, krate_name};
@@ -24,7 +23,7 @@ use deny_krates::Krate;
 use deny_lists::{List, NoMemory, Text};
 use deny_manifest_rules::{is_minded_in, is_shared};
 use deny_spans::{KrateSpans, Manifest, ManifestDep, WorkspaceSpan};
-use deny_told::{Labels, Told, primary, secondary};
+use deny_told::{Labels, Told, crate_words, primary, secondary};
 use std::alloc::Global;
 
 /// What is told of the dependencies of a crate whose requirement any version meets.

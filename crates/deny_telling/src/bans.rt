@@ -5,7 +5,7 @@ ghost use Rattle.deny_codes.specs.Bans.{unmatched_wrapper_told, wrapper_labels_a
 ghost use Rattle.deny_model.specs.Told.{ban_at, crate_text_at};
 ghost use Rattle.deny_telling.specs.private.Teller.{told_from};
 
-use crate::crate_words::{crate_words, sentence_words};
+use crate::crate_words::sentence_words;
 use crate::entry_labels::ban_labels_at;
 use crate::teller::Teller;
 use deny_base::{Key, Severity};
@@ -13,7 +13,7 @@ use deny_codes::Words;
 use deny_facts::{krate_text, range_at};
 use deny_krates::Krates;
 use deny_lists::{List, NoMemory, Text};
-use deny_told::{Labels, lone_label, primary};
+use deny_told::{Labels, crate_words, lone_label, primary};
 use std::alloc::Global;
 
 /// What is told of a crate that is banned.
@@ -57,7 +57,7 @@ pub fn allowed_by_wrapper_told(
         key.other,
         "'",
     )?;
-    crate_words(alloc, krates, Severity::Note, message, labels, key)
+    crate_words(alloc, krates, key, Severity::Note, message, labels)
 }
 
 // The name of the ban of a key, and its wrapper of the name of the key's dependent.
@@ -98,7 +98,7 @@ pub fn unmatched_wrapper_told(
         key.place,
         "' was not marked as a wrapper",
     )?;
-    crate_words(alloc, krates, Severity::Warning, message, labels, key)
+    crate_words(alloc, krates, key, Severity::Warning, message, labels)
 }
 
 // A sentence about the crates at two places.

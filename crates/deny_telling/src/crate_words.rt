@@ -6,27 +6,11 @@ ghost use Rattle.deny_model.specs.Told.{of_crate};
 use deny_base::{Key, Label, Severity};
 use deny_codes::Words;
 use deny_krates::Krates;
-use deny_lists::{List, NoMemory, Text};
-use deny_told::{kid_at, of_crate, plainly};
+use deny_lists::{List, NoMemory};
+use deny_told::{crate_words, of_crate};
 use std::alloc::Global;
 
-/// Plain words about the crate of a key. They are made here alone, so that no other function lets go of
-/// a message and its labels where memory for the crate's name runs out.
-pub fn crate_words(
-    alloc: Global,
-    krates: &Krates,
-    severity: Severity,
-    message: Text,
-    labels: List<Label>,
-    key: &Key,
-) -> Result<Words, NoMemory>
-    ensures { IfOk result (λ words. words ≡ plainly severity message labels (kid_at krates.now key.now.place)) }
-{
-    let krate = kid_at(krates, key.place)?;
-    Ok(plainly(alloc, severity, message, labels, krate))
-}
-
-/// Those words with a sentence about the crate as their message.
+/// Plain words about the crate of a key, with a sentence about it as their message.
 pub fn sentence_words(
     alloc: Global,
     krates: &Krates,
@@ -40,5 +24,5 @@ pub fn sentence_words(
         (of_crate before.now krates.now key.now after.now) labels (kid_at krates.now key.now.place)) }
 {
     let message = of_crate(alloc, krates, before, key, after)?;
-    crate_words(alloc, krates, severity, message, labels, key)
+    crate_words(alloc, krates, key, severity, message, labels)
 }

@@ -21,7 +21,7 @@ ghost use Rattle.deny_telling.specs.private.Features.{feature_node, listed_featu
 ghost use Rattle.deny_telling.specs.private.Features.{with_notes};
 ghost use Rattle.deny_telling.specs.private.Teller.{told_from};
 
-use crate::crate_words::{crate_words, sentence_words};
+use crate::crate_words::sentence_words;
 use crate::teller::Teller;
 use deny_base::{FileId, GraphNode, Key, Kid, Label, Severity, Span};
 use deny_cfg::bans::cfg::ValidKrateFeatures;
@@ -30,7 +30,7 @@ use deny_facts::{are_placed, krate_at, krate_text, ranges_by_name};
 use deny_features::{default_level_at, enabled_at, has, unlisted};
 use deny_krates::Krates;
 use deny_lists::{List, NoMemory, Text};
-use deny_told::{Labels, lone_label, primary};
+use deny_told::{Labels, crate_words, lone_label, primary};
 use std::alloc::Global;
 
 /// What is told of a crate whose features are not exactly those of an entry.
@@ -447,7 +447,7 @@ fn feature_words(
 {
     let between = "' for crate '";
     let message = of_feature(alloc, krates, before, feature, between, key, after)?;
-    crate_words(alloc, krates, severity, message, labels, key)
+    crate_words(alloc, krates, key, severity, message, labels)
 }
 
 // A sentence about a feature of the crate of a key.

@@ -7,5 +7,7 @@ mod parts;
 mod told;
 
 pub use by_range::{ByRange, Ranged};
-pub use parts::{Labels, kid_at, lone_label, not_built, of_crate, plainly, primary, secondary};
+pub use parts::{
+    Labels, crate_words, kid_at, lone_label, not_built, of_crate, plainly, primary, secondary,
+};
 pub use told::Told;

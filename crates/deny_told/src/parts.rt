@@ -91,6 +91,22 @@ pub fn plainly(
     }
 }
 
+/// Plain words about the crate of a key. They are made here alone, so that no other function lets go of
+/// a message and its labels where memory for the crate's name runs out.
+pub fn crate_words(
+    alloc: Global,
+    krates: &Krates,
+    key: &Key,
+    severity: Severity,
+    message: Text,
+    labels: List<Label>,
+) -> Result<Words, NoMemory>
+    ensures { IfOk result (λ words. words ≡ plainly severity message labels (kid_at krates.now key.now.place)) }
+{
+    let krate = kid_at(krates, key.place)?;
+    Ok(plainly(alloc, severity, message, labels, krate))
+}
+
 /// The words of a code of which nothing stands.
 pub fn not_built(alloc: Global) -> Words
     ensures { result ≡ not_built }

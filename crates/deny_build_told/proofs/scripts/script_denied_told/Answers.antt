@@ -5,5 +5,5 @@ use Rattle.deny_build_told.proofs.scripts.script_denied_told.Goals as goal
 
 pub returns : goal.returns
 unfolding script_denied_told
-returns c = IfOk-weaker c.crate_words.result _ _
-    (λ words is. is ∙ rw (c.in_ok-message.ensures, c.in_ok-notes.ensures, c.new.ensures)) c.crate_words.ensures
+returns c = IfOk-weaker c.noted_words.result _ _
+    (λ words is. is ∙ rw (c.in_ok-message.ensures, c.in_ok-notes.ensures, c.new.ensures)) c.noted_words.ensures

@@ -10,7 +10,8 @@ use Rattle.deny_lists.proofs.Members.{from_there}
 use Rattle.deny_lists.proofs.Places.{take-next}
 use Rattle.deny_model.specs.Graph.{Crate}
 use Rattle.deny_packages.proofs.GraphLemmas.{all_long, front_apart, front_long, front_places}
-use Rattle.deny_packages.proofs.PackagesLemmas.{AreSoFar, all_because, all_seen, all_wanted, caused_next, so_far_more, so_far_none}
+use Rattle.deny_packages.proofs.PackagesLemmas.{AreSoFar, all_because, all_seen, all_wanted, caused_next}
+use Rattle.deny_packages.proofs.PackagesLemmas.{so_far_more, so_far_none}
 use Rattle.deny_outside.specs.Disk.{Files}
 use Rattle.deny_packages.proofs.packages.see_packages.Goals as goal
 use Rattle.deny_packages.specs.Seen.{IsPackageSeen}
