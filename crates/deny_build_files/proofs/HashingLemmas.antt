@@ -12,6 +12,7 @@ use Rattle.deny_outside.specs.Disk.{Disk, Files, IsLater, IsPieceOf, bytes_at}
 use Rattle.deny_outside.proofs.PieceLemmas.{reading_more}
 use Rattle.deny_build_files.specs.declared.check_end.CheckEnd.{CheckEnd}
 use Rattle.deny_build_files.specs.private.Hashing.{IsHashing, HasHashed}
+use Rattle.deny_build_files.proofs.FrontLemmas.{nothing_read}
 
 pub hashing_more : (start old new : Disk) (path buf : List ℕ) (before after : Sha256) (count n : ℕ)
     → n ≤ length buf → IsHashing start old path before count → IsLater old new → new.given ≡ counted old.given n
@@ -60,28 +61,13 @@ hashing_ended start old path buf before after count n none room hashing next tak
     (subst (Holds256 after) same (taken hashing.message hashing.holds))
     hashing.reading.text (subst P hashing.reading.later.files next)
 
-no_front : (known : Option Files) (path : List ℕ) → IfSome known (λ files. [] ≡ take 0 (bytes_at files path))
-no_front None path = search rules
-no_front (Some files) path = refl
-
 pub hashing_none : (start : Disk) (path : List ℕ) (hasher : Sha256) → Holds256 hasher []
     → IsHashing start start path hasher 0
 hashing_none start path hasher holds = record {
   message = [];
   holds = holds;
   long = refl;
-  reading = record {
-    later = record {
-      files = refl;
-      faults = omega arith;
-      faults_at = λ call at. omega arith;
-      given = omega arith;
-      listed = omega arith;
-    };
-    given = omega arith;
-    once = omega arith;
-    text = no_front start.files path;
-  };
+  reading = nothing_read start path;
 }
 
 pub sum_told : (known : Option Files) (path sum : List ℕ) (hasher : Sha256) (count : ℕ)
