@@ -1,5 +1,6 @@
 -- A step of a loop that keeps what passes a test.
-use Rattle.std.proofs.Common.{◌≡◌, ◌∙◌, ◌++◌, ◌∷◌, Bool, true, false, List, [], ap, append_assoc, cond, filter, map, sym}
+use Rattle.std.proofs.Common.{◌≡◌, ◌∙◌, ◌++◌, ◌∷◌, Bool, true, false, List, []}
+use Rattle.std.proofs.Common.{ap, append_assoc, cond, filter, map, sym}
 use Rattle.std.proofs.lemmas.List.{map-append}
 
 -- what is next passes, and is kept

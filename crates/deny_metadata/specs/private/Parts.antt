@@ -13,7 +13,8 @@ use Rattle.deny_metadata.specs.declared.document.Terms.{Terms}
 use Rattle.deny_metadata.specs.declared.document.Usage.{Usage}
 use Rattle.deny_metadata.specs.declared.fault.MetadataFault.{MetadataFault}
 use Rattle.deny_metadata.specs.declared.member.Member.TheVariants.{Packages, WorkspaceMembers, WorkspaceRoot, Resolve}
-use Rattle.deny_metadata.specs.declared.member.Member.TheVariants.{Nodes, Name, Version, Id, ManifestPath, Source, License}
+use Rattle.deny_metadata.specs.declared.member.Member.TheVariants.{Nodes, Name, Version, Id}
+use Rattle.deny_metadata.specs.declared.member.Member.TheVariants.{ManifestPath, Source, License}
 use Rattle.deny_metadata.specs.declared.member.Member.TheVariants.{RustVersion, Publish, Targets}
 use Rattle.deny_metadata.specs.declared.member.Member.TheVariants.{Dependencies, Req, Rename, Target as ForTarget}
 use Rattle.deny_metadata.specs.declared.member.Member.TheVariants.{Path, Features, UsesDefaultFeatures}

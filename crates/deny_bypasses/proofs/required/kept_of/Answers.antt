@@ -18,8 +18,9 @@ loop-word-preserved c =
     let split : drop i words ≡ here ∷ drop (i + 1) words = drop_more words i here c.loop-word-test.true
     ∙ ap (λ (w : Words). w ∷ drop (i + 1) words) (sym c.word-item.is) in
     elim c.if-has.branch [
-      | then-has+in_ok-push w ↦ kept_one value passes kept c.if-has.kept.items _ here (drop i words) (drop (i + 1) words)
-          (filter passes words) (ap (λ (v : _). v.items) w.kept-is ∙ w.in_ok-push.ensures.items) refl split
+      | then-has+in_ok-push w ↦ kept_one value passes kept c.if-has.kept.items _ here
+          (drop i words) (drop (i + 1) words) (filter passes words)
+          (ap (λ (v : _). v.items) w.kept-is ∙ w.in_ok-push.ensures.items) refl split
           (sym c.has.ensures ∙ w.if-has.true) c.loop-word.invariant
       | else-has w ↦ kept_none value passes kept c.if-has.kept.items here (drop i words) (drop (i + 1) words)
           (filter passes words) (ap (λ (v : _). v.items) w.kept-is) split (sym c.has.ensures ∙ w.if-has.false)

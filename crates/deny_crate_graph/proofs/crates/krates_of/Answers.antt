@@ -96,6 +96,6 @@ loop-each-preserved c =
           c.take_read-read.ensures.other_versions c.requires.apart;
       requirements = left_after c.args.texts.now.requirements kept i c.loop-each.texts.requirements _ k
           c.loop-each.invariant.requirements at c.take_read-read.ensures.other_requirements c.requires.apart;
-      sources = left_after c.args.texts.now.sources kept i c.loop-each.texts.sources _ k c.loop-each.invariant.sources at
-          c.take_read-read.ensures.other_sources c.requires.apart;
+      sources = left_after c.args.texts.now.sources kept i c.loop-each.texts.sources _ k
+          c.loop-each.invariant.sources at c.take_read-read.ensures.other_sources c.requires.apart;
     }

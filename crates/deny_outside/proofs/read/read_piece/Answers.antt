@@ -62,7 +62,8 @@ pub returns-clause-ended : goal.returns-clause-ended
 returns-clause-ended g c = λ start reading is.
     let none = none_read c.in_ok-n.n _ refl is in
     let room : 0 < length c.read_at.new.buf = omega (arith, c.requires.room, c.read_at.auto.buf) in
-    whole_at_end start.files c.args.path.now c.args.bytes.now.items c.read_at.new.buf _ (length c.as_slice.result.now) c.in_ok-n.n
+    whole_at_end start.files c.args.path.now c.args.bytes.now.items c.read_at.new.buf _
+    (length c.as_slice.result.now) c.in_ok-n.n
     (ap length c.as_slice.ensures.value) none room
     (same_by c.args.bytes.now.items c.read_at.new.buf _ c.in_ok-n.n c.in_ok-extend_from_slice.ensures.items none)
     reading.text
