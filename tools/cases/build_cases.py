@@ -12,7 +12,7 @@ from case_parts import (
 )
 from readings.report import compact
 
-ELF, PE, MACH = (bytes.fromhex(front).ljust(16, b"\0") for front in ("7f454c46", "4d5a", "feedface"))
+ELF, PE, MACH = (bytes.fromhex(prefix).ljust(16, b"\0") for prefix in ("7f454c46", "4d5a", "feedface"))
 ARCHIVE, SCRIPT, PLAIN = b"!<arch>\n".ljust(16, b"\0"), "#!/usr/bin/env python3\n", "x"
 SOURCE = "fn main() {}\n"
 SUM, OTHER = sha256(SOURCE.encode()).hexdigest(), "aB" * 32

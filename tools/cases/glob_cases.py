@@ -75,7 +75,7 @@ BAD = [
     "[^é-a]", "{[z-a]", "{" * 17, "😀{a,b", "{a,{b}", "{" * 16 + "}" * 17, "*.sh}", "[",
 ]
 
-# A glob of every form, cut at each character: each front of it is a glob or is none.
+# A glob of every form, cut at each character: each prefix of it is a glob or is none.
 WHOLE = "**/a?/**/{b,*c[!d-f\u00e9]{g,}}\\*[]-]\u00e9/**"
 CUT = [WHOLE[:size] for size in range(len(WHOLE) + 1)]
 CUT_PATHS = ["", "a", "ax", "ax/b", "y/ax/z/b", "ax/b*-\u00e9/q", "ax/xchg*]\u00e9/", "ax/b*-\u00e9", "a?/**"]

@@ -107,8 +107,8 @@ MANIFEST = (
 )
 
 
-def fronts(text):
-    """The text and each front of it, which may end within a character."""
+def prefixes(text):
+    """The text and each prefix of it, which may end within a character."""
     raw = text.encode()
     for size in range(len(raw) + 1):
         try:
@@ -119,14 +119,14 @@ def fronts(text):
 
 def cuts():
     """Each text of a run, cut; a policy that is no TOML is left out, for the place of that fault is free."""
-    for size, text in fronts(POLICY):
+    for size, text in prefixes(POLICY):
         yield case("cut: a policy to %d bytes" % size, text, WITH_X, is_toml=isinstance(text, str))
-    for size, text in fronts(TEXT):
+    for size, text in prefixes(TEXT):
         by_hand = {"by_hand": "metadata"} if size < len(TEXT.encode()) else {"lines": PASSED}
         text = text if isinstance(text, str) else [text]
         yield case("cut: metadata to %d bytes" % size, "", text, manifests={"/w\u00fc\n/Cargo.toml": ""}, **by_hand)
     graph = declared_graph({"app": [asks("x")]})
-    for size, text in fronts(MANIFEST):
+    for size, text in prefixes(MANIFEST):
         files = {"/w/Cargo.toml": text}
         yield case("cut: a manifest to %d bytes" % size, "[bans]\nwildcards = 'deny'\n", graph, files=files)
 
@@ -146,7 +146,7 @@ def of_target(name, target_, key, by_hand):
 
 def expressions():
     """An expression cut at each byte, and some that nest deep; another one agrees with none of them."""
-    for size, text in fronts(EXPRESSION):
+    for size, text in prefixes(EXPRESSION):
         is_whole = size == len(EXPRESSION)
         by_hand = "wildcard app" if is_whole else ""
         yield of_target("an expression of %d bytes" % size, EXPRESSION.replace(" ", ""), text, by_hand if size else "")
@@ -172,8 +172,8 @@ def nestings():
     for name, text in ("a key", key + " = 1\n"), ("a header", "[%s]\n" % key):
         yield case("nested: %s of 64 in a policy" % name, text, by_hand="")
     for levels in 64, 65:
-        for name, front, behind in ("arrays", "[", "]"), ("tables", "{a=", "}"):
-            text = "a = %s1%s\n" % (front * levels, behind * levels)
+        for name, prefix, behind in ("arrays", "[", "]"), ("tables", "{a=", "}"):
+            text = "a = %s1%s\n" % (prefix * levels, behind * levels)
             more = {"by_hand": ""} if levels == 64 else {}
             yield case("nested: %s of %d in a policy" % (name, levels), text, **more)
     macro, files = built_graph("app -> x", x="proc-macro"), in_package("x", {"a": ELF})

@@ -20,28 +20,28 @@ def package(name, files, policy=BUILD, by_hand=None, text=OF_X, **more):
 
 # ---- first bytes
 
-FRONTS = {
+PREFIXES = {
     "elf": ["7f454c46"], "pe": ["4d5a"], "mach": ["feedface", "cefaedfe", "feedfacf", "cffaedfe", "cafebabe"],
     "archive": ["213c617263683e0a"],
 }
 
 
 def native():
-    """Native code by its front, in files of several sizes, and what is nearly that."""
-    for kind, fronts in FRONTS.items():
-        for front in map(bytes.fromhex, fronts):
+    """Native code by its prefix, in files of several sizes, and what is nearly that."""
+    for kind, prefixes in PREFIXES.items():
+        for prefix in map(bytes.fromhex, prefixes):
             for size in 15, 16, 17, 5000:
                 for policy, with_archives in ((BUILD, False), (BUILD + "include-archives = true\n", True)):
                     is_told = size >= 16 and (kind != "archive" or with_archives)
                     yield package(
-                        "%s in %d bytes%s" % (front.hex(), size, ", archives too" * with_archives),
-                        {"a": front.ljust(size, b"\0")}, policy, "detected-executable a %s" % kind if is_told else ""
+                        "%s in %d bytes%s" % (prefix.hex(), size, ", archives too" * with_archives),
+                        {"a": prefix.ljust(size, b"\0")}, policy, "detected-executable a %s" % kind if is_told else ""
                     )
-            nearly = [front[:-1].ljust(16, b"\0"), b"\0" + front.ljust(16, b"\0"), front[:-1] + b"?" * 12]
+            nearly = [prefix[:-1].ljust(16, b"\0"), b"\0" + prefix.ljust(16, b"\0"), prefix[:-1] + b"?" * 12]
             for number, data in enumerate(nearly):
-                yield package("nearly %s, %d" % (front.hex(), number), {"a": data}, by_hand="")
-    for front in ("565a", "7f454c47", "5a4d", "cafebabf", "fefa", "213c617263683e0d", "0000feed", "efbbbf7f454c46"):
-        yield package("%s, which is none" % front, {"a": bytes.fromhex(front).ljust(16, b"\0")}, by_hand="")
+                yield package("nearly %s, %d" % (prefix.hex(), number), {"a": data}, by_hand="")
+    for prefix in ("565a", "7f454c47", "5a4d", "cafebabf", "fefa", "213c617263683e0d", "0000feed", "efbbbf7f454c46"):
+        yield package("%s, which is none" % prefix, {"a": bytes.fromhex(prefix).ljust(16, b"\0")}, by_hand="")
     kinds = {"a": ELF, "b": PE, "c": MACH, "d": ARCHIVE, "e": "#!/bin/sh\n# long\n", "f": "x" * 16, "g": ""}
     yield package("one of each kind", kinds, by_hand="detected-executable a elf; detected-executable b pe; "
                   "detected-executable c mach; detected-executable-script e sh")

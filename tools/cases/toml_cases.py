@@ -360,7 +360,7 @@ WIDE = each(
     'a = { "é" = "ü", b.\'ʞ\' = 1 }\n',
 )
 
-# A text of every form, which ends at each byte but the first ones: what each front of it is, tomllib says.
+# A text of every form, which ends at each byte but the first ones: what each prefix of it is, tomllib says.
 EVERY_FORM = (
     "# \u00e9\r\n[ 'a'.\"\\u00e9\" . b-1 ]\nc.d = \"p\\t\\\"\"\ne = '\u20ac'\nf = \"\"\"\n\"q\" \\\n  r\"\"\"\ng = '''\n's''''\n"
     "h = [ -1_0, +0x1F, 0o7, 0b1, # t\n 1.5e-3, -inf, nan, ]\n"
@@ -368,12 +368,12 @@ EVERY_FORM = (
 )
 
 
-def fronts(text):
-    """Each front of the text, and what it is."""
+def prefixes(text):
+    """Each prefix of the text, and what it is."""
     return [(text[:size], "tree" if is_accepted(text[:size]) else "grammar") for size in range(3, len(text) + 1)]
 
 
-CUT = fronts(EVERY_FORM)
+CUT = prefixes(EVERY_FORM)
 
 # Three small ones, read by hand below.
 SMALL = each("clash", "a = 1\na = 2\n") + each("tree", "a.b = [1, 2]", "[a.b]\nc = 1\n[a]\n")

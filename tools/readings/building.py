@@ -152,7 +152,7 @@ class Checked:
         self.found.append(of_crate(self.crate, code, severity, message, labels, notes, nodes=(), **key))
 
     def read(self, path, purpose):
-        data = self.disk.front(path) if purpose == "header" else self.disk.read(path)
+        data = self.disk.prefix(path) if purpose == "header" else self.disk.read(path)
         if data is None:
             self.unread.append((self.crate, path, purpose))
         return data

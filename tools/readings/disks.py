@@ -1,11 +1,11 @@
-"""Disks, which give what stands at paths: `read` the bytes of a file, `front` those at its front that tell what it is,
+"""Disks, which give what stands at paths: `read` the bytes of a file, `prefix` those at its start that tell what it is,
 and `list` the entries of a folder, each its name and whether it is a folder, in order of names. Each is None where a
 call fails."""
 
 import os
 
-FRONT = 256  # bytes of a front at most
-LEAST = 16  # bytes of a front that tells enough, but of a script whose first line is still open
+PREFIX = 256  # bytes of a prefix at most
+LEAST = 16  # bytes of a prefix that tells enough, but of a script whose first line is still open
 BUFFER = 2**16  # bytes that a call gives at most
 
 
@@ -25,7 +25,7 @@ class NoDisk:
     def read(self, path):
         return None
 
-    front = list = read
+    prefix = list = read
 
 
 class MadeDisk:
@@ -59,14 +59,14 @@ class MadeDisk:
         good = self.succeed(path, -(-len(data) // self.piece) + 1)
         return data if good and path in self.files else None
 
-    def front(self, path):
-        data, given, count, is_more = self.files[path]()[:FRONT] if path in self.files else b"", 0, 0, True
+    def prefix(self, path):
+        data, given, count, is_more = self.files[path]()[:PREFIX] if path in self.files else b"", 0, 0, True
         while is_more:
             count += 1
             is_more = given < len(data)
             given = min(given + self.piece, len(data))
             is_open = data.startswith(b"#!") and b"\n" not in data[:given]
-            is_more = is_more and given < FRONT and (given < LEAST or is_open)
+            is_more = is_more and given < PREFIX and (given < LEAST or is_open)
         return data if self.succeed(path, count) and path in self.files else None
 
     def list(self, path):
@@ -86,8 +86,8 @@ class RealDisk:
         except (OSError, ValueError):
             return None
 
-    def front(self, path):
-        return self.read(path, FRONT)
+    def prefix(self, path):
+        return self.read(path, PREFIX)
 
     def list(self, path):
         try:

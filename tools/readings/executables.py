@@ -12,8 +12,8 @@ NATIVE = [
 
 def native_kind(data):
     """The format of native code, or None."""
-    for kind, fronts in NATIVE:
-        if any(data.startswith(bytes.fromhex(front)) for front in fronts):
+    for kind, prefixes in NATIVE:
+        if any(data.startswith(bytes.fromhex(prefix)) for prefix in prefixes):
             return kind
     return None
 

@@ -129,13 +129,13 @@ pub each_code : (test : DiagnosticCode → Bool) → IsTrue (list_all test all_c
     → IsTrue (test code)
 unfolding code_at
 each_code test all code = subst (λ (d : DiagnosticCode). IsTrue (test d)) (code_at-number code)
-    (at_place all_codes (diagnostic_code_number code) all (and_parts (test Deprecated) _ all).0)
+    (at_index all_codes (diagnostic_code_number code) all (and_parts (test Deprecated) _ all).0)
   where
-    at_place : (codes : List DiagnosticCode) (n : ℕ) → IsTrue (list_all test codes) → IsTrue (test Deprecated)
+    at_index : (codes : List DiagnosticCode) (n : ℕ) → IsTrue (list_all test codes) → IsTrue (test Deprecated)
         → IsTrue (test (slice_index_or codes n Deprecated))
-    at_place [] n all other = other
-    at_place (d ∷ ds) zero all other = (and_parts (test d) (list_all test ds) all).0
-    at_place (d ∷ ds) (suc n) all other = at_place ds n ((and_parts (test d) (list_all test ds) all).1) other
+    at_index [] n all other = other
+    at_index (d ∷ ds) zero all other = (and_parts (test d) (list_all test ds) all).0
+    at_index (d ∷ ds) (suc n) all other = at_index ds n ((and_parts (test d) (list_all test ds) all).1) other
 
 same_number : (a b : DiagnosticCode) → diagnostic_code_number a ≡ diagnostic_code_number b → a ≡ b
 same_number a b e = sym (code_at-number a) ∙ (ap code_at e ∙ code_at-number b)
@@ -161,21 +161,21 @@ license_code_cmp-exact a b e =
     (ap (λ n. first_license + n) (nat_cmp-IsAntisymmetric (license_code_number a) (license_code_number b) e)) in
     cc
 
--- the place of a word among those of all codes
-place_of : List ℕ → ℕ
-place_of word = position_or_len (λ other. bytes_eq other word) (map diagnostic_code_name all_codes)
+-- the index of a word among those of all codes
+index_of : List ℕ → ℕ
+index_of word = position_or_len (λ other. bytes_eq other word) (map diagnostic_code_name all_codes)
 
 -- a word stands at the number of its code
-is_placed : DiagnosticCode → Bool
-is_placed code = place_of (diagnostic_code_name code) == diagnostic_code_number code
+is_at_number : DiagnosticCode → Bool
+is_at_number code = index_of (diagnostic_code_name code) == diagnostic_code_number code
 
-all_placed : (code : DiagnosticCode) → IsTrue (is_placed code)
-unfolding is_placed place_of code_name license_code_name diagnostic_code_number code_number license_code_number
-all_placed code = each_code is_placed refl code
+all_at_numbers : (code : DiagnosticCode) → IsTrue (is_at_number code)
+unfolding is_at_number index_of code_name license_code_name diagnostic_code_number code_number license_code_number
+all_at_numbers code = each_code is_at_number refl code
 
-place_of-name : (code : DiagnosticCode) → place_of (diagnostic_code_name code) ≡ diagnostic_code_number code
-unfolding is_placed
-place_of-name code = eqb-true _ _ (all_placed code)
+index_of-name : (code : DiagnosticCode) → index_of (diagnostic_code_name code) ≡ diagnostic_code_number code
+unfolding is_at_number
+index_of-name code = eqb-true _ _ (all_at_numbers code)
 
 pub same_word : (a b : DiagnosticCode) → diagnostic_code_name a ≡ diagnostic_code_name b → a ≡ b
-same_word a b e = same_number a b (sym (place_of-name a) ∙ (ap place_of e ∙ place_of-name b))
+same_word a b e = same_number a b (sym (index_of-name a) ∙ (ap index_of e ∙ index_of-name b))

@@ -111,11 +111,11 @@ location_within text from to n at order within below is =
 -- a value that each further element changes in one way is a fold
 fold_from_push : {X S : Type 0} (f : S → X → S) (g : List X → S)
     → ((xs : List X) (x : X) → g (xs ++ x ∷ []) ≡ f (g xs) x)
-    → (front xs : List X) → g (front ++ xs) ≡ fold f (g front) xs
-fold_from_push f g more front [] = ap g (append-nil front)
-fold_from_push {X} {S} f g more front (x ∷ xs) =
-    ap g (sym (append_assoc front (x ∷ []) xs)) ∙ fold_from_push f g more (front ++ x ∷ []) xs
-    ∙ ap (λ (s : S). fold f s xs) (more front x)
+    → (prefix xs : List X) → g (prefix ++ xs) ≡ fold f (g prefix) xs
+fold_from_push f g more prefix [] = ap g (append-nil prefix)
+fold_from_push {X} {S} f g more prefix (x ∷ xs) =
+    ap g (sym (append_assoc prefix (x ∷ []) xs)) ∙ fold_from_push f g more (prefix ++ x ∷ []) xs
+    ∙ ap (λ (s : S). fold f s xs) (more prefix x)
 
 -- the location behind one more character
 behind : Location → ℕ → Location

@@ -1,4 +1,4 @@
--- The locations that are kept with a text, so that none is counted from the text's front.
+-- The locations that are kept with a text, so that none is counted from the text's start.
 use Rattle.std.specs.Prelude.{◌≡◌, ℕ, ◌+◌, ◌*◌, ◌/◌, ◌<◌, ◌^◌, if◌then◌else◌, List, length, take, slice_index_or}
 use Rattle.std.specs.List.{after_last, count_by}
 use Rattle.deny_base.specs.Files.{is_newline, begins_character}

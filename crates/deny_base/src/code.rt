@@ -104,7 +104,7 @@ impl Code {
         }
     }
 
-    /// The place of the code in the order of declaration.
+    /// The number of the code in the order of declaration.
     #[tactic(auto, unfolding(crate::specs::Code::code_number))]
     fn number(self) -> u8
         ensures { result ≡ code_number self }
@@ -230,7 +230,7 @@ impl DiagnosticCode {
         }
     }
 
-    /// The place of the code in the order of declaration.
+    /// The number of the code in the order of declaration.
     #[tactic(auto, unfolding(crate::specs::Code::diagnostic_code_number))]
     fn number(self) -> u32
         ensures { result ≡ diagnostic_code_number self }

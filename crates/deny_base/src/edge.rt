@@ -18,7 +18,7 @@ pub enum DepKind {
 }
 
 impl DepKind {
-    /// The place of the kind in the order of declaration.
+    /// The number of the kind in the order of declaration.
     #[tactic(auto, unfolding(crate::specs::Edge::kind_number))]
     fn number(self) -> u32
         ensures { result ≡ kind_number self }

@@ -28,7 +28,7 @@ pub enum EntryKind {
 }
 
 impl EntryKind {
-    /// The place of the kind in the order of declaration.
+    /// The number of the kind in the order of declaration.
     #[tactic(auto, unfolding(crate::specs::Entry::entry_kind_number))]
     fn number(self) -> u8
         ensures { result ≡ entry_kind_number self }

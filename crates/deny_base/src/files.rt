@@ -140,7 +140,7 @@ struct File {
 }
 
 /// The files that labels point into: contracts see the list of them, each with its path and its
-/// text. A `FileId` is a place in that list.
+/// text. A `FileId` is an index in that list.
 #[derive(Drop)]
 pub struct Files {
     alloc: Global,
@@ -159,7 +159,7 @@ impl Model for Files {
 }
 
 /// The first file of the path.
-fn place_of(files: &[File], path: &str) -> Option<usize>
+fn index_of(files: &[File], path: &str) -> Option<usize>
     ensures { result ≡ position (λ file. bytes_eq file.path path.now) files.now }
 {
     files.iter().position(|file| file.path.as_str() == path)
@@ -208,8 +208,8 @@ impl Files {
     pub fn id_for_path(&self, path: &str) -> Option<FileId>
         ensures { result ≡ position (λ file. bytes_eq file.path path.now) self.now }
     {
-        let place = place_of(self.files.as_slice(), path)?;
-        Some(place as FileId)
+        let index = index_of(self.files.as_slice(), path)?;
+        Some(index as FileId)
     }
 
     /// The location of a byte offset in the file: none exactly where there is no such file, or the

@@ -27,7 +27,7 @@ pub enum Section {
 }
 
 impl Section {
-    /// The place of the section in the order of declaration.
+    /// The number of the section in the order of declaration.
     #[tactic(auto, unfolding(crate::specs::Code::section_number))]
     fn number(self) -> u32
         ensures { result ≡ section_number self }

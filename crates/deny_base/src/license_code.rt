@@ -35,7 +35,7 @@ impl LicenseCode {
         }
     }
 
-    /// The place of the code in the order of declaration.
+    /// The number of the code in the order of declaration.
     #[tactic(auto, unfolding(crate::specs::LicenseCode::license_code_number))]
     pub(crate) fn number(self) -> u8
         ensures { result ≡ license_code_number self }

@@ -7,7 +7,7 @@ use Rattle.std.specs.Option.{option_map_or, option_or}
 use Rattle.std.proofs.lemmas.List.{length-map, length-take-le, map-append, take_more}
 use Rattle.std.proofs.lemmas.List.Folds.{find-append}
 use Rattle.deny_lists.proofs.Options.{option_or-none}
-use Rattle.deny_lists.proofs.Places.{slice_get-append_some, slice_get-push}
+use Rattle.deny_lists.proofs.Indices.{slice_get-append_some, slice_get-push}
 use Rattle.deny_base.specs.declared.span.Kid.{Kid}
 use Rattle.deny_base.specs.declared.span.Span.{Span}
 use Rattle.deny_build_cfg.specs.BuildingView.{path_view}

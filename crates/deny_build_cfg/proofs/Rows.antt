@@ -32,7 +32,7 @@ hyphen : extension_fault (codes "\"s-h-x\"") (word (codes "s-h-x") 1 6)
 unfolding extension_fault word span
 hyphen = refl
 
--- in a string on several lines, behind the line end at its front
+-- in a string on several lines, behind the line end at its start
 line_end : extension_fault (codes "\"\"\"\ns-h\"\"\"") (word (codes "s-h") 3 7)
     ≡ Some (fault.NoLetter (span 3 7) (span 5 6))
 unfolding extension_fault word span

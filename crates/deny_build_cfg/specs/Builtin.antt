@@ -20,14 +20,14 @@ builtin_texts =
     ∷ codes "*.py" ∷ codes "*.rb" ∷ codes "*.sh" ∷ codes "*.vbs" ∷ codes "*.zsh" ∷ []
 
 -- each begins four bytes behind the one before it
-abbrev pub placed_from : ℕ → List (List ℕ) → List Words
-placed_from at [] = []
-placed_from at (text ∷ texts) =
+abbrev pub spanned_from : ℕ → List (List ℕ) → List Words
+spanned_from at [] = []
+spanned_from at (text ∷ texts) =
     record { value = text; span = record { start = at; end = at + length text } }
-    ∷ placed_from (at + length text + 4) texts
+    ∷ spanned_from (at + length text + 4) texts
 
 unfoldable pub builtin_words : List Words
-builtin_words = placed_from 10 builtin_texts
+builtin_words = spanned_from 10 builtin_texts
 
 -- the built-in globs, as patterns of the file of this number
 abbrev pub builtin_patterns : ℕ → List GlobPattern

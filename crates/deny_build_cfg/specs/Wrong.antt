@@ -26,7 +26,7 @@ line_end [] = 0
 line_end (b ∷ []) = if b == 10 then 1 else 0
 line_end (b ∷ c ∷ bytes) = if b == 10 then 1 else if (b == 13) && (c == 10) then 2 else 0
 
--- what a string writes that has no escapes: a line end right at the front of one on several lines is no part of it
+-- what a string writes that has no escapes: a line end right at the start of one on several lines is no part of it
 abbrev pub written_at : List ℕ → Span → List ℕ
 written_at source range = drop (line_end (bytes_at source range)) (bytes_at source range)
 
@@ -34,9 +34,9 @@ written_at source range = drop (line_end (bytes_at source range)) (bytes_at sour
 abbrev pub byte_range : Span → ℕ → Span
 byte_range range offset = record { start = range.start + offset; end = range.start + offset + 1 }
 
--- the range of the byte at this place of an extension; that of the whole where it is written with escapes
-abbrev pub bad_place : List ℕ → Words → ℕ → Span
-bad_place source extension at =
+-- the range of the byte at this offset of an extension; that of the whole where it is written with escapes
+abbrev pub bad_range : List ℕ → Words → ℕ → Span
+bad_range source extension at =
     if same_text extension.value (written_at source extension.span)
     then byte_range extension.span (line_end (bytes_at source extension.span) + at)
     else extension.span
@@ -44,14 +44,14 @@ bad_place source extension at =
 abbrev pub is_ascii_text : List ℕ → Bool
 is_ascii_text text = list_all is_ascii text
 
--- the place of the first byte that is no ASCII letter and no digit
+-- the offset of the first byte that is no ASCII letter and no digit
 abbrev pub bad_at : List ℕ → Option ℕ
 bad_at text = position (λ b. not (is_ascii_alphanumeric b)) text
 
 unfoldable pub extension_fault : List ℕ → Words → Option BuildFault
 extension_fault source extension = if not (is_ascii_text extension.value)
     then Some (fault.NonAscii extension.span)
-    else option_map (λ at. fault.NoLetter extension.span (bad_place source extension at)) (bad_at extension.value)
+    else option_map (λ at. fault.NoLetter extension.span (bad_range source extension at)) (bad_at extension.value)
 
 abbrev pub is_absolute : List ℕ → Bool
 is_absolute [] = false

@@ -1,4 +1,4 @@
-//! Patterns of paths, with the places that they were read at.
+//! Patterns of paths, with the ranges that they were read at.
 use deny_base::{FileId, Spanned};
 use deny_lists::Text;
 

@@ -6,7 +6,7 @@ ghost use Rattle.deny_lists.specs.Ascending.{Adds};
 ghost use Rattle.deny_build_cfg.specs.Build.{listed};
 ghost use Rattle.deny_build_cfg.specs.Wrong as spec;
 ghost use Rattle.deny_build_cfg.specs.Wrong.{IsGlobFault, IsGlobFaultOf, IsOfAny, IsWrong, bad_at};
-ghost use Rattle.deny_build_cfg.specs.Wrong.{bad_place, byte_range, extension_fault, faults_by_text};
+ghost use Rattle.deny_build_cfg.specs.Wrong.{bad_range, byte_range, extension_fault, faults_by_text};
 ghost use Rattle.deny_build_cfg.specs.Wrong.{is_ascii_text, line_end, path_fault, path_faults, written_at};
 ghost use Rattle.deny_build_cfg.specs.declared.wrong.BuildFault as fault;
 
@@ -70,16 +70,16 @@ fn byte_range(range: Span, offset: usize) -> Span
 }
 
 /// The range of a byte of an extension; that of the whole where the text does not write it as it is.
-fn bad_place(source: &str, extension: &Spanned<Text>, at: usize) -> Span
+fn bad_range(source: &str, extension: &Spanned<Text>, at: usize) -> Span
     requires within { at < length extension.now.value }
-    ensures { result ≡ bad_place source.now extension.now at }
+    ensures { result ≡ bad_range source.now extension.now at }
 {
     let range = extension.span;
     let bytes = bytes_at(source, range);
-    let front = line_end(bytes);
-    let written = &bytes[front..];
+    let prefix = line_end(bytes);
+    let written = &bytes[prefix..];
     if extension.value.as_str().as_bytes() == written {
-        byte_range(range, front + at)
+        byte_range(range, prefix + at)
     } else {
         range
     }
@@ -91,9 +91,9 @@ fn is_ascii_text(text: &[u8]) -> bool
     text.iter().all(|byte| byte.is_ascii())
 }
 
-/// The place of the first byte that is no ASCII letter and no digit.
+/// The offset of the first byte that is no ASCII letter and no digit.
 fn bad_at(text: &[u8]) -> Option<usize>
-    ensures place { result ≡ bad_at text.now }
+    ensures offset { result ≡ bad_at text.now }
 {
     text.iter().position(|byte| !byte.is_ascii_alphanumeric())
 }
@@ -107,7 +107,7 @@ fn extension_fault(source: &str, extension: &Spanned<Text>) -> Option<BuildFault
         return Some(BuildFault::NonAscii(extension.span));
     }
     let at = bad_at(text)?;
-    Some(BuildFault::NoLetter(extension.span, bad_place(source, extension, at)))
+    Some(BuildFault::NoLetter(extension.span, bad_range(source, extension, at)))
 }
 
 /// Puts a fault behind the others, if there is one.

@@ -12,7 +12,7 @@ use Rattle.deny_outside.specs.Disk.{Disk, Files, IsLater, IsPieceOf, bytes_at}
 use Rattle.deny_outside.proofs.PieceLemmas.{reading_more}
 use Rattle.deny_build_files.specs.declared.check_end.CheckEnd.{CheckEnd}
 use Rattle.deny_build_files.specs.private.Hashing.{IsHashing, HasHashed}
-use Rattle.deny_build_files.proofs.FrontLemmas.{nothing_read}
+use Rattle.deny_build_files.proofs.PrefixLemmas.{nothing_read}
 
 pub hashing_more : (start old new : Disk) (path buf : List ℕ) (before after : Sha256) (count n : ℕ)
     → n ≤ length buf → IsHashing start old path before count → IsLater old new → new.given ≡ counted old.given n
@@ -40,11 +40,11 @@ all_read : (known : Option Files) (path message buf : List ℕ) (after : Sha256)
     → IfSome known (λ files. message ≡ take (length message) (bytes_at files path))
     → IfSome known (λ files. IsPieceOf (bytes_at files path) count n buf)
     → IfSome known (λ files. Holds256 after (bytes_at files path) × (length (bytes_at files path) ≡ count + n))
-all_read None path message buf after count n none long room holds front next = search rules
-all_read (Some files) path message buf after count n none long room holds front next =
+all_read None path message buf after count n none long room holds prefix next = search rules
+all_read (Some files) path message buf after count n none long room holds prefix next =
     let text = bytes_at files path in
     let end = next.ends none room in
-    let whole : message ≡ text = front ∙ take_all (length message) text (omega (arith, end, long)) in
+    let whole : message ≡ text = prefix ∙ take_all (length message) text (omega (arith, end, long)) in
     let size : length text ≡ length message = ap length (sym whole) in
     (subst (Holds256 after) whole holds, omega (arith, size, long, none))
 

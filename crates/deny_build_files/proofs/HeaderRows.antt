@@ -13,7 +13,7 @@ run bytes = executable_in true (codes "/p/run") bytes
 
 -- bytes with others behind them
 abbrev behind : List ℕ → ℕ → List ℕ
-behind front count = front ++ replicate count 0
+behind prefix count = prefix ++ replicate count 0
 
 fifteen_bytes : run (behind elf 11) ≡ None
 unfolding executable_in

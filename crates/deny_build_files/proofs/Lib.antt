@@ -1,6 +1,6 @@
 mod ChecksumRows
 pub mod EndLemmas
-pub mod FrontLemmas
+pub mod PrefixLemmas
 pub mod HashingLemmas
 mod HeaderRows
 pub mod HomeLemmas

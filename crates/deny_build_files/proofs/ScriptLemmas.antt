@@ -17,7 +17,7 @@ use Rattle.deny_build_files.proofs.WrittenLemmas.{parts_both}
 pub line_at : (file bytes : List ℕ) (end : Option ℕ) → bytes ≡ take 256 file → end ≡ position is_newline bytes
     → option_map (λ n. take n bytes) end ≡ first_line file
 unfolding first_line
-line_at file bytes end front is = ap (option_map (λ n. take n bytes)) is ∙ ap line_in front
+line_at file bytes end prefix is = ap (option_map (λ n. take n bytes)) is ∙ ap line_in prefix
 
 -- a text without a slash is its one part
 one_part : (text : List ℕ) → ((i : ℕ) → i < length text → slice_index_or text i 0 ≢ 47) → parts text ≡ text ∷ []
@@ -32,7 +32,7 @@ last_alone text none =
 last_added : (parts : List (List ℕ)) (part : List ℕ) → last_of (parts ++ part ∷ []) ≡ part
 last_added parts part =
     let before : length (parts ++ part ∷ []) - 1 ≡ length parts = omega (arith, length-append parts (part ∷ [])) in
-    ap (λ (place : ℕ). slice_index_or (parts ++ part ∷ []) place []) before ∙ get_or-append_seam parts part [] []
+    ap (λ (index : ℕ). slice_index_or (parts ++ part ∷ []) index []) before ∙ get_or-append_seam parts part [] []
 
 -- what stands behind a slash, and has none itself, is the last part
 pub last_behind : (text : List ℕ) (at behind : ℕ) → NoCharPasses (λ c. c == 47) (drop behind text)

@@ -6,7 +6,7 @@ use Rattle.std.specs.Cmp.Lexicographic.{bytes_decides}
 use Rattle.std.specs.List.{join_with_byte, onto_first, starts_with}
 use Rattle.std.proofs.lemmas.List.Elements.{filter-append}
 use Rattle.std.proofs.lemmas.List.Splits.{join_with_byte-slice_split, length-slice_split}
-use Rattle.deny_outside.proofs.ChildrenLemmas.{front_found}
+use Rattle.deny_outside.proofs.ChildrenLemmas.{prefix_found}
 use Rattle.deny_outside.specs.Children.{text_behind}
 use Rattle.deny_build_model.specs.Paths.{components, is_component, is_slash, parts}
 use Rattle.deny_build_files.specs.Home.{is_absolute, lies_in, parts_behind, rest_below, same_name, same_start}
@@ -21,13 +21,13 @@ onto_both byte [] more full = absurd (omega arith)
 onto_both byte (part ∷ some) more full = refl
 
 -- a slash parts what stands before it from what stands behind it
-pub parts_both : (front rest : List ℕ) → parts (front ++ 47 ∷ rest) ≡ parts front ++ parts rest
+pub parts_both : (prefix rest : List ℕ) → parts (prefix ++ 47 ∷ rest) ≡ parts prefix ++ parts rest
 parts_both [] rest = refl
-parts_both (byte ∷ front) rest = elim (is_slash byte) as (λ b. is_slash byte ≡ b
-    → parts (byte ∷ front ++ 47 ∷ rest) ≡ parts (byte ∷ front) ++ parts rest) [
-      | true ↦ λ is. rw is (ap (λ (ps : List (List ℕ)). [] ∷ ps) (parts_both front rest))
-      | false ↦ λ isnt. rw isnt (ap (onto_first byte) (parts_both front rest)
-          ∙ onto_both byte (parts front) (parts rest) (omega (arith, length-slice_split is_slash front)))
+parts_both (byte ∷ prefix) rest = elim (is_slash byte) as (λ b. is_slash byte ≡ b
+    → parts (byte ∷ prefix ++ 47 ∷ rest) ≡ parts (byte ∷ prefix) ++ parts rest) [
+      | true ↦ λ is. rw is (ap (λ (ps : List (List ℕ)). [] ∷ ps) (parts_both prefix rest))
+      | false ↦ λ isnt. rw isnt (ap (onto_first byte) (parts_both prefix rest)
+          ∙ onto_both byte (parts prefix) (parts rest) (omega (arith, length-slice_split is_slash prefix)))
     ] refl
 
 join_parts : (parts : List (List ℕ)) → joined parts ≡ join_with_byte 47 parts
@@ -50,21 +50,21 @@ counted : (count : ℕ) (part : List ℕ) (parts : List (List ℕ)) → is_compo
     → parts_behind (suc count) (part ∷ parts) ≡ parts_behind count parts
 counted count part parts is = rw is refl
 
-behind_all : (front more : List (List ℕ))
-    → parts_behind (length (filter is_component front)) (front ++ more) ≡ parts_behind 0 more
+behind_all : (prefix more : List (List ℕ))
+    → parts_behind (length (filter is_component prefix)) (prefix ++ more) ≡ parts_behind 0 more
 behind_all [] more = refl
-behind_all (part ∷ front) more = elim (is_component part) as (λ b. is_component part ≡ b
-    → parts_behind (length (filter is_component (part ∷ front))) (part ∷ front ++ more) ≡ parts_behind 0 more) [
-      | true ↦ λ is. rw is (counted (length (filter is_component front)) part (front ++ more) is
-          ∙ behind_all front more)
-      | false ↦ λ isnt. rw isnt (passed (length (filter is_component front)) part (front ++ more) isnt
-          ∙ behind_all front more)
+behind_all (part ∷ prefix) more = elim (is_component part) as (λ b. is_component part ≡ b
+    → parts_behind (length (filter is_component (part ∷ prefix))) (part ∷ prefix ++ more) ≡ parts_behind 0 more) [
+      | true ↦ λ is. rw is (counted (length (filter is_component prefix)) part (prefix ++ more) is
+          ∙ behind_all prefix more)
+      | false ↦ λ isnt. rw isnt (passed (length (filter is_component prefix)) part (prefix ++ more) isnt
+          ∙ behind_all prefix more)
     ] refl
 
-starts_with_all : (front more : List (List ℕ)) → starts_with same_name (front ++ more) front ≡ true
+starts_with_all : (prefix more : List (List ℕ)) → starts_with same_name (prefix ++ more) prefix ≡ true
 starts_with_all [] more = refl
-starts_with_all (name ∷ front) more =
-    rw ((bytes_decides name name).1 refl) (starts_with_all front more)
+starts_with_all (name ∷ prefix) more =
+    rw ((bytes_decides name name).1 refl) (starts_with_all prefix more)
 
 same_twice : (b : Bool) → same_start b b ≡ true
 same_twice true = refl
@@ -89,11 +89,11 @@ first_part (byte ∷ rest) plain =
     let other = plain_byte (byte == 47) (byte == 46) plain in
     rw other.0 (first_of byte (parts rest) other.1)
 
-placed : (names more own : List (List ℕ)) → own ≡ names ++ more
+behind_names : (names more own : List (List ℕ)) → own ≡ names ++ more
     → (if starts_with same_name (filter is_component own) (filter is_component names)
     then Some (joined (parts_behind (length (filter is_component names)) own)) else None)
     ≡ Some (joined (parts_behind 0 more))
-placed names more own is =
+behind_names names more own is =
     rw is (rw (filter-append is_component names more)
     (rw (starts_with_all (filter is_component names) (filter is_component more))
     (ap (λ (ps : List (List ℕ)). Some (joined ps)) (behind_all names more))))
@@ -105,7 +105,7 @@ unfolding rest_below lies_in components
 written [] rest full plain = absurd (cc)
 written (first ∷ folder) rest full plain =
     rw (same_twice (is_absolute (first ∷ folder)))
-    (placed (parts (first ∷ folder)) (parts rest) (parts (first ∷ folder ++ 47 ∷ rest))
+    (behind_names (parts (first ∷ folder)) (parts rest) (parts (first ∷ folder ++ 47 ∷ rest))
     (parts_both (first ∷ folder) rest))
     ∙ (ap (λ (ps : List (List ℕ)). Some (joined ps)) (first_part rest plain)
     ∙ ap (λ (text : List ℕ). Some text) (joined_again rest))
@@ -113,8 +113,8 @@ written (first ∷ folder) rest full plain =
 written_so : (folder path slashed rest : List ℕ) → (length folder == 0) ≡ false → Some slashed ≡ text_behind folder path
     → Some rest ≡ text_behind (codes "/") slashed → begins_plainly rest ≡ true → rest_below folder path ≡ Some rest
 written_so folder path slashed rest full first second plain =
-    ap (rest_below folder) (front_found folder path slashed first
-    ∙ ap (λ (text : List ℕ). folder ++ text) (front_found (codes "/") slashed rest second))
+    ap (rest_below folder) (prefix_found folder path slashed first
+    ∙ ap (λ (text : List ℕ). folder ++ text) (prefix_found (codes "/") slashed rest second))
     ∙ written folder rest full plain
 
 pub written_below : (folder path slashed : List ℕ) (found : Option (Bor (List ℕ))) → (length folder == 0) ≡ false

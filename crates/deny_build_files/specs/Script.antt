@@ -7,7 +7,7 @@ use Rattle.std.specs.Str.{is_utf8}
 use Rattle.deny_build_model.specs.Paths.{parts}
 
 abbrev pub begins : List ℕ → List ℕ → Bool
-begins bytes front = starts_with nat_eq bytes front
+begins bytes prefix = starts_with nat_eq bytes prefix
 
 abbrev pub ends : List ℕ → List ℕ → Bool
 ends bytes end = ends_with nat_eq bytes end

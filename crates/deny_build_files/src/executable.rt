@@ -4,7 +4,7 @@ ghost use Rattle.deny_outside.specs.declared.disk.Call.TheVariants.{Read};
 ghost use Rattle.deny_build_files.specs.Header.{executable_in, native_kind, is_mach};
 
 use crate::check_end::CheckEnd;
-use crate::front::front_of;
+use crate::prefix::prefix_of;
 use crate::script::interpreter_in;
 use deny_build_model::{ExecutableKind, NativeKind};
 use deny_lists::NoMemory;
@@ -29,27 +29,27 @@ pub fn check_is_executable<D: PackageFiles>(
     ensures never_long { IsErrOf result CheckEnd.Long → ⊥ }
 {
     let mut buffer = [0u8; 256];
-    let n = front_of(disk, path, &mut buffer)?;
+    let n = prefix_of(disk, path, &mut buffer)?;
     Ok(executable_in(alloc, path, &buffer[..n], exclude_archives)?)
 }
 
-/// What a file with this front is, where that tells it.
+/// What a file with this prefix is, where that tells it.
 #[tactic(auto, unfolding(crate::specs::Header::executable_in))]
 fn executable_in(
     alloc: Global,
     path: &str,
-    front: &[u8],
+    prefix: &[u8],
     exclude_archives: bool,
 ) -> Result<Option<ExecutableKind>, NoMemory>
-    ensures { IfOk result (λ kind. kind ≡ executable_in exclude_archives path.now front.now) }
+    ensures { IfOk result (λ kind. kind ≡ executable_in exclude_archives path.now prefix.now) }
 {
-    if front.len() < 16 {
+    if prefix.len() < 16 {
         return Ok(None);
     }
-    match native_kind(&front[..16]) {
+    match native_kind(&prefix[..16]) {
         Some(NativeKind::Archive) if exclude_archives => Ok(None),
         Some(kind) => Ok(Some(ExecutableKind::Native(kind))),
-        None => match interpreter_in(alloc, path, front)? {
+        None => match interpreter_in(alloc, path, prefix)? {
             Some(name) => Ok(Some(ExecutableKind::Interpreted(name))),
             None => Ok(None),
         },

@@ -47,22 +47,22 @@ fn shown_in_home(alloc: Global, path: &str, home: Option<&str>) -> Result<Option
     }
 }
 
-// A front and what is written of a path below a folder, where it lies in that.
+// A prefix and what is written of a path below a folder, where it lies in that.
 fn shown_below(
     alloc: Global,
-    front: &str,
+    prefix: &str,
     folder: &str,
     path: &str,
 ) -> Result<Option<Text>, NoMemory>
-    ensures { IfOk result (λ shown. shown ≡ option_map (λ rest. front.now ++ rest) (rest_below folder.now path.now)) }
+    ensures { IfOk result (λ shown. shown ≡ option_map (λ rest. prefix.now ++ rest) (rest_below folder.now path.now)) }
 {
     if let Some(rest) = written_below(folder, path) {
-        let shown = joined(alloc, front, rest)?;
+        let shown = joined(alloc, prefix, rest)?;
         return Ok(Some(shown));
     }
     match rest_below(alloc, folder, path)? {
         Some(rest) => {
-            let shown = joined(alloc, front, rest.as_str())?;
+            let shown = joined(alloc, prefix, rest.as_str())?;
             Ok(Some(shown))
         }
         None => Ok(None),
@@ -141,38 +141,38 @@ fn parts_below<'o, 'p>(names: &[&str], own: &'o [&'p str]) -> Option<&'o [&'p st
     ensures { option_map (λ rest. map (λ part. part.now) rest.now) result
         ≡ parts_below (map (λ name. name.now) names.now) (map (λ part. part.now) own.now) }
 {
-    let mut place = 0;
+    let mut index = 0;
     for name in names {
-        place = place_past(name, own, place)?;
+        index = index_past(name, own, index)?;
     }
-    let start = component_from(own, place);
+    let start = component_from(own, index);
     Some(&own[start..])
 }
 
-// The place behind a part of a folder: behind the first component from a place on, if that is this
-// name, and the place itself where the part of the folder is no component.
-fn place_past(name: &str, own: &[&str], place: usize) -> Option<usize>
-    requires { place ≤ length own.now }
+// The index behind a part of a folder: behind the first component from an index on, if that is this
+// name, and the index itself where the part of the folder is no component.
+fn index_past(name: &str, own: &[&str], index: usize) -> Option<usize>
+    requires { index ≤ length own.now }
     ensures within { IfSome result (λ next. next ≤ length own.now) }
     ensures past { option_map (λ next. map (λ part. part.now) (drop next own.now)) result
-        ≡ parts_past name.now (map (λ part. part.now) (drop place own.now)) }
+        ≡ parts_past name.now (map (λ part. part.now) (drop index own.now)) }
 {
     if is_component(name) {
-        place_after(name, own, component_from(own, place))
+        index_after(name, own, component_from(own, index))
     } else {
-        Some(place)
+        Some(index)
     }
 }
 
-// The place behind the part at a place, if that is this name.
-fn place_after(name: &str, own: &[&str], place: usize) -> Option<usize>
-    requires { place ≤ length own.now }
+// The index behind the part at an index, if that is this name.
+fn index_after(name: &str, own: &[&str], index: usize) -> Option<usize>
+    requires { index ≤ length own.now }
     ensures within { IfSome result (λ next. next ≤ length own.now) }
     ensures after { option_map (λ next. map (λ part. part.now) (drop next own.now)) result
-        ≡ parts_after name.now (map (λ part. part.now) (drop place own.now)) }
+        ≡ parts_after name.now (map (λ part. part.now) (drop index own.now)) }
 {
-    if place < own.len() && is_same(name, own[place]) {
-        Some(place + 1)
+    if index < own.len() && is_same(name, own[index]) {
+        Some(index + 1)
     } else {
         None
     }
@@ -184,14 +184,14 @@ fn is_same(name: &str, part: &str) -> bool
     name == part
 }
 
-// Where the first component from a place on stands, or else the end.
-fn component_from(own: &[&str], place: usize) -> usize
-    requires { place ≤ length own.now }
+// Where the first component from an index on stands, or else the end.
+fn component_from(own: &[&str], index: usize) -> usize
+    requires { index ≤ length own.now }
     ensures within { result ≤ length own.now }
     ensures from { map (λ part. part.now) (drop result own.now)
-        ≡ parts_behind 0 (map (λ part. part.now) (drop place own.now)) }
+        ≡ parts_behind 0 (map (λ part. part.now) (drop index own.now)) }
 {
-    for start in place..own.len() {
+    for start in index..own.len() {
         if is_component(own[start]) {
             return start;
         }
@@ -207,12 +207,12 @@ fn text_of(alloc: Global, parts: &[&str]) -> Result<Text, NoMemory>
     Ok(Text::from_string(text))
 }
 
-fn joined(alloc: Global, front: &str, rest: &str) -> Result<Text, NoMemory>
-    ensures { IfOk result (λ text. text ≡ front.now ++ rest.now) }
+fn joined(alloc: Global, prefix: &str, rest: &str) -> Result<Text, NoMemory>
+    ensures { IfOk result (λ text. text ≡ prefix.now ++ rest.now) }
 {
-    let length = front.len().saturating_add(rest.len());
+    let length = prefix.len().saturating_add(rest.len());
     let mut text = Text::from_string(String::with_capacity(alloc, length)?);
-    text.push_str(front)?;
+    text.push_str(prefix)?;
     text.push_str(rest)?;
     Ok(text)
 }

@@ -5,9 +5,9 @@
 mod check_end;
 mod checksum;
 mod executable;
-mod front;
 mod home;
 mod parts;
+mod prefix;
 mod script;
 
 pub use check_end::CheckEnd;

@@ -8,15 +8,15 @@ use crate::parts::parts_of;
 use deny_lists::{NoMemory, Text};
 use std::alloc::Global;
 
-/// The name of the interpreter, where a file with this front is a script that names one.
+/// The name of the interpreter, where a file with this prefix is a script that names one.
 #[tactic(auto, unfolding(crate::specs::Script::interpreter_in))]
-pub fn interpreter_in(alloc: Global, path: &str, front: &[u8]) -> Result<Option<Text>, NoMemory>
-    ensures { IfOk result (λ name. name ≡ interpreter_in path.now front.now) }
+pub fn interpreter_in(alloc: Global, path: &str, prefix: &[u8]) -> Result<Option<Text>, NoMemory>
+    ensures { IfOk result (λ name. name ≡ interpreter_in path.now prefix.now) }
 {
-    if !front.starts_with(b"#!") {
+    if !prefix.starts_with(b"#!") {
         return Ok(None);
     }
-    match first_line(front) {
+    match first_line(prefix) {
         Some(line) => interpreter_of_line(alloc, path, line),
         None => Ok(None),
     }
@@ -24,29 +24,29 @@ pub fn interpreter_in(alloc: Global, path: &str, front: &[u8]) -> Result<Option<
 
 /// The first line, where it ends within the first 256 bytes.
 #[tactic(auto, unfolding(crate::specs::Script::first_line))]
-fn first_line(front: &[u8]) -> Option<&[u8]>
-    ensures { option_copied result ≡ first_line front.now }
+fn first_line(prefix: &[u8]) -> Option<&[u8]>
+    ensures { option_copied result ≡ first_line prefix.now }
 {
-    let bytes = first_bytes(front);
+    let bytes = first_bytes(prefix);
     let end = newline_in(bytes)?;
     Some(&bytes[..end])
 }
 
 /// The first 256 bytes, or all.
-fn first_bytes(front: &[u8]) -> &[u8]
-    ensures front { result.now ≡ take 256 front.now }
-    ensures short { length result.now ≤ length front.now }
+fn first_bytes(prefix: &[u8]) -> &[u8]
+    ensures prefix { result.now ≡ take 256 prefix.now }
+    ensures short { length result.now ≤ length prefix.now }
 {
-    if front.len() > 256 {
-        &front[..256]
+    if prefix.len() > 256 {
+        &prefix[..256]
     } else {
-        front
+        prefix
     }
 }
 
 fn newline_in(bytes: &[u8]) -> Option<usize>
-    ensures place { result ≡ position is_newline bytes.now }
-    ensures within { IfSome result (λ place. place < length bytes.now) }
+    ensures offset { result ≡ position is_newline bytes.now }
+    ensures within { IfSome result (λ offset. offset < length bytes.now) }
 {
     bytes.iter().position(|byte| *byte == b'\n')
 }

@@ -7,7 +7,7 @@ use Rattle.deny_build_cfg.specs.Build.{build_by, listed, of_scripts, older_key_b
 use Rattle.deny_entries.proofs.ReadsLaws.{ReadsAlike, ReadsOne, SpecsAlike, alike_list, alike_table, keys_alike, one_as}
 use Rattle.deny_entries.proofs.ReadsLaws.{one_bool, one_optional, one_or, one_spanned, one_text, one_texts, text_alike}
 use Rattle.deny_entries.proofs.ReadsLaws.{one_required}
-use Rattle.deny_entries.proofs.RowLaws.{says_of}
+use Rattle.deny_entries.proofs.KeyLaws.{says_of}
 use Rattle.deny_entries.specs.Entry.{ReadsEntryKeys}
 use Rattle.deny_entries.specs.PolicyKey.{name_of}
 use Rattle.deny_entries.specs.Spec.{ReadsSpec, ReadsSpecKeys, ReadsSpecValue}

@@ -104,14 +104,14 @@ listed_entries None = refl
 listed_entries (Some entries) = refl
 
 -- built-in globs stand in another file
-places_none : (words : List Words) (file : ℕ)
+ranges_none : (words : List Words) (file : ℕ)
     → flat_map pattern_range (map (λ (word : Words). Builtin (word, file)) words) ≡ []
-places_none [] file = refl
-places_none (w ∷ ws) file = places_none ws file
+ranges_none [] file = refl
+ranges_none (w ∷ ws) file = ranges_none ws file
 
 builtin_none : (file : Option ℕ) → flat_map pattern_range (builtin_if file) ≡ []
 builtin_none None = refl
-builtin_none (Some file) = places_none builtin_words file
+builtin_none (Some file) = ranges_none builtin_words file
 
 extensions_same : (words : List Words) (file : Option ℕ)
     → flat_map pattern_range (map User words ++ builtin_if file) ≡ word_ranges words

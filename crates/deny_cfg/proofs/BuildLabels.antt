@@ -3,7 +3,7 @@ use Rattle.std.proofs.Common.{ℕ, List, [], ◌∷◌, Option, None, Some, refl
 use Rattle.std.specs.List.{flat_map}
 use Rattle.deny_base.specs.declared.span.Span.{Span}
 use Rattle.deny_base.specs.declared.span.Spanned.{Spanned}
-use Rattle.deny_entries.proofs.RowLaws.{says_of}
+use Rattle.deny_entries.proofs.KeyLaws.{says_of}
 use Rattle.deny_entries.specs.Entry.{ReadsEntryKeys}
 use Rattle.deny_entries.specs.PolicyKey.{name_of}
 use Rattle.deny_entries.specs.Table.{Entries, ReadsTable, ReadsThere, at_key}
@@ -11,9 +11,9 @@ use Rattle.deny_entries.specs.Words.{ReadsList, ReadsSpanned, ReadsText, ReadsTe
 use Rattle.deny_entries.specs.declared.policy_key.PolicyKey.TheVariants as key
 use Rattle.deny_tables.specs.Apart.{bypass_entry-apart}
 use Rattle.deny_tables.specs.Build.{ReadsBuild, ReadsBypass, ReadsBypassKeys, ReadsBypassPath, ReadsChecksum}
-use Rattle.deny_tables.specs.Build.{bypass_fields, bypass_rows, keys_in}
+use Rattle.deny_tables.specs.Build.{bypass_fields, bypass_keys, keys_in}
 use Rattle.deny_tables.specs.Checksum.{checksum_of}
-use Rattle.deny_entries.specs.Depends.{rows-depend}
+use Rattle.deny_entries.specs.Depends.{keys-depend}
 use Rattle.deny_tables.specs.declared.bans.cfg.build.BuildConfig.{BuildConfig}
 use Rattle.deny_tables.specs.declared.bans.cfg.bypass.Bypass.{Bypass}
 use Rattle.deny_tables.specs.declared.bans.cfg.bypass.BypassPath.{BypassPath}
@@ -83,7 +83,7 @@ bypass_within : (text : List ℕ) (v : Value) (bypass : Bypass) → ReadsBypass 
 bypass_within text v bypass reads =
     table_within text (written_bypass_ranges bypass)
     (λ entries (read : Bypass). ReadsEntryKeys ReadsBypassKeys entries read.spec (keys_in read)) bypass
-    (entry_keys_within text bypass_fields bypass_entry-apart ReadsBypassKeys (rows-depend bypass_rows) (besides bypass)
+    (entry_keys_within text bypass_fields bypass_entry-apart ReadsBypassKeys (keys-depend bypass_keys) (besides bypass)
     bypass.spec (keys_in bypass) (besides_within text bypass)) v reads
 
 build_keys_within : (text : List ℕ) (entries : Entries) (build : BuildConfig) → ReadsBuild entries build

@@ -10,7 +10,7 @@ use Rattle.std.proofs.lemmas.Str.{IsCharBoundary-after_ascii, IsCharBoundary-bef
 use Rattle.deny_base.specs.declared.span.Span.{Span}
 use Rattle.deny_build_cfg.proofs.BuiltinLaws.{ascii_from_test}
 use Rattle.deny_build_cfg.specs.Build.{listed}
-use Rattle.deny_build_cfg.specs.Wrong.{IsGlobFault, IsWrong, bad_at, bad_place, byte_range, bytes_at, extension_fault}
+use Rattle.deny_build_cfg.specs.Wrong.{IsGlobFault, IsWrong, bad_at, bad_range, byte_range, bytes_at, extension_fault}
 use Rattle.deny_build_cfg.specs.Wrong.{faults_by_text, is_absolute, is_ascii_text, line_end, path_fault, path_faults}
 use Rattle.deny_build_cfg.specs.Wrong.{written_at}
 use Rattle.deny_build_cfg.specs.declared.wrong.BuildFault.{BuildFault}
@@ -31,7 +31,7 @@ use Rattle.deny_cfg.specs.LabelRanges.{written_bypass_ranges}
 
 -- ---- the byte of an extension that may not be there
 
-module _ (text : List ℕ) (utf8 : IsUtf8 text) (w : Words) (placed : IsRange text w.span) where
+module _ (text : List ℕ) (utf8 : IsUtf8 text) (w : Words) (located : IsRange text w.span) where
   bytes : List ℕ
   bytes = bytes_at text w.span
 
@@ -39,22 +39,22 @@ module _ (text : List ℕ) (utf8 : IsUtf8 text) (w : Words) (placed : IsRange te
   unfolding bytes
   bytes_are =
       ap (λ b. cond b (take (w.span.end - w.span.start) (drop w.span.start text)) [])
-      (λ i. nat_le-true w.span.start w.span.end placed.ordered i
-      && nat_le-true w.span.end (length text) placed.within i)
+      (λ i. nat_le-true w.span.start w.span.end located.ordered i
+      && nat_le-true w.span.end (length text) located.within i)
 
   -- a byte of the range that is ASCII
-  ascii_place : (at : ℕ) → at < length bytes → get_or bytes at 0 < 128
+  ascii_range : (at : ℕ) → at < length bytes → get_or bytes at 0 < 128
       → IsRange text (byte_range w.span at)
   unfolding bytes
-  ascii_place at inside ascii =
+  ascii_range at inside ascii =
       let rest : length (drop w.span.start text) ≡ length text - w.span.start =
       length-drop w.span.start text in
       let count : length (take (w.span.end - w.span.start) (drop w.span.start text)) ≡ w.span.end - w.span.start =
       length-take-le (w.span.end - w.span.start) (drop w.span.start text)
-      (omega (arith, rest, placed.ordered, placed.within)) in
+      (omega (arith, rest, located.ordered, located.within)) in
       let long : length bytes ≡ w.span.end - w.span.start = ap length bytes_are ∙ count in
       let before : w.span.start + at < length text =
-      omega (arith, long, inside, placed.ordered, placed.within) in
+      omega (arith, long, inside, located.ordered, located.within) in
       let same : get_or bytes at 0 ≡ get_or text (w.span.start + at) 0 =
       ap (λ (bs : List ℕ). get_or bs at 0) bytes_are
       ∙ (get_or-take (w.span.end - w.span.start) (drop w.span.start text) at 0 (omega (arith, long, inside))
@@ -67,13 +67,13 @@ module _ (text : List ℕ) (utf8 : IsUtf8 text) (w : Words) (placed : IsRange te
         ends = IsCharBoundary-after_ascii text (w.span.start + at) utf8 before byte;
       }
 
-  bad_lies : (at : ℕ) → is_ascii_text w.value ≡ true → at < length w.value → IsRange text (bad_place text w at)
+  bad_lies : (at : ℕ) → is_ascii_text w.value ≡ true → at < length w.value → IsRange text (bad_range text w at)
   unfolding bytes
   bad_lies at ascii inside = by_same (same_text w.value (written_at text w.span)) refl
     where
       by_same : (b : Bool) → same_text w.value (written_at text w.span) ≡ b
           → IsRange text (cond b (byte_range w.span (line_end bytes + at)) w.span)
-      by_same false other = placed
+      by_same false other = located
       by_same true same =
           let value : w.value ≡ drop (line_end bytes) bytes =
           texts_same w.value (written_at text w.span) (sym same) in
@@ -81,7 +81,7 @@ module _ (text : List ℕ) (utf8 : IsUtf8 text) (w : Words) (placed : IsRange te
           ap length value ∙ length-drop (line_end bytes) bytes in
           let byte : get_or w.value at 0 ≡ get_or bytes (line_end bytes + at) 0 =
           ap (λ (bs : List ℕ). get_or bs at 0) value ∙ get_or-drop (line_end bytes) bytes at 0 in
-          ascii_place (line_end bytes + at) (omega (arith, long, inside))
+          ascii_range (line_end bytes + at) (omega (arith, long, inside))
           (subst (λ b. b < 128) byte (ascii_from_test w.value ascii at))
 
 -- ---- faults
@@ -96,18 +96,19 @@ FaultLies text (fault.Absolute range) = IsRange text range
 module _ (text : List ℕ) (utf8 : IsUtf8 text) where
   extension_lies : (w : Words) → IsRange text w.span → IfSome (extension_fault text w) (FaultLies text)
   unfolding extension_fault FaultLies
-  extension_lies w placed = by_ascii (is_ascii_text w.value) refl
+  extension_lies w located = by_ascii (is_ascii_text w.value) refl
     where
-      by_place : (o : Option ℕ) → is_ascii_text w.value ≡ true → bad_at w.value ≡ o
-          → IfSome (option_map (λ at. fault.NoLetter w.span (bad_place text w at)) o) (FaultLies text)
-      by_place None ascii is = tt
-      by_place (Some at) ascii is = (placed, bad_lies text utf8 w placed at ascii (position-Some _ w.value at 0 is).0)
+      by_offset : (o : Option ℕ) → is_ascii_text w.value ≡ true → bad_at w.value ≡ o
+          → IfSome (option_map (λ at. fault.NoLetter w.span (bad_range text w at)) o) (FaultLies text)
+      by_offset None ascii is = tt
+      by_offset (Some at) ascii is =
+          (located, bad_lies text utf8 w located at ascii (position-Some _ w.value at 0 is).0)
 
       by_ascii : (b : Bool) → is_ascii_text w.value ≡ b
           → IfSome (cond (not b) (Some (fault.NonAscii w.span))
-          (option_map (λ at. fault.NoLetter w.span (bad_place text w at)) (bad_at w.value))) (FaultLies text)
-      by_ascii false other = placed
-      by_ascii true ascii = by_place (bad_at w.value) ascii refl
+          (option_map (λ at. fault.NoLetter w.span (bad_range text w at)) (bad_at w.value))) (FaultLies text)
+      by_ascii false other = located
+      by_ascii true ascii = by_offset (bad_at w.value) ascii refl
 
   path_lies : (file : BypassPath) → Lie text (path_ranges file) → IfSome (path_fault file) (FaultLies text)
   unfolding path_fault FaultLies

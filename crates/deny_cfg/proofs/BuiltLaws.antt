@@ -92,9 +92,9 @@ globs_read text file policy is =
     read_of (file + 1) (older_key_of is.config) (build_of is.config) policy.bans.build is.valid.build
 
 -- those that are built in stand in their file
-abbrev pub IsPlaced : GlobPattern → Type 0
-IsPlaced (Builtin glob) = IsRange builtin_file.source glob.0.span
-IsPlaced (User word) = Unit {0}
+abbrev pub IsLocated : GlobPattern → Type 0
+IsLocated (Builtin glob) = IsRange builtin_file.source glob.0.span
+IsLocated (User word) = Unit {0}
 
 abbrev lies_within : Span → Bool
 lies_within range = nat_le range.start range.end && nat_le range.end (length builtin_file.source)
@@ -116,30 +116,30 @@ range_by range e =
       ends = IsCharBoundary-from_ascii builtin_file.source range.end ascii within;
     }
 
-words_placed : (file : ℕ) (words : List Words) → list_all (λ w. lies_within w.span) words ≡ true
-    → AllByRecursion IsPlaced (map (λ (w : Words). Builtin (w, file)) words)
-words_placed file [] e = tt
-words_placed file (w ∷ ws) e =
+words_located : (file : ℕ) (words : List Words) → list_all (λ w. lies_within w.span) words ≡ true
+    → AllByRecursion IsLocated (map (λ (w : Words). Builtin (w, file)) words)
+words_located file [] e = tt
+words_located file (w ∷ ws) e =
     let parts = and_parts (lies_within w.span) (list_all (λ (v : Words). lies_within v.span) ws) e in
-    (range_by w.span parts.0, words_placed file ws parts.1)
+    (range_by w.span parts.0, words_located file ws parts.1)
 
 all_within : list_all (λ (w : Words). lies_within w.span) builtin_words ≡ true
 unfolding builtin_file builtin_words builtin_texts
 all_within = refl
 
-builtin_placed : (file : Option ℕ) → AllByRecursion IsPlaced (builtin_if file)
-builtin_placed None = tt
-builtin_placed (Some file) = words_placed file builtin_words all_within
+builtin_located : (file : Option ℕ) → AllByRecursion IsLocated (builtin_if file)
+builtin_located None = tt
+builtin_located (Some file) = words_located file builtin_words all_within
 
-wanted_placed : (words : List Words) (file : Option ℕ) → AllByRecursion IsPlaced (map User words ++ builtin_if file)
-wanted_placed [] file = builtin_placed file
-wanted_placed (w ∷ ws) file = (tt, wanted_placed ws file)
+wanted_located : (words : List Words) (file : Option ℕ) → AllByRecursion IsLocated (map User words ++ builtin_if file)
+wanted_located [] file = builtin_located file
+wanted_located (w ∷ ws) file = (tt, wanted_located ws file)
 
-pub patterns_placed : (valid : ValidBuildConfig) → IsReadBuild valid
-    → AllByRecursion IsPlaced valid.script_extensions.patterns
-patterns_placed valid read =
-    kept_each IsPlaced read.made.script_extensions
-    (wanted_placed (listed read.build.script_extensions) read.file)
+pub patterns_located : (valid : ValidBuildConfig) → IsReadBuild valid
+    → AllByRecursion IsLocated valid.script_extensions.patterns
+patterns_located valid read =
+    kept_each IsLocated read.made.script_extensions
+    (wanted_located (listed read.build.script_extensions) read.file)
 
 -- ---- the older key
 

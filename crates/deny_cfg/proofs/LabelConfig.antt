@@ -1,4 +1,4 @@
--- The ranges of a configuration lie in its text, and no two of them begin at one place.
+-- The ranges of a configuration lie in its text, and no two of them begin at one offset.
 use Rattle.std.proofs.Common.{◌≡◌, ◌≢◌, ℕ, List, [], ◌∷◌, Option, Some, None, refl, sym, ◌∙◌, subst, arith}
 use Rattle.std.specs.Prelude.{AllPairs, option_and_then}
 use Rattle.std.specs.List.{flat_map}
@@ -30,7 +30,7 @@ use Rattle.deny_tables.specs.Features.{ReadsCrateFeatures, ReadsFeatures, featur
 use Rattle.deny_cfg.specs.LabelRanges.{AreLabels, config_labels, crate_ban_ranges, crate_feature_ranges, joined}
 use Rattle.deny_cfg.specs.LabelRanges.{of_some, own_range, reason_range, root_ranges, std_ranges, with_spec}
 use Rattle.deny_cfg.specs.LabelRanges.{word_ranges, written_build_ranges}
-use Rattle.deny_entries.proofs.RowLaws.{says_of}
+use Rattle.deny_entries.proofs.KeyLaws.{says_of}
 use Rattle.deny_entries.specs.PolicyKey.{name_of}
 use Rattle.deny_cfg.specs.PolicyText.{ReadsBans, bans_name}
 use Rattle.deny_tables.specs.StdReplacements.{ReadsStd}
@@ -214,11 +214,11 @@ apart_spans spans distinct = λ i j d below within same.
     (get_or-map (λ (span : Span). span.start) spans i d d.start (omega (arith, below, within))
     ∙ (same ∙ sym (get_or-map (λ (span : Span). span.start) spans j d d.start within)))
 
-pub are_labels : (text : List ℕ) (spans : List Span) (places : List ℕ) → Lie text spans → IsPartOf (starts spans) places
-    → AreDistinct places → AreLabels text spans
-are_labels text spans places lie part distinct = record {
-  placed = All-from_recursion (IsRange text) spans lie;
-  apart = apart_spans spans (apart_part (starts spans) places distinct part);
+pub are_labels : (text : List ℕ) (spans : List Span) (offsets : List ℕ) → Lie text spans
+    → IsPartOf (starts spans) offsets → AreDistinct offsets → AreLabels text spans
+are_labels text spans offsets lie part distinct = record {
+  located = All-from_recursion (IsRange text) spans lie;
+  apart = apart_spans spans (apart_part (starts spans) offsets distinct part);
 }
 
 -- ranges within what the root holds at a key

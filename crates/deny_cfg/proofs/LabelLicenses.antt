@@ -1,4 +1,4 @@
--- The ranges of licences and of exceptions lie in the text, and no two of them begin at one place.
+-- The ranges of licences and of exceptions lie in the text, and no two of them begin at one offset.
 use Rattle.std.proofs.Common.{ℕ, List, [], Option, refl}
 use Rattle.std.specs.List.{flat_map}
 use Rattle.deny_base.specs.declared.span.Spanned.{Spanned}
@@ -8,17 +8,17 @@ use Rattle.deny_toml.specs.Apart.{AreApart}
 use Rattle.deny_toml.specs.Calls.{below_name}
 use Rattle.deny_toml.specs.Ranges.{StandsIn}
 use Rattle.deny_toml.specs.declared.value.Value.{Value}
-use Rattle.deny_entries.specs.Depends.{rows-depend}
+use Rattle.deny_entries.specs.Depends.{keys-depend}
 use Rattle.deny_entries.specs.Entry.{ReadsEntryKeys}
 use Rattle.deny_entries.specs.Licence.{ReadsLicences}
 use Rattle.deny_entries.specs.PolicyKey.{name_of}
 use Rattle.deny_entries.specs.Table.{Entries, ReadsTable, at_key}
 use Rattle.deny_entries.specs.Words.{ReadsAs, ReadsList, ReadsSpanned}
 use Rattle.deny_entries.specs.declared.policy_key.PolicyKey.TheVariants as key
-use Rattle.deny_entries.proofs.RowLaws.{says_of}
+use Rattle.deny_entries.proofs.KeyLaws.{says_of}
 use Rattle.deny_tables.specs.Apart.{exception_entry-apart}
 use Rattle.deny_tables.specs.Licenses.{ReadsException, ReadsExceptionKeys, ReadsLicenses, exception_fields}
-use Rattle.deny_tables.specs.Licenses.{exception_rows}
+use Rattle.deny_tables.specs.Licenses.{exception_keys}
 use Rattle.deny_tables.specs.declared.licenses.config.Config.{Config}
 use Rattle.deny_tables.specs.declared.licenses.exception.Exception.{Exception}
 use Rattle.deny_cfg.specs.LabelRanges.{AreLabels, exception_range, licence_labels, licence_ranges, own_range}
@@ -39,7 +39,7 @@ exception_within text v e reads =
     table_within text (exception_range e)
     (λ entries (read : Exception). ReadsEntryKeys ReadsExceptionKeys entries read.spec (record { allow = read.allow }))
     e
-    (entry_keys_within text exception_fields exception_entry-apart ReadsExceptionKeys (rows-depend exception_rows) []
+    (entry_keys_within text exception_fields exception_entry-apart ReadsExceptionKeys (keys-depend exception_keys) []
     e.spec (record { allow = e.allow }) (λ entries said. no_keys text entries)) v reads
 
 licenses_within : (text : List ℕ) (entries : Entries) (config : Config) → ReadsLicenses entries config

@@ -29,7 +29,7 @@ use Rattle.deny_toml.specs.declared.value.Value.{Value}
 use Rattle.deny_entries.specs.Reasons.{ReadsReason}
 use Rattle.deny_entries.specs.Entry.{ReadsEntry, ReadsEntryBy, ReadsEntryKeys, ReadsPair, entry_fields}
 use Rattle.deny_cfg.specs.LabelRanges.{of_some, own_range, reason_range, spec_range, word_ranges}
-use Rattle.deny_entries.proofs.RowLaws.{says_of}
+use Rattle.deny_entries.proofs.KeyLaws.{says_of}
 use Rattle.deny_entries.specs.PolicyKey.{name_of}
 use Rattle.deny_entries.specs.Spec.{ReadsName, ReadsSpecBy, ReadsSpecKeys, ReadsSpecOf, ReadsSpecText, crate_fields}
 use Rattle.deny_entries.specs.Spec.{divided, divided_at, name_fields, name_in, name_span, or_else, parts_or}
@@ -71,7 +71,7 @@ same_starts xs ys e = subst (IsPartOf xs) e (part_itself xs)
 own_within : {T : Type 0} (text : List ℕ) (v : Value) (x : Spanned T) (s : Scalar) → x.span ≡ span_in v
     → scalar_of (layer_in v) ≡ Some s → Within text v (own_range x)
 own_within text v x s same is = record {
-  lie = λ stands. (subst (IsRange text) (sym same) (stands_itself text v stands).placed, tt);
+  lie = λ stands. (subst (IsRange text) (sym same) (stands_itself text v stands).lies, tt);
   part =
       same_starts (x.span.start ∷ []) (starts_in v)
       (ap (λ (span : Span). span.start ∷ []) same ∙ sym (scalar_starts v s is));
@@ -121,13 +121,13 @@ not_equal a b e same = grind (arith, nat_tests)
 divided_well : (d : ℕ) (t : List ℕ) (parts : List ℕ × List ℕ) → d < 128 → divided_at d t ≡ Some parts
     → EndsWell t parts.0
 divided_well d t parts ascii is =
-    let place = position_or_len (λ (b : ℕ). b == d) t in
-    let found = divided_by (place == length t) (take place t) (drop (place + 1) t) parts is in
-    let inside : place < length t =
-    omega (arith, not_equal place (length t) found.0, prefix_len-le-length (λ (b : ℕ). not (b == d)) t) in
-    let len : length (take place t) ≡ place = length-take-le place t (omega arith) in
-    let at : get_or t place 0 ≡ d = eqb-true _ _ (passes_at_first (λ (b : ℕ). b == d) t 0 inside) in
-    let ends : (length (take place t) < length t) × (get_or t (length (take place t)) 0 < 128) =
+    let offset = position_or_len (λ (b : ℕ). b == d) t in
+    let found = divided_by (offset == length t) (take offset t) (drop (offset + 1) t) parts is in
+    let inside : offset < length t =
+    omega (arith, not_equal offset (length t) found.0, prefix_len-le-length (λ (b : ℕ). not (b == d)) t) in
+    let len : length (take offset t) ≡ offset = length-take-le offset t (omega arith) in
+    let at : get_or t offset 0 ≡ d = eqb-true _ _ (passes_at_first (λ (b : ℕ). b == d) t 0 inside) in
+    let ends : (length (take offset t) < length t) × (get_or t (length (take offset t)) 0 < 128) =
     rw len (inside, rw at ascii) in
     inr (subst (λ (n : List ℕ). (length n < length t) × (get_or t (length n) 0 < 128)) found.1 ends)
 
@@ -175,18 +175,18 @@ bytes_by text range (Some (scalar.Date bytes)) t is verbatim here = cc
 prefix_ends : (text : List ℕ) (range : Span) (t name : List ℕ) → range.start + length t ≡ range.end → IsRange text range
     → t ≡ bytes_in text range
     → EndsWell t name → IsCharBoundary text (range.start + length name)
-prefix_ends text range t name long placed bytes (inl whole) =
+prefix_ends text range t name long located bytes (inl whole) =
     let end : range.end ≡ range.start + length name =
     sym long ∙ ap (λ (s : List ℕ). range.start + length s) (sym whole) in
-    subst (IsCharBoundary text) end placed.ends
-prefix_ends text range t name long placed bytes (inr before) =
+    subst (IsCharBoundary text) end located.ends
+prefix_ends text range t name long located bytes (inr before) =
     let k = length name in
     let short : k < range.end - range.start = omega (arith, before.0) in
     let byte : get_or t k 0 ≡ get_or text (range.start + k) 0 =
     ap (λ (s : List ℕ). get_or s k 0) bytes
     ∙ (get_or-take (range.end - range.start) (drop range.start text) k 0 short
     ∙ get_or-drop range.start text k 0) in
-    IsCharBoundary-before_ascii text (range.start + k) (omega (arith, before.0, placed.within))
+    IsCharBoundary-before_ascii text (range.start + k) (omega (arith, before.0, located.within))
     (subst (λ b. b < 128) byte before.1)
 
 ends_within : (t name : List ℕ) → EndsWell t name → length name ≤ length t
@@ -196,11 +196,11 @@ ends_within t name (inr before) = omega (arith, before.0)
 prefix_lies : (text : List ℕ) (range : Span) (t name : List ℕ) → range.start + length t ≡ range.end → IsRange text range
     → t ≡ bytes_in text range
     → EndsWell t name → IsRange text (span_of range.start (length name))
-prefix_lies text range t name long placed bytes well = record {
+prefix_lies text range t name long located bytes well = record {
   ordered = omega arith;
-  within = omega (arith, placed.within, ends_within t name well);
-  starts = placed.starts;
-  ends = prefix_ends text range t name long placed bytes well;
+  within = omega (arith, located.within, ends_within t name well);
+  starts = located.starts;
+  ends = prefix_ends text range t name long located bytes well;
 }
 
 name_lies : (text : List ℕ) (v : Value) (t name : List ℕ) → text_in v ≡ Some t → EndsWell t name → ValueStands text v
@@ -210,10 +210,10 @@ name_lies text v t name is well here =
       | inl verbatim ↦
           subst (λ (b : Bool). IsRange text (cond b (span_of (span_in v).start (length name)) (span_in v)))
           (sym verbatim)
-          (prefix_lies text (span_in v) t name (verbatim_length v t is verbatim) here.placed
+          (prefix_lies text (span_in v) t name (verbatim_length v t is verbatim) here.lies
           (bytes_by text (span_in v) (scalar_of (layer_in v)) t is verbatim here.written) well)
       | inr other ↦ subst (λ (b : Bool). IsRange text (cond b (span_of (span_in v).start (length name)) (span_in v)))
-          (sym other) here.placed
+          (sym other) here.lies
     ]
 
 start_by : (b : Bool) (span : Span) (n : ℕ) → (cond b (span_of span.start n) span).start ≡ span.start

@@ -188,7 +188,7 @@ distinct_starts spans apart = λ i j d below within same.
 
 pub labels_among : (text : List ℕ) (xs ys : List Span) → Among xs ys → AreLabels text ys → AreLabels text xs
 labels_among text xs ys among labels =
-    are_labels text xs (starts ys) (among.lie text (recursion_from_All (IsRange text) ys labels.placed)) among.part
+    are_labels text xs (starts ys) (among.lie text (recursion_from_All (IsRange text) ys labels.located)) among.part
     (distinct_starts ys labels.apart)
 
 pub valid_are_labels : (text : List ℕ) (config : Config) (file number : ℕ) (valid : ValidConfig)

@@ -14,7 +14,7 @@ pub mod LabelLaws
 pub mod LabelReads
 pub mod LabelLicenses
 pub mod PolicyLaws
-pub mod FirstPlacesLaws
+pub mod FirstSpansLaws
 pub mod ClashLaws
 pub mod ViewLaws
 pub mod LicensingLaws

@@ -13,7 +13,7 @@ use Rattle.deny_entries.specs.Words.{ReadsAs, ReadsBool, ReadsList, ReadsSpanned
 use Rattle.deny_entries.specs.declared.policy_key.PolicyKey.TheVariants as key
 use Rattle.deny_entries.proofs.ReadsLaws.{ReadsAlike, ReadsOne, SpecsAlike, alike_list, alike_list_or, alike_table}
 use Rattle.deny_entries.proofs.ReadsLaws.{keys_alike, one_as, one_bool, one_or, one_spanned, one_text, one_required}
-use Rattle.deny_entries.proofs.RowLaws.{says_of}
+use Rattle.deny_entries.proofs.KeyLaws.{says_of}
 use Rattle.deny_tables.specs.Licenses.{ReadsException, ReadsExceptionKeys, ReadsLicenses, ReadsPrivate, none_private}
 use Rattle.deny_tables.specs.Licenses.{private_in}
 use Rattle.deny_tables.specs.declared.licenses.config.Config.{Config}

@@ -94,7 +94,7 @@ same_licences text file a b one two =
 
 -- the one fault of a text outside the grammar
 abbrev pub IsGrammarFault : List ConfigFault → Type 0
-IsGrammarFault faults = (place : Span) × (faults ≡ fault_at Grammar [] place ∷ [])
+IsGrammarFault faults = (span : Span) × (faults ≡ fault_at Grammar [] span ∷ [])
 
 abbrev pub AreOne : List ConfigFault → List ConfigFault → Type 0
 AreOne xs ys = (xs ≡ ys) ⊎ (IsGrammarFault xs × IsGrammarFault ys)
@@ -107,15 +107,15 @@ no_toml_fault text toml.Clash span v clashes is_tree =
     ap clash (one_document text clashes.0 is_tree.0 clashes.1 is_tree.1) in
     cc (found, clashes.2, is_tree.2)
 
-one_toml_fault : (text : List ℕ) (of too : TomlKind) (span place : Span) → IsFaultOf text of span
-    → IsFaultOf text too place
-    → AreOne (fault_at (kind_of of) [] span ∷ []) (fault_at (kind_of too) [] place ∷ [])
-one_toml_fault text toml.Grammar toml.Grammar span place one two = inr ((span, refl), (place, refl))
-one_toml_fault text toml.Grammar toml.Clash span place one two = absurd (one two.0 two.1.written)
-one_toml_fault text toml.Clash toml.Grammar span place one two = absurd (two one.0 one.1.written)
-one_toml_fault text toml.Clash toml.Clash span place one two =
+one_toml_fault : (text : List ℕ) (of too : TomlKind) (span other : Span) → IsFaultOf text of span
+    → IsFaultOf text too other
+    → AreOne (fault_at (kind_of of) [] span ∷ []) (fault_at (kind_of too) [] other ∷ [])
+one_toml_fault text toml.Grammar toml.Grammar span other one two = inr ((span, refl), (other, refl))
+one_toml_fault text toml.Grammar toml.Clash span other one two = absurd (one two.0 two.1.written)
+one_toml_fault text toml.Clash toml.Grammar span other one two = absurd (two one.0 one.1.written)
+one_toml_fault text toml.Clash toml.Clash span other one two =
     let found : clash one.0 ≡ clash two.0 = ap clash (one_document text one.0 two.0 one.1 two.1) in
-    let same : span ≡ place = cc (found, one.2, two.2) in
+    let same : span ≡ other = cc (found, one.2, two.2) in
     inl (ap (λ s. fault_at (kind_of toml.Clash) [] s ∷ []) same)
 
 one_faults : (text : List ℕ) (xs ys : List ConfigFault) → AreFaults text xs → AreFaults text ys → AreOne xs ys
@@ -123,8 +123,8 @@ one_faults text xs ys (AreFaults.not_utf8 other) (AreFaults.not_utf8 too) = inl 
 one_faults text xs ys (AreFaults.not_utf8 other) (AreFaults.no_toml of span utf8 fault range) = absurd (other utf8)
 one_faults text xs ys (AreFaults.not_utf8 other) (AreFaults.of_tree v utf8 is_tree) = absurd (other utf8)
 one_faults text xs ys (AreFaults.no_toml of span utf8 fault range) (AreFaults.not_utf8 other) = absurd (other utf8)
-one_faults text xs ys (AreFaults.no_toml of span utf8 fault range) (AreFaults.no_toml too place also found within) =
-    one_toml_fault text of too span place fault found
+one_faults text xs ys (AreFaults.no_toml of span utf8 fault range) (AreFaults.no_toml too other also found within) =
+    one_toml_fault text of too span other fault found
 one_faults text xs ys (AreFaults.no_toml of span utf8 fault range) (AreFaults.of_tree v also is_tree) =
     absurd (no_toml_fault text of span v fault is_tree)
 one_faults text xs ys (AreFaults.of_tree v utf8 is_tree) (AreFaults.not_utf8 other) = absurd (other utf8)

@@ -27,14 +27,14 @@ use Rattle.deny_tables.specs.declared.bans.cfg.build.BuildConfig.{BuildConfig}
 use Rattle.deny_tables.specs.Bans.{ReadsBan, ReadsBanEntry, ban_fields}
 use Rattle.deny_cfg.specs.Clashes.{AreClashes, IsBuildClash, IsClash, banned_specs, build_clash, clash_labels}
 use Rattle.deny_cfg.specs.Clashes.{clash_told, clash_with, clashes_in, feature_at, feature_clash, feature_clashes}
-use Rattle.deny_cfg.specs.Clashes.{is_ban, label_of, one_label, specs_of, two_places, wrappers_clash, wrappers_clash_by}
+use Rattle.deny_cfg.specs.Clashes.{is_ban, label_of, one_label, specs_of, two_spans, wrappers_clash, wrappers_clash_by}
 use Rattle.deny_tables.specs.Config.{ReadsConfig}
 use Rattle.deny_entries.specs.Entry.{ReadsEntryBy, ReadsPair, ReadsSome}
 use Rattle.deny_cfg.specs.LabelRanges.{AreLabels, config_labels, crate_ban_ranges, crate_feature_ranges, list_ranges}
 use Rattle.deny_cfg.specs.LabelRanges.{of_some, own_range, reason_range, root_ranges, std_ranges, told_ranges}
 use Rattle.deny_cfg.specs.LabelRanges.{with_spec, word_ranges, wrapper_list, written_build_ranges}
 use Rattle.deny_cfg.specs.PolicyText.{ReadsBans, bans_name}
-use Rattle.deny_entries.proofs.RowLaws.{says_of}
+use Rattle.deny_entries.proofs.KeyLaws.{says_of}
 use Rattle.deny_entries.specs.PolicyKey.{name_of}
 use Rattle.deny_entries.specs.Spec.{ReadsSpec}
 use Rattle.deny_entries.specs.SpecView.{same_spec}
@@ -63,7 +63,7 @@ list_lies : (text : List ℕ) (o : Option Value) (wrappers : Option (Spanned (Li
 list_lies text o None stands reads = tt
 list_lies text None (Some w) stands reads = cc
 list_lies text (Some v) (Some w) stands reads =
-    (subst (IsRange text) (sym reads.0) (stands_itself text v stands).placed, tt)
+    (subst (IsRange text) (sym reads.0) (stands_itself text v stands).lies, tt)
 
 some_lies : (text : List ℕ) (entries : Entries) (inner : Option CrateBanExtended) → EntriesStand text entries
     → ReadsSome ban_fields ReadsBan entries inner → Lie text (of_some (λ said. of_some own_range said.wrappers) inner)
@@ -121,7 +121,7 @@ scripts_lie : (text : List ℕ) (o : Option Value) (scripts : Option (Spanned (L
 scripts_lie text o None stands reads = tt
 scripts_lie text None (Some scripts) stands reads = cc
 scripts_lie text (Some v) (Some scripts) stands reads =
-    (subst (IsRange text) (sym reads.0) (stands_itself text v stands).placed, tt)
+    (subst (IsRange text) (sym reads.0) (stands_itself text v stands).lies, tt)
 
 scripts_read : (entries : Entries) (config : Config) → ReadsConfig entries config
     → ReadsIfThere (ReadsSpanned (ReadsList ReadsSpec)) (at_key key.AllowBuildScripts entries)
@@ -223,7 +223,7 @@ module _ (text : List ℕ) (nothing : IsRange text no_span) where
   unfolding clash_with
   equal_lies kind others all spec here =
       mapped_lies NameLies (ClashLies text)
-      (λ other. two_places kind spec.name.span other.name.span)
+      (λ other. two_spans kind spec.name.span other.name.span)
       (λ other there. (here, (there, nothing)))
       (find (same_spec spec) others) (all_found NameLies (same_spec spec) others all)
 
@@ -394,7 +394,7 @@ told_lie text config file told utf8 labels lists are =
     let listed =
     all_from_members (ClashLies text) are.clashes
     (λ c is. clash_lies text nothing utf8 config
-    (recursion_from_All (IsRange text) (config_labels config) labels.placed)
+    (recursion_from_All (IsRange text) (config_labels config) labels.located)
     (lie_prefix text wrappers (of_some own_range config.allow_build_scripts) both) c (are.listed.sound c is)) in
     All-from_recursion (IsRange text) (told_ranges told)
     (subst (λ (ds : List Diagnostic). Lie text (told_ranges ds)) (sym are.is)

@@ -9,7 +9,7 @@ use Rattle.deny_base.specs.declared.span.Span.{Span}
 use Rattle.deny_model.specs.Policy.{Ban, Entry, Root, Spec, Words}
 use Rattle.deny_model.specs.Text.{same_text}
 use Rattle.deny_cfg.specs.Clashes.{banned_specs, clash_with, clashes_in, feature_at, feature_clash, feature_clashes}
-use Rattle.deny_cfg.specs.Clashes.{is_ban, specs_of, two_places, wrappers_clash, wrappers_clash_by}
+use Rattle.deny_cfg.specs.Clashes.{is_ban, specs_of, two_spans, wrappers_clash, wrappers_clash_by}
 use Rattle.deny_cfg.specs.PolicyView.{ban_view, entry_view, feature_view, policy_view, reason_words, replacing_view}
 use Rattle.deny_cfg.specs.PolicyView.{root_view, roots_from, scope_view, sharing_view, words_or_none}
 use Rattle.deny_tables.specs.Highlight.{shows_lowest, shows_simplest}
@@ -61,17 +61,17 @@ same_specs : (a b : PackageSpec) → SpecsAlike a b → Same SpecsAlike (same_sp
 unfolding sees_same
 same_specs a b alike x y too = λ i. sees_same (alike i) (too i)
 
-same_places : (kind : ClashKind) (a b : PackageSpec) → SpecsAlike a b
-    → Same SpecsAlike (λ x. two_places kind a.name.span x.name.span) (λ x. two_places kind b.name.span x.name.span)
-same_places kind a b alike x y too = λ i. two_places kind (alike i).range (too i).range
+same_spans : (kind : ClashKind) (a b : PackageSpec) → SpecsAlike a b
+    → Same SpecsAlike (λ x. two_spans kind a.name.span x.name.span) (λ x. two_spans kind b.name.span x.name.span)
+same_spans kind a b alike x y too = λ i. two_spans kind (alike i).range (too i).range
 
 same_clash_with : (kind : ClashKind) (others those : List PackageSpec) → AllZip SpecsAlike others those
     → Same SpecsAlike (clash_with kind others) (clash_with kind those)
 unfolding clash_with
 same_clash_with kind others those alike a b spec =
-    same_find SpecsAlike (same_spec a) (same_spec b) (λ x. two_places kind a.name.span x.name.span)
-    (λ x. two_places kind b.name.span x.name.span)
-    (same_specs a b spec) (same_places kind a b spec) others those alike
+    same_find SpecsAlike (same_spec a) (same_spec b) (λ x. two_spans kind a.name.span x.name.span)
+    (λ x. two_spans kind b.name.span x.name.span)
+    (same_specs a b spec) (same_spans kind a b spec) others those alike
 
 same_clashes_with : (kind : ClashKind) (others those xs ys : List PackageSpec) → AllZip SpecsAlike others those
     → AllZip SpecsAlike xs ys

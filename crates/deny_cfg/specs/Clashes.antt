@@ -41,8 +41,8 @@ flag_of e = option_and_then (λ said. said.deny_multiple_versions) e.inner
 unfoldable pub is_ban : PackageSpecOrExtended CrateBanExtended → Bool
 is_ban e = not (option_map_or (λ flag. flag.value) (flag_of e) false)
 
-abbrev pub two_places : ClashKind → Span → Span → Clash
-two_places kind first second = record {
+abbrev pub two_spans : ClashKind → Span → Span → Clash
+two_spans kind first second = record {
   kind = kind;
   first = first;
   second = second;
@@ -73,7 +73,7 @@ wrappers_clash e = wrappers_clash_by (flag_of e) (option_and_then (λ said. said
 -- a spec, and the first equal one of some entries
 unfoldable pub clash_with : ClashKind → List PackageSpec → PackageSpec → Option Clash
 clash_with kind others spec =
-    option_map (λ other. two_places kind spec.name.span other.name.span) (find (same_spec spec) others)
+    option_map (λ other. two_spans kind spec.name.span other.name.span) (find (same_spec spec) others)
 
 abbrev pub specs_of : {T : Type 0} → List (PackageSpecOrExtended T) → List PackageSpec
 specs_of entries = map (λ e. e.spec) entries
@@ -109,10 +109,10 @@ clashes_in config = filter_map wrappers_clash config.deny
 
 -- what is wrong in a table `build`
 abbrev pub build_clash : BuildFault → Clash
-build_clash (fault.NonAscii range) = two_places clash.Extension range no_span
-build_clash (fault.NoLetter range byte) = record (two_places clash.Extension range byte) { ascii = true }
-build_clash (fault.Glob range byte) = record (two_places clash.Glob range no_span) { number = byte }
-build_clash (fault.Absolute range) = two_places clash.Path range no_span
+build_clash (fault.NonAscii range) = two_spans clash.Extension range no_span
+build_clash (fault.NoLetter range byte) = record (two_spans clash.Extension range byte) { ascii = true }
+build_clash (fault.Glob range byte) = record (two_spans clash.Glob range no_span) { number = byte }
+build_clash (fault.Absolute range) = two_spans clash.Path range no_span
 
 pub record IsWrongIn (source : List ℕ) (build : BuildConfig) (found : Clash) : Type 0 where
   pub of : BuildFault

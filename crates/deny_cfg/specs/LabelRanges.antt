@@ -179,9 +179,9 @@ licence_labels config = joined (flat_map own_range config.allow ∷ flat_map exc
 abbrev pub licence_ranges : Option licenses.Config → List Span
 licence_ranges licensing = of_some licence_labels licensing
 
--- These ranges lie in the text, and no two of them begin at one place.
+-- These ranges lie in the text, and no two of them begin at one offset.
 pub record AreLabels (text : List ℕ) (spans : List Span) : Type 0 where
-  pub placed : All (IsRange text) spans
+  pub located : All (IsRange text) spans
   pub apart : AllPairs (λ one other. one.start ≢ other.start) spans
 
 -- of the list of wrappers of an entry of `deny`

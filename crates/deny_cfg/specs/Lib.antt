@@ -1,6 +1,6 @@
 pub mod Clashes
 pub mod Deprecated
-pub mod FirstPlaces
+pub mod FirstSpans
 pub mod LabelRanges
 pub mod Lawful
 pub mod LicensingView

@@ -97,7 +97,7 @@ pub record TellsClashes (text : List ℕ) (file : ℕ) (told : List Diagnostic) 
   pub says : Says text config licensing
   pub some : told ≢ []
   pub are : AreClashes text config file told
-  pub placed : All (IsRange text) (told_ranges told)
+  pub located : All (IsRange text) (told_ranges told)
 
 -- Why a text has no policy. Want of memory says nothing of the text.
 abbrev pub IsNoPolicy : List ℕ → ℕ → PolicyError → Type 0

@@ -4,7 +4,7 @@ ghost use Rattle.std.specs.Ordering.{nat_cmp};
 ghost use Rattle.std.specs.Cmp.{nat_cmp_total, on_total, on_per, on_equiv, nat_eq_equiv, partial_equiv_from_equiv};
 ghost use Rattle.std.specs.Cmp.{partial_order_from_own_ties, partial_order_from_total, unsigned_ties};
 ghost use Rattle.std.specs.FinMap.{IsAntisymmetric};
-ghost use Rattle.deny_cfg.specs.Clashes.{build_clash, clash_cmp, kind_cmp, kind_number, two_places};
+ghost use Rattle.deny_cfg.specs.Clashes.{build_clash, clash_cmp, kind_cmp, kind_number, two_spans};
 ghost use Rattle.deny_cfg.specs.declared.clash.Clash.{Clash};
 
 use deny_base::Span;
@@ -36,7 +36,7 @@ pub enum ClashKind {
 }
 
 impl ClashKind {
-    /// The place of the kind in the order of declaration.
+    /// The number of the kind in the order of declaration.
     #[tactic(auto, unfolding(crate::specs::Clashes::kind_number))]
     fn number(self) -> u32
         ensures { result ≡ kind_number self }
@@ -93,7 +93,7 @@ impl Ord for ClashKind {
     }
 }
 
-/// Two places of a policy that contradict each other, or one that is wrong. Clashes are ordered by kind, and then by
+/// Two ranges of a policy that contradict each other, or one that is wrong. Clashes are ordered by kind, and then by
 /// the ranges of their labels.
 #[derive(Clone, Copy, PartialEq, Eq, PartialOrd, Ord)]
 pub struct Clash {
@@ -111,9 +111,9 @@ pub struct Clash {
 }
 
 impl Clash {
-    /// A clash of two places.
+    /// A clash of two ranges.
     pub fn of(kind: ClashKind, first: Span, second: Span) -> Clash
-        ensures { result ≡ two_places kind first second }
+        ensures { result ≡ two_spans kind first second }
     {
         Clash {
             kind,

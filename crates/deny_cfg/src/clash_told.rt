@@ -76,7 +76,7 @@ pub(crate) fn label_of(
     })
 }
 
-/// Labels at both places of a clash.
+/// Labels at both ranges of a clash.
 fn marks(
     alloc: Global,
     file: FileId,
@@ -135,7 +135,7 @@ fn feature_labels(alloc: Global, file: FileId, clash: &Clash) -> Result<List<Lab
     Ok(labels)
 }
 
-/// One label, at the first place.
+/// One label, at the first range.
 fn one_label(
     alloc: Global,
     file: FileId,

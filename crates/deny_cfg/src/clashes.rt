@@ -5,12 +5,12 @@ ghost use Rattle.std.specs.List.{cons_option, flat_map};
 ghost use Rattle.deny_lists.specs.Ascending.{Adds, Lists};
 ghost use Rattle.deny_cfg.specs.Clashes.{IsBuildClash, IsClash, build_clash, clash_cmp};
 ghost use Rattle.deny_cfg.specs.Clashes.{clash_with, clashes_in, feature_clashes};
-ghost use Rattle.deny_cfg.specs.Clashes.{is_ban, specs_of, two_places, wrappers_clash, wrappers_clash_by};
+ghost use Rattle.deny_cfg.specs.Clashes.{is_ban, specs_of, two_spans, wrappers_clash, wrappers_clash_by};
 ghost use Rattle.deny_cfg.specs.Clashes as spec;
-ghost use Rattle.deny_cfg.specs.FirstPlaces.{place_in, plain_wording, spec_wording};
+ghost use Rattle.deny_cfg.specs.FirstSpans.{first_span, plain_wording, spec_wording};
 
 use crate::clash::{Clash, ClashKind, clash_order};
-use crate::first_places::{FirstPlaces, Wording};
+use crate::first_spans::{FirstSpans, Wording};
 use deny_base::{Span, Spanned};
 use deny_build_cfg::{BuildFault, wrong_in};
 use deny_entries::PackageSpec;
@@ -93,14 +93,14 @@ fn put_wrappers_clashes(deny: &[CrateBan], clashes: &mut List<Clash>) -> Result<
 /// The clash of a spec with the first equal one of others.
 fn clash_with(
     kind: ClashKind,
-    others: &FirstPlaces,
+    others: &FirstSpans,
     spec: &PackageSpec,
 ) -> Result<Option<Clash>, NoMemory>
     ensures { IfOk result (λ clash. clash
-        ≡ option_map (two_places kind spec.now.name.span) (place_in others.now (spec_wording spec.now))) }
+        ≡ option_map (two_spans kind spec.now.name.span) (first_span others.now (spec_wording spec.now))) }
 {
     match others.find(&Wording::of_spec(spec)?) {
-        Some(place) => Ok(Some(Clash::of(kind, spec.name.span, place))),
+        Some(span) => Ok(Some(Clash::of(kind, spec.name.span, span))),
         None => Ok(None),
     }
 }
@@ -108,11 +108,11 @@ fn clash_with(
 /// The clash of an entry of `deny`, if it bans, with the first equal one of others.
 fn ban_clash(
     kind: ClashKind,
-    others: &FirstPlaces,
+    others: &FirstSpans,
     entry: &CrateBan,
 ) -> Result<Option<Clash>, NoMemory>
     ensures { IfOk result (λ clash. clash ≡ (if is_ban entry.now
-        then option_map (two_places kind entry.now.spec.name.span) (place_in others.now (spec_wording entry.now.spec))
+        then option_map (two_spans kind entry.now.spec.name.span) (first_span others.now (spec_wording entry.now.spec))
         else None)) }
 {
     if is_ban(entry) {
@@ -133,7 +133,7 @@ fn put_ban_clashes(
     ensures { OnOk result (clashes.new
         ≡ clashes.old ++ filter_map (clash_with kind (specs_of others.now)) (specs_of (filter is_ban deny.now))) }
 {
-    let others = FirstPlaces::of_specs(alloc, others)?;
+    let others = FirstSpans::of_specs(alloc, others)?;
     for entry in deny {
         put_clash(ban_clash(kind, &others, entry)?, clashes)?;
     }
@@ -150,7 +150,7 @@ fn put_allow_clashes(
     ensures { OnOk result (clashes.new
         ≡ clashes.old ++ filter_map (clash_with ClashKind.AllowAndSkip (specs_of skip.now)) (specs_of allow.now)) }
 {
-    let skip = FirstPlaces::of_specs(alloc, skip)?;
+    let skip = FirstSpans::of_specs(alloc, skip)?;
     for entry in allow {
         put_clash(
             clash_with(ClashKind::AllowAndSkip, &skip, &entry.spec)?,
@@ -163,15 +163,15 @@ fn put_allow_clashes(
 /// The clash of an allowed feature with the first equal denied one.
 fn feature_clash(
     name: Span,
-    denied: &FirstPlaces,
+    denied: &FirstSpans,
     allowed: &Spanned<Text>,
 ) -> Result<Option<Clash>, NoMemory>
     ensures { IfOk result (λ clash. clash
-        ≡ option_map (spec.feature_at name allowed.now) (place_in denied.now (plain_wording allowed.now.value))) }
+        ≡ option_map (spec.feature_at name allowed.now) (first_span denied.now (plain_wording allowed.now.value))) }
 {
     match denied.find(&Wording::of_word(&allowed.value)?) {
-        Some(place) => Ok(Some(Clash {
-            third: place,
+        Some(span) => Ok(Some(Clash {
+            third: span,
             ..Clash::of(ClashKind::FeatureTwice, name, allowed.span)
         })),
         None => Ok(None),
@@ -187,7 +187,7 @@ fn put_feature_clashes(
 ) -> Result<(), NoMemory>
     ensures { OnOk result (clashes.new ≡ clashes.old ++ feature_clashes entry.now) }
 {
-    let denied = FirstPlaces::of_words(alloc, entry.deny.as_slice())?;
+    let denied = FirstSpans::of_words(alloc, entry.deny.as_slice())?;
     for allowed in entry.allow.value.as_slice() {
         put_clash(
             feature_clash(entry.spec.name.span, &denied, allowed)?,

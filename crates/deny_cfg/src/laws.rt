@@ -25,12 +25,12 @@ pub fn one_policy()
 {}
 
 /// Why a text has no policy is one: its faults, or else what clashes in it. Of a text outside the
-/// grammar the place of the fault is free. A text with faults or clashes has no policy.
+/// grammar the range of the fault is free. A text with faults or clashes has no policy.
 pub fn one_refusal()
     ensures faults { (text : List ℕ) → (xs ys : List ConfigFault) → ListsFaults text xs → ListsFaults text ys
         → (xs ≡ ys)
-        ⊎ (((place : Span) × (xs ≡ fault_at Grammar [] place ∷ []))
-        × ((place : Span) × (ys ≡ fault_at Grammar [] place ∷ []))) }
+        ⊎ (((span : Span) × (xs ≡ fault_at Grammar [] span ∷ []))
+        × ((span : Span) × (ys ≡ fault_at Grammar [] span ∷ []))) }
     ensures clashes { (text : List ℕ) → (file : ℕ) → (xs ys : List Diagnostic) → TellsClashes text file xs
         → TellsClashes text file ys → xs ≡ ys }
     ensures faults_alone { (text : List ℕ) → (file : ℕ) → (faults : List ConfigFault) → (told : List Diagnostic)

@@ -6,7 +6,7 @@ mod clash;
 mod clash_told;
 mod clashes;
 mod deprecated;
-mod first_places;
+mod first_spans;
 mod laws;
 pub mod licenses;
 mod matching;

@@ -26,9 +26,9 @@ use Rattle.deny_gate.specs.Headline.{IsHeadlineOf, is_failure}
 use Rattle.deny_gate.specs.Report.{fails_as, has_error, policy_id, verdict_by}
 use Rattle.deny_gate.specs.declared.report.Report.{Report}
 use Rattle.deny_cli.specs.Causes.{known_files, known_texts, made_texts, texts_at, IsShort, IsFirstLong, IsLongThere}
-use Rattle.deny_cli.specs.Causes.{IsReadIfNamed, IsPolicyAt, AreTextsOf, AreTold, IsReportOn, IsStopOn, IsLongOn}
+use Rattle.deny_cli.specs.Causes.{IsReadIfNamed, IsPolicyAt, AreTextsOf, AreTold, IsReportOfWords, IsStopOn, IsLongOn}
 use Rattle.deny_cli.specs.Causes.{IsReadFault, IsRefusedRun, IsValidRun, IsHeadlineOn, CanDoWithoutDeadOn, IsReadable}
-use Rattle.deny_cli.specs.Causes.{IsTextOfClashes, ComesBy, StopsAt}
+use Rattle.deny_cli.specs.Causes.{IsTextOfClashes, ComesBy, StopsCommand}
 use Rattle.deny_cli.specs.Outcome.{AreOneStop, IfDone, IfReported, IsUsage, IsDoneOrMemory, IsStopOrMemory, bits_of}
 use Rattle.deny_cli.specs.Outcome.{failing_bits, status_of}
 use Rattle.deny_cli.specs.Outputs.{FailsWriting, LeavesOut, WritesReport}
@@ -184,7 +184,7 @@ policy_at old (generate crates) texts made = ap (λ (t : Texts). t.policy) made
 
 module _ (laws : AnswerLaws) (old new : Disk) (words : List (List ℕ)) where
   -- texts that have a report stop no run
-  not_both : (stop : Outcome) (report : Report) → IsRefusedRun old words stop → IsReportOn old words report → ⊥
+  not_both : (stop : Outcome) (report : Report) → IsRefusedRun old words stop → IsReportOfWords old words report → ⊥
   not_both (Long which) report is on =
       let at = on.is_theirs in
       let same = same_texts old words is.named on.command at.texts on.asks at.read in
@@ -320,7 +320,7 @@ leaves written faults old new asked command report Memory is wrote = wrote
 
 -- clashes are those of the text that was read
 pub text_of_clashes : (old new : Disk) (words : List (List ℕ)) (command : Command) (text : List ℕ) (outcome : Outcome)
-    → Asks words command → StopsAt old new command outcome text → IsTextOfClashes old words outcome text
+    → Asks words command → StopsCommand old new command outcome text → IsTextOfClashes old words outcome text
 text_of_clashes old new words command text (Gate (gate.Invalid told)) asks stops =
     let same = stops.of_policy in
     record {
@@ -374,7 +374,7 @@ refused_words old new words Memory comes refused = absurd (refused comes)
 
 of_report : ((told : Option Files) → (texts : Texts) → (report : Report) → IsReportOf told texts report
     → IsHeadlineOf texts report)
-    → (old : Disk) (words : List (List ℕ)) (report : Report) → IsReportOn old words report
+    → (old : Disk) (words : List (List ℕ)) (report : Report) → IsReportOfWords old words report
     → IsHeadlineOn old words report
 of_report law old words report on =
     let at = on.is_theirs in
@@ -400,7 +400,7 @@ headline_on law old new words Memory comes = tt
 
 dead_of_report : ((told : Option Files) → (texts : Texts) → (report : Report) → IsReportOf told texts report
     → CanDoWithoutDead told texts report)
-    → (old : Disk) (words : List (List ℕ)) (report : Report) → IsReportOn old words report
+    → (old : Disk) (words : List (List ℕ)) (report : Report) → IsReportOfWords old words report
     → CanDoWithoutDeadOn old words report
 dead_of_report law old words report on =
     let at = on.is_theirs in record {

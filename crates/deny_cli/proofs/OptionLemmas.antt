@@ -11,12 +11,12 @@ use Rattle.std.proofs.lemmas.Str.Pattern.{starts_text}
 use Rattle.deny_cli.specs.Options.{behind}
 
 -- what `strip_prefix` gives
-pub behind_is : (result : Option (Bor (List ℕ))) (front word : List ℕ)
-    → MatchOption result (FindsTextPrefix front word None) (λ x. StripsPrefix (FindsTextPrefix front) word x.now)
-    → option_copied result ≡ behind front word
+pub behind_is : (result : Option (Bor (List ℕ))) (prefix word : List ℕ)
+    → MatchOption result (FindsTextPrefix prefix word None) (λ x. StripsPrefix (FindsTextPrefix prefix) word x.now)
+    → option_copied result ≡ behind prefix word
 unfolding behind
-behind_is None front word lacks = rw (sym (starts_text false front word lacks)) refl
-behind_is (Some x) front word strips =
-    let begins : starts_with (λ a b. a == b) word front ≡ true = (starts_is Decides-eqb word front _ refl).1
+behind_is None prefix word lacks = rw (sym (starts_text false prefix word lacks)) refl
+behind_is (Some x) prefix word strips =
+    let begins : starts_with (λ a b. a == b) word prefix ≡ true = (starts_is Decides-eqb word prefix _ refl).1
     (drop strips.0 word) strips.1.1 in
     rw begins (ap (λ t. Some t) (strips.2 ∙ ap (λ n. drop n word) strips.1.0))

@@ -8,7 +8,7 @@ use Rattle.deny_base.specs.declared.check.Which.TheVariants.{Policy, Metadata, R
 use Rattle.deny_outside.specs.declared.disk.Call.TheVariants as call
 use Rattle.deny_gate.specs.Gating.{Texts}
 use Rattle.deny_cli.specs.Causes.{AreShortBefore, IsAskedFor, IsFaultAt, IsFirstLong, IsLong, IsLongAt, IsLongThere}
-use Rattle.deny_cli.specs.Causes.{IsReadAt, IsReadIfNamed, IsReadStop, IsShort, StopsAt, known_texts, texts_at}
+use Rattle.deny_cli.specs.Causes.{IsReadAt, IsReadIfNamed, IsReadStop, IsShort, StopsCommand, known_texts, texts_at}
 use Rattle.deny_cli.specs.Words.{Asked, check, path_of}
 use Rattle.deny_cli.specs.declared.outcome.Outcome.{Outcome}
 use Rattle.deny_cli.specs.declared.outcome.Outcome.TheVariants.{Done, Usage, Read, Long, Gate, Write, Memory}
@@ -129,7 +129,7 @@ first_told old asked which path named long =
 
 stops : (old between new : Disk) (asked : Asked) (which : Which) (path : List ℕ) (outcome : Outcome)
     → IsLater old between → IsAskedFor old (check asked) which path → IsReadStop between new which path outcome
-    → StopsAt old new (check asked) outcome []
+    → StopsCommand old new (check asked) outcome []
 stops old between new asked which path (Read found) later named stop =
     subst (λ (w : Which). IsFaultAt old new (check asked) w) (sym stop.0) (record {
       path = path;
@@ -154,8 +154,8 @@ stops old between new asked which path Memory later named stop = tt
 pub handed_on : {T : Type 0} (old between new : Disk) (asked : Asked) (which : Which) (path : List ℕ)
     (result : Result T Outcome) (outcome : Outcome) → IsErrAnd result (λ handed. handed ≡ outcome)
     → IsLater old between → IsAskedFor old (check asked) which path → IsReadStop between new which path outcome
-    → IfErr result (λ handed. StopsAt old new (check asked) handed [])
+    → IfErr result (λ handed. StopsCommand old new (check asked) handed [])
 handed_on old between new asked which path (Ok inputs) outcome is later named stop = absurd is
 handed_on old between new asked which path (Err handed) outcome is later named stop =
-    subst (λ (o : Outcome). StopsAt old new (check asked) o []) (sym is)
+    subst (λ (o : Outcome). StopsCommand old new (check asked) o []) (sym is)
     (stops old between new asked which path outcome later named stop)

@@ -24,7 +24,7 @@ use Rattle.deny_gate.proofs.JoinedUnread.{because_wider}
 use Rattle.deny_gate.specs.Gating.{IsCausedReport, IsReportBy, IsReportOf, Texts, first_files}
 use Rattle.deny_gate.specs.Unread.{of_manifests, of_packages}
 use Rattle.deny_gate.specs.declared.report.Report.{Report}
-use Rattle.deny_cli.specs.Causes.{AreTextsOf, IsCausedAt, IsReportAt, made_files, made_texts}
+use Rattle.deny_cli.specs.Causes.{AreTextsOf, IsCausedForCommand, IsReportOfCommand, made_files, made_texts}
 use Rattle.deny_cli.specs.Words.{Asked, Command, check, generate}
 use Rattle.deny_cli.proofs.UnreadLemmas.{are_folders, folder_in, none_unread}
 
@@ -33,10 +33,10 @@ use Rattle.deny_cli.proofs.UnreadLemmas.{are_folders, folder_in, none_unread}
 -- reading texts leaves the files as they were
 pub report_there : {E : Type 0} (result : Result Report E) (old between : Disk) (command : Command) (asked : Asked)
     (texts : Texts) → command ≡ check asked → IsLater old between → AreTextsOf old (check asked) texts
-    → IfOk result (IsReportOf between.files texts) → IfOk result (IsReportAt old command)
+    → IfOk result (IsReportOf between.files texts) → IfOk result (IsReportOfCommand old command)
 report_there (Err error) old between command asked texts is later read of = tt
 report_there (Ok report) old between command asked texts is later read of =
-    subst (λ (c : Command). IsReportAt old c report) (sym is) (record {
+    subst (λ (c : Command). IsReportOfCommand old c report) (sym is) (record {
       texts = texts;
       read = read;
       is_theirs = subst (λ (told : Option Files). IsReportOf told texts report) later.files of;
@@ -99,10 +99,10 @@ caused_before old between new texts report later is = record {
 
 pub caused_there : {E : Type 0} (result : Result Report E) (old between new : Disk) (command : Command) (asked : Asked)
     (texts : Texts) → command ≡ check asked → IsLater old between → AreTextsOf old (check asked) texts
-    → IfOk result (IsCausedReport between new texts) → IfOk result (IsCausedAt old new command)
+    → IfOk result (IsCausedReport between new texts) → IfOk result (IsCausedForCommand old new command)
 caused_there (Err error) old between new command asked texts is later read caused = tt
 caused_there (Ok report) old between new command asked texts is later read caused =
-    subst (λ (c : Command). IsCausedAt old new c report) (sym is) (record {
+    subst (λ (c : Command). IsCausedForCommand old new c report) (sym is) (record {
       texts = texts;
       read = read;
       is_theirs = caused_before old between new texts report later caused;
@@ -144,7 +144,7 @@ made_is result crates files texts same made of =
 
 pub made_there : {E : Type 0} (result : Result Report E) (crates : ℕ) (old : Disk) (command : Command)
     → command ≡ generate crates → IfOk result (IsReportOf (Some made_files) (made_texts crates))
-    → IfOk result (IsReportAt old command)
+    → IfOk result (IsReportOfCommand old command)
 made_there (Err error) crates old command is of = tt
-made_there (Ok report) crates old command is of = subst (λ (c : Command). IsReportAt old c report) (sym is)
+made_there (Ok report) crates old command is of = subst (λ (c : Command). IsReportOfCommand old c report) (sym is)
     (record { texts = made_texts crates; read = refl; is_theirs = of })

@@ -16,7 +16,7 @@ use Rattle.deny_lists.proofs.Members.{Contains-first, there}
 use Rattle.deny_krates.specs.Ids.{crate_of}
 use Rattle.deny_model.specs.Crates as crates
 use Rattle.deny_model.specs.Graph.{Crate, Graph}
-use Rattle.deny_outside.specs.Children.{children, entry_behind, front_of}
+use Rattle.deny_outside.specs.Children.{children, entry_behind, prefix_of}
 use Rattle.deny_outside.specs.Disk.{Files, bytes_at, is_folder, text_of}
 use Rattle.deny_outside.specs.MemoryDisk.{folders_of, with_folder, with_folders}
 use Rattle.deny_outside.specs.SureDisk.{Sure, sure_seen}
@@ -142,9 +142,9 @@ unfolding children
 few_children files folder = by (is_folder (finite.get files folder))
   where
     by : (is : Bool) → length
-        (if is then filter_map (entry_behind (front_of folder)) (finite.entries files) else [])
+        (if is then filter_map (entry_behind (prefix_of folder)) (finite.entries files) else [])
         ≤ length (finite.entries files)
-    by true = few_given (entry_behind (front_of folder)) (finite.entries files)
+    by true = few_given (entry_behind (prefix_of folder)) (finite.entries files)
     by false = omega arith
 
 few_listed : (folder : List ℕ) → entries_in made_files folder ≤ 9

@@ -87,7 +87,7 @@ asks_without_a_number = refl
 
 -- ---- registries
 
--- the first `=` behind the front divides the name from the address
+-- the first `=` behind the prefix divides the name from the address
 pub names_a_registry : registry_of (codes "--registry=a=b=c")
     ≡ Some (record { name = codes "a"; address = codes "b=c" })
 unfolding registry_of behind

@@ -130,7 +130,7 @@ IsPolicyAt old (check asked) policy = IsReadAt old asked.policy policy
 IsPolicyAt old (generate crates) policy = policy ≡ policy_text crates
 
 -- the report is the one of the texts of a command, by the manifests and packages of its graph
-pub record IsReportAt (old : Disk) (command : Command) (report : Report) : Type 0 where
+pub record IsReportOfCommand (old : Disk) (command : Command) (report : Report) : Type 0 where
   pub texts : Texts
   pub read : AreTextsOf old command texts
   pub is_theirs : IsReportOf (known_files old.files command) texts report
@@ -143,9 +143,9 @@ pub record IsCausedBy (old new : Disk) (asked : Asked) (report : Report) : Type 
 
 -- why a command left manifests and packages unread. A disk that is made never fails, and nothing on it is large, so
 -- that nothing is left unread there.
-abbrev pub IsCausedAt : Disk → Disk → Command → Report → Type 0
-IsCausedAt old new (check asked) report = IsCausedBy old new asked report
-IsCausedAt old new (generate crates) report = report.unread ≡ []
+abbrev pub IsCausedForCommand : Disk → Disk → Command → Report → Type 0
+IsCausedForCommand old new (check asked) report = IsCausedBy old new asked report
+IsCausedForCommand old new (generate crates) report = report.unread ≡ []
 
 -- the gate gives no report on the texts of a command, of which this is the policy, by its own cause; the
 -- labels of clashes lie in the policy
@@ -171,16 +171,16 @@ pub record IsLongAt (old new : Disk) (command : Command) (which : Which) : Type 
 
 -- ---- the texts that words ask for
 
-pub record IsReportOn (old : Disk) (words : List (List ℕ)) (report : Report) : Type 0 where
+pub record IsReportOfWords (old : Disk) (words : List (List ℕ)) (report : Report) : Type 0 where
   pub command : Command
   pub asks : Asks words command
-  pub is_theirs : IsReportAt old command report
+  pub is_theirs : IsReportOfCommand old command report
 
 -- what the report says could not be read has its causes
-pub record IsCausedOn (old new : Disk) (words : List (List ℕ)) (report : Report) : Type 0 where
+pub record IsCausedForWords (old new : Disk) (words : List (List ℕ)) (report : Report) : Type 0 where
   pub command : Command
   pub asks : Asks words command
-  pub is_theirs : IsCausedAt old new command report
+  pub is_theirs : IsCausedForCommand old new command report
 
 pub record IsStopOn (old : Disk) (words : List (List ℕ)) (error : GateError) : Type 0 where
   pub command : Command
@@ -238,12 +238,12 @@ IsReadable old new words = (command : Command) → Asks words command → (which
 -- when each outcome comes. Want of memory alone is free, once the words are accepted. That `Write`
 -- comes only where the output failed stands with what a run leaves there.
 abbrev pub ComesBy : Disk → Disk → List (List ℕ) → Outcome → Type 0
-ComesBy old new words (Done report) = IsReportOn old words report
+ComesBy old new words (Done report) = IsReportOfWords old words report
 ComesBy old new words (Usage at) = IsUsageAt words at
 ComesBy old new words (Read which) = IsReadFault old new words which
 ComesBy old new words (Long which) = IsLongOn old new words which
 ComesBy old new words (Gate error) = IsStopOn old words error
-ComesBy old new words (Write report) = IsReportOn old words report
+ComesBy old new words (Write report) = IsReportOfWords old words report
 ComesBy old new words Memory = IsAccepted words
 
 -- the headline, of the report on the texts that the words ask for
@@ -287,14 +287,14 @@ IsTextOfClashes old words Memory policy = ⊤
 -- ---- for private clauses
 
 -- the same of a run that stopped before its output was made, which is neither done nor written
-abbrev pub StopsBy : Disk → Disk → List (List ℕ) → Outcome → Type 0
-StopsBy old new words (Done report) = ⊥
-StopsBy old new words (Usage at) = IsUsageAt words at
-StopsBy old new words (Read which) = IsReadFault old new words which
-StopsBy old new words (Long which) = IsLongOn old new words which
-StopsBy old new words (Gate error) = IsStopOn old words error
-StopsBy old new words (Write report) = ⊥
-StopsBy old new words Memory = IsAccepted words
+abbrev pub StopsWords : Disk → Disk → List (List ℕ) → Outcome → Type 0
+StopsWords old new words (Done report) = ⊥
+StopsWords old new words (Usage at) = IsUsageAt words at
+StopsWords old new words (Read which) = IsReadFault old new words which
+StopsWords old new words (Long which) = IsLongOn old new words which
+StopsWords old new words (Gate error) = IsStopOn old words error
+StopsWords old new words (Write report) = ⊥
+StopsWords old new words Memory = IsAccepted words
 
 -- how a text that was not read to its end stops a run
 abbrev pub end_stop : Which → ReadEnd → Outcome
@@ -325,11 +325,11 @@ IsGateStop texts (Write report) = ⊥
 IsGateStop texts Memory = ⊥
 
 -- why a run on a command stopped before its output was made; this is the policy's text, where it was read
-abbrev pub StopsAt : Disk → Disk → Command → Outcome → List ℕ → Type 0
-StopsAt old new command (Done report) text = ⊥
-StopsAt old new command (Usage at) text = ⊥
-StopsAt old new command (Read which) text = IsFaultAt old new command which
-StopsAt old new command (Long which) text = IsLongAt old new command which
-StopsAt old new command (Gate error) text = IsStopAt old command text error
-StopsAt old new command (Write report) text = ⊥
-StopsAt old new command Memory text = ⊤
+abbrev pub StopsCommand : Disk → Disk → Command → Outcome → List ℕ → Type 0
+StopsCommand old new command (Done report) text = ⊥
+StopsCommand old new command (Usage at) text = ⊥
+StopsCommand old new command (Read which) text = IsFaultAt old new command which
+StopsCommand old new command (Long which) text = IsLongAt old new command which
+StopsCommand old new command (Gate error) text = IsStopAt old command text error
+StopsCommand old new command (Write report) text = ⊥
+StopsCommand old new command Memory text = ⊤

@@ -2,7 +2,7 @@
 -- and by `faults` how often they failed.
 use Rattle.std.specs.Prelude.{◌≡◌, ◌⊎◌, ℕ, List, [], ◌∷◌, Option}
 use Rattle.deny_outside.specs.Count.{Rose}
-use Rattle.deny_outside.specs.Out.{Appends, AppendsFront}
+use Rattle.deny_outside.specs.Out.{Appends, AppendsPrefix}
 use Rattle.deny_gate.specs.declared.report.Report.{Report}
 use Rattle.deny_json.specs.Reading.{AreJsonLines}
 use Rattle.deny_cli.specs.Stops.{stop_line, stop_told, memory_line}
@@ -14,7 +14,7 @@ use Rattle.deny_cli.specs.declared.outcome.Outcome.TheVariants.{Done, Usage, Rea
 -- the output failed, and took only the first of the bytes, maybe none
 abbrev pub FailsWriting : {W : Type 0} → (W → Option (List ℕ)) → (W → ℕ) → W → W → List ℕ → Type 0
 FailsWriting written faults old new bytes =
-    Rose (faults old) (faults new) × AppendsFront (written old) (written new) bytes
+    Rose (faults old) (faults new) × AppendsPrefix (written old) (written new) bytes
 
 -- the standard output: what this command tells of the report, or nothing
 abbrev pub LeavesOut : {W : Type 0} → (W → Option (List ℕ)) → (W → ℕ) → W → W → Option Command → Outcome → Type 0

@@ -6,9 +6,9 @@ ghost use Rattle.deny_outside.specs.Disk.{Disk, IsLater};
 ghost use Rattle.deny_gate.specs.Gating.{AreShort, IsCausedReport, IsReportOf, texts_in};
 ghost use Rattle.deny_gate.specs.Labels.{AreLabelled};
 ghost use Rattle.deny_gate.specs.Report.{has_error};
-ghost use Rattle.deny_cli.specs.Causes.{IsCausedAt, IsCausedOn, AreTextsOf, ComesBy, StopsBy, StopsAt};
+ghost use Rattle.deny_cli.specs.Causes.{IsCausedForCommand, IsCausedForWords, AreTextsOf, ComesBy, StopsWords, StopsCommand};
 ghost use Rattle.deny_cli.specs.Causes.{IsHeadlineOn, CanDoWithoutDeadOn, IsReadAt, IsReadIfNamed, IsReadStop};
-ghost use Rattle.deny_cli.specs.Causes.{IsReportAt, IsReportOn, IsValidRun, IsRefusedRun, IsReadable};
+ghost use Rattle.deny_cli.specs.Causes.{IsReportOfCommand, IsReportOfWords, IsValidRun, IsRefusedRun, IsReadable};
 ghost use Rattle.deny_cli.specs.Causes.{IsGateStop, IsTextOfClashes, end_stop, made_files, made_texts};
 ghost use Rattle.deny_cli.specs.Commands.{asked_view, command_view};
 ghost use Rattle.deny_cli.specs.Outcome.{IfDone, IfReported, IsUsage, IsDoneOrMemory};
@@ -154,7 +154,7 @@ fn read_inputs<D: PackageFiles>(
     ensures read { IfOk result (λ inputs.
         AreTextsOf (D.seen disk.old) (check (asked_view asked.entry)) (texts_in inputs)) }
     ensures stop { IfErr result (λ outcome.
-        StopsAt (D.seen disk.old) (D.seen disk.new) (check (asked_view asked.entry)) outcome []) }
+        StopsCommand (D.seen disk.old) (D.seen disk.new) (check (asked_view asked.entry)) outcome []) }
     ensures later { IsLater (D.seen disk.old) (D.seen disk.new) }
 {
     let policy = read_text(alloc, Which::Policy, asked.policy, disk)?;
@@ -167,7 +167,11 @@ fn read_inputs<D: PackageFiles>(
 }
 
 /// The report on texts, or why there is none.
-fn report_of<D: PackageFiles>(alloc: Global, inputs: Inputs, disk: &mut D) -> Result<Report, Ending>
+fn report_on_texts<D: PackageFiles>(
+    alloc: Global,
+    inputs: Inputs,
+    disk: &mut D,
+) -> Result<Report, Ending>
     requires { AreShort (texts_in inputs) }
     ensures report { IfOk result (IsReportOf (D.seen disk.old).files (texts_in inputs)) }
     ensures caused { IfOk result (IsCausedReport (D.seen disk.old) (D.seen disk.new) (texts_in inputs)) }
@@ -207,7 +211,7 @@ fn made_report(alloc: Global, crates: u32) -> Result<Report, Ending>
     ensures caused { IfOk result (λ report. report.unread ≡ []) }
     ensures labels { IfOk result (λ report. AreLabelled report.files report.findings) }
     ensures stop { IfErr result (λ ending. (old new : Disk)
-        → StopsAt old new (generate crates) ending.outcome ending.policy.items) }
+        → StopsCommand old new (generate crates) ending.outcome ending.policy.items) }
 {
     let Ok(inputs) = made_inputs(alloc, crates) else {
         return Err(ends_by(alloc, Outcome::Memory));
@@ -215,20 +219,20 @@ fn made_report(alloc: Global, crates: u32) -> Result<Report, Ending>
     let Ok(mut disk) = disk_of(alloc) else {
         return Err(ends_by(alloc, Outcome::Memory));
     };
-    report_of(alloc, inputs, &mut disk)
+    report_on_texts(alloc, inputs, &mut disk)
 }
 
 /// The report on the texts of a command, or why there is none.
-fn report_at<D: PackageFiles>(
+fn report_for_command<D: PackageFiles>(
     alloc: Global,
     command: Command<'_>,
     disk: &mut D,
 ) -> Result<Report, Ending>
     requires { AsksForFew (command_view command) }
-    ensures report { IfOk result (IsReportAt (D.seen disk.old) (command_view command.entry)) }
-    ensures caused { IfOk result (IsCausedAt (D.seen disk.old) (D.seen disk.new) (command_view command.entry)) }
+    ensures report { IfOk result (IsReportOfCommand (D.seen disk.old) (command_view command.entry)) }
+    ensures caused { IfOk result (IsCausedForCommand (D.seen disk.old) (D.seen disk.new) (command_view command.entry)) }
     ensures labels { IfOk result (λ report. AreLabelled report.files report.findings) }
-    ensures stop { IfErr result (λ ending. StopsAt (D.seen disk.old) (D.seen disk.new)
+    ensures stop { IfErr result (λ ending. StopsCommand (D.seen disk.old) (D.seen disk.new)
         (command_view command.entry) ending.outcome ending.policy.items) }
     ensures later { IsLater (D.seen disk.old) (D.seen disk.new) }
     ensures untouched { (crates : ℕ) → command_view command.entry ≡ generate crates
@@ -236,7 +240,7 @@ fn report_at<D: PackageFiles>(
 {
     match command {
         Command::Check(asked) => match read_inputs(alloc, asked, disk) {
-            Ok(inputs) => report_of(alloc, inputs, disk),
+            Ok(inputs) => report_on_texts(alloc, inputs, disk),
             Err(outcome) => Err(ends_by(alloc, outcome)),
         },
         Command::Generate(crates) => made_report(alloc, crates),
@@ -251,12 +255,12 @@ fn answer_to<'w, D: PackageFiles>(
 ) -> Result<Answer<'w>, Ending>
     ensures asks { IfOk result (λ answer. Asks (texts words.now) (command_view answer.command)) }
     ensures report { IfOk result (λ answer.
-        IsReportOn (D.seen disk.old) (texts words.now) answer.report) }
+        IsReportOfWords (D.seen disk.old) (texts words.now) answer.report) }
     ensures caused { IfOk result (λ answer.
-        IsCausedOn (D.seen disk.old) (D.seen disk.new) (texts words.now) answer.report) }
+        IsCausedForWords (D.seen disk.old) (D.seen disk.new) (texts words.now) answer.report) }
     ensures labels { IfOk result (λ answer. AreLabelled answer.report.files answer.report.findings) }
     ensures stop { IfErr result (λ ending.
-        StopsBy (D.seen disk.old) (D.seen disk.new) (texts words.now) ending.outcome) }
+        StopsWords (D.seen disk.old) (D.seen disk.new) (texts words.now) ending.outcome) }
     ensures policy { IfErr result (λ ending.
         IsTextOfClashes (D.seen disk.old) (texts words.now) ending.outcome ending.policy.items) }
     ensures later { IsLater (D.seen disk.old) (D.seen disk.new) }
@@ -266,7 +270,7 @@ fn answer_to<'w, D: PackageFiles>(
         Ok(command) => command,
         Err(at) => return Err(ends_by(alloc, Outcome::Usage(at))),
     };
-    match report_at(alloc, command, disk) {
+    match report_for_command(alloc, command, disk) {
         Ok(report) => Ok(Answer { command, report }),
         Err(ending) => Err(ending),
     }
@@ -300,7 +304,7 @@ fn ending_of<D: PackageFiles, W: Out>(
 ) -> Ending
     ensures cause { ComesBy (D.seen disk.old) (D.seen disk.new) (texts words.now) result.outcome }
     ensures caused { IfReported result.outcome
-        (IsCausedOn (D.seen disk.old) (D.seen disk.new) (texts words.now)) }
+        (IsCausedForWords (D.seen disk.old) (D.seen disk.new) (texts words.now)) }
     ensures labels { IfReported result.outcome (λ report. AreLabelled report.files report.findings) }
     ensures policy { IsTextOfClashes (D.seen disk.old) (texts words.now) result.outcome result.policy.items }
     ensures out { LeavesOut W.written W.faults out.old out.new (asked_by (texts words.now)) result.outcome }
@@ -340,7 +344,7 @@ fn tell<E: Out>(alloc: Global, outcome: &Outcome, policy: &[u8], err: &mut E)
 /// `check [OPTION].. POLICY METADATA [REPLACEMENTS]`, or `generate N` with N from 0 to 20000.
 ///
 /// An option `--registry=NAME=ADDRESS` names a registry for the manifests of a workspace: the first `=`
-/// behind the front divides the two, and neither is empty. There may be any number, and of one name the
+/// behind the prefix divides the two, and neither is empty. There may be any number, and of one name the
 /// first counts. An option `--home=PATH` names the folder that the paths of package files are shown
 /// from; it is not empty, and stands at most once. No other option is accepted.
 ///
@@ -388,7 +392,7 @@ pub fn run<D: PackageFiles, W: Out, E: Out>(
     // What is told as unread was not read by a bound or by a failed call, and at least as many calls
     // failed as no bound explains.
     ensures caused { IfReported result.outcome
-        (IsCausedOn (D.seen disk.old) (D.seen disk.new) (texts words.now)) }
+        (IsCausedForWords (D.seen disk.old) (D.seen disk.new) (texts words.now)) }
     ensures labels { IfReported result.outcome (λ report. AreLabelled report.files report.findings) }
 
     ensures status { result.status ≡ status_of result.outcome }

@@ -215,7 +215,7 @@ fn replacement_value(alloc: Global, offset: usize) -> Result<Value, NoMemory>
     stop_with(alloc, "offset", Value::from(offset), "replacement")
 }
 
-/// A stop that words are the cause of, as JSON: the place of the one that is not accepted.
+/// A stop that words are the cause of, as JSON: the number of the one that is not accepted.
 fn usage_value(alloc: Global, at: usize) -> Result<Value, NoMemory>
     ensures value { IfOk result (λ value. view value ≡ tells (codes "stop")
         (member (codes "at") (number (unsigned at)) (stop_word (codes "usage")))) }

@@ -197,7 +197,7 @@ fn command_of<'a>(form: Form<'a>, words: &'a [String]) -> Option<Command<'a>>
     }
 }
 
-/// What the words ask for, up to the place from which on they are not accepted.
+/// What the words ask for, up to the word from which on they are not accepted.
 ///
 /// # Errors
 ///

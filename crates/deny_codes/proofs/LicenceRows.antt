@@ -36,7 +36,8 @@ use Rattle.deny_model.specs.Match.{matches}
 use Rattle.deny_model.specs.Told.{primary}
 use Rattle.deny_codes.specs.Circumstances.{Circumstances, licensed, unseen_by}
 use Rattle.deny_codes.specs.EachCode.{words_licensed}
-use Rattle.deny_codes.specs.Licences.{IsOfLicences, accepted_keys, allowance_hit, allows, asked_in, asked_of, bad_place}
+use Rattle.deny_codes.specs.Licences.{IsOfLicences, accepted_keys, allowance_hit, allows, asked_in}
+use Rattle.deny_codes.specs.Licences.{asked_of, bad_offset}
 use Rattle.deny_codes.specs.Licences.{exception_hit, exception_not_encountered_keys, exception_of, excepts}
 use Rattle.deny_codes.specs.Licences.{expression_of, first_hit, grants_by_allowance, grants_by_exception, hits_by}
 use Rattle.deny_codes.specs.Licences.{holds, is_accepted, is_granted, is_hit_by, is_licensed, is_looked_at}
@@ -170,12 +171,12 @@ nothing_asked = (refl, refl, refl)
 
 -- ---- what is bad in a text
 
-bad_places : (bad_place (reading_in (codes "MIT AND")) ≡ 7) × (bad_place (reading_in (codes "MIT AND ")) ≡ 8)
-    × (bad_place (reading_in (codes "  ")) ≡ 2) × (bad_place (reading_in (codes "MIT +")) ≡ 4)
-    × (bad_place (reading_in (codes "MIT ISC AND")) ≡ 4) × (bad_place (reading_in (codes "(MIT")) ≡ 4)
-    × (bad_place (reading_in (codes "MIT, ISC")) ≡ 3)
+bad_offsets : (bad_offset (reading_in (codes "MIT AND")) ≡ 7) × (bad_offset (reading_in (codes "MIT AND ")) ≡ 8)
+    × (bad_offset (reading_in (codes "  ")) ≡ 2) × (bad_offset (reading_in (codes "MIT +")) ≡ 4)
+    × (bad_offset (reading_in (codes "MIT ISC AND")) ≡ 4) × (bad_offset (reading_in (codes "(MIT")) ≡ 4)
+    × (bad_offset (reading_in (codes "MIT, ISC")) ≡ 3)
 unfolding licences_on_cases
-bad_places = (refl, refl, refl, refl, refl, refl, refl)
+bad_offsets = (refl, refl, refl, refl, refl, refl, refl)
 
 -- ---- accepted, rejected, without a licence, not to be read: a crate that is looked at is one of these
 

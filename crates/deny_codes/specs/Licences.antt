@@ -254,18 +254,18 @@ unfoldable pub unlicensed_told : Graph → Key → Words
 unlicensed_told g key = plainly severity.Error (of_crate (codes "crate '") g key (codes "' is unlicensed")) []
     (kid_at g key.place)
 
-abbrev pub bad_place : Reading → ℕ
-bad_place (Read e) = 0
-bad_place (BadAt at) = at
+abbrev pub bad_offset : Reading → ℕ
+bad_offset (Read e) = 0
+bad_offset (BadAt at) = at
 
-abbrev pub bad_place_at : Graph → Key → ℕ
-bad_place_at g key = option_map_or (λ c. bad_place (reading_in (licence_text c))) (crate_at g key.place) 0
+abbrev pub bad_offset_at : Graph → Key → ℕ
+bad_offset_at g key = option_map_or (λ c. bad_offset (reading_in (licence_text c))) (crate_at g key.place) 0
 
 unfoldable pub parse_error_told : Graph → Key → Words
 parse_error_told g key = record
     (plainly severity.Error
     (of_crate (codes "license expression of crate '") g key
-    (codes "' can't be read at byte " ++ decimal (bad_place_at g key))) []
+    (codes "' can't be read at byte " ++ decimal (bad_offset_at g key))) []
     (kid_at g key.place)) {
       notes = text_note_at g key ∷ [];
     }

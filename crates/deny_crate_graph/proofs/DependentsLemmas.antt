@@ -35,7 +35,7 @@ use Rattle.deny_crate_graph.specs.declared.krate.Krate.{Krate}
 use Rattle.deny_lists.proofs.Orders.{below_or_tie, not_below_itself}
 use Rattle.deny_crate_graph.proofs.GraphLemmas.{last_is}
 use Rattle.deny_lists.proofs.Sorted.{ascends_at, ascends_map}
-use Rattle.deny_lists.proofs.Places.{slice_get-append_some}
+use Rattle.deny_lists.proofs.Indices.{slice_get-append_some}
 use Rattle.deny_lists.proofs.Numbers.{less_from_nat_cmp}
 use Rattle.deny_model.specs.declared.target_edge.TargetEdge.{TargetEdge}
 

@@ -247,15 +247,15 @@ fn numbers_of(
     let mut numbers = List::new(alloc);
     for (number, edge) in edges.iter().enumerate() {
         if has_distance(distances, edge.child) {
-            numbers.push(short(number)?)?;
+            numbers.push(in_32_bits(number)?)?;
         }
     }
     Ok(numbers)
 }
 
 // More of anything than numbers count is more than memory holds.
-fn short(number: usize) -> Result<u32, NoMemory>
-    ensures { IfOk result (λ short. short ≡ number) }
+fn in_32_bits(number: usize) -> Result<u32, NoMemory>
+    ensures { IfOk result (λ narrow. narrow ≡ number) }
 {
     u32::try_from(number).map_err(|_| NoMemory)
 }
@@ -267,7 +267,7 @@ fn simplest_of(sets: &[DupSet]) -> Result<Option<u32>, NoMemory>
     if sets.is_empty() {
         return Ok(None);
     }
-    Ok(Some(short(simplest_at(sets))?))
+    Ok(Some(in_32_bits(simplest_at(sets))?))
 }
 
 fn simplest_at(sets: &[DupSet]) -> usize

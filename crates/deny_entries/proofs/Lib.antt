@@ -1,6 +1,6 @@
 pub mod UnknownLaws
 pub mod TableLaws
-pub mod RowLaws
+pub mod KeyLaws
 pub mod SpecLaws
 pub mod LicenceLaws
 pub mod ReadsLaws

@@ -1,4 +1,4 @@
--- Licences that are read with their places.
+-- Licences that are read with their spans.
 use Rattle.std.proofs.Common.{◌≡◌, List, [], ◌∷◌, Option, None, Some, map, sym, ap, subst}
 use Rattle.deny_base.specs.declared.span.Spanned.{Spanned}
 use Rattle.deny_spdx.specs.Meaning.{requirement_in}

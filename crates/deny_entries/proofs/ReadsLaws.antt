@@ -17,7 +17,7 @@ use Rattle.deny_entries.specs.SpecView.{spec_view}
 use Rattle.deny_entries.specs.Table.{Entries, ReadsIn, ReadsIfThere, ReadsOr, ReadsThere, ReadsTable, at_key}
 use Rattle.deny_entries.specs.Words.{ReadsAs, ReadsBool, ReadsCount, ReadsList, ReadsSpanned, ReadsText, ReadsTexts}
 use Rattle.deny_entries.specs.Words.{meaning_in}
-use Rattle.deny_entries.proofs.RowLaws.{says_of}
+use Rattle.deny_entries.proofs.KeyLaws.{says_of}
 
 -- what is read twice is alike, or the same
 abbrev pub ReadsAlike : {A T : Type 0} → (A → T → Type 0) → (T → T → Type 0) → Type 0

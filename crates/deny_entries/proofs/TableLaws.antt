@@ -119,30 +119,30 @@ alike-left (f ∷ fs) gs es apart =
     alike-trans gs (left fs (without f.name es)) (without f.name es) es (alike-left fs gs (without f.name es) parts.1)
     (alike-without gs f.name es (other_rest f.name fs gs parts.0))
 
-faults-alike : (fs : List Field) (place : Span) (one other : Entries) → AreAlikeAt fs one other
-    → faults_of_fields fs place one ≡ faults_of_fields fs place other
-faults-alike [] place one other alike = refl
-faults-alike (f ∷ fs) place one other alike =
-    rw alike.0 (ap (λ rest. f.faults place (value_at f.name other) ++ rest) (faults-alike fs place one other alike.1))
+faults-alike : (fs : List Field) (span : Span) (one other : Entries) → AreAlikeAt fs one other
+    → faults_of_fields fs span one ≡ faults_of_fields fs span other
+faults-alike [] span one other alike = refl
+faults-alike (f ∷ fs) span one other alike =
+    rw alike.0 (ap (λ rest. f.faults span (value_at f.name other) ++ rest) (faults-alike fs span one other alike.1))
 
 -- the keys that are left, and the faults, after these keys
 pub after_all-entries : (fs : List Field) (s : State) → (after_all fs s).entries ≡ left fs s.entries
 after_all-entries [] s = refl
 after_all-entries (f ∷ fs) s = after_all-entries fs (after f s)
 
-pub after_all-place : (fs : List Field) (s : State) → (after_all fs s).place ≡ s.place
-after_all-place [] s = refl
-after_all-place (f ∷ fs) s = after_all-place fs (after f s)
+pub after_all-span : (fs : List Field) (s : State) → (after_all fs s).span ≡ s.span
+after_all-span [] s = refl
+after_all-span (f ∷ fs) s = after_all-span fs (after f s)
 
 pub after_all-faults : (fs : List Field) (s : State) → are_apart fs ≡ true
-    → (after_all fs s).faults ≡ s.faults ++ faults_of_fields fs s.place s.entries
+    → (after_all fs s).faults ≡ s.faults ++ faults_of_fields fs s.span s.entries
 after_all-faults [] s apart = sym (append-nil s.faults)
 after_all-faults (f ∷ fs) s apart =
     let parts = and_parts (is_other f.name fs) (are_apart fs) apart in
     after_all-faults fs (after f s) parts.1
-    ∙ ap (λ rest. (s.faults ++ f.faults s.place (value_at f.name s.entries)) ++ rest)
-    (faults-alike fs s.place (without f.name s.entries) s.entries (alike-without fs f.name s.entries parts.0))
-    ∙ append_assoc s.faults (f.faults s.place (value_at f.name s.entries)) (faults_of_fields fs s.place s.entries)
+    ∙ ap (λ rest. (s.faults ++ f.faults s.span (value_at f.name s.entries)) ++ rest)
+    (faults-alike fs s.span (without f.name s.entries) s.entries (alike-without fs f.name s.entries parts.0))
+    ∙ append_assoc s.faults (f.faults s.span (value_at f.name s.entries)) (faults_of_fields fs s.span s.entries)
 
 -- there are no faults exactly where no part has some
 pub none_first : (fs gs : List ConfigFault) → fs ++ gs ≡ [] → fs ≡ []
@@ -158,15 +158,15 @@ entries_back entries = ap (λ r. r.entries) (out-roll-Table (record { entries = 
 
 -- the faults of a table of these entries
 faults_with : (Entries → List Field) → Span → Entries → List ConfigFault
-faults_with fields place entries =
-    in_order (faults_of_fields (fields entries) place entries ++ map unknown (unknown_keys (fields entries) entries))
+faults_with fields span entries =
+    in_order (faults_of_fields (fields entries) span entries ++ map unknown (unknown_keys (fields entries) entries))
 
-faults_with-is : (fields : Entries → List Field) (v : Value) (entries : Entries) (place : Span)
-    → table_in v ≡ Some (table_with entries) → place ≡ span_in v
-    → faults_with fields place entries ≡ faults_of_table fields v
+faults_with-is : (fields : Entries → List Field) (v : Value) (entries : Entries) (span : Span)
+    → table_in v ≡ Some (table_with entries) → span ≡ span_in v
+    → faults_with fields span entries ≡ faults_of_table fields v
 unfolding faults_with
-faults_with-is fields v entries place table at =
-    ap (λ (es : Entries). in_order (faults_of_fields (fields es) place es ++ map unknown (unknown_keys (fields es) es)))
+faults_with-is fields v entries span table at =
+    ap (λ (es : Entries). in_order (faults_of_fields (fields es) span es ++ map unknown (unknown_keys (fields es) es)))
     (sym (entries_back entries))
     ∙ ap (λ p. faults_in_table fields p (Some (table_with entries))) at
     ∙ ap (faults_in_table fields (span_in v)) (sym table)
@@ -174,28 +174,28 @@ faults_with-is fields v entries place table at =
 -- the faults of a table whose keys were read are those that the helper keeps at the end
 pub all_faults : (fields : Entries → List Field) (v : Value) (start end : State)
     → are_apart (fields start.entries) ≡ true
-    → table_in v ≡ Some (table_with start.entries) → start.place ≡ span_in v → start.faults ≡ []
+    → table_in v ≡ Some (table_with start.entries) → start.span ≡ span_in v → start.faults ≡ []
     → end ≡ after_all (fields start.entries) start
     → table_faults end.faults end.entries ≡ faults_of_table fields v
 unfolding faults_with
-all_faults fields v start end apart table place no_fault_yet read =
+all_faults fields v start end apart table span no_fault_yet read =
     let fs : List Field = fields start.entries in
-    let kept : end.faults ≡ faults_of_fields fs start.place start.entries =
+    let kept : end.faults ≡ faults_of_fields fs start.span start.entries =
     ap (λ (t : State). t.faults) read ∙ after_all-faults fs start apart
-    ∙ ap (λ before. before ++ faults_of_fields fs start.place start.entries) no_fault_yet in
+    ∙ ap (λ before. before ++ faults_of_fields fs start.span start.entries) no_fault_yet in
     let rest : end.entries ≡ left fs start.entries = ap (λ (t : State). t.entries) read ∙ after_all-entries fs start in
     ap (λ all. table_faults all end.entries) kept
-    ∙ ap (table_faults (faults_of_fields fs start.place start.entries)) rest
-    ∙ left_unknown (faults_of_fields fs start.place start.entries) fs start.entries apart
-    ∙ faults_with-is fields v start.entries start.place table place
+    ∙ ap (table_faults (faults_of_fields fs start.span start.entries)) rest
+    ∙ left_unknown (faults_of_fields fs start.span start.entries) fs start.entries apart
+    ∙ faults_with-is fields v start.entries start.span table span
 
-pub no_field_faults : (fields : Entries → List Field) (v : Value) (entries : Entries) (place : Span)
-    → table_in v ≡ Some (table_with entries) → place ≡ span_in v → faults_of_table fields v ≡ []
-    → faults_of_fields (fields entries) place entries ≡ []
+pub no_field_faults : (fields : Entries → List Field) (v : Value) (entries : Entries) (span : Span)
+    → table_in v ≡ Some (table_with entries) → span ≡ span_in v → faults_of_table fields v ≡ []
+    → faults_of_fields (fields entries) span entries ≡ []
 unfolding faults_with
-no_field_faults fields v entries place table at none =
-    none_first (faults_of_fields (fields entries) place entries) (map unknown (unknown_keys (fields entries) entries))
-    (in_order-empty _ (faults_with-is fields v entries place table at ∙ none))
+no_field_faults fields v entries span table at none =
+    none_first (faults_of_fields (fields entries) span entries) (map unknown (unknown_keys (fields entries) entries))
+    (in_order-empty _ (faults_with-is fields v entries span table at ∙ none))
 
 pub read_in : {T : Type 0} (Reads : Entries → T → Type 0) (v : Value) (entries : Entries) (x : T)
     → table_in v ≡ Some (table_with entries) → Reads entries x → ReadsTable Reads v x
@@ -230,31 +230,31 @@ pub after_all-append : (fs gs : List Field) (s : State) → after_all (fs ++ gs)
 after_all-append [] gs s = refl
 after_all-append (f ∷ fs) gs s = after_all-append fs gs (after f s)
 
-faults-append : (fs gs : List Field) (place : Span) (es : Entries)
-    → faults_of_fields (fs ++ gs) place es ≡ faults_of_fields fs place es ++ faults_of_fields gs place es
-faults-append [] gs place es = refl
-faults-append (f ∷ fs) gs place es =
-    ap (λ rest. f.faults place (value_at f.name es) ++ rest) (faults-append fs gs place es)
-    ∙ sym (append_assoc (f.faults place (value_at f.name es)) (faults_of_fields fs place es)
-    (faults_of_fields gs place es))
+faults-append : (fs gs : List Field) (span : Span) (es : Entries)
+    → faults_of_fields (fs ++ gs) span es ≡ faults_of_fields fs span es ++ faults_of_fields gs span es
+faults-append [] gs span es = refl
+faults-append (f ∷ fs) gs span es =
+    ap (λ rest. f.faults span (value_at f.name es) ++ rest) (faults-append fs gs span es)
+    ∙ sym (append_assoc (f.faults span (value_at f.name es)) (faults_of_fields fs span es)
+    (faults_of_fields gs span es))
 
 -- where keys and others after them have no fault, neither have the others in what the first keys leave
 pub none_left : (fs gs : List Field) (start between : State) → are_apart (fs ++ gs) ≡ true
     → between ≡ after_all fs start
-    → faults_of_fields (fs ++ gs) start.place start.entries ≡ []
-    → faults_of_fields gs between.place between.entries ≡ []
+    → faults_of_fields (fs ++ gs) start.span start.entries ≡ []
+    → faults_of_fields gs between.span between.entries ≡ []
 none_left fs gs start between apart chain none =
-    ap (λ (t : State). faults_of_fields gs t.place t.entries) chain
-    ∙ ap (λ p. faults_of_fields gs p (after_all fs start).entries) (after_all-place fs start)
-    ∙ ap (faults_of_fields gs start.place) (after_all-entries fs start)
-    ∙ faults-alike gs start.place (left fs start.entries) start.entries (alike-left fs gs start.entries apart)
-    ∙ none_rest (faults_of_fields fs start.place start.entries) (faults_of_fields gs start.place start.entries)
-    (sym (faults-append fs gs start.place start.entries) ∙ none)
+    ap (λ (t : State). faults_of_fields gs t.span t.entries) chain
+    ∙ ap (λ p. faults_of_fields gs p (after_all fs start).entries) (after_all-span fs start)
+    ∙ ap (faults_of_fields gs start.span) (after_all-entries fs start)
+    ∙ faults-alike gs start.span (left fs start.entries) start.entries (alike-left fs gs start.entries apart)
+    ∙ none_rest (faults_of_fields fs start.span start.entries) (faults_of_fields gs start.span start.entries)
+    (sym (faults-append fs gs start.span start.entries) ∙ none)
 
-pub none_before : (fs gs : List Field) (place : Span) (es : Entries) → faults_of_fields (fs ++ gs) place es ≡ []
-    → faults_of_fields fs place es ≡ []
-none_before fs gs place es none =
-    none_first (faults_of_fields fs place es) (faults_of_fields gs place es) (sym (faults-append fs gs place es) ∙ none)
+pub none_before : (fs gs : List Field) (span : Span) (es : Entries) → faults_of_fields (fs ++ gs) span es ≡ []
+    → faults_of_fields fs span es ≡ []
+none_before fs gs span es none =
+    none_first (faults_of_fields fs span es) (faults_of_fields gs span es) (sym (faults-append fs gs span es) ∙ none)
 
 -- what keys say after others were read says the same of the whole table
 pub said_whole : {T : Type 0} (fs gs : List Field) (Reads : Entries → T → Type 0) (es : Entries) (said : T)

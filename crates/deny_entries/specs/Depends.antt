@@ -4,8 +4,8 @@ use Rattle.std.specs.Prelude.{[], ◌∷◌, List, ◌&&◌, not, is_some}
 use Rattle.deny_toml.specs.Calls.{value_at}
 use Rattle.deny_entries.specs.Entry.{ReadsSome, holds_none}
 use Rattle.deny_entries.specs.Reasons.{ReadsReason, ReadsReasonKey, reason_fields}
-use Rattle.deny_entries.specs.Table.{AreAlikeAt, DependsOn, EachSays, Entries, Field, Gives, ReadsIfThere, ReadsRows}
-use Rattle.deny_entries.specs.Table.{Row, fields_of}
+use Rattle.deny_entries.specs.Table.{AreAlikeAt, DependsOn, EachSays, Entries, Field, Gives, ReadsIfThere, ReadsKeys}
+use Rattle.deny_entries.specs.Table.{TableKey, fields_of}
 
 holds_alike : (fields : List Field) (one other : Entries) → AreAlikeAt fields one other
     → holds_none fields one ≡ holds_none fields other
@@ -25,15 +25,15 @@ pub gives-depends : {T : Type 0} (fields : List Field) (Reads : Entries → T �
 gives-depends fields Reads depends one other None alike reads = reads
 gives-depends fields Reads depends one other (Some x) alike reads = depends one other x alike reads
 
--- what rows say depends on what the table holds at their keys alone
-each-depends : {T : Type 0} (rows : List (Row T)) (one other : Entries) (x : T) → AreAlikeAt (fields_of rows) one other
-    → EachSays rows one x → EachSays rows other x
+-- what keys say depends on what the table holds at them alone
+each-depends : {T : Type 0} (keys : List (TableKey T)) (one other : Entries) (x : T)
+    → AreAlikeAt (fields_of keys) one other → EachSays keys one x → EachSays keys other x
 each-depends [] one other x alike says = tt
-each-depends (row ∷ rows) one other x alike says =
-    (subst (λ v. row.Says v x) alike.0 says.0, each-depends rows one other x alike.1 says.1)
+each-depends (key ∷ keys) one other x alike says =
+    (subst (λ v. key.Says v x) alike.0 says.0, each-depends keys one other x alike.1 says.1)
 
-pub rows-depend : {T : Type 0} (rows : List (Row T)) → DependsOn (fields_of rows) (ReadsRows rows)
-rows-depend rows one other x alike reads = record { each = each-depends rows one other x alike reads.each }
+pub keys-depend : {T : Type 0} (keys : List (TableKey T)) → DependsOn (fields_of keys) (ReadsKeys keys)
+keys-depend keys one other x alike reads = record { each = each-depends keys one other x alike reads.each }
 
 pub reason-depends : DependsOn reason_fields ReadsReasonKey
 reason-depends one other reason alike reads = subst (λ v. ReadsIfThere ReadsReason v reason) alike.0 reads

@@ -11,7 +11,7 @@ use Rattle.deny_entries.specs.declared.licence.Licence.{Licence}
 abbrev pub requirement_of : Spanned Licence → Spanned Requirement
 requirement_of licence = record { value = licence.value.0; span = licence.span }
 
--- an array of licences, each with its place
+-- an array of licences, each with its span
 abbrev pub faults_of_licences : Value → List ConfigFault
 faults_of_licences = faults_of_list (faults_as requirement_in)
 

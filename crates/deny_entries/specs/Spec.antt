@@ -10,9 +10,9 @@ use Rattle.deny_toml.specs.Calls.{is_verbatim, text_in}
 use Rattle.deny_entries.specs.declared.package_spec.PackageSpec.{PackageSpec}
 use Rattle.deny_entries.specs.declared.policy_key.PolicyKey.TheVariants as key
 use Rattle.deny_entries.specs.Requirement.{is_readable, requirement_text}
-use Rattle.deny_entries.specs.Table.{Entries, Field, ReadsRows, ReadsTable, Row, at_key, faults_of_table, fields_of}
-use Rattle.deny_entries.specs.Table.{may_hold, must_hold, optional, required}
-use Rattle.deny_entries.specs.Words.{Kind, a_word, faults_as, faults_of_meaning, placed}
+use Rattle.deny_entries.specs.Table.{Entries, Field, ReadsKeys, ReadsTable, TableKey, at_key, faults_of_table}
+use Rattle.deny_entries.specs.Table.{fields_of, may_hold, must_hold, optional, required}
+use Rattle.deny_entries.specs.Words.{Kind, a_word, faults_as, faults_of_meaning, spanned}
 
 -- what a divider divides where it stands first
 abbrev pub divided_at : ℕ → List ℕ → Option (List ℕ × List ℕ)
@@ -71,20 +71,20 @@ crate_fields = optional key.Crate (faults_as spec_in) ∷ []
 abbrev pub name_field : Field
 name_field = required key.Name (faults_as name_in)
 
-abbrev pub name_rows : List (Row PackageSpec)
-name_rows =
-    must_hold key.Name (placed (a_word name_in)) (λ spec. spec.name)
+abbrev pub name_keys : List (TableKey PackageSpec)
+name_keys =
+    must_hold key.Name (spanned (a_word name_in)) (λ spec. spec.name)
     ∷ may_hold key.Version (a_word requirement_text) (λ spec. spec.req_text)
     ∷ []
 
 abbrev pub name_fields : List Field
-name_fields = fields_of name_rows
+name_fields = fields_of name_keys
 
 abbrev pub spec_fields : Entries → List Field
 spec_fields entries = if is_some (at_key key.Crate entries) then crate_fields else name_fields
 
 abbrev pub ReadsName : Entries → PackageSpec → Type 0
-ReadsName = ReadsRows name_rows
+ReadsName = ReadsKeys name_keys
 
 -- what the keys of a spec say
 abbrev pub ReadsSpecBy : Option Value → Entries → PackageSpec → Type 0

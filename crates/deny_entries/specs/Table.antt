@@ -20,19 +20,19 @@ use Rattle.deny_entries.specs.Words.{Kind}
 abbrev pub Entries : Type 0
 Entries = List (Key × Value)
 
--- a key of a table: its name, and its faults where the table stands at this place and holds this at the key
+-- a key of a table: its name, and its faults where the table has this span and holds this at the key
 pub record Field : Type 0 where
   pub name : List ℕ
   pub faults : Span → Option Value → List ConfigFault
 
 -- a key that may be left out
 abbrev pub optional : PolicyKey → (Value → List ConfigFault) → Field
-optional key faults_of = record { name = name_of key; faults = λ place v. optional_faults faults_of (name_of key) v }
+optional key faults_of = record { name = name_of key; faults = λ span v. optional_faults faults_of (name_of key) v }
 
 -- a key that has to be there
 abbrev pub required : PolicyKey → (Value → List ConfigFault) → Field
 required key faults_of =
-    record { name = name_of key; faults = λ place v. required_faults faults_of place (name_of key) v }
+    record { name = name_of key; faults = λ span v. required_faults faults_of span (name_of key) v }
 
 -- what a table holds at a key
 abbrev pub at_key : PolicyKey → Entries → Option Value
@@ -40,8 +40,8 @@ at_key key entries = value_at (name_of key) entries
 
 -- the faults of these keys
 abbrev pub faults_of_fields : List Field → Span → Entries → List ConfigFault
-faults_of_fields [] place entries = []
-faults_of_fields (f ∷ fs) place entries = f.faults place (value_at f.name entries) ++ faults_of_fields fs place entries
+faults_of_fields [] span entries = []
+faults_of_fields (f ∷ fs) span entries = f.faults span (value_at f.name entries) ++ faults_of_fields fs span entries
 
 -- whether a name is none of these keys
 abbrev pub is_other : List ℕ → List Field → Bool
@@ -59,9 +59,9 @@ unknown_keys fields entries = filter (λ e. is_other e.0.name fields) entries ++
 
 -- the faults of a value that is to be a table of these keys: those of each key, and each key that is unknown
 abbrev pub faults_in_table : (Entries → List Field) → Span → Option Table → List ConfigFault
-faults_in_table fields place None = wrong_kind place
-faults_in_table fields place (Some t) =
-    in_order (faults_of_fields (fields (entries_in t)) place (entries_in t)
+faults_in_table fields span None = wrong_kind span
+faults_in_table fields span (Some t) =
+    in_order (faults_of_fields (fields (entries_in t)) span (entries_in t)
     ++ map unknown (unknown_keys (fields (entries_in t)) (entries_in t)))
 
 abbrev pub faults_of_table : (Entries → List Field) → Value → List ConfigFault
@@ -91,52 +91,52 @@ abbrev pub ReadsThere : {T : Type 0} → (Value → T → Type 0) → Option Val
 ReadsThere Reads None x = ⊥
 ReadsThere Reads (Some v) x = Reads v x
 
--- ---- the keys of a table, a row each, and what is read of them into the parts of one value
+-- ---- the keys of a table, and what is read of them into the parts of one value
 
-pub record Row (T : Type 0) : Type 1 where
+pub record TableKey (T : Type 0) : Type 1 where
   pub field : Field
   pub Says : Option Value → T → Type 0
 
 -- a key that may be left out, which says what this part of the value holds
-abbrev pub may_hold : {T A : Type 0} → PolicyKey → Kind A → (T → Option A) → Row T
+abbrev pub may_hold : {T A : Type 0} → PolicyKey → Kind A → (T → Option A) → TableKey T
 may_hold key kind part = record {
   field = optional key kind.faults_of;
   Says = λ v x. ReadsIfThere kind.Reads v (part x);
 }
 
 -- the same where something stands for a key that is left out
-abbrev pub holds_or : {T A : Type 0} → A → PolicyKey → Kind A → (T → A) → Row T
+abbrev pub holds_or : {T A : Type 0} → A → PolicyKey → Kind A → (T → A) → TableKey T
 holds_or default key kind part = record {
   field = optional key kind.faults_of;
   Says = λ v x. ReadsOr default kind.Reads v (part x);
 }
 
 -- a key that has to be there
-abbrev pub must_hold : {T A : Type 0} → PolicyKey → Kind A → (T → A) → Row T
+abbrev pub must_hold : {T A : Type 0} → PolicyKey → Kind A → (T → A) → TableKey T
 must_hold key kind part = record {
   field = required key kind.faults_of;
   Says = λ v x. ReadsThere kind.Reads v (part x);
 }
 
 -- a key whose value passes unread
-abbrev pub unread : {T : Type 0} → PolicyKey → Row T
+abbrev pub unread : {T : Type 0} → PolicyKey → TableKey T
 unread key = record { field = optional key (λ v. []); Says = λ v x. Unit {0} }
 
-abbrev pub fields_of : {T : Type 0} → List (Row T) → List Field
+abbrev pub fields_of : {T : Type 0} → List (TableKey T) → List Field
 fields_of [] = []
-fields_of (row ∷ rows) = row.field ∷ fields_of rows
+fields_of (key ∷ keys) = key.field ∷ fields_of keys
 
-abbrev pub EachSays : {T : Type 0} → List (Row T) → Entries → T → Type 0
+abbrev pub EachSays : {T : Type 0} → List (TableKey T) → Entries → T → Type 0
 EachSays [] entries x = Unit {0}
-EachSays (row ∷ rows) entries x = row.Says (value_at row.field.name entries) x × EachSays rows entries x
+EachSays (key ∷ keys) entries x = key.Says (value_at key.field.name entries) x × EachSays keys entries x
 
--- what is read from a table by these rows
-pub record ReadsRows {T : Type 0} (rows : List (Row T)) (entries : Entries) (x : T) : Type 0 where
-  pub each : EachSays rows entries x
+-- what is read from a table by these keys
+pub record ReadsKeys {T : Type 0} (keys : List (TableKey T)) (entries : Entries) (x : T) : Type 0 where
+  pub each : EachSays keys entries x
 
--- a table of these rows alone
-abbrev pub a_table : {T : Type 0} → List (Row T) → Kind T
-a_table rows = record { faults_of = faults_of_table (λ entries. fields_of rows); Reads = ReadsTable (ReadsRows rows) }
+-- a table of these keys alone
+abbrev pub a_table : {T : Type 0} → List (TableKey T) → Kind T
+a_table keys = record { faults_of = faults_of_table (λ entries. fields_of keys); Reads = ReadsTable (ReadsKeys keys) }
 
 -- ---- how a table is read
 
@@ -161,21 +161,21 @@ DependsOn {T} fields Reads = (one other : Entries) (x : T) → AreAlikeAt fields
 
 -- how far the reading of a table has come: the keys that are left, and the faults so far
 pub record State : Type 0 where
-  pub place : Span
+  pub span : Span
   pub entries : Entries
   pub faults : List ConfigFault
 
 abbrev pub state_of : TableHelper → State
-state_of h = record { place = h.span; entries = h.entries; faults = h.faults }
+state_of h = record { span = h.span; entries = h.entries; faults = h.faults }
 
 -- a key was read
 abbrev pub after : Field → State → State
 after f s =
     record {
-      place = s.place;
+      span = s.span;
       entries = without f.name s.entries;
       faults = s.faults
-          ++ f.faults s.place (value_at f.name s.entries);
+          ++ f.faults s.span (value_at f.name s.entries);
     }
 
 -- these keys were read, one after another
@@ -185,4 +185,4 @@ after_all (f ∷ fs) s = after_all fs (after f s)
 
 -- What a step that read a key says of it: where the key has no fault, this holds of what the table held at the key.
 pub record ReadAt (f : Field) (s : State) (P : Option Value → Type 0) : Type 0 where
-  pub says : f.faults s.place (value_at f.name s.entries) ≡ [] → P (value_at f.name s.entries)
+  pub says : f.faults s.span (value_at f.name s.entries) ≡ [] → P (value_at f.name s.entries)

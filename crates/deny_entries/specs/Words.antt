@@ -62,7 +62,7 @@ faults_of_any_text v = faults_of_kind v (text_in v)
 abbrev pub ReadsText : Value → List ℕ → Type 0
 ReadsText v text = text_in v ≡ Some text
 
--- what is read with its place
+-- what is read with its span
 abbrev pub ReadsSpanned : {T : Type 0} → (Value → T → Type 0) → Value → Spanned T → Type 0
 ReadsSpanned Reads v read = (read.span ≡ span_in v) × Reads v read.value
 
@@ -73,7 +73,7 @@ faults_of_list faults_of v = faults_of_array faults_of v (array_in v)
 abbrev pub ReadsList : {T : Type 0} → (Value → T → Type 0) → Value → List T → Type 0
 ReadsList Reads v items = ReadsArray Reads (array_in v) items
 
--- texts, each with its place
+-- texts, each with its span
 abbrev pub faults_of_texts : Value → List ConfigFault
 faults_of_texts = faults_of_list faults_of_any_text
 
@@ -111,11 +111,11 @@ a_text = record { faults_of = faults_of_any_text; Reads = ReadsText }
 abbrev pub a_count : Kind ℕ
 a_count = record { faults_of = faults_of_count; Reads = ReadsCount }
 
-abbrev pub placed : {A : Type 0} → Kind A → Kind (Spanned A)
-placed kind = record { faults_of = kind.faults_of; Reads = ReadsSpanned kind.Reads }
+abbrev pub spanned : {A : Type 0} → Kind A → Kind (Spanned A)
+spanned kind = record { faults_of = kind.faults_of; Reads = ReadsSpanned kind.Reads }
 
 abbrev pub a_list : {A : Type 0} → Kind A → Kind (List A)
 a_list kind = record { faults_of = faults_of_list kind.faults_of; Reads = ReadsList kind.Reads }
 
 abbrev pub some_texts : Kind (List (Spanned (List ℕ)))
-some_texts = a_list (placed a_text)
+some_texts = a_list (spanned a_text)

@@ -68,7 +68,7 @@ fn name_span(value: &Value<'_>, text: &str, name: &str) -> Span
 fn spec_in(alloc: Global, value: &Value<'_>, text: &str) -> Result<Option<PackageSpec>, NoMemory>
     requires string { text_in value.now ≡ Some text.now }
     ensures spec { IfOk result (λ read. option_map parts_in read ≡ spec_in text.now) }
-    ensures place { IfOk result (λ read. IfSome read (λ made. made.name.span ≡ name_span value.now made.name.value)) }
+    ensures span { IfOk result (λ read. IfSome read (λ made. made.name.span ≡ name_span value.now made.name.value)) }
 {
     match divided(text) {
         Some((name, requirement)) => {
@@ -95,7 +95,7 @@ fn named(
     requires prefix { length name.now ≤ length text.now }
     requires read { IsReadIn req_text version_req }
     ensures named { IfOk result (λ made. option_map parts_in made ≡ spec.named name.now req_text) }
-    ensures place { IfOk result (λ all. IfSome all (λ made. made.name.span ≡ name_span value.now made.name.value)) }
+    ensures span { IfOk result (λ all. IfSome all (λ made. made.name.span ≡ name_span value.now made.name.value)) }
 {
     if name.is_empty() {
         return Ok(None);

@@ -13,7 +13,7 @@ use Rattle.deny_unread.specs.Bound.{Folders}
 use Rattle.deny_unread.specs.Causes.{AreCaused}
 use Rattle.deny_gate.specs.Dead.{CanDoWithoutDead}
 use Rattle.deny_gate.specs.Gating.{HasGraph, IsCause, IsCauseBehind, IsCausedReport, IsFirstFault, IsMetadataCause}
-use Rattle.deny_gate.specs.Gating.{IsReportBy, IsReportOf, IsReportOn, IsTableCauseFor, Texts}
+use Rattle.deny_gate.specs.Gating.{IsReportBy, IsReportOf, IsPolicyReport, IsTableCauseFor, Texts}
 use Rattle.deny_gate.specs.Headline.{IsHeadlineOf}
 use Rattle.deny_gate.specs.Report.{policy_id}
 use Rattle.deny_gate.specs.declared.report.GateError.{GateError}
@@ -64,7 +64,7 @@ module _ (texts : Texts) (said : Policy) (read : List ℕ) (same : read ≡ text
   cause_then (Err error) cause = by_rest error cause
 
   module _ (old new : Disk) where
-    report_by : (report : Report) (on : IsReportOn old new said texts report)
+    report_by : (report : Report) (on : IsPolicyReport old new said texts report)
         → IsReportBy old.files texts on.seen.view on.seen.packages report
     report_by report on = record {
       said = said;
@@ -78,16 +78,16 @@ module _ (texts : Texts) (said : Policy) (read : List ℕ) (same : read ≡ text
       is_report = on.seen.is_report;
     }
 
-    report_is : (report : Report) → IsReportOn old new said texts report → IsReportOf old.files texts report
+    report_is : (report : Report) → IsPolicyReport old new said texts report → IsReportOf old.files texts report
     report_is report on =
         record { view = on.seen.view; packages = on.seen.packages; by = report_by report on }
 
-    pub report_then : (result : Result Report GateError) → IfOk result (IsReportOn old new said texts)
+    pub report_then : (result : Result Report GateError) → IfOk result (IsPolicyReport old new said texts)
         → IfOk result (IsReportOf old.files texts)
     report_then (Ok report) on = report_is report on
     report_then (Err error) on = tt
 
-    pub caused_then : (result : Result Report GateError) → IfOk result (IsReportOn old new said texts)
+    pub caused_then : (result : Result Report GateError) → IfOk result (IsPolicyReport old new said texts)
         → IfOk result (λ report. (folder : Folders) → AreFoldersOf report.krates folder
         → AreCaused folder old new report.unread)
         → IfOk result (IsCausedReport old new texts)
@@ -101,17 +101,17 @@ module _ (texts : Texts) (said : Policy) (read : List ℕ) (same : read ≡ text
     }
     caused_then (Err error) on caused = tt
 
-    pub headline_then : (result : Result Report GateError) → IfOk result (IsReportOn old new said texts)
+    pub headline_then : (result : Result Report GateError) → IfOk result (IsPolicyReport old new said texts)
         → IfOk result (IsHeadlineOf texts)
     headline_then (Ok report) on = headline_of old.files texts report (report_is report on)
     headline_then (Err error) on = tt
 
-    pub code_then : (result : Result Report GateError) → IfOk result (IsReportOn old new said texts)
+    pub code_then : (result : Result Report GateError) → IfOk result (IsPolicyReport old new said texts)
         → IfOk result (λ report. exit_code report.stats ≡ code_of report.verdict)
     code_then (Ok report) on = exit_of old.files texts report (report_is report on)
     code_then (Err error) on = tt
 
     pub dead_then : DeadCanGo → PackagesStay → (result : Result Report GateError)
-        → IfOk result (IsReportOn old new said texts) → IfOk result (CanDoWithoutDead old.files texts)
+        → IfOk result (IsPolicyReport old new said texts) → IfOk result (CanDoWithoutDead old.files texts)
     dead_then law stay (Ok report) on = without_dead law stay old.files texts report (report_is report on)
     dead_then law stay (Err error) on = tt

@@ -76,7 +76,7 @@ module _ (text : List ℕ) where
 
   clashes_labelled : (told : List Diagnostic) → TellsClashes text policy_id told → AreLabelledClashes text told
   clashes_labelled told tells =
-      let lie = recursion_from_All (IsRange text) (told_ranges told) tells.placed in
+      let lie = recursion_from_All (IsRange text) (told_ranges told) tells.located in
       subst (λ (ds : List Diagnostic). AreLabelledClashes text ds) (sym tells.are.is)
       (told_placed tells.are.clashes (subst (λ (ds : List Diagnostic). Lie text (told_ranges ds)) tells.are.is lie))
 

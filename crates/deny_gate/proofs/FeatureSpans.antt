@@ -20,7 +20,7 @@ use Rattle.deny_entries.specs.PolicyKey.{name_of}
 use Rattle.deny_entries.specs.Table.{Entries, ReadsIn, ReadsOr, at_key}
 use Rattle.deny_entries.specs.Words.{ReadsBool, ReadsList, ReadsSpanned, ReadsTexts}
 use Rattle.deny_entries.specs.declared.policy_key.PolicyKey.TheVariants as key
-use Rattle.deny_entries.proofs.RowLaws.{says_of}
+use Rattle.deny_entries.proofs.KeyLaws.{says_of}
 use Rattle.deny_tables.specs.Config.{ReadsConfig}
 use Rattle.deny_tables.specs.Features.{ReadsCrateFeatures, ReadsFeatures, lists_in, nowhere}
 use Rattle.deny_tables.specs.declared.bans.cfg.config.Config.{Config}
@@ -55,7 +55,7 @@ module _ (text : List ℕ) (utf8 : IsUtf8 text) where
   value_lies {T} default Reads None x stands reads =
       subst (λ (y : Spanned T). IsRange text y.span) (sym reads) nothing_lies
   value_lies default Reads (Some v) x stands reads =
-      subst (IsRange text) (sym reads.0) (stands_itself text v stands).placed
+      subst (IsRange text) (sym reads.0) (stands_itself text v stands).lies
 
   entry_lies : (entries : Entries) (f : CrateFeatures) → EntriesStand text entries → ReadsFeatures entries (lists_in f)
       → Lie text (written_spans f)

@@ -42,7 +42,8 @@ use Rattle.deny_rules.specs.Check.{IsChecked}
 use Rattle.deny_rules.specs.declared.check.BansEnd.{BansEnd}
 use Rattle.deny_dup_edges.specs.declared.dup_edges.DupEdges.{DupEdges}
 use Rattle.deny_laws.specs.Dead.{AreDead}
-use Rattle.deny_gate.specs.Gating.{AreEntriesApart, Extras, IsLicensedIf, IsReportOn, IsReportSeen, IsTableFor, IsTold}
+use Rattle.deny_gate.specs.Gating.{AreEntriesApart, Extras, IsLicensedIf, IsPolicyReport, IsReportSeen}
+use Rattle.deny_gate.specs.Gating.{IsTableFor, IsTold}
 use Rattle.deny_gate.specs.Gating.{IsToldOn, Texts, circumstances_of, extras_of, first_files}
 use Rattle.deny_gate.specs.Hits.{AreHits, IsOneEach}
 use Rattle.deny_gate.specs.Report.{finding_told, findings_of, keys_in, lock_id, policy_id, verdict_of}
@@ -283,7 +284,7 @@ pub report_by_texts : (before after : Disk) (said : cfg.Policy) (texts : Texts) 
     (files : List File) (report : Report) → extras ≡ extras_of texts → files ≡ policy_files texts.policy said.bans
     → IsGraphOf texts.metadata g → IsTableFor (policy_view said.bans) extras.replacements
     → IsReportSeen before after said g extras (files ++ lock_file g.root g ∷ []) report
-    → IsReportOn before after said texts report
+    → IsPolicyReport before after said texts report
 report_by_texts before after said texts g extras files report handed first is_graph table seen = record {
   graph = g;
   is_graph = is_graph;

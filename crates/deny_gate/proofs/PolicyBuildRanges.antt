@@ -26,7 +26,7 @@ use Rattle.deny_model.specs.Policy.{Words}
 use Rattle.deny_cfg.specs.LabelRanges.{of_some, own_range, pattern_range, pattern_ranges, word_ranges}
 use Rattle.deny_cfg.specs.LabelRanges as written
 use Rattle.deny_cfg.proofs.Among.{lie_prefix, lie_rest}
-use Rattle.deny_cfg.proofs.BuiltLaws.{IsPlaced, patterns_placed}
+use Rattle.deny_cfg.proofs.BuiltLaws.{IsLocated, patterns_located}
 use Rattle.deny_cfg.proofs.LabelLaws.{Lie, lie_append}
 use Rattle.deny_gate.specs.Labels.{build_ranges, building_ranges, built_in_globs, built_in_ranges, bypass_ranges}
 use Rattle.deny_gate.specs.Labels.{older_range}
@@ -137,7 +137,7 @@ module _ (text : List ℕ) where
 
 -- ---- built-in globs
 
-placed_in : (ps : List GlobPattern) → AllByRecursion IsPlaced ps
+placed_in : (ps : List GlobPattern) → AllByRecursion IsLocated ps
     → Lie builtin_file.source
     (map (λ (e : ScriptGlob). e.range) (filter (λ e. e.built_in) (map script_glob_view ps)))
 placed_in [] all = tt
@@ -147,7 +147,7 @@ placed_in (Builtin glob ∷ ps) all = (all.0, placed_in ps all.1)
 pub built_in_lie : (build : Option ValidBuildConfig) → IfSome build IsReadBuild
     → Lie builtin_file.source (built_in_ranges (option_map building_view build))
 built_in_lie None read = tt
-built_in_lie (Some valid) read = placed_in valid.script_extensions.patterns (patterns_placed valid read)
+built_in_lie (Some valid) read = placed_in valid.script_extensions.patterns (patterns_located valid read)
 
 -- where there is one, their file has a number
 has_file : (ps : List GlobPattern) (p : GlobPattern) → Contains ps p → is_built_in p ≡ true

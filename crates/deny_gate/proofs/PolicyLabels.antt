@@ -48,7 +48,8 @@ use Rattle.deny_krates.specs.Read.{IsGraphOf}
 use Rattle.deny_outside.specs.Disk.{Disk}
 use Rattle.deny_spans.specs.Seen.{lock_file}
 use Rattle.deny_toml.specs.Ranges.{IsRange}
-use Rattle.deny_gate.specs.Gating.{Extras, IsReportOn, IsReportSeen, Texts, circumstances_of, extras_of, first_files}
+use Rattle.deny_gate.specs.Gating.{Extras, IsPolicyReport, IsReportSeen, Texts, circumstances_of}
+use Rattle.deny_gate.specs.Gating.{extras_of, first_files}
 use Rattle.deny_gate.specs.Labels.{AreLabelled, ban_ranges, build_ranges, built_in_globs, built_in_ranges, entry_ranges}
 use Rattle.deny_gate.specs.Labels.{feature_ranges, ignore_ranges, licence_ranges, own_range, range_of, ranges_of}
 use Rattle.deny_gate.specs.Labels.{root_ranges, ArePlaced}
@@ -330,14 +331,14 @@ module _ (text : List ℕ) where
   all_ranges old new metadata extras said report is g is_graph bans licences older on =
       let read = globs_read text policy_id said is in
       let next = next_file text policy_id said is in
-      let words = recursion_from_All (IsRange text) (word_labels said.bans) bans.placed in record {
+      let words = recursion_from_All (IsRange text) (word_labels said.bans) bans.located in record {
         first = refl;
         second = refl;
         of_policy = All-from_recursion (IsRange text) (ranges_of (policy_view said.bans))
             (ranges_lie said.bans words (spans_lie text said is));
         of_licences = All-from_recursion (IsRange text) (licence_ranges (licensing_of said.licenses))
             (licences_lie said.licenses
-            (recursion_from_All (IsRange text) (written.licence_ranges said.licenses) licences.placed));
+            (recursion_from_All (IsRange text) (written.licence_ranges said.licenses) licences.located));
         of_builds = All-from_recursion (IsRange text) (build_ranges (building_of said.bans))
             (builds_lie text said.bans.build read (build_lies said.bans words)
             (recursion_from_All (IsRange text) (written.older_range said.bans) older));
@@ -362,7 +363,7 @@ module _ (text : List ℕ) where
 pub labels_then : (old new : Disk) (texts : Texts) (said : Policy) (read : List ℕ)
     (result : Result Report GateError) → read ≡ texts.policy → IsPolicyOf read policy_id said
     → AreLabels read (word_labels said.bans) → AreLabels read (written.licence_ranges said.licenses)
-    → All (IsRange read) (written.older_range said.bans) → IfOk result (IsReportOn old new said texts)
+    → All (IsRange read) (written.older_range said.bans) → IfOk result (IsPolicyReport old new said texts)
     → IfOk result (λ report. AreLabelled report.files report.findings)
 labels_then old new texts said read (Ok report) same is bans licences older on =
     report_labelled (circumstances_of said on.graph texts.replacements on.seen.view on.seen.packages) texts.policy

@@ -28,7 +28,7 @@ use Rattle.deny_entries.specs.Table.{Entries, ReadsIfThere, ReadsIn, ReadsOr, Re
 use Rattle.deny_entries.specs.Words.{ReadsAs, ReadsList, ReadsSpanned, level_of}
 use Rattle.deny_entries.specs.declared.package_spec.PackageSpec.{PackageSpec}
 use Rattle.deny_entries.specs.declared.policy_key.PolicyKey.TheVariants as key
-use Rattle.deny_entries.proofs.RowLaws.{says_of}
+use Rattle.deny_entries.proofs.KeyLaws.{says_of}
 use Rattle.deny_tables.specs.Build.{ReadsBuild}
 use Rattle.deny_tables.specs.Config.{ReadsConfig}
 use Rattle.deny_tables.specs.Features.{ReadsCrateFeatures}

@@ -282,7 +282,7 @@ report_with files g judged = record {
 }
 
 -- the metadata has a graph, there is the table that a policy asks for, and this is the report of the policy on it
-pub record IsReportOn (old new : Disk) (said : Policy) (texts : Texts) (report : Report) : Type 0 where
+pub record IsPolicyReport (old new : Disk) (said : Policy) (texts : Texts) (report : Report) : Type 0 where
   pub graph : Graph
   pub is_graph : IsGraphOf texts.metadata graph
   pub table : IsTableFor (policy_view said.bans) texts.replacements

@@ -14,7 +14,7 @@ ghost use Rattle.deny_toml.specs.Ranges.{IsRange};
 ghost use Rattle.deny_unread.specs.Bound.{Folders};
 ghost use Rattle.deny_unread.specs.Causes.{AreCaused};
 ghost use Rattle.deny_gate.specs.Gating.{AreEntriesApart, AreShort, IsCause, IsCauseBehind, IsCausedReport};
-ghost use Rattle.deny_gate.specs.Gating.{IsJudged, IsMetadataCause, IsPolicyCause, IsReportOf, IsReportOn};
+ghost use Rattle.deny_gate.specs.Gating.{IsJudged, IsMetadataCause, IsPolicyCause, IsReportOf, IsPolicyReport};
 ghost use Rattle.deny_gate.specs.Gating.{IsTableCause, IsTableCauseFor, IsTableFor, IsToldOn};
 ghost use Rattle.deny_gate.specs.Gating.{extras_in, extras_of, report_with, texts_in};
 ghost use Rattle.deny_gate.specs.Dead.{CanDoWithoutDead};
@@ -237,7 +237,7 @@ fn report_with(files: Files, krates: Krates, judged: Judged) -> Report
 
 /// The report of a policy on a graph, with the files of the policy.
 #[tactic(auto, using(crate::proofs::PolicyFiles::few_files))]
-fn report_on<D: PackageFiles>(
+fn report_on_graph<D: PackageFiles>(
     alloc: Global,
     files: Files,
     policy: &Policy,
@@ -251,7 +251,7 @@ fn report_on<D: PackageFiles>(
     requires graph { IsGraphOf inputs.now.metadata.items krates }
     requires first { files ≡ policy_files inputs.now.policy.items policy.now.bans }
     requires lock { length files ≡ lock_id (builtin_file_of policy.now.bans) }
-    ensures report { IfOk result (IsReportOn (D.seen disk.old) (D.seen disk.new) policy.now (texts_in inputs.now)) }
+    ensures report { IfOk result (IsPolicyReport (D.seen disk.old) (D.seen disk.new) policy.now (texts_in inputs.now)) }
     ensures cause { IfErr result (IsCauseBehind (policy_view policy.now.bans) (texts_in inputs.now)) }
     ensures wanted { IfOk result (λ report. AreWanted report.krates (of_manifests report.unread)) }
     ensures caused { IfOk result (λ report. (folder : Folders) → AreFoldersOf report.krates folder →
@@ -266,7 +266,7 @@ fn report_on<D: PackageFiles>(
 
 /// The report of a policy on the graph of metadata, with the table that it asks for.
 #[tactic(auto, using(crate::proofs::CauseLaws::no_graph_cause))]
-fn report_of<D: PackageFiles>(
+fn report_on_metadata<D: PackageFiles>(
     alloc: Global,
     files: Files,
     policy: &Policy,
@@ -279,7 +279,7 @@ fn report_of<D: PackageFiles>(
     requires small { length inputs.now.metadata.items < 2 ^ 28 }
     requires first { files ≡ policy_files inputs.now.policy.items policy.now.bans }
     requires lock { length files ≡ lock_id (builtin_file_of policy.now.bans) }
-    ensures report { IfOk result (IsReportOn (D.seen disk.old) (D.seen disk.new) policy.now (texts_in inputs.now)) }
+    ensures report { IfOk result (IsPolicyReport (D.seen disk.old) (D.seen disk.new) policy.now (texts_in inputs.now)) }
     ensures cause { IfErr result (IsCauseBehind (policy_view policy.now.bans) (texts_in inputs.now)) }
     ensures wanted { IfOk result (λ report. AreWanted report.krates (of_manifests report.unread)) }
     ensures caused { IfOk result (λ report. (folder : Folders) → AreFoldersOf report.krates folder →
@@ -288,7 +288,7 @@ fn report_of<D: PackageFiles>(
     ensures later { IsLater (D.seen disk.old) (D.seen disk.new) }
 {
     let krates = read_graph(alloc, inputs.metadata.as_slice())?;
-    report_on(alloc, files, policy, krates, inputs, disk)
+    report_on_graph(alloc, files, policy, krates, inputs, disk)
 }
 
 /// Reads a policy, cargo's metadata and, where the policy asks for one, a table of replacements, and
@@ -338,5 +338,5 @@ pub fn gate<D: PackageFiles>(
     deny_laws::packages_stay();
     let mut files = Files::new(alloc);
     let policy = policy_of(alloc, inputs.policy.as_slice(), &mut files)?;
-    report_of(alloc, files, &policy, inputs, disk)
+    report_on_metadata(alloc, files, &policy, inputs, disk)
 }

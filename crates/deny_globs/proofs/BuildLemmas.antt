@@ -4,7 +4,7 @@ use Rattle.std.proofs.Common.{inl, inr, ◌∙◌, arith, append_assoc, append-n
 use Rattle.std.specs.Prelude.{◌⊎◌, ◌↔◌, Some, None, slice_get}
 use Rattle.std.proofs.lemmas.List.{take_more}
 use Rattle.std.proofs.lemmas.List.Sums.{sum_by-append, sum_by-cons}
-use Rattle.deny_lists.proofs.Places.{slice_get-push}
+use Rattle.deny_lists.proofs.Indices.{slice_get-push}
 use Rattle.deny_lists.proofs.Options.{some_inj}
 use Rattle.deny_globs.specs.declared.token.Token.{Token}
 use Rattle.deny_globs.specs.declared.token.Token.TheVariants.{Character, AnyCharacter, OneOf, AnyText, LeadingFolders}
@@ -101,7 +101,7 @@ one_from : {token : Token} {next number glob : ℕ} {kind : State} {states : Lis
     ((ds : List ℕ) → Fits rest ds → Leads states glob next ds) → Fits (token ∷ rest) cs → Leads states glob number cs
 one_from {token} {next} {number} {glob} {kind} {states} {rest} {cs} takes_one one at from f =
     let s = split_first f in
-    let t = takes_one.taken_of_text s.front s.is_text in
+    let t = takes_one.taken_of_text s.prefix s.is_text in
     subst (λ ds. Leads states glob number ds) (sym (s.whole ∙ ap (λ l. l ++ s.rest) t.1))
     (over kind at (one.is_behind number t.0 t.2) (from s.rest s.fits))
 
@@ -168,7 +168,7 @@ built_class {class} {next} program p pushed = built_one (class_takes_one class) 
 
 any_longer : {rest : List Token} {c : ℕ} {cs : List ℕ} → Fits (AnyText ∷ rest) cs → Fits (AnyText ∷ rest) (c ∷ cs)
 any_longer {rest} {c} {cs} f = let s = split_first f in
-    fits_joined (c ∷ s.front) s.rest (ap (λ l. c ∷ l) s.whole) (any_text (c ∷ s.front)) s.fits
+    fits_joined (c ∷ s.prefix) s.rest (ap (λ l. c ∷ l) s.whole) (any_text (c ∷ s.prefix)) s.fits
 
 any_to : {next number glob : ℕ} {states : List State} {rest : List Token} {cs : List ℕ}
     → slice_get states number ≡ Some (state.AnyText next) →
@@ -188,9 +188,9 @@ any_to {next} {number} {glob} {states} {rest} {cs} at to own e (aside {next = n}
     fits_joined [] cs refl (any_text []) (to cs (subst (λ k. Leads states glob k cs) moves l))
 
 any_from : {next number glob : ℕ} {states : List State} → slice_get states number ≡ Some (state.AnyText next)
-    → (front back : List ℕ) → Leads states glob next back → Leads states glob number (front ++ back)
+    → (prefix back : List ℕ) → Leads states glob next back → Leads states glob number (prefix ++ back)
 any_from {next} at [] back l = aside (state.AnyText next) at refl l
-any_from {next} at (c ∷ front) back l = over (state.AnyText next) at refl (any_from at front back l)
+any_from {next} at (c ∷ prefix) back l = over (state.AnyText next) at refl (any_from at prefix back l)
 
 pub built_any_text : {next number : ℕ} {old new : List State} → IsProgram old → next < length old
     → IsPushed (state.AnyText next) old new number → IsBuilt (AnyText ∷ []) next old new number
@@ -205,7 +205,7 @@ built_any_text {next} {number} {old} {new} program p pushed =
         λ l. any_to at (λ ds m. (stands_grown program p grows stands ds).0 m) number refl l,
         λ f. let s = split_first f in
             subst (λ ds. Leads new glob number ds) (sym s.whole)
-            (any_from at s.front s.rest ((stands_grown program p grows stands s.rest).1 s.fits)),
+            (any_from at s.prefix s.rest ((stands_grown program p grows stands s.rest).1 s.fits)),
       );
       size = omega (arith, length_pushed pushed, size_one AnyText, size_any_text);
     }

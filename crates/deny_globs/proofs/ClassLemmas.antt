@@ -110,36 +110,36 @@ members_more body next size old new before (adds_range {rest} {behind} {first} {
     let m = seam body next size piece behind before.within w s in
     record {
       within = m.fits;
-      members = moved (take next body) (take (next + size) body) (drop (next + size) body) m.front m.rest
+      members = moved (take next body) (take (next + size) body) (drop (next + size) body) m.prefix m.rest
           (subst (λ r. AreMembers true (take next body) r old) w before.members)
           (may_stand body next first _ before.within w q) l le;
     }
   where
-    moved : (front longer after : List ℕ) → longer ≡ front ++ first ∷ dash ∷ last ∷ [] → after ≡ behind
-        → AreMembers true front (first ∷ dash ∷ last ∷ behind) old →
-        IsTrue (may_be_member (is_empty front) first) → IsTrue (not (last == close_bracket)) → first ≤ last
+    moved : (prefix longer after : List ℕ) → longer ≡ prefix ++ first ∷ dash ∷ last ∷ [] → after ≡ behind
+        → AreMembers true prefix (first ∷ dash ∷ last ∷ behind) old →
+        IsTrue (may_be_member (is_empty prefix) first) → IsTrue (not (last == close_bracket)) → first ≤ last
         → AreMembers true longer after new
-    moved front longer after a b ms m l le =
+    moved prefix longer after a b ms m l le =
         subst (λ r. AreMembers true longer after r) (sym e)
         (subst (λ r. AreMembers true r after (old ++ record { first = first; last = last } ∷ [])) (sym a)
-        (subst (λ r. AreMembers true (front ++ first ∷ dash ∷ last ∷ []) r
+        (subst (λ r. AreMembers true (prefix ++ first ∷ dash ∷ last ∷ []) r
         (old ++ record { first = first; last = last } ∷ [])) (sym b) (snoc_range first last behind ms m l le)))
 members_more body next size old new before (adds_one {rest} {behind} {c} w b s e) q =
     let m = seam body next size (c ∷ []) behind before.within w s in
     record {
       within = m.fits;
-      members = moved (take next body) (take (next + size) body) (drop (next + size) body) m.front m.rest
+      members = moved (take next body) (take (next + size) body) (drop (next + size) body) m.prefix m.rest
           (subst (λ r. AreMembers true (take next body) r old) w before.members)
           (may_stand body next c _ before.within w q);
     }
   where
-    moved : (front longer after : List ℕ) → longer ≡ front ++ c ∷ [] → after ≡ behind
-        → AreMembers true front (c ∷ behind) old →
-        IsTrue (may_be_member (is_empty front) c) → AreMembers true longer after new
-    moved front longer after a d ms m =
+    moved : (prefix longer after : List ℕ) → longer ≡ prefix ++ c ∷ [] → after ≡ behind
+        → AreMembers true prefix (c ∷ behind) old →
+        IsTrue (may_be_member (is_empty prefix) c) → AreMembers true longer after new
+    moved prefix longer after a d ms m =
         subst (λ r. AreMembers true longer after r) (sym e)
         (subst (λ r. AreMembers true r after (old ++ record { first = c; last = c } ∷ [])) (sym a)
-        (subst (λ r. AreMembers true (front ++ c ∷ []) r (old ++ record { first = c; last = c } ∷ [])) (sym d)
+        (subst (λ r. AreMembers true (prefix ++ c ∷ []) r (old ++ record { first = c; last = c } ∷ [])) (sym d)
         (snoc_one c behind ms m b)))
 
 pub members_fall : (body : List ℕ) (next : ℕ) (ranges : List CharacterRange) → AreMembersTo body next ranges

@@ -38,9 +38,9 @@ ascends extensions up i j a b p e f =
           → slice_get (map name_of extensions) k ≡ Some z.name
       named k {z} at = slice_get-map name_of extensions k ∙ ap (option_map name_of) at
 
-pub extension_at : (extensions : List Extension) {place : ℕ} {extension : Extension} → place < length extensions
-    → extension ≡ get_or extensions place extension → slice_get extensions place ≡ Some extension
-extension_at extensions {place} {extension} inside is = slice_get_read extensions (length extensions) place extension
+pub extension_at : (extensions : List Extension) {index : ℕ} {extension : Extension} → index < length extensions
+    → extension ≡ get_or extensions index extension → slice_get extensions index ≡ Some extension
+extension_at extensions {index} {extension} inside is = slice_get_read extensions (length extensions) index extension
     refl inside is
 
 pub above_middle : {extensions : List Extension} {name : List ℕ} {low high middle : ℕ} {extension : Extension}
@@ -87,8 +87,8 @@ below_middle {extensions} {name} {low} {high} {middle} {extension} up low_is les
         subst (λ x. slice_cmp nat_cmp name (name_of x) ≡ Less) same here_above
   ]
 
-pub named_equal : {extensions : List Extension} {name : List ℕ} {place : ℕ} {extension : Extension}
-    → slice_get extensions place ≡ Some extension → slice_cmp nat_cmp extension.name name ≡ Equal
-    → IsNamedAt extensions name place
+pub named_equal : {extensions : List Extension} {name : List ℕ} {index : ℕ} {extension : Extension}
+    → slice_get extensions index ≡ Some extension → slice_cmp nat_cmp extension.name name ≡ Equal
+    → IsNamedAt extensions name index
 named_equal {name = name} {extension = extension} at is = record
     { extension = extension; at = at; named = text_cmp-exact extension.name name is }

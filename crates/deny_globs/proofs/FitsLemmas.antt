@@ -17,48 +17,48 @@ takes _ c = false
 
 -- the first token's text, and the others'
 pub record Split (token : Token) (tokens : List Token) (cs : List ℕ) : Type 0 where
-  pub front : List ℕ
+  pub prefix : List ℕ
   pub rest : List ℕ
-  pub whole : cs ≡ front ++ rest
-  pub is_text : IsText token front
+  pub whole : cs ≡ prefix ++ rest
+  pub is_text : IsText token prefix
   pub fits : Fits tokens rest
 
 pub split_first : {token : Token} {tokens : List Token} {cs : List ℕ} → Fits (token ∷ tokens) cs → Split token tokens cs
-split_first (joined front rest t f) = record { front = front; rest = rest; whole = refl; is_text = t; fits = f }
+split_first (joined prefix rest t f) = record { prefix = prefix; rest = rest; whole = refl; is_text = t; fits = f }
 
 -- tokens that fit one after the other fit together
-pub fits_joined : {token : Token} {tokens : List Token} {cs : List ℕ} (front rest : List ℕ) → cs ≡ front ++ rest
-    → IsText token front → Fits tokens rest → Fits (token ∷ tokens) cs
-fits_joined {token} {tokens} {cs} front rest e t f = subst (λ ds. Fits (token ∷ tokens) ds) (sym e)
-    (joined front rest t f)
+pub fits_joined : {token : Token} {tokens : List Token} {cs : List ℕ} (prefix rest : List ℕ) → cs ≡ prefix ++ rest
+    → IsText token prefix → Fits tokens rest → Fits (token ∷ tokens) cs
+fits_joined {token} {tokens} {cs} prefix rest e t f = subst (λ ds. Fits (token ∷ tokens) ds) (sym e)
+    (joined prefix rest t f)
 
 pub nothing_fits : {cs : List ℕ} → Fits [] cs → cs ≡ []
 nothing_fits nothing = refl
 
 -- two lists of tokens
 pub record SplitList (first_tokens tokens : List Token) (cs : List ℕ) : Type 0 where
-  pub front : List ℕ
+  pub prefix : List ℕ
   pub rest : List ℕ
-  pub whole : cs ≡ front ++ rest
-  pub fits_first : Fits first_tokens front
+  pub whole : cs ≡ prefix ++ rest
+  pub fits_first : Fits first_tokens prefix
   pub fits : Fits tokens rest
 
 pub split_list : (first_tokens tokens : List Token) (cs : List ℕ) → Fits (first_tokens ++ tokens) cs
     → SplitList first_tokens tokens cs
-split_list [] tokens cs f = record { front = []; rest = cs; whole = refl; fits_first = nothing; fits = f }
+split_list [] tokens cs f = record { prefix = []; rest = cs; whole = refl; fits_first = nothing; fits = f }
 split_list (token ∷ more) tokens cs f =
     let s = split_first f in
     let l = split_list more tokens s.rest s.fits in
     record {
-      front = s.front ++ l.front;
+      prefix = s.prefix ++ l.prefix;
       rest = l.rest;
-      whole = s.whole ∙ ap (λ ds. s.front ++ ds) l.whole ∙ sym (append_assoc s.front l.front l.rest);
-      fits_first = joined s.front l.front s.is_text l.fits_first;
+      whole = s.whole ∙ ap (λ ds. s.prefix ++ ds) l.whole ∙ sym (append_assoc s.prefix l.prefix l.rest);
+      fits_first = joined s.prefix l.prefix s.is_text l.fits_first;
       fits = l.fits;
     }
 
-pub fits_list : {first_tokens tokens : List Token} {front rest : List ℕ} → Fits first_tokens front → Fits tokens rest
-    → Fits (first_tokens ++ tokens) (front ++ rest)
+pub fits_list : {first_tokens tokens : List Token} {prefix rest : List ℕ} → Fits first_tokens prefix → Fits tokens rest
+    → Fits (first_tokens ++ tokens) (prefix ++ rest)
 fits_list nothing g = g
 fits_list {tokens = tokens} {rest = rest} (joined a b t f) g =
     fits_joined a (b ++ rest) (append_assoc a b rest) t (fits_list f g)

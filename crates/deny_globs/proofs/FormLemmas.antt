@@ -20,18 +20,18 @@ above_fits rest cs (inl f) = fits_joined [] cs refl at_the_start f
 above_fits rest cs (inr f) =
     let a = split_first f in
     let b = split_first a.fits in
-    let t = (character_takes slash).taken_of_text b.front b.is_text in
+    let t = (character_takes slash).taken_of_text b.prefix b.is_text in
     let s : t.0 ≡ slash = sym (search (rules, t.2)) in
-    let front : b.front ≡ slash ∷ [] = t.1 ∙ ap (λ c. c ∷ []) s in
-    fits_joined (a.front ++ slash ∷ []) b.rest
-    (a.whole ∙ ap (λ l. a.front ++ l) (b.whole ∙ ap (λ l. l ++ b.rest) front)
-    ∙ sym (append_assoc a.front (slash ∷ []) b.rest))
-    (below_the_start a.front) b.fits
+    let prefix : b.prefix ≡ slash ∷ [] = t.1 ∙ ap (λ c. c ∷ []) s in
+    fits_joined (a.prefix ++ slash ∷ []) b.rest
+    (a.whole ∙ ap (λ l. a.prefix ++ l) (b.whole ∙ ap (λ l. l ++ b.rest) prefix)
+    ∙ sym (append_assoc a.prefix (slash ∷ []) b.rest))
+    (below_the_start a.prefix) b.fits
 
-above_of : (rest : List Token) (front back : List ℕ) → IsText LeadingFolders front → Fits rest back
-    → Fits rest (front ++ back) ⊎ Fits (AnyText ∷ Character slash ∷ rest) (front ++ back)
-above_of rest front back at_the_start f = inl f
-above_of rest front back (below_the_start cs) f =
+above_of : (rest : List Token) (prefix back : List ℕ) → IsText LeadingFolders prefix → Fits rest back
+    → Fits rest (prefix ++ back) ⊎ Fits (AnyText ∷ Character slash ∷ rest) (prefix ++ back)
+above_of rest prefix back at_the_start f = inl f
+above_of rest prefix back (below_the_start cs) f =
     inr (fits_joined cs (slash ∷ back) (append_assoc cs (slash ∷ []) back) (any_text cs)
     (fits_joined (slash ∷ []) back refl (itself slash) f))
 
@@ -40,22 +40,22 @@ pub above_from_fits : (rest : List Token) (cs : List ℕ) → Fits (LeadingFolde
 above_from_fits rest cs f =
     let s = split_first f in
     subst (λ ds. Fits rest ds ⊎ Fits (AnyText ∷ Character slash ∷ rest) ds) (sym s.whole)
-    (above_of rest s.front s.rest s.is_text s.fits)
+    (above_of rest s.prefix s.rest s.is_text s.fits)
 
 pub trailing_fits : (rest : List Token) (cs : List ℕ) → Fits (Character slash ∷ AnyText ∷ rest) cs
     → Fits (TrailingPath ∷ rest) cs
 trailing_fits rest cs f =
     let a = split_first f in
     let b = split_first a.fits in
-    let t = (character_takes slash).taken_of_text a.front a.is_text in
+    let t = (character_takes slash).taken_of_text a.prefix a.is_text in
     let s : t.0 ≡ slash = sym (search (rules, t.2)) in
-    let front : a.front ≡ slash ∷ [] = t.1 ∙ ap (λ c. c ∷ []) s in
-    fits_joined (slash ∷ b.front) b.rest (a.whole ∙ ap (λ l. l ++ a.rest) front ∙ ap (λ l. slash ∷ l) b.whole)
-    (at_the_end b.front) b.fits
+    let prefix : a.prefix ≡ slash ∷ [] = t.1 ∙ ap (λ c. c ∷ []) s in
+    fits_joined (slash ∷ b.prefix) b.rest (a.whole ∙ ap (λ l. l ++ a.rest) prefix ∙ ap (λ l. slash ∷ l) b.whole)
+    (at_the_end b.prefix) b.fits
 
-trailing_of : (rest : List Token) (front back : List ℕ) → IsText TrailingPath front → Fits rest back
-    → Fits (Character slash ∷ AnyText ∷ rest) (front ++ back)
-trailing_of rest front back (at_the_end cs) f = fits_joined (slash ∷ []) (cs ++ back) refl (itself slash)
+trailing_of : (rest : List Token) (prefix back : List ℕ) → IsText TrailingPath prefix → Fits rest back
+    → Fits (Character slash ∷ AnyText ∷ rest) (prefix ++ back)
+trailing_of rest prefix back (at_the_end cs) f = fits_joined (slash ∷ []) (cs ++ back) refl (itself slash)
     (fits_joined cs back refl (any_text cs) f)
 
 pub trailing_from_fits : (rest : List Token) (cs : List ℕ) → Fits (TrailingPath ∷ rest) cs
@@ -63,28 +63,28 @@ pub trailing_from_fits : (rest : List Token) (cs : List ℕ) → Fits (TrailingP
 trailing_from_fits rest cs f =
     let s = split_first f in
     subst (λ ds. Fits (Character slash ∷ AnyText ∷ rest) ds) (sym s.whole)
-    (trailing_of rest s.front s.rest s.is_text s.fits)
+    (trailing_of rest s.prefix s.rest s.is_text s.fits)
 
-slash_then : (front : List ℕ) → IsText LeadingFolders front → IsText MiddleFolders (slash ∷ front)
-slash_then front at_the_start = one_slash
-slash_then front (below_the_start cs) = between_slashes cs
+slash_then : (prefix : List ℕ) → IsText LeadingFolders prefix → IsText MiddleFolders (slash ∷ prefix)
+slash_then prefix at_the_start = one_slash
+slash_then prefix (below_the_start cs) = between_slashes cs
 
 pub middle_fits : (rest : List Token) (cs : List ℕ) → Fits (Character slash ∷ LeadingFolders ∷ rest) cs
     → Fits (MiddleFolders ∷ rest) cs
 middle_fits rest cs f =
     let a = split_first f in
     let b = split_first a.fits in
-    let t = (character_takes slash).taken_of_text a.front a.is_text in
+    let t = (character_takes slash).taken_of_text a.prefix a.is_text in
     let s : t.0 ≡ slash = sym (search (rules, t.2)) in
-    let front : a.front ≡ slash ∷ [] = t.1 ∙ ap (λ c. c ∷ []) s in
-    fits_joined (slash ∷ b.front) b.rest (a.whole ∙ ap (λ l. l ++ a.rest) front ∙ ap (λ l. slash ∷ l) b.whole)
-    (slash_then b.front b.is_text) b.fits
+    let prefix : a.prefix ≡ slash ∷ [] = t.1 ∙ ap (λ c. c ∷ []) s in
+    fits_joined (slash ∷ b.prefix) b.rest (a.whole ∙ ap (λ l. l ++ a.rest) prefix ∙ ap (λ l. slash ∷ l) b.whole)
+    (slash_then b.prefix b.is_text) b.fits
 
-middle_of : (rest : List Token) (front back : List ℕ) → IsText MiddleFolders front → Fits rest back
-    → Fits (Character slash ∷ LeadingFolders ∷ rest) (front ++ back)
-middle_of rest front back one_slash f = fits_joined (slash ∷ []) back refl (itself slash)
+middle_of : (rest : List Token) (prefix back : List ℕ) → IsText MiddleFolders prefix → Fits rest back
+    → Fits (Character slash ∷ LeadingFolders ∷ rest) (prefix ++ back)
+middle_of rest prefix back one_slash f = fits_joined (slash ∷ []) back refl (itself slash)
     (fits_joined [] back refl at_the_start f)
-middle_of rest front back (between_slashes cs) f =
+middle_of rest prefix back (between_slashes cs) f =
     fits_joined (slash ∷ []) ((cs ++ slash ∷ []) ++ back) refl (itself slash)
     (fits_joined (cs ++ slash ∷ []) back refl (below_the_start cs) f)
 
@@ -93,12 +93,12 @@ pub middle_from_fits : (rest : List Token) (cs : List ℕ) → Fits (MiddleFolde
 middle_from_fits rest cs f =
     let s = split_first f in
     subst (λ ds. Fits (Character slash ∷ LeadingFolders ∷ rest) ds) (sym s.whole)
-    (middle_of rest s.front s.rest s.is_text s.fits)
+    (middle_of rest s.prefix s.rest s.is_text s.fits)
 
-one_fits : (rest : List Token) (alternatives : List (List Token)) (front back : List ℕ) → IsTextOfOne alternatives front
-    → Fits rest back → OneFits rest alternatives (front ++ back)
-one_fits rest alternatives front back (first t) f = the_first (fits_list t f)
-one_fits rest alternatives front back (later t) f = another (one_fits rest _ front back t f)
+one_fits : (rest : List Token) (alternatives : List (List Token)) (prefix back : List ℕ)
+    → IsTextOfOne alternatives prefix → Fits rest back → OneFits rest alternatives (prefix ++ back)
+one_fits rest alternatives prefix back (first t) f = the_first (fits_list t f)
+one_fits rest alternatives prefix back (later t) f = another (one_fits rest _ prefix back t f)
 
 -- what a text of the token says of its alternatives
 abbrev OfAlternatives : Token-F Token → List ℕ → Type 0
@@ -126,28 +126,28 @@ pub one_from_fits : (rest : List Token) (alternatives : List (List Token)) (cs :
 one_from_fits rest alternatives cs f =
     let s = split_first f in
     subst (λ ds. OneFits rest alternatives ds) (sym s.whole)
-    (one_fits rest alternatives s.front s.rest (text_of_one alternatives s.front s.is_text) s.fits)
+    (one_fits rest alternatives s.prefix s.rest (text_of_one alternatives s.prefix s.is_text) s.fits)
 
 pub record OneSplit (rest : List Token) (alternatives : List (List Token)) (cs : List ℕ) : Type 0 where
-  pub front : List ℕ
+  pub prefix : List ℕ
   pub back : List ℕ
-  pub whole : cs ≡ front ++ back
-  pub is_text : IsTextOfOne alternatives front
+  pub whole : cs ≡ prefix ++ back
+  pub is_text : IsTextOfOne alternatives prefix
   pub fits : Fits rest back
 
 split_one : (rest : List Token) (alternatives : List (List Token)) (cs : List ℕ) → OneFits rest alternatives cs
     → OneSplit rest alternatives cs
 split_one rest alternatives cs (the_first {tokens} f) =
     let s = split_list tokens rest cs f in
-    record { front = s.front; back = s.rest; whole = s.whole; is_text = first s.fits_first; fits = s.fits }
+    record { prefix = s.prefix; back = s.rest; whole = s.whole; is_text = first s.fits_first; fits = s.fits }
 split_one rest alternatives cs (another o) =
     let s = split_one rest _ cs o in
-    record { front = s.front; back = s.back; whole = s.whole; is_text = later s.is_text; fits = s.fits }
+    record { prefix = s.prefix; back = s.back; whole = s.whole; is_text = later s.is_text; fits = s.fits }
 
 pub fits_from_one : (rest : List Token) (alternatives : List (List Token)) (cs : List ℕ) → OneFits rest alternatives cs
     → Fits (Alternatives alternatives ∷ rest) cs
 fits_from_one rest alternatives cs o =
-    let s = split_one rest alternatives cs o in fits_joined s.front s.back s.whole (alternative s.is_text) s.fits
+    let s = split_one rest alternatives cs o in fits_joined s.prefix s.back s.whole (alternative s.is_text) s.fits
 
 pub none_fits : (rest : List Token) (cs : List ℕ) → OneFits rest [] cs → ⊥
 none_fits rest cs o = elim o [ ]

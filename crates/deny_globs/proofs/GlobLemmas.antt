@@ -25,70 +25,70 @@ use Rattle.deny_globs.proofs.Braces.{state, start, brace, run, run_more, tokens_
 use Rattle.deny_globs.proofs.Seams.{seam}
 use Rattle.deny_globs.proofs.Spelling.{spells_more}
 
--- the places of braces
-abbrev pub places : List Opened → List ℕ
-places opened = map (λ b. b.at) opened
+-- the indices of braces
+abbrev pub indices : List Opened → List ℕ
+indices opened = map (λ b. b.at) opened
 
 pub some_is : {r s : Reading} → Some r ≡ Some s → r ≡ s
 some_is e = cc
 
-length-places : (opened : List Opened) → length (places opened) ≡ length opened
-length-places [] = refl
-length-places (b ∷ opened) = ap suc (length-places opened)
+length-indices : (opened : List Opened) → length (indices opened) ≡ length opened
+length-indices [] = refl
+length-indices (b ∷ opened) = ap suc (length-indices opened)
 
 open_open : (c : Bool) (at : ℕ) (opened : List Opened) (tokens : List Token) (next : Reading) (pieces : List Piece)
     → nat_lt (length opened) most_braces ≡ c →
     cond c (Some (state (brace at tokens [] ∷ opened) [])) None ≡ Some next →
-    (cond (nat_lt (length (places opened)) most_braces) (open_behind (at ∷ places opened) pieces) None
-    ≡ open_behind (places next.opened) pieces) × (length opened < most_braces)
+    (cond (nat_lt (length (indices opened)) most_braces) (open_behind (at ∷ indices opened) pieces) None
+    ≡ open_behind (indices next.opened) pieces) × (length opened < most_braces)
     × (next.opened ≡ brace at tokens [] ∷ opened)
 open_open true at opened tokens next pieces l e =
     let same : state (brace at tokens [] ∷ opened) [] ≡ next = cc in
     let less : length opened < most_braces = search rules in
-    let lt : nat_lt (length (places opened)) most_braces ≡ true = ap (λ n. nat_lt n most_braces) (length-places opened)
-    ∙ l in (
-      ap (λ b. cond b (open_behind (at ∷ places opened) pieces) None) lt
-          ∙ ap (λ r. open_behind (places r.opened) pieces) same,
+    let lt : nat_lt (length (indices opened)) most_braces ≡ true =
+    ap (λ n. nat_lt n most_braces) (length-indices opened) ∙ l in (
+      ap (λ b. cond b (open_behind (at ∷ indices opened) pieces) None) lt
+          ∙ ap (λ r. open_behind (indices r.opened) pieces) same,
       less,
       ap (λ r. r.opened) (sym same),
     )
 open_open false at opened tokens next pieces l e = cc
 
-open_part : (opened : List Opened) (tokens : List Token) → places (parted opened tokens).opened ≡ places opened
+open_part : (opened : List Opened) (tokens : List Token) → indices (parted opened tokens).opened ≡ indices opened
 open_part [] tokens = refl
 open_part (b ∷ opened) tokens = refl
 
 open_close : (opened : List Opened) (tokens : List Token) (next : Reading) (to : ℕ) (pieces : List Piece)
     → closed opened tokens ≡ Some next →
-    (open_behind (places opened) (Close to ∷ pieces) ≡ open_behind (places next.opened) pieces)
+    (open_behind (indices opened) (Close to ∷ pieces) ≡ open_behind (indices next.opened) pieces)
     × (length next.opened ≤ length opened)
 open_close [] tokens next to pieces e = cc
 open_close (b ∷ opened) tokens next to pieces e =
     let same : opened ≡ next.opened = ap (λ r. r.opened) (some_is e) in
     let n : length next.opened ≡ length opened = ap length (sym same) in
-    (ap (λ o. open_behind (places o) pieces) same, omega arith)
+    (ap (λ o. open_behind (indices o) pieces) same, omega arith)
 
 -- which braces are open, and that they are few, after a piece
 open_after : (piece : Piece) (pieces : List Piece) (reading next : Reading) → after_piece reading piece ≡ Some next
     → length reading.opened ≤ most_braces →
-    (open_behind (places reading.opened) (piece ∷ pieces) ≡ open_behind (places next.opened) pieces)
+    (open_behind (indices reading.opened) (piece ∷ pieces) ≡ open_behind (indices next.opened) pieces)
     × (length next.opened ≤ most_braces)
 open_after (Whole t) pieces reading next e few =
     let same : reading.opened ≡ next.opened = ap (λ r. r.opened) (some_is e) in
-    (ap (λ o. open_behind (places o) pieces) same, subst (λ o. length o ≤ most_braces) same few)
+    (ap (λ o. open_behind (indices o) pieces) same, subst (λ o. length o ≤ most_braces) same few)
 open_after Middle pieces reading next e few =
     let same : reading.opened ≡ next.opened = ap (λ r. r.opened) (some_is e) in
-    (ap (λ o. open_behind (places o) pieces) same, subst (λ o. length o ≤ most_braces) same few)
+    (ap (λ o. open_behind (indices o) pieces) same, subst (λ o. length o ≤ most_braces) same few)
 open_after (Open at) pieces reading next e few =
     let o = open_open (nat_lt (length reading.opened) most_braces) at reading.opened reading.tokens next pieces refl e
     in
     let less = o.1 in
     (o.0, subst (λ l. length l ≤ most_braces) (sym o.2) (omega arith))
 open_after Comma pieces reading next e few =
-    let same : places reading.opened ≡ places next.opened = sym (open_part reading.opened reading.tokens)
-    ∙ ap (λ r. places r.opened) (some_is e) in
-    let n : length next.opened ≡ length reading.opened = sym (length-places next.opened) ∙ ap length (sym same)
-    ∙ length-places reading.opened in
+    let same : indices reading.opened ≡ indices next.opened = sym (open_part reading.opened reading.tokens)
+    ∙ ap (λ r. indices r.opened) (some_is e) in
+    let n : length next.opened ≡ length reading.opened = sym (length-indices next.opened) ∙ ap length (sym same)
+    ∙ length-indices reading.opened in
     (ap (λ o. open_behind o pieces) same, omega arith)
 open_after (Close at) pieces reading next e few =
     let c = open_close reading.opened reading.tokens next at pieces e in
@@ -97,10 +97,10 @@ open_after (Close at) pieces reading next e few =
 
 pub open_run : (pieces : List Piece) (reading end : Reading) → run reading pieces ≡ Some end
     → length reading.opened ≤ most_braces →
-    (open_behind (places reading.opened) pieces ≡ Some (places end.opened)) × (length end.opened ≤ most_braces)
+    (open_behind (indices reading.opened) pieces ≡ Some (indices end.opened)) × (length end.opened ≤ most_braces)
 open_run [] reading end e few =
     let same : reading.opened ≡ end.opened = ap (λ r. r.opened) (some_is e) in
-    (ap (λ o. Some (places o)) same, subst (λ o. length o ≤ most_braces) same few)
+    (ap (λ o. Some (indices o)) same, subst (λ o. length o ≤ most_braces) same few)
 open_run (piece ∷ pieces) reading end e few =
     let s = after_some (after_piece reading piece) pieces end e in
     let a = open_after piece pieces reading s.0 s.1 few in
@@ -128,22 +128,22 @@ pub read_more : (characters : List ℕ) (next size : ℕ) (old new : Reading) �
     → ReadsOn characters next size old new → IsReadSo characters (next + size) new
 read_more characters next size old new so on =
     let rest = drop next characters in
-    let front = take size rest in
+    let prefix = take size rest in
     let behind = drop size rest in
     let w = on.is_piece.within in
-    let s = seam characters next size front behind so.within (sym (take-append-drop size rest))
+    let s = seam characters next size prefix behind so.within (sym (take-append-drop size rest))
     (sym (length-take-le size rest w)) in
     let count : 0 + length (take next characters) ≡ next = zero-add (length (take next characters))
     ∙ length-take-le next characters so.within in
-    let spelled : Spells 0 (take next characters ++ front) behind (so.pieces ++ on.piece ∷ []) =
-    spells_more front behind
+    let spelled : Spells 0 (take next characters ++ prefix) behind (so.pieces ++ on.piece ∷ []) =
+    spells_more prefix behind
     (subst (λ l. Spells 0 (take next characters) l so.pieces) (sym (take-append-drop size rest)) so.spelled)
-    (subst (λ n. IsPiece n front behind on.piece) (sym count) on.is_piece.is_piece) in
+    (subst (λ n. IsPiece n prefix behind on.piece) (sym count) on.is_piece.is_piece) in
     record {
       pieces = so.pieces ++ on.piece ∷ [];
       within = s.fits;
-      spelled = subst (λ l. Spells 0 l (drop (next + size) characters) (so.pieces ++ on.piece ∷ [])) (sym s.front)
-          (subst (λ l. Spells 0 (take next characters ++ front) l (so.pieces ++ on.piece ∷ [])) (sym s.rest) spelled);
+      spelled = subst (λ l. Spells 0 l (drop (next + size) characters) (so.pieces ++ on.piece ∷ [])) (sym s.prefix)
+          (subst (λ l. Spells 0 (take next characters ++ prefix) l (so.pieces ++ on.piece ∷ [])) (sym s.rest) spelled);
       read = run_more so.pieces on.piece start (inner_first old) (inner_first new) so.read on.after;
     }
 
@@ -166,7 +166,7 @@ glob_read characters next reading tokens p so e =
 -- faults
 
 pub read_to : (characters : List ℕ) (next : ℕ) (reading : Reading) → IsReadSo characters next reading
-    → IsReadTo characters (take next characters) (drop next characters) (places (reverse reading.opened))
+    → IsReadTo characters (take next characters) (drop next characters) (indices (reverse reading.opened))
 read_to characters next reading so = record {
   pieces = so.pieces;
   whole = sym (take-append-drop next characters);
@@ -174,16 +174,16 @@ read_to characters next reading so = record {
   braces = (open_run so.pieces start (inner_first reading) so.read (omega arith)).0;
 }
 
-outermost_last : (places : List ℕ) (first at : ℕ) → outermost (places ++ first ∷ []) at ≡ first
+outermost_last : (indices : List ℕ) (first at : ℕ) → outermost (indices ++ first ∷ []) at ≡ first
 outermost_last [] first at = refl
-outermost_last (p ∷ places) first at = outermost_last places first p
+outermost_last (p ∷ indices) first at = outermost_last indices first p
 
-outermost_is : (opened : List Opened) (at : ℕ) → outermost (places (reverse opened)) at ≡ outermost_of opened at
+outermost_is : (opened : List Opened) (at : ℕ) → outermost (indices (reverse opened)) at ≡ outermost_of opened at
 outermost_is [] at = refl
 outermost_is (b ∷ opened) at =
-    ap (λ l. outermost (places l) at) (reverse-append (b ∷ []) opened)
+    ap (λ l. outermost (indices l) at) (reverse-append (b ∷ []) opened)
     ∙ ap (λ l. outermost l at) (map-append (λ o. o.at) (reverse opened) (b ∷ []))
-    ∙ outermost_last (places (reverse opened)) b.at at
+    ∙ outermost_last (indices (reverse opened)) b.at at
 
 stop_fault : {at unclosed i : ℕ} {rest : List ℕ} (characters before opened : List ℕ) → IsStop at unclosed rest i
     → IsReadTo characters before rest opened → length before ≡ at → unclosed ≡ outermost opened at →
@@ -203,12 +203,12 @@ end_fault characters [] first at read o p = absurd (omega arith)
 end_fault characters (last ∷ opened) first at read o p = subst (FirstFault characters) o
     (unclosed_brace last opened read)
 
-open_shape : {at a : ℕ} {front behind : List ℕ} → IsPiece at front behind (Open a)
-    → (front ≡ open_brace ∷ []) × (a ≡ at)
+open_shape : {at a : ℕ} {prefix behind : List ℕ} → IsPiece at prefix behind (Open a)
+    → (prefix ≡ open_brace ∷ []) × (a ≡ at)
 open_shape open_braces = (refl, refl)
 
-close_shape : {at a : ℕ} {front behind : List ℕ} → IsPiece at front behind (Close a)
-    → (front ≡ close_brace ∷ []) × (a ≡ at)
+close_shape : {at a : ℕ} {prefix behind : List ℕ} → IsPiece at prefix behind (Close a)
+    → (prefix ≡ close_brace ∷ []) × (a ≡ at)
 close_shape close_braces = (refl, refl)
 
 too_many : (c : Bool) (n : ℕ) (some : Reading) → nat_lt n most_braces ≡ c → cond c (Some some) None ≡ None
@@ -220,8 +220,8 @@ none_open : (opened : List Opened) (tokens : List Token) → closed opened token
 none_open [] tokens e = refl
 none_open (b ∷ opened) tokens e = cc
 
-parts_of : (rest : List ℕ) (size : ℕ) (front : List ℕ) → take size rest ≡ front → rest ≡ front ++ drop size rest
-parts_of rest size front e = sym (take-append-drop size rest) ∙ ap (λ l. l ++ drop size rest) e
+parts_of : (rest : List ℕ) (size : ℕ) (prefix : List ℕ) → take size rest ≡ prefix → rest ≡ prefix ++ drop size rest
+parts_of rest size prefix e = sym (take-append-drop size rest) ∙ ap (λ l. l ++ drop size rest) e
 
 bad_brace : (characters : List ℕ) (next : ℕ) (old : Reading) (i size : ℕ) (piece : Piece) → IsReadSo characters next old
     → IsPieceOf next (drop next characters) size piece →
@@ -237,29 +237,29 @@ bad_brace characters next old i size (Open at) so p a b =
     let few = (open_run so.pieces start (inner_first old) so.read (omega arith)).1 in
     let deep : length inner ≡ most_braces = too_many (nat_lt (length inner) most_braces) (length inner)
     (state (brace at old.tokens [] ∷ inner) []) refl a few in
-    let place : length (take next characters) ≡ i = length-take-le next characters so.within ∙ sym shape.1
+    let index : length (take next characters) ≡ i = length-take-le next characters so.within ∙ sym shape.1
     ∙ some_inj b in
-    subst (FirstFault characters) place
-    (too_deep (take next characters) (drop size (drop next characters)) (places inner)
-    (subst (λ l. IsReadTo characters (take next characters) l (places inner)) rest (read_to characters next old so))
-    (length-places inner ∙ deep))
+    subst (FirstFault characters) index
+    (too_deep (take next characters) (drop size (drop next characters)) (indices inner)
+    (subst (λ l. IsReadTo characters (take next characters) l (indices inner)) rest (read_to characters next old so))
+    (length-indices inner ∙ deep))
 bad_brace characters next old i size (Close at) so p a b =
     let inner = reverse old.opened in
     let shape = close_shape p.is_piece in
     let rest : drop next characters ≡ close_brace ∷ drop size (drop next characters) = parts_of (drop next characters)
     size (close_brace ∷ []) shape.0 in
-    let none : places inner ≡ [] = ap places (none_open inner old.tokens a) in
-    let place : length (take next characters) ≡ i = length-take-le next characters so.within ∙ sym shape.1
+    let none : indices inner ≡ [] = ap indices (none_open inner old.tokens a) in
+    let index : length (take next characters) ≡ i = length-take-le next characters so.within ∙ sym shape.1
     ∙ some_inj b in
-    subst (FirstFault characters) place
+    subst (FirstFault characters) index
     (unopened (take next characters) (drop size (drop next characters))
     (subst (IsReadTo characters (take next characters) (close_brace ∷ drop size (drop next characters))) none
-    (subst (λ l. IsReadTo characters (take next characters) l (places inner)) rest (read_to characters next old so))))
+    (subst (λ l. IsReadTo characters (take next characters) l (indices inner)) rest (read_to characters next old so))))
 
 pub next_stops : (characters : List ℕ) (next : ℕ) (old : Reading) (stop : Stop) → IsReadSo characters next old
     → StopsNext characters next old stop → StopsGlob characters stop
 next_stops characters next old (Fault i) so (inl s) =
-    stop_fault characters (take next characters) (places (reverse old.opened)) s (read_to characters next old so)
+    stop_fault characters (take next characters) (indices (reverse old.opened)) s (read_to characters next old so)
     (length-take-le next characters so.within) (sym (outermost_is old.opened next))
 next_stops characters next old (Fault i) so (inr b) = bad_brace characters next old i b.size b.piece so b.is_piece
     b.after b.brace
@@ -273,11 +273,11 @@ end_stops characters next reading (Fault i) p so s =
     let whole : take next characters ≡ characters = ap (λ n. take n characters) all ∙ take-length characters in
     let none : drop next characters ≡ [] = ap (λ n. drop n characters) all ∙ drop-length characters in
     let inner = reverse reading.opened in
-    let count : length (places inner) ≡ suc (length s.1) = length-places inner ∙ length-reverse reading.opened
+    let count : length (indices inner) ≡ suc (length s.1) = length-indices inner ∙ length-reverse reading.opened
     ∙ ap length s.2 in
-    end_fault characters (places inner) i 0
-    (subst (λ l. IsReadTo characters l [] (places inner)) whole
-    (subst (λ l. IsReadTo characters (take next characters) l (places inner)) none
+    end_fault characters (indices inner) i 0
+    (subst (λ l. IsReadTo characters l [] (indices inner)) whole
+    (subst (λ l. IsReadTo characters (take next characters) l (indices inner)) none
     (read_to characters next reading so)))
     (outermost_is reading.opened 0 ∙ ap (λ o. outermost_of o 0) s.2 ∙ sym s.3) (omega arith)
 end_stops characters next reading Memory p so s = tt

@@ -48,7 +48,7 @@ piece_fits (pieces.itself {c = c} a b) = omega (arith, size_character c)
 spelled_states : {at : ℕ} {cs behind : List ℕ} {ps : List Piece} → Spells at cs behind ps → pieces_states ps ≤ length cs
 unfolding pieces_states
 spelled_states pieces.nothing = omega arith
-spelled_states (pieces.next front rest p s) = omega (arith, piece_fits p, spelled_states s, length-append front rest)
+spelled_states (pieces.next prefix rest p s) = omega (arith, piece_fits p, spelled_states s, length-append prefix rest)
 
 pieces_append : (ps qs : List Piece) → pieces_states (ps ++ qs) ≡ pieces_states ps + pieces_states qs
 unfolding pieces_states

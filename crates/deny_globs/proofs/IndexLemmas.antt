@@ -12,8 +12,9 @@ use Rattle.std.proofs.lemmas.Option.{slice_get_within}
 use Rattle.std.proofs.lemmas.List.Elements.{Contains-push, Contains-push_cases, Contains-append_left}
 use Rattle.deny_lists.proofs.Orders.{not_below_itself}
 use Rattle.deny_lists.proofs.Options.{none_is_no_some, some_inj}
-use Rattle.deny_lists.proofs.Places.{slice_get-push_last, slice_get-push_left, slice_get-push_cases, slice_get-set_same}
-use Rattle.deny_lists.proofs.Places.{slice_get-set_other, slice_get-set_cases}
+use Rattle.deny_lists.proofs.Indices.{slice_get-push_last, slice_get-push_left, slice_get-push_cases}
+use Rattle.deny_lists.proofs.Indices.{slice_get-set_same}
+use Rattle.deny_lists.proofs.Indices.{slice_get-set_other, slice_get-set_cases}
 use Rattle.deny_lists.proofs.Members.{contains_none}
 use Rattle.deny_globs.proofs.FindLemmas.{ascends}
 use Rattle.deny_globs.specs.declared.extensions.Extension.{Extension}
@@ -23,9 +24,9 @@ use Rattle.deny_globs.specs.Patterns.{Pattern, characters_of}
 use Rattle.deny_globs.specs.Sets.{is_simple, extension_of, AsksFor}
 use Rattle.deny_globs.proofs.Ascending.{sorted_push, sorted_none}
 
--- what is at a place of a list with one item more
+-- what is at an index of a list with one item more
 
--- the names, as an extension is put at a place
+-- the names, as an extension is put at an index
 
 all_names : (P : List ℕ → Type 0) (xs : List Extension) → ((j : ℕ) (e : Extension) → slice_get xs j ≡ Some e → P e.name)
     → AllByRecursion P (map name_of xs)
@@ -91,7 +92,7 @@ inserted_other (z ∷ zs) zero y r x at = (suc r, at)
 inserted_other (z ∷ zs) (suc p) y zero x at = (0, at)
 inserted_other (z ∷ zs) (suc p) y (suc r) x at = let o = inserted_other zs p y r x at in (suc o.0, o.1)
 
--- the name that stands at a place stands at no other
+-- the name that stands at an index stands at no other
 one_name : (extensions : List Extension) (p q : ℕ) {x y : Extension} → Ascend extensions
     → slice_get extensions p ≡ Some x → slice_get extensions q ≡ Some y → q ≢ p → y.name ≡ x.name → ⊥
 one_name extensions p q {x} {y} up at there other same = elim (cases_lt q p) [
@@ -210,11 +211,11 @@ indexed_from up each all = record {
   all = all;
 }
 
-indexed_numbered : (globs : List Pattern) (glob : Pattern) (old new : List Extension) (name : List ℕ) (place : ℕ)
+indexed_numbered : (globs : List Pattern) (glob : Pattern) (old new : List Extension) (name : List ℕ) (index : ℕ)
     → is_simple (characters_of glob) ≡ true → extension_of (characters_of glob) ≡ name →
-    IsIndexed globs old → IsNamedAt old name place → IsNumbered old place (length globs) new
+    IsIndexed globs old → IsNamedAt old name index → IsNumbered old index (length globs) new
     → IsIndexed (globs ++ glob ∷ []) new
-indexed_numbered globs glob old new name place is named x at n =
+indexed_numbered globs glob old new name index is named x at n =
     subst (IsIndexed (globs ++ glob ∷ [])) (sym n.whole) (indexed_from up each all) where
       own : Extension
       own = record { name = n.extension.name; globs = n.extension.globs ++ length globs ∷ [] }
@@ -222,42 +223,42 @@ indexed_numbered globs glob old new name place is named x at n =
       own_named : n.extension.name ≡ name
       own_named = ap name_of (some_inj (sym n.at ∙ at.at)) ∙ at.named
 
-      up : Ascend (slice_set old place own)
-      up = subst (IsStrictlySortedBy (slice_cmp nat_cmp)) (sym (names_set old place n.extension own n.at refl)) x.ascend
+      up : Ascend (slice_set old index own)
+      up = subst (IsStrictlySortedBy (slice_cmp nat_cmp)) (sym (names_set old index n.extension own n.at refl)) x.ascend
 
       entry : IsEntry (globs ++ glob ∷ []) own
       entry = entry_more globs glob n.extension.name n.extension.globs is (named ∙ sym own_named)
-          (x.once place n.extension n.at) (x.numbers place n.extension n.at)
+          (x.once index n.extension n.at) (x.numbers index n.extension n.at)
 
-      each : (p : ℕ) (e : Extension) → slice_get (slice_set old place own) p ≡ Some e → IsEntry (globs ++ glob ∷ []) e
-      each p e there = elim (slice_get-set_cases old place own p e there) [
+      each : (p : ℕ) (e : Extension) → slice_get (slice_set old index own) p ≡ Some e → IsEntry (globs ++ glob ∷ []) e
+      each p e there = elim (slice_get-set_cases old index own p e there) [
         | inl same ↦ subst (IsEntry (globs ++ glob ∷ [])) (sym same.1) entry
         | inr other ↦ entry_kept globs glob e
-            (λ h. one_name old place p x.ascend n.at other.1 other.0 (sym h ∙ (named ∙ sym own_named)))
+            (λ h. one_name old index p x.ascend n.at other.1 other.0 (sym h ∙ (named ∙ sym own_named)))
             (entry_of p e x other.1)
       ]
 
-      place_of : (i : ℕ) (wanted : List ℕ)
+      index_of : (i : ℕ) (wanted : List ℕ)
           → AsksFor globs i wanted ⊎
           ((i ≡ length globs) × (is_simple (characters_of glob) ≡ true) ×
-          (extension_of (characters_of glob) ≡ wanted)) → (p : ℕ) × IsNamedAt (slice_set old place own) wanted p
-      place_of i wanted (inr h) = (
-        place,
+          (extension_of (characters_of glob) ≡ wanted)) → (p : ℕ) × IsNamedAt (slice_set old index own) wanted p
+      index_of i wanted (inr h) = (
+        index,
         record {
           extension = own;
-          at = slice_get-set_same old place own n.extension n.at;
+          at = slice_get-set_same old index own n.extension n.at;
           named = own_named
               ∙ (sym named ∙ h.2);
         },
       )
-      place_of i wanted (inl h) = let f = x.all i wanted h in elim (cases_eq f.0 place) [
+      index_of i wanted (inl h) = let f = x.all i wanted h in elim (cases_eq f.0 index) [
         | inl same ↦
             let e : n.extension ≡ f.1.extension = some_inj (sym n.at
             ∙ subst (λ k. slice_get old k ≡ Some f.1.extension) same f.1.at) in (
-              place,
+              index,
               record {
                 extension = own;
-                at = slice_get-set_same old place own n.extension n.at;
+                at = slice_get-set_same old index own n.extension n.at;
                 named = ap name_of e
                     ∙ f.1.named;
               },
@@ -266,7 +267,7 @@ indexed_numbered globs glob old new name place is named x at n =
           f.0,
           record {
             extension = f.1.extension;
-            at = slice_get-set_other old place own f.0 other
+            at = slice_get-set_other old index own f.0 other
                 ∙ f.1.at;
             named = f.1.named;
           },
@@ -274,68 +275,68 @@ indexed_numbered globs glob old new name place is named x at n =
       ]
 
       all : (i : ℕ) (wanted : List ℕ) → AsksFor (globs ++ glob ∷ []) i wanted
-          → (p : ℕ) × IsNamedAt (slice_set old place own) wanted p
-      all i wanted h = place_of i wanted (asks_by globs glob i wanted h)
+          → (p : ℕ) × IsNamedAt (slice_set old index own) wanted p
+      all i wanted h = index_of i wanted (asks_by globs glob i wanted h)
 
-gap_apart : (old : List Extension) (name : List ℕ) (place : ℕ) → IsGap old name place → (p : ℕ) (y : Extension)
+gap_apart : (old : List Extension) (name : List ℕ) (index : ℕ) → IsGap old name index → (p : ℕ) (y : Extension)
     → slice_get old p ≡ Some y → y.name ≡ name → ⊥
-gap_apart old name place gap p y at same = elim (cases_lt p place) [
+gap_apart old name index gap p y at same = elim (cases_lt p index) [
   | inl less ↦ not_below_itself (slice_cmp nat_cmp) nat_list_cmp_total y.name name same (gap.below p y less at)
   | inr more ↦ not_below_itself (slice_cmp nat_cmp) nat_list_cmp_total name y.name (sym same) (gap.above p y more at)
 ]
 
-pub no_asks : (globs : List Pattern) (old : List Extension) (name : List ℕ) (place : ℕ) → IsIndexed globs old
-    → IsGap old name place → (i : ℕ) → AsksFor globs i name → ⊥
-no_asks globs old name place x gap i h = let f = x.all i name h in
-    gap_apart old name place gap f.0 f.1.extension f.1.at f.1.named
+pub no_asks : (globs : List Pattern) (old : List Extension) (name : List ℕ) (index : ℕ) → IsIndexed globs old
+    → IsGap old name index → (i : ℕ) → AsksFor globs i name → ⊥
+no_asks globs old name index x gap i h = let f = x.all i name h in
+    gap_apart old name index gap f.0 f.1.extension f.1.at f.1.named
 
-indexed_inserted : (globs : List Pattern) (glob : Pattern) (old new : List Extension) (name : List ℕ) (place : ℕ)
+indexed_inserted : (globs : List Pattern) (glob : Pattern) (old new : List Extension) (name : List ℕ) (index : ℕ)
     → is_simple (characters_of glob) ≡ true → extension_of (characters_of glob) ≡ name →
-    IsIndexed globs old → IsGap old name place
-    → new ≡ insert old place (record { name = name; globs = length globs ∷ [] })
+    IsIndexed globs old → IsGap old name index
+    → new ≡ insert old index (record { name = name; globs = length globs ∷ [] })
     → IsIndexed (globs ++ glob ∷ []) new
-indexed_inserted globs glob old new name place is named x gap e =
+indexed_inserted globs glob old new name index is named x gap e =
     subst (IsIndexed (globs ++ glob ∷ [])) (sym e)
-    (indexed_from (ascend_inserted old place own x.ascend gap.below gap.above) each all) where
+    (indexed_from (ascend_inserted old index own x.ascend gap.below gap.above) each all) where
       own : Extension
       own = record { name = name; globs = length globs ∷ [] }
 
       entry : IsEntry (globs ++ glob ∷ []) own
       entry = entry_more globs glob name [] is named sorted_none
-          (λ i. (contains_none, λ h. absurd (no_asks globs old name place x gap i h)))
+          (λ i. (contains_none, λ h. absurd (no_asks globs old name index x gap i h)))
 
-      each : (p : ℕ) (y : Extension) → slice_get (insert old place own) p ≡ Some y → IsEntry (globs ++ glob ∷ []) y
-      each p y there = elim (get_inserted old place own p y there) [
+      each : (p : ℕ) (y : Extension) → slice_get (insert old index own) p ≡ Some y → IsEntry (globs ++ glob ∷ []) y
+      each p y there = elim (get_inserted old index own p y there) [
         | inl same ↦ subst (IsEntry (globs ++ glob ∷ [])) (sym same) entry
         | inr old_one ↦ entry_kept globs glob y
-            (λ h. gap_apart old name place gap old_one.0 y old_one.1 (sym h ∙ named)) (entry_of old_one.0 y x old_one.1)
+            (λ h. gap_apart old name index gap old_one.0 y old_one.1 (sym h ∙ named)) (entry_of old_one.0 y x old_one.1)
       ]
 
-      place_of : (i : ℕ) (wanted : List ℕ)
+      index_of : (i : ℕ) (wanted : List ℕ)
           → AsksFor globs i wanted ⊎
           ((i ≡ length globs) × (is_simple (characters_of glob) ≡ true) × (extension_of (characters_of glob) ≡ wanted))
           →
-          (p : ℕ) × IsNamedAt (insert old place own) wanted p
-      place_of i wanted (inr h) = (
-        place,
-        record { extension = own; at = inserted_here old place own gap.inside; named = sym named ∙ h.2 },
+          (p : ℕ) × IsNamedAt (insert old index own) wanted p
+      index_of i wanted (inr h) = (
+        index,
+        record { extension = own; at = inserted_here old index own gap.inside; named = sym named ∙ h.2 },
       )
-      place_of i wanted (inl h) =
+      index_of i wanted (inl h) =
           let f = x.all i wanted h in
-          let o = inserted_other old place own f.0 f.1.extension f.1.at in
+          let o = inserted_other old index own f.0 f.1.extension f.1.at in
           (o.0, record { extension = f.1.extension; at = o.1; named = f.1.named })
 
       all : (i : ℕ) (wanted : List ℕ) → AsksFor (globs ++ glob ∷ []) i wanted
-          → (p : ℕ) × IsNamedAt (insert old place own) wanted p
-      all i wanted h = place_of i wanted (asks_by globs glob i wanted h)
+          → (p : ℕ) × IsNamedAt (insert old index own) wanted p
+      all i wanted h = index_of i wanted (asks_by globs glob i wanted h)
 
 pub indexed_simple : (globs : List Pattern) (glob : Pattern) (old new : List Extension)
     → is_simple (characters_of glob) ≡ true → IsIndexed globs old →
     IsExtended old (extension_of (characters_of glob)) (length globs) new → IsIndexed (globs ++ glob ∷ []) new
-indexed_simple globs glob old new is x (numbered place at n) = indexed_numbered globs glob old new
-    (extension_of (characters_of glob)) place is refl x at n
-indexed_simple globs glob old new is x (inserted place gap e) = indexed_inserted globs glob old new
-    (extension_of (characters_of glob)) place is refl x gap e
+indexed_simple globs glob old new is x (numbered index at n) = indexed_numbered globs glob old new
+    (extension_of (characters_of glob)) index is refl x at n
+indexed_simple globs glob old new is x (inserted index gap e) = indexed_inserted globs glob old new
+    (extension_of (characters_of glob)) index is refl x gap e
 
 none_ascend : Ascend []
 unfolding IsStrictlySortedBy

@@ -14,7 +14,7 @@ pub mod MarkedLemmas
 pub mod Once
 pub mod PieceLemmas
 pub mod ReadingLemmas
-pub mod Place
+pub mod FaultIndex
 pub mod Seams
 pub mod SetLemmas
 pub mod SimpleLemmas

@@ -43,12 +43,12 @@ read_one {tokens} {left} {behind} {word} {after} {c} e more read = record { each
   one path f =
       let old = read.each path f in
       let s = split_first (subst (λ ts. Fits ts old.rest) e old.fits) in
-      let t = (character_takes c).taken_of_text s.front s.is_text in
+      let t = (character_takes c).taken_of_text s.prefix s.is_text in
       let is : t.0 ≡ c = sym (search (rules, t.2)) in
-      let front : s.front ≡ c ∷ [] = t.1 ∙ ap (λ d. d ∷ []) is in
+      let prefix : s.prefix ≡ c ∷ [] = t.1 ∙ ap (λ d. d ∷ []) is in
       record {
         rest = s.rest;
-        whole = old.whole ∙ ap (λ l. word ++ l) (s.whole ∙ ap (λ l. l ++ s.rest) front)
+        whole = old.whole ∙ ap (λ l. word ++ l) (s.whole ∙ ap (λ l. l ++ s.rest) prefix)
             ∙ sym (append_assoc word (c ∷ []) s.rest) ∙ ap (λ w. w ++ s.rest) (sym more);
         fits = s.fits;
       }
@@ -83,16 +83,16 @@ back_one {tokens} {left} {before} {token} {word} {after} {c} e own more read = r
       let old = read.each path f in
       let l = split_list before (Character c ∷ []) old.rest (subst (λ ts. Fits ts old.rest) whole old.fits) in
       let s = split_first l.fits in
-      let t = (character_takes c).taken_of_text s.front s.is_text in
+      let t = (character_takes c).taken_of_text s.prefix s.is_text in
       let is : t.0 ≡ c = sym (search (rules, t.2)) in
-      let front : s.front ≡ c ∷ [] = t.1 ∙ ap (λ d. d ∷ []) is in
-      let last : l.rest ≡ c ∷ [] = s.whole ∙ ap (λ x. x ++ s.rest) front ∙ ap (λ x. c ∷ x) (nothing_fits s.fits) in
-      let back : reverse old.rest ≡ c ∷ reverse l.front =
-      ap reverse (l.whole ∙ ap (λ x. l.front ++ x) last) ∙ reverse-append l.front (c ∷ []) in
+      let prefix : s.prefix ≡ c ∷ [] = t.1 ∙ ap (λ d. d ∷ []) is in
+      let last : l.rest ≡ c ∷ [] = s.whole ∙ ap (λ x. x ++ s.rest) prefix ∙ ap (λ x. c ∷ x) (nothing_fits s.fits) in
+      let back : reverse old.rest ≡ c ∷ reverse l.prefix =
+      ap reverse (l.whole ∙ ap (λ x. l.prefix ++ x) last) ∙ reverse-append l.prefix (c ∷ []) in
       record {
-        rest = l.front;
-        whole = old.whole ∙ ap (λ x. word ++ x) back ∙ sym (append_assoc word (c ∷ []) (reverse l.front))
-            ∙ ap (λ w. w ++ reverse l.front) (sym more);
+        rest = l.prefix;
+        whole = old.whole ∙ ap (λ x. word ++ x) back ∙ sym (append_assoc word (c ∷ []) (reverse l.prefix))
+            ∙ ap (λ w. w ++ reverse l.prefix) (sym more);
         fits = l.fits_first;
       }
 

@@ -1,4 +1,4 @@
--- The marks at a place, as they come and go.
+-- The marks at an index, as they come and go.
 use Rattle.std.proofs.Common.{◌≡◌, ◌≢◌, ℕ, zero, suc, ◌+◌, ◌<◌, ◌≤◌, List, [], ◌∷◌, ◌++◌, length, take, set, replicate}
 use Rattle.std.proofs.Common.{Bool, true, false, refl, sym, ap, subst, inl, inr, ◌∙◌, arith, rules, append-nil}
 use Rattle.std.proofs.Common.{append_assoc, get_or}
@@ -118,15 +118,15 @@ marked_inside [] i e = cc
 marked_inside (b ∷ bs) zero e = omega arith
 marked_inside (b ∷ bs) (suc i) e = omega (arith, marked_inside bs i e)
 
--- the loop that takes marks away: a state that is still marked is listed at this place or behind it
+-- the loop that takes marks away: a state that is still marked is listed at this index or behind it
 pub record IsListedFrom (k : ℕ) (order : List ℕ) (number : ℕ) : Type 0 where
-  pub place : ℕ
-  pub from : k ≤ place
-  pub inside : place < length order
-  pub is : get_or order place number ≡ number
+  pub index : ℕ
+  pub from : k ≤ index
+  pub inside : index < length order
+  pub is : get_or order index number ≡ number
 
 pub listed_from_start : {order : List ℕ} {number : ℕ} → Contains order number → IsListedFrom 0 order number
-listed_from_start h = record { place = h.0; from = omega arith; inside = h.1; is = h.2 }
+listed_from_start h = record { index = h.0; from = omega arith; inside = h.1; is = h.2 }
 
 pub listed_at_end : {order : List ℕ} (k : ℕ) {number : ℕ} {P : Type 0} → length order ≤ k → IsListedFrom k order number
     → P
@@ -142,10 +142,10 @@ clears_more {order} marks k n less is p h i e = elim (cases_eq i n) [
   | inr other ↦ later (h i (sym (get_or-set_other marks n i false false other) ∙ e)) other
 ] where
   later : IsListedFrom k order i → i ≢ n → IsListedFrom (k + 1) order i
-  later l other = elim (cases_eq l.place k) [
+  later l other = elim (cases_eq l.index k) [
     | inl here ↦ absurd (other
         (sym (is ∙ get_or_default order k 0 i less ∙ subst (λ j. get_or order j i ≡ i) here l.is)))
-    | inr behind ↦ record { place = l.place; from = omega (arith, l.from, behind); inside = l.inside; is = l.is }
+    | inr behind ↦ record { index = l.index; from = omega (arith, l.from, behind); inside = l.inside; is = l.is }
   ]
 
 pub none_left : {order : List ℕ} (marks : List Bool) (k : ℕ) → length order ≤ k

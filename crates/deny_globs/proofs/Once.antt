@@ -163,32 +163,32 @@ plain_at at c cs p s =
     ∙ cond-false (c == open_brace) _ _ (not-true _ g.0)
     ∙ cond-false (c == close_brace) _ _ (not-true _ g.1)
 
-stars_len : (front behind : List ℕ) → IsTrue (list_all (λ c. c == star) front) → begins star behind ≡ false
-    → prefix_len is_star (front ++ behind) ≡ length front
+stars_len : (prefix behind : List ℕ) → IsTrue (list_all (λ c. c == star) prefix) → begins star behind ≡ false
+    → prefix_len is_star (prefix ++ behind) ≡ length prefix
 stars_len [] [] a b = refl
 stars_len [] (c ∷ behind) a b = cond-false (c == star) _ _ b
-stars_len (c ∷ front) behind a b =
-    let h = both_true (c == star) (list_all (λ d. d == star) front) a in
-    let n : prefix_len is_star (front ++ behind) ≡ length front = stars_len front behind h.1 b in
+stars_len (c ∷ prefix) behind a b =
+    let h = both_true (c == star) (list_all (λ d. d == star) prefix) a in
+    let n : prefix_len is_star (prefix ++ behind) ≡ length prefix = stars_len prefix behind h.1 b in
     cond-true (c == star) _ _ h.0 ∙ (omega arith)
 
-stars_begun : (at : ℕ) (front behind : List ℕ) → IsTrue (list_all (λ c. c == star) front) → 0 < length front
-    → begins star behind ≡ false → is_leading at (length front) behind ≡ false →
-    piece_at at (front ++ behind) ≡ Some (Token AnyText, behind)
+stars_begun : (at : ℕ) (prefix behind : List ℕ) → IsTrue (list_all (λ c. c == star) prefix) → 0 < length prefix
+    → begins star behind ≡ false → is_leading at (length prefix) behind ≡ false →
+    piece_at at (prefix ++ behind) ≡ Some (Token AnyText, behind)
 stars_begun at [] behind a p b l = absurd (omega arith)
-stars_begun at (c ∷ front) behind a p b l =
-    let h = both_true (c == star) (list_all (λ d. d == star) front) a in
+stars_begun at (c ∷ prefix) behind a p b l =
+    let h = both_true (c == star) (list_all (λ d. d == star) prefix) a in
     let is : c ≡ star = same_number c star h.0 in
-    let n : prefix_len is_star ((c ∷ front) ++ behind) ≡ length (c ∷ front) = stars_len (c ∷ front) behind a b in
-    let d : drop (prefix_len is_star ((c ∷ front) ++ behind)) ((c ∷ front) ++ behind)
-    ≡ behind = ap (λ k. drop k ((c ∷ front) ++ behind)) n ∙ drop_at (c ∷ front) behind (length (c ∷ front)) refl in
-    let no : is_leading at (prefix_len is_star ((c ∷ front) ++ behind))
-    (drop (prefix_len is_star ((c ∷ front) ++ behind)) ((c ∷ front) ++ behind)) ≡ false =
-    ap (is_leading at (prefix_len is_star ((c ∷ front) ++ behind))) d ∙ ap (λ k. is_leading at k behind) n ∙ l in
+    let n : prefix_len is_star ((c ∷ prefix) ++ behind) ≡ length (c ∷ prefix) = stars_len (c ∷ prefix) behind a b in
+    let d : drop (prefix_len is_star ((c ∷ prefix) ++ behind)) ((c ∷ prefix) ++ behind)
+    ≡ behind = ap (λ k. drop k ((c ∷ prefix) ++ behind)) n ∙ drop_at (c ∷ prefix) behind (length (c ∷ prefix)) refl in
+    let no : is_leading at (prefix_len is_star ((c ∷ prefix) ++ behind))
+    (drop (prefix_len is_star ((c ∷ prefix) ++ behind)) ((c ∷ prefix) ++ behind)) ≡ false =
+    ap (is_leading at (prefix_len is_star ((c ∷ prefix) ++ behind))) d ∙ ap (λ k. is_leading at k behind) n ∙ l in
     cond-false (c == question_mark) _ _ (ap (λ x. x == question_mark) is)
     ∙ cond-true (c == star) _ _ h.0
-    ∙ cond-false (is_leading at (prefix_len is_star ((c ∷ front) ++ behind))
-    (drop (prefix_len is_star ((c ∷ front) ++ behind)) ((c ∷ front) ++ behind))) _ _ no
+    ∙ cond-false (is_leading at (prefix_len is_star ((c ∷ prefix) ++ behind))
+    (drop (prefix_len is_star ((c ∷ prefix) ++ behind)) ((c ∷ prefix) ++ behind))) _ _ no
     ∙ ap (λ r. Some (Token AnyText, r)) d
 
 class_marked : {mark : List ℕ} {negated : Bool} (body : List ℕ) → IsMark mark body negated
@@ -207,12 +207,12 @@ class_begun at negated ranges mark members behind m a p =
     ∙ class_marked (members ++ close_bracket ∷ behind) m
     ∙ ap (class_of negated) (members_closed members behind ranges a p)
 
-pub begun : {at : ℕ} {front behind : List ℕ} {piece : Piece} → IsPiece at front behind piece
-    → piece_at at (front ++ behind) ≡ Some (piece, behind)
+pub begun : {at : ℕ} {prefix behind : List ℕ} {piece : Piece} → IsPiece at prefix behind piece
+    → piece_at at (prefix ++ behind) ≡ Some (piece, behind)
 begun question = refl
 begun {behind = behind} (leading e) = subst
     (λ n. piece_at n (star ∷ star ∷ slash ∷ behind) ≡ Some (Token LeadingFolders, behind)) (sym e) refl
-begun {at} {front} {behind} (stars a p b l) = stars_begun at front behind a p b l
+begun {at} {prefix} {behind} (stars a p b l) = stars_begun at prefix behind a p b l
 begun middle = refl
 begun trailing = refl
 begun {behind = behind} (lone_slash t m) = cond-false (is_trailing behind) _ _ t ∙ cond-false (is_middle behind) _ _ m
@@ -227,7 +227,7 @@ begun {at} {behind = behind} (itself {c = c} p s) = plain_at at c behind p s
 some_pair : {p q : Piece × List ℕ} → Some p ≡ Some q → p ≡ q
 some_pair e = cc
 
-pub piece_some : {at : ℕ} {front behind : List ℕ} {piece : Piece} → IsPiece at front behind piece → 0 < length front
+pub piece_some : {at : ℕ} {prefix behind : List ℕ} {piece : Piece} → IsPiece at prefix behind piece → 0 < length prefix
 piece_some question = omega arith
 piece_some (leading e) = omega arith
 piece_some (stars a p b l) = p
@@ -241,18 +241,18 @@ piece_some parting_comma = omega arith
 piece_some close_braces = omega arith
 piece_some (itself p s) = omega arith
 
-pub record SamePiece (front other behind rest : List ℕ) (piece second : Piece) : Type 0 where
-  pub fronts : front ≡ other
+pub record SamePiece (prefix other behind rest : List ℕ) (piece second : Piece) : Type 0 where
+  pub prefixes : prefix ≡ other
   pub behinds : behind ≡ rest
   pub pieces : piece ≡ second
 
-pub same_piece : {at : ℕ} {front other behind rest : List ℕ} {piece second : Piece} → IsPiece at front behind piece
-    → IsPiece at other rest second → front ++ behind ≡ other ++ rest → SamePiece front other behind rest piece second
-same_piece {at} {front} {other} {behind} {rest} {piece} {second} p q e =
+pub same_piece : {at : ℕ} {prefix other behind rest : List ℕ} {piece second : Piece} → IsPiece at prefix behind piece
+    → IsPiece at other rest second → prefix ++ behind ≡ other ++ rest → SamePiece prefix other behind rest piece second
+same_piece {at} {prefix} {other} {behind} {rest} {piece} {second} p q e =
     let pair : (piece, behind) ≡ (second, rest) = some_pair (sym (begun p) ∙ ap (piece_at at) e ∙ begun q) in
     let b : behind ≡ rest = ap (λ x. x.1) pair in
     record {
-      fronts = append_cancel_right front other rest (ap (λ l. front ++ l) (sym b) ∙ e);
+      prefixes = append_cancel_right prefix other rest (ap (λ l. prefix ++ l) (sym b) ∙ e);
       behinds = b;
       pieces = ap (λ x. x.0) pair;
     }
@@ -264,9 +264,9 @@ pub record GoesOn (at : ℕ) (behind : List ℕ) (first pieces : List Piece) : T
   pub whole : pieces ≡ first ++ more
   pub spelled : Spells at behind [] more
 
-pub nothing_longer : (front more behind : List ℕ) → [] ≡ (front ++ more) ++ behind → 0 < length front → ⊥
+pub nothing_longer : (prefix more behind : List ℕ) → [] ≡ (prefix ++ more) ++ behind → 0 < length prefix → ⊥
 nothing_longer [] more behind e p = absurd (omega arith)
-nothing_longer (c ∷ front) more behind e p = cc
+nothing_longer (c ∷ prefix) more behind e p = cc
 
 pub goes_on : {at : ℕ} {before behind cs : List ℕ} {first pieces : List Piece} → Spells at before behind first
     → Spells at cs [] pieces → cs ≡ before ++ behind → GoesOn (at + length before) behind first pieces
@@ -275,25 +275,25 @@ goes_on {at} {behind = behind} {cs} {pieces = pieces} nothing s e = record {
   whole = refl;
   spelled = subst (λ n. Spells n behind [] pieces) (sym (add-zero at)) (subst (λ l. Spells at l [] pieces) e s);
 }
-goes_on {behind = behind} (next front more is rest) nothing e = absurd
-    (nothing_longer front more behind e (piece_some is))
-goes_on {at} {behind = behind} (next {piece = p} {pieces = ps} front more is rest)
+goes_on {behind = behind} (next prefix more is rest) nothing e = absurd
+    (nothing_longer prefix more behind e (piece_some is))
+goes_on {at} {behind = behind} (next {piece = p} {pieces = ps} prefix more is rest)
     (next {piece = q} {pieces = qs} other after is' rest') e =
-    let same = same_piece is is' (sym (append_assoc front more behind) ∙ sym e
+    let same = same_piece is is' (sym (append_assoc prefix more behind) ∙ sym e
     ∙ ap (λ l. other ++ l) (sym (append-nil after))) in
     let left : after ≡ more ++ behind = sym (append-nil after) ∙ sym same.behinds in
-    let g = goes_on rest (subst (λ l. Spells (at + length l) after [] qs) (sym same.fronts) rest') left in
+    let g = goes_on rest (subst (λ l. Spells (at + length l) after [] qs) (sym same.prefixes) rest') left in
     record {
       more = g.more;
       whole = ap (λ l. q ∷ l) g.whole ∙ ap (λ x. x ∷ (ps ++ g.more)) (sym same.pieces);
-      spelled = subst (λ n. Spells n behind [] g.more) (add_assoc at (length front) (length more)
-          ∙ ap (λ n. at + n) (sym (length-append front more))) g.spelled;
+      spelled = subst (λ n. Spells n behind [] g.more) (add_assoc at (length prefix) (length more)
+          ∙ ap (λ n. at + n) (sym (length-append prefix more))) g.spelled;
     }
 
 none_longer : {at : ℕ} {cs : List ℕ} {pieces : List Piece} → Spells at cs [] pieces → cs ≡ [] → pieces ≡ []
 none_longer nothing e = refl
-none_longer (next front more is rest) e = absurd
-    (nothing_longer front more [] (sym e ∙ sym (append-nil (front ++ more))) (piece_some is))
+none_longer (next prefix more is rest) e = absurd
+    (nothing_longer prefix more [] (sym e ∙ sym (append-nil (prefix ++ more))) (piece_some is))
 
 pub record Begins (at : ℕ) (cs : List ℕ) (pieces : List Piece) : Type 0 where
   pub piece : Piece
@@ -305,12 +305,12 @@ pub record Begins (at : ℕ) (cs : List ℕ) (pieces : List Piece) : Type 0 wher
 pub begins_piece : {at : ℕ} {cs : List ℕ} {pieces : List Piece} → Spells at cs [] pieces → 0 < length cs
     → Begins at cs pieces
 begins_piece nothing p = absurd (omega arith)
-begins_piece {at} (next {piece = q} {pieces = qs} front more is rest) p = record {
+begins_piece {at} (next {piece = q} {pieces = qs} prefix more is rest) p = record {
   piece = q;
   more = qs;
   behind = more;
   whole = refl;
-  is_at = ap (λ l. piece_at at (front ++ l)) (sym (append-nil more)) ∙ begun is
+  is_at = ap (λ l. piece_at at (prefix ++ l)) (sym (append-nil more)) ∙ begun is
       ∙ ap (λ l. Some (q, l)) (append-nil more);
 }
 

@@ -19,17 +19,17 @@ use Rattle.deny_globs.specs.Steps.{IsClosedClass, StopsMembers, IsPieceOf, IsSto
 use Rattle.deny_globs.specs.Steps.{is_unclosed, StopsPiece, piece_of_class}
 use Rattle.deny_globs.proofs.ClassLemmas.{same_number, both_true, and_true}
 
-pub piece_of : (at : ℕ) (rest : List ℕ) (size : ℕ) (piece : Piece) (front behind : List ℕ) → rest ≡ front ++ behind
-    → size ≡ length front → 0 < size → IsPiece at front behind piece → IsPieceOf at rest size piece
-piece_of at rest size piece front behind w s p is =
-    let t : take size rest ≡ front = ap (take size) w ∙ take_at front behind size (sym s) in
-    let d : drop size rest ≡ behind = ap (drop size) w ∙ drop_at front behind size (sym s) in
-    let l : length rest ≡ length front + length behind = ap length w ∙ length-append front behind in
+pub piece_of : (at : ℕ) (rest : List ℕ) (size : ℕ) (piece : Piece) (prefix behind : List ℕ) → rest ≡ prefix ++ behind
+    → size ≡ length prefix → 0 < size → IsPiece at prefix behind piece → IsPieceOf at rest size piece
+piece_of at rest size piece prefix behind w s p is =
+    let t : take size rest ≡ prefix = ap (take size) w ∙ take_at prefix behind size (sym s) in
+    let d : drop size rest ≡ behind = ap (drop size) w ∙ drop_at prefix behind size (sym s) in
+    let l : length rest ≡ length prefix + length behind = ap length w ∙ length-append prefix behind in
     record {
       some = p;
       within = omega arith;
       is_piece = subst (λ f. IsPiece at f (drop size rest) piece) (sym t)
-          (subst (λ b. IsPiece at front b piece) (sym d) is);
+          (subst (λ b. IsPiece at prefix b piece) (sym d) is);
     }
 
 -- what begins with a character is that and the rest
@@ -63,8 +63,8 @@ pub class_stops : (at unclosed : ℕ) (negated : Bool) (rest mark body : List �
     → rest ≡ open_bracket ∷ (mark ++ body) → IsMark mark body negated → from ≡ at + 1 + length mark →
     StopsMembers from unclosed body stop → StopsPiece at unclosed rest stop
 class_stops at unclosed negated rest mark body from (Fault i) w m f (inl s) =
-    let place : at + 1 + length mark + s.0 ≡ i = sym (s.2 ∙ ap (λ n. n + s.0) f) in
-    subst (λ n. IsStop at unclosed rest n) place
+    let index : at + 1 + length mark + s.0 ≡ i = sym (s.2 ∙ ap (λ n. n + s.0) f) in
+    subst (λ n. IsStop at unclosed rest n) index
     (subst (λ r. IsStop at unclosed r (at + 1 + length mark + s.0)) (sym w) (has_falling_range mark body s.0 m s.1))
 class_stops at unclosed negated rest mark body from (Fault i) w m f (inr s) =
     subst (λ n. IsStop at unclosed rest n) (sym s.1)
@@ -97,48 +97,48 @@ abbrev pub is_star : ℕ → Bool
 is_star c = c == star
 
 record StarRun (rest : List ℕ) (count : ℕ) : Type 0 where
-  front : List ℕ
+  prefix : List ℕ
   behind : List ℕ
-  whole : rest ≡ front ++ behind
-  all : IsTrue (list_all (λ c. c == star) front)
+  whole : rest ≡ prefix ++ behind
+  all : IsTrue (list_all (λ c. c == star) prefix)
   stops : begins star behind ≡ false
-  size : length front ≡ count
+  size : length prefix ≡ count
 
 run_of : (b : Bool) (c : ℕ) (rest : List ℕ) → (c == star) ≡ b → StarRun rest (prefix_len is_star rest)
     → StarRun (c ∷ rest) (cond b (1 + prefix_len is_star rest) 0)
 run_of true c rest e r = record {
-  front = c ∷ r.front;
+  prefix = c ∷ r.prefix;
   behind = r.behind;
   whole = ap (λ l. c ∷ l) r.whole;
-  all = and_true (c == star) (list_all (λ d. d == star) r.front) e r.all;
+  all = and_true (c == star) (list_all (λ d. d == star) r.prefix) e r.all;
   stops = r.stops;
   size = let h = r.size in omega arith;
 }
-run_of false c rest e r = record { front = []; behind = c ∷ rest; whole = refl; all = refl; stops = e; size = refl }
+run_of false c rest e r = record { prefix = []; behind = c ∷ rest; whole = refl; all = refl; stops = e; size = refl }
 
 star_run : (rest : List ℕ) → StarRun rest (prefix_len is_star rest)
-star_run [] = record { front = []; behind = []; whole = refl; all = refl; stops = refl; size = refl }
+star_run [] = record { prefix = []; behind = []; whole = refl; all = refl; stops = refl; size = refl }
 star_run (c ∷ rest) = run_of (c == star) c rest refl (star_run rest)
 
 run_counted : (rest : List ℕ) (count : ℕ) → count ≡ length (take_while is_star rest) → StarRun rest count
 run_counted rest count e = subst (StarRun rest) (sym (e ∙ length-prefix_len is_star rest)) (star_run rest)
 
-some_stars : (rest front behind : List ℕ) → IsTrue (begins star rest) → rest ≡ front ++ behind
-    → begins star behind ≡ false → 0 < length front
+some_stars : (rest prefix behind : List ℕ) → IsTrue (begins star rest) → rest ≡ prefix ++ behind
+    → begins star behind ≡ false → 0 < length prefix
 some_stars rest [] behind b w s = let h : begins star rest ≡ false = ap (begins star) w ∙ s in cc
-some_stars rest (c ∷ front) behind b w s = omega arith
+some_stars rest (c ∷ prefix) behind b w s = omega arith
 
 pub stars_piece : (at : ℕ) (rest : List ℕ) (count : ℕ) → IsTrue (begins star rest)
     → count ≡ length (take_while is_star rest) → false ≡ is_leading at count (drop count rest) →
     IsPieceOf at rest count (Token AnyText)
 stars_piece at rest count b e l =
     let r = run_counted rest count e in
-    let some : 0 < length r.front = some_stars rest r.front r.behind b r.whole r.stops in
+    let some : 0 < length r.prefix = some_stars rest r.prefix r.behind b r.whole r.stops in
     let size = r.size in
-    let behind : drop count rest ≡ r.behind = ap (drop count) r.whole ∙ drop_at r.front r.behind count size in
-    let not_leading : is_leading at (length r.front) r.behind ≡ false = ap (λ n. is_leading at n r.behind) size
+    let behind : drop count rest ≡ r.behind = ap (drop count) r.whole ∙ drop_at r.prefix r.behind count size in
+    let not_leading : is_leading at (length r.prefix) r.behind ≡ false = ap (λ n. is_leading at n r.behind) size
     ∙ ap (is_leading at count) (sym behind) ∙ sym l in
-    piece_of at rest count (Token AnyText) r.front r.behind r.whole (sym size) (omega arith)
+    piece_of at rest count (Token AnyText) r.prefix r.behind r.whole (sym size) (omega arith)
     (stars r.all some r.stops not_leading)
 
 two_stars : (cs : List ℕ) → IsTrue (list_all (λ c. c == star) cs) → length cs ≡ 2 → cs ≡ star ∷ star ∷ []
@@ -160,12 +160,12 @@ leading_piece at rest count e l =
     let p = both_true (at == 0) ((count == 2) && begins slash (drop count rest)) (sym l) in
     let q = both_true (count == 2) (begins slash (drop count rest)) p.1 in
     let start : at ≡ 0 = same_number at 0 p.0 in
-    let two : length r.front ≡ 2 = r.size ∙ same_number count 2 q.0 in
+    let two : length r.prefix ≡ 2 = r.size ∙ same_number count 2 q.0 in
     let behind : r.behind ≡ slash ∷ drop 1 r.behind =
     begin_with slash r.behind
-    (subst (λ l. IsTrue (begins slash l)) (ap (drop count) r.whole ∙ drop_at r.front r.behind count r.size) q.1) in
+    (subst (λ l. IsTrue (begins slash l)) (ap (drop count) r.whole ∙ drop_at r.prefix r.behind count r.size) q.1) in
     let whole : rest ≡ (star ∷ star ∷ slash ∷ []) ++ drop 1 r.behind =
-    r.whole ∙ ap (λ l. r.front ++ l) behind ∙ ap (λ l. l ++ slash ∷ drop 1 r.behind) (two_stars r.front r.all two) in
+    r.whole ∙ ap (λ l. r.prefix ++ l) behind ∙ ap (λ l. l ++ slash ∷ drop 1 r.behind) (two_stars r.prefix r.all two) in
     piece_of at rest 3 (Token LeadingFolders) (star ∷ star ∷ slash ∷ []) (drop 1 r.behind) whole refl (omega arith)
     (leading start)
 

@@ -14,7 +14,7 @@ use Rattle.std.specs.Ordering.{nat_cmp}
 use Rattle.std.proofs.lemmas.Map.Keys.{IsStrictlyIncreasing-from_sorted}
 use Rattle.deny_lists.proofs.Sorted.{length-ascending}
 use Rattle.deny_lists.specs.Ascending.{Lists}
-use Rattle.deny_lists.proofs.Places.{slice_get-push_cases, slice_get-push_left, slice_get-push_last}
+use Rattle.deny_lists.proofs.Indices.{slice_get-push_cases, slice_get-push_left, slice_get-push_last}
 use Rattle.deny_lists.proofs.Options.{none_is_no_some, some_inj}
 use Rattle.deny_lists.proofs.Members.{contains_none}
 use Rattle.deny_globs.specs.declared.extensions.Extension.{Extension}
@@ -390,17 +390,17 @@ names_fewer globs extensions names x has = omega (
       let some = x.some h.0 m.0 m.1 in
       subst (λ n. Contains names n) m.2 (has some.0 m.0.name ((x.numbers h.0 m.0 m.1 some.0).0 some.1))
 
-pub named_bound : (extensions : List Extension) (name : List ℕ) (place start steps : ℕ) (extension : Extension)
-    → slice_get extensions place ≡ Some extension → extension.name ≡ name →
+pub named_bound : (extensions : List Extension) (name : List ℕ) (index start steps : ℕ) (extension : Extension)
+    → slice_get extensions index ≡ Some extension → extension.name ≡ name →
     ((d : ℕ) → length extensions < 2 ^ d → steps ≤ start + d)
     → BoundsNamed extensions name start (steps + length extension.globs)
-named_bound extensions name place start steps extension at named bound globs hits d x covers less =
-    let fewer = length-ascending nat_cmp_total extension.globs hits (x.once place extension at)
-    (λ i c. covers i (subst (λ n. AsksFor globs i n) named ((x.numbers place extension at i).0 c))) in
+named_bound extensions name index start steps extension at named bound globs hits d x covers less =
+    let fewer = length-ascending nat_cmp_total extension.globs hits (x.once index extension at)
+    (λ i c. covers i (subst (λ n. AsksFor globs i n) named ((x.numbers index extension at i).0 c))) in
     omega (arith, bound d less, fewer)
 
-walk_bound : (places states weights : ℕ) → states ≤ weights → places * states ≤ places * weights
-walk_bound places states weights p = mul-le places states places weights (omega arith) p
+walk_bound : (indices states weights : ℕ) → states ≤ weights → indices * states ≤ indices * weights
+walk_bound indices states weights p = mul-le indices states indices weights (omega arith) p
 
 pub simple_bound : (globs : List Pattern) (extensions : List Extension) (states : List State) (starts : Starts)
     (path : List ℕ) (first second : ℕ) → IsIndexed globs extensions → AreCompiled globs states starts →
@@ -424,24 +424,24 @@ total_bound globs extensions states starts path first second third x y simple wa
 
 -- the extension that was found
 
-pub named_at : {extensions : List Extension} {name : List ℕ} {place : ℕ} {extension : Extension}
-    → IsNamedAt extensions name place → extension ≡ get_or extensions place extension →
-    (slice_get extensions place ≡ Some extension) × (extension.name ≡ name)
-named_at {extensions} {name} {place} {extension} found is =
-    let at = slice_get_read extensions (length extensions) place extension refl
-    (slice_get_within extensions place found.extension found.at) is in
+pub named_at : {extensions : List Extension} {name : List ℕ} {index : ℕ} {extension : Extension}
+    → IsNamedAt extensions name index → extension ≡ get_or extensions index extension →
+    (slice_get extensions index ≡ Some extension) × (extension.name ≡ name)
+named_at {extensions} {name} {index} {extension} found is =
+    let at = slice_get_read extensions (length extensions) index extension refl
+    (slice_get_within extensions index found.extension found.at) is in
     (at, ap name_of (some_inj (sym at ∙ found.at)) ∙ found.named)
 
-pub notes_named : {extensions : List Extension} {name : List ℕ} (place : ℕ) (extension : Extension)
-    {old new : List ℕ} → slice_get extensions place ≡ Some extension → extension.name ≡ name →
+pub notes_named : {extensions : List Extension} {name : List ℕ} (index : ℕ) (extension : Extension)
+    {old new : List ℕ} → slice_get extensions index ≡ Some extension → extension.name ≡ name →
     Notes (Contains extension.globs) old new → NotesNamed extensions name old new
-notes_named place extension at named notes globs x =
+notes_named index extension at named notes globs x =
     notes_same (λ i. (
-      λ c. subst (λ n. AsksFor globs i n) named ((x.numbers place extension at i).0 c),
-      λ h. (x.numbers place extension at i).1 (subst (λ n. AsksFor globs i n) (sym named) h),
+      λ c. subst (λ n. AsksFor globs i n) named ((x.numbers index extension at i).0 c),
+      λ h. (x.numbers index extension at i).1 (subst (λ n. AsksFor globs i n) (sym named) h),
     )) notes
 
-pub notes_gap : {extensions : List Extension} {name : List ℕ} {place : ℕ} {old : List ℕ}
-    → IsGap extensions name place → NotesNamed extensions name old old
-notes_gap {extensions} {name} {place} gap globs x = notes_none refl
-    (λ i h. no_asks globs extensions name place x gap i h)
+pub notes_gap : {extensions : List Extension} {name : List ℕ} {index : ℕ} {old : List ℕ}
+    → IsGap extensions name index → NotesNamed extensions name old old
+notes_gap {extensions} {name} {index} gap globs x = notes_none refl
+    (λ i h. no_asks globs extensions name index x gap i h)

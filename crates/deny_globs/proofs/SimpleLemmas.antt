@@ -102,7 +102,7 @@ unfolding letter_tokens
 letters_fit [] path f = nothing_fits f
 letters_fit (c ∷ cs) path f =
     let s = split_first f in
-    let t = (character_takes c).taken_of_text s.front s.is_text in
+    let t = (character_takes c).taken_of_text s.prefix s.is_text in
     s.whole ∙ (ap (λ l. l ++ s.rest) t.1
     ∙ (ap (λ l. t.0 ∷ l) (letters_fit cs s.rest s.fits) ∙ ap (λ x. x ∷ cs) (sym (same_is c t.0 t.2))))
 
@@ -112,23 +112,23 @@ fit_letters [] = nothing
 fit_letters (c ∷ cs) = joined (c ∷ []) cs (itself c) (fit_letters cs)
 
 record EndsIn (name path : List ℕ) : Type 0 where
-  front : List ℕ
-  whole : path ≡ front ++ dot ∷ name
+  prefix : List ℕ
+  whole : path ≡ prefix ++ dot ∷ name
 
 ends_to : {name path : List ℕ} → Fits (AnyText ∷ Character dot ∷ letter_tokens name) path → EndsIn name path
 ends_to {name} {path} f =
     let s = split_first f in
     let d = split_first s.fits in
-    let t = (character_takes dot).taken_of_text d.front d.is_text in
+    let t = (character_takes dot).taken_of_text d.prefix d.is_text in
     record {
-      front = s.front;
-      whole = s.whole ∙ ap (λ l. s.front ++ l) (d.whole
+      prefix = s.prefix;
+      whole = s.whole ∙ ap (λ l. s.prefix ++ l) (d.whole
           ∙ (ap (λ l. l ++ d.rest) t.1
           ∙ (ap (λ l. t.0 ∷ l) (letters_fit name d.rest d.fits) ∙ ap (λ x. x ∷ name) (sym (same_is dot t.0 t.2)))));
     }
 
 ends_from : {name path : List ℕ} → EndsIn name path → Fits (AnyText ∷ Character dot ∷ letter_tokens name) path
-ends_from {name} {path} e = fits_joined e.front (dot ∷ name) e.whole (any_text e.front)
+ends_from {name} {path} e = fits_joined e.prefix (dot ∷ name) e.whole (any_text e.prefix)
     (joined (dot ∷ []) name (itself dot) (fit_letters name))
 
 letters_no_dot : (cs : List ℕ) → IsTrue (list_all is_ascii_alphanumeric cs) → behind_last_dot cs ≡ None
@@ -138,38 +138,38 @@ letters_no_dot (c ∷ cs) h =
     ap (λ o. or_else o (if c == dot then Some cs else None)) (letters_no_dot cs b.1)
     ∙ ap (λ t. if t then Some cs else None) (other_char c dot refl b.0)
 
-pub last_of_front : (front name : List ℕ) → behind_last_dot name ≡ None
-    → behind_last_dot (front ++ dot ∷ name) ≡ Some name
-last_of_front [] name none = ap (λ o. or_else o (Some name)) none
-last_of_front (c ∷ front) name none = ap (λ o. or_else o (if c == dot then Some (front ++ dot ∷ name) else None))
-    (last_of_front front name none)
+pub last_of_prefix : (prefix name : List ℕ) → behind_last_dot name ≡ None
+    → behind_last_dot (prefix ++ dot ∷ name) ≡ Some name
+last_of_prefix [] name none = ap (λ o. or_else o (Some name)) none
+last_of_prefix (c ∷ prefix) name none = ap (λ o. or_else o (if c == dot then Some (prefix ++ dot ∷ name) else None))
+    (last_of_prefix prefix name none)
 
-front_first : (c : ℕ) (cs : List ℕ) {name : List ℕ} (test : Bool) → nat_eq c dot ≡ test
+prefix_first : (c : ℕ) (cs : List ℕ) {name : List ℕ} (test : Bool) → nat_eq c dot ≡ test
     → (if test then Some cs else None) ≡ Some name → EndsIn name (c ∷ cs)
-front_first c cs true is h = record {
-  front = [];
+prefix_first c cs true is h = record {
+  prefix = [];
   whole = ap (λ x. x ∷ cs) (same_is c dot is)
       ∙ ap (λ l. dot ∷ l) (some_inj h);
 }
-front_first c cs false is h = cc
+prefix_first c cs false is h = cc
 
-front_step : (c : ℕ) (cs : List ℕ) {name : List ℕ} → (behind_last_dot cs ≡ Some name → EndsIn name cs)
+prefix_step : (c : ℕ) (cs : List ℕ) {name : List ℕ} → (behind_last_dot cs ≡ Some name → EndsIn name cs)
     → (o : Option (List ℕ)) → behind_last_dot cs ≡ o →
     or_else o (if nat_eq c dot then Some cs else None) ≡ Some name → EndsIn name (c ∷ cs)
-front_step c cs earlier (Some found) is h = let later = earlier (is ∙ h) in
-    record { front = c ∷ later.front; whole = ap (λ l. c ∷ l) later.whole }
-front_step c cs earlier None is h = front_first c cs (nat_eq c dot) refl h
+prefix_step c cs earlier (Some found) is h = let later = earlier (is ∙ h) in
+    record { prefix = c ∷ later.prefix; whole = ap (λ l. c ∷ l) later.whole }
+prefix_step c cs earlier None is h = prefix_first c cs (nat_eq c dot) refl h
 
-front_of_last : (path : List ℕ) {name : List ℕ} → behind_last_dot path ≡ Some name → EndsIn name path
-front_of_last [] e = cc
-front_of_last (c ∷ cs) e = front_step c cs (λ h. front_of_last cs h) (behind_last_dot cs) refl e
+prefix_of_last : (path : List ℕ) {name : List ℕ} → behind_last_dot path ≡ Some name → EndsIn name path
+prefix_of_last [] e = cc
+prefix_of_last (c ∷ cs) e = prefix_step c cs (λ h. prefix_of_last cs h) (behind_last_dot cs) refl e
 
 pub simple_fits : {characters path : List ℕ} {tokens : List Token} → IsGlob characters tokens
     → is_simple characters ≡ true → Fits tokens path ↔ (behind_last_dot path ≡ Some (extension_of characters))
 simple_fits {characters} {path} {tokens} glob simple = (
   λ f. let e = ends_to (subst (λ ts. Fits ts path) same f) in ap behind_last_dot e.whole
-      ∙ (last_of_front e.front parts.extension (letters_no_dot parts.extension parts.letters) ∙ ap Some (sym named)),
-  λ e. subst (λ ts. Fits ts path) (sym same) (ends_from (front_of_last path (e ∙ ap Some named))),
+      ∙ (last_of_prefix e.prefix parts.extension (letters_no_dot parts.extension parts.letters) ∙ ap Some (sym named)),
+  λ e. subst (λ ts. Fits ts path) (sym same) (ends_from (prefix_of_last path (e ∙ ap Some named))),
 ) where
   parts : SimpleParts characters
   parts = simple_parts characters simple
@@ -198,20 +198,20 @@ cut_at [] (suc k) = refl
 cut_at (c ∷ cs) zero = refl
 cut_at (c ∷ cs) (suc k) = ap (λ l. c ∷ l) (cut_at cs k)
 
-pub found_dot : (path : List ℕ) (k place d : ℕ) → suc k ≡ place → k < length path → nat_eq (get_or path k d) dot ≡ true
-    → behind_last_dot (drop place path) ≡ None → behind_last_dot path ≡ Some (drop place path)
-found_dot path k place d e p is none =
+pub found_dot : (path : List ℕ) (k index d : ℕ) → suc k ≡ index → k < length path → nat_eq (get_or path k d) dot ≡ true
+    → behind_last_dot (drop index path) ≡ None → behind_last_dot path ≡ Some (drop index path)
+found_dot path k index d e p is none =
     let last : behind_last_dot (drop (suc k) path) ≡ None = subst (λ n. behind_last_dot (drop n path) ≡ None) (sym e)
     none in
     ap behind_last_dot (cut_at path k
     ∙ ap (λ l. take k path ++ l) (drop_next path k d p
     ∙ ap (λ c. c ∷ drop (suc k) path) (same_is (get_or path k d) dot is))) ∙
-    (last_of_front (take k path) (drop (suc k) path) last ∙ ap (λ n. Some (drop n path)) e)
+    (last_of_prefix (take k path) (drop (suc k) path) last ∙ ap (λ n. Some (drop n path)) e)
 
-pub no_dot_yet : (path : List ℕ) (k place d : ℕ) → suc k ≡ place → k < length path
-    → nat_eq (get_or path k d) dot ≡ false → behind_last_dot (drop place path) ≡ None
+pub no_dot_yet : (path : List ℕ) (k index d : ℕ) → suc k ≡ index → k < length path
+    → nat_eq (get_or path k d) dot ≡ false → behind_last_dot (drop index path) ≡ None
     → behind_last_dot (drop k path) ≡ None
-no_dot_yet path k place d e p isnt none =
+no_dot_yet path k index d e p isnt none =
     let last : behind_last_dot (drop (suc k) path) ≡ None = subst (λ n. behind_last_dot (drop n path) ≡ None) (sym e)
     none in
     ap behind_last_dot (drop_next path k d p) ∙

@@ -23,11 +23,11 @@ map_right f (inr b) = inr (f b)
 
 pub keeps_starts : {old new : Starts} → Keeps old.beginnings.items new.beginnings.items
     → Keeps old.endings.items new.endings.items → KeepsStarts old new
-keeps_starts front back = record {
-  are = record { beginnings = front.tree; endings = back.tree };
+keeps_starts prefix back = record {
+  are = record { beginnings = prefix.tree; endings = back.tree };
   same = λ path number. (
-    λ h. map_left (front.finds 0 path number).0 (map_right (back.finds 0 (reverse path) number).0 h),
-    λ h. map_left (front.finds 0 path number).1 (map_right (back.finds 0 (reverse path) number).1 h),
+    λ h. map_left (prefix.finds 0 path number).0 (map_right (back.finds 0 (reverse path) number).0 h),
+    λ h. map_left (prefix.finds 0 path number).1 (map_right (back.finds 0 (reverse path) number).1 h),
   );
 }
 
@@ -51,13 +51,13 @@ added_beginning {tokens} {own} {word} {old} {new} are begins adds same = record 
   kept path number (inl h) = inl (adds.kept path number h)
   kept path number (inr h) = inr (subst (λ l. Finds l 0 (reverse path) number) (sym same) h)
 
-  front : (path : List ℕ) (number : ℕ) → Finds old.beginnings.items 0 path number ⊎ (number ≡ own)
+  prefix : (path : List ℕ) (number : ℕ) → Finds old.beginnings.items 0 path number ⊎ (number ≡ own)
       → Starting old path number ⊎ (number ≡ own)
-  front path number (inl h) = inl (inl h)
-  front path number (inr e) = inr e
+  prefix path number (inl h) = inl (inl h)
+  prefix path number (inr e) = inr e
 
   only : (path : List ℕ) (number : ℕ) → Starting new path number → Starting old path number ⊎ (number ≡ own)
-  only path number (inl h) = front path number (adds.only path number h)
+  only path number (inl h) = prefix path number (adds.only path number h)
   only path number (inr h) = inl (inr (subst (λ l. Finds l 0 (reverse path) number) same h))
 
 pub added_ending : {tokens : List Token} {own : ℕ} {word : List ℕ} {old new : Starts} → AreStarts old
@@ -99,17 +99,17 @@ tree_none {nodes} e = subst IsTree (sym e) (record { within = λ n c next edge. 
 
 -- the states that are found are those at which a walk starts
 
-pub found_starts : (starts : Starts) (path : List ℕ) (front ends : List Node) (back none mid found : List ℕ)
-    → none ≡ [] → front ≡ starts.beginnings.items → ends ≡ starts.endings.items → back ≡ reverse path →
-    ((k : ℕ) → Contains mid k ↔ (Contains none k ⊎ Finds front 0 path k)) →
+pub found_starts : (starts : Starts) (path : List ℕ) (prefix ends : List Node) (back none mid found : List ℕ)
+    → none ≡ [] → prefix ≡ starts.beginnings.items → ends ≡ starts.endings.items → back ≡ reverse path →
+    ((k : ℕ) → Contains mid k ↔ (Contains none k ⊎ Finds prefix 0 path k)) →
     ((k : ℕ) → Contains found k ↔ (Contains mid k ⊎ Finds ends 0 back k)) → (k : ℕ)
     → Contains found k ↔ Starting starts path k
-found_starts starts path front ends back none mid found e f g b first second k = (
+found_starts starts path prefix ends back none mid found e f g b first second k = (
   λ h. to ((second k).0 h),
   λ h. (second k).1 (from h),
 ) where
-  front_is : Finds front 0 path k ↔ Finds starts.beginnings.items 0 path k
-  front_is = (λ h. subst (λ l. Finds l 0 path k) f h, λ h. subst (λ l. Finds l 0 path k) (sym f) h)
+  prefix_is : Finds prefix 0 path k ↔ Finds starts.beginnings.items 0 path k
+  prefix_is = (λ h. subst (λ l. Finds l 0 path k) f h, λ h. subst (λ l. Finds l 0 path k) (sym f) h)
 
   back_to : Finds ends 0 back k → Finds starts.endings.items 0 (reverse path) k
   back_to h = subst (λ l. Finds l 0 (reverse path) k) g (subst (λ p. Finds ends 0 p k) b h)
@@ -117,16 +117,16 @@ found_starts starts path front ends back none mid found e f g b first second k =
   back_from : Finds starts.endings.items 0 (reverse path) k → Finds ends 0 back k
   back_from h = subst (λ p. Finds ends 0 p k) (sym b) (subst (λ l. Finds l 0 (reverse path) k) (sym g) h)
 
-  begun : Contains none k ⊎ Finds front 0 path k → Starting starts path k
+  begun : Contains none k ⊎ Finds prefix 0 path k → Starting starts path k
   begun (inl h) = contains_none (subst (λ l. Contains l k) e h)
-  begun (inr h) = inl (front_is.0 h)
+  begun (inr h) = inl (prefix_is.0 h)
 
   to : Contains mid k ⊎ Finds ends 0 back k → Starting starts path k
   to (inl h) = begun ((first k).0 h)
   to (inr h) = inr (back_to h)
 
   from : Starting starts path k → Contains mid k ⊎ Finds ends 0 back k
-  from (inl h) = inl ((first k).1 (inr (front_is.1 h)))
+  from (inl h) = inl ((first k).1 (inr (prefix_is.1 h)))
   from (inr h) = inr (back_from h)
 
 pub leads_from_starts : {states : List State} {starts : Starts} {found path : List ℕ}

@@ -5,7 +5,7 @@ use Rattle.std.specs.Prelude.{◌⊎◌, Some, slice_get}
 use Rattle.std.proofs.lemmas.Bool.{cases_lt}
 use Rattle.std.proofs.lemmas.Option.{slice_get_within}
 use Rattle.deny_lists.proofs.Options.{some_inj}
-use Rattle.deny_lists.proofs.Places.{slice_get-append_left, slice_get-push}
+use Rattle.deny_lists.proofs.Indices.{slice_get-append_left, slice_get-push}
 use Rattle.deny_globs.specs.declared.state.State.{State}
 use Rattle.deny_globs.specs.declared.state.State.TheVariants.{End, Character, AnyCharacter, OneOf, AnyText, Either}
 use Rattle.deny_globs.specs.declared.state.State.TheVariants.{Never}

@@ -1,4 +1,4 @@
--- What the walk finds, place by place.
+-- What the walk finds, index by index.
 use Rattle.std.proofs.Common.{◌≡◌, ℕ, zero, suc, ◌+◌, ◌*◌, ◌<◌, ◌≤◌, List, [], ◌∷◌, ◌++◌, length, take, drop, Bool}
 use Rattle.std.proofs.Common.{true, refl, sym, ap, subst, inl, inr, ◌∙◌, arith, get_or, eqb-true}
 use Rattle.std.specs.Prelude.{◌⊎◌, ◌↔◌, ◌==◌, Some, None, Contains, nat_eq, slice_get}
@@ -137,7 +137,7 @@ steps_over_either {states} {rest} {number} {first} {second} {now} {mid} {later} 
   only t (inl h) = first_only t (a.only t h)
   only t (inr e) = inr (inr e)
 
--- the states of a place, as far as they are gone over
+-- the states of an index, as far as they are gone over
 
 pub record IsPassing (states : List State) (rest : List ℕ) (index : ℕ) (before now next : List ℕ) : Type 0 where
   pub extends : Extends before now
@@ -229,7 +229,7 @@ passing_more {states} {rest} {index} {number} {before} {now} {later} {next} {aft
         (subst (λ j. IsBehind n j c t) (same_state n kind same at) h)) l
   ]
 
--- all states of the place are gone over
+-- all states of the index are gone over
 record IsClosed (states : List State) (rest now next : List ℕ) : Type 0 where
   at_once : (number other glob : ℕ) (state : State) → Contains now number → slice_get states number ≡ Some state
       → IsAtOnce state other → Leads states glob other rest → Contains now other
@@ -282,25 +282,25 @@ passed {states} {rest} {index} {before} {now} {next} all p = record {
   closed : IsClosed states rest now next
   closed = closed_of all p
 
--- the walk over the places
+-- the walk over the indices
 
-pub record IsAtPlace (states : List State) (starts path : List ℕ) (place : ℕ) (now : List ℕ) : Type 0 where
-  pub leads : (glob : ℕ) → SomeLeads states starts glob path ↔ SomeLeads states now glob (drop place path)
+pub record IsAtIndex (states : List State) (starts path : List ℕ) (index : ℕ) (now : List ℕ) : Type 0 where
+  pub leads : (glob : ℕ) → SomeLeads states starts glob path ↔ SomeLeads states now glob (drop index path)
 
-pub at_first_place : {states : List State} {starts path now : List ℕ} → ((n : ℕ) → Contains now n → Contains starts n)
-    → ((n : ℕ) → Contains starts n → Contains now n) → IsAtPlace states starts path 0 now
-at_first_place only all = record {
+pub at_first_index : {states : List State} {starts path now : List ℕ} → ((n : ℕ) → Contains now n → Contains starts n)
+    → ((n : ℕ) → Contains starts n → Contains now n) → IsAtIndex states starts path 0 now
+at_first_index only all = record {
   leads = λ glob. (
     λ s. record { number = s.number; is_marked = all s.number s.is_marked; leads = s.leads },
     λ s. record { number = s.number; is_marked = only s.number s.is_marked; leads = s.leads },
   );
 }
 
-pub drop_one : (path : List ℕ) (place : ℕ) → place < length path
-    → (c : ℕ) × (drop place path ≡ c ∷ drop (suc place) path)
-drop_one [] place p = absurd (omega arith)
+pub drop_one : (path : List ℕ) (index : ℕ) → index < length path
+    → (c : ℕ) × (drop index path ≡ c ∷ drop (suc index) path)
+drop_one [] index p = absurd (omega arith)
 drop_one (c ∷ cs) zero p = (c, refl)
-drop_one (c ∷ cs) (suc place) p = drop_one cs place (omega (arith, p))
+drop_one (c ∷ cs) (suc index) p = drop_one cs index (omega (arith, p))
 
 drop_all : (path : List ℕ) → drop (length path) path ≡ []
 drop_all [] = refl
@@ -316,34 +316,34 @@ pub nothing_starts : {states : List State} {glob : ℕ} {path : List ℕ} (start
 nothing_starts [] e s = contains_none s.is_marked
 nothing_starts (n ∷ ns) e s = absurd (omega (arith, eqb-true (suc (length ns)) 0 e))
 
-pub no_more : {states : List State} {starts path now : List ℕ} {place glob : ℕ} → now ≡ []
-    → IsAtPlace states starts path place now → SomeLeads states starts glob path → ⊥
+pub no_more : {states : List State} {starts path now : List ℕ} {index glob : ℕ} → now ≡ []
+    → IsAtIndex states starts path index now → SomeLeads states starts glob path → ⊥
 no_more {glob = glob} e at s = nothing_leads e ((at.leads glob).0 s)
 
-pub at_next_place : {states : List State} {starts path : List ℕ} (place : ℕ) {rest before now next : List ℕ}
-    → place < length path → rest ≡ drop place path → IsAtPlace states starts path place before →
-    Passes states rest before now next → IsAtPlace states starts path (place + 1) next
-at_next_place {states} {starts} {path} place {rest} {before} {now} {next} less is at passes =
-    subst (λ n. IsAtPlace states starts path n next) one here where
-      one : suc place ≡ place + 1
+pub at_next_index : {states : List State} {starts path : List ℕ} (index : ℕ) {rest before now next : List ℕ}
+    → index < length path → rest ≡ drop index path → IsAtIndex states starts path index before →
+    Passes states rest before now next → IsAtIndex states starts path (index + 1) next
+at_next_index {states} {starts} {path} index {rest} {before} {now} {next} less is at passes =
+    subst (λ n. IsAtIndex states starts path n next) one here where
+      one : suc index ≡ index + 1
       one = omega arith
 
-      here : IsAtPlace states starts path (suc place) next
+      here : IsAtIndex states starts path (suc index) next
       here = record {
         leads = λ glob.
-            let d = drop_one path place less in
-            let on = passes.on d.0 (drop (suc place) path) (is ∙ d.1) glob in (
+            let d = drop_one path index less in
+            let on = passes.on d.0 (drop (suc index) path) (is ∙ d.1) glob in (
               λ s. on.0 (subst (λ r. SomeLeads states before glob r) (sym is) ((at.leads glob).0 s)),
               λ s. (at.leads glob).1 (subst (λ r. SomeLeads states before glob r) is (on.1 s)),
             );
       }
 
-pub at_last_place : {states : List State} {starts path : List ℕ} (place : ℕ) {rest before now next : List ℕ}
-    → place ≡ length path → rest ≡ drop (length path) path → IsAtPlace states starts path place before →
+pub at_last_index : {states : List State} {starts path : List ℕ} (index : ℕ) {rest before now next : List ℕ}
+    → index ≡ length path → rest ≡ drop (length path) path → IsAtIndex states starts path index before →
     Passes states rest before now next → (glob : ℕ) → SomeLeads states starts glob path ↔ HasEnd states now glob
-at_last_place {states} {starts} {path} place {rest} {before} {now} {next} last is at passes glob =
+at_last_index {states} {starts} {path} index {rest} {before} {now} {next} last is at passes glob =
     let end = passes.at_end (is ∙ drop_all path) glob in
-    let same : drop place path ≡ rest = ap (λ n. drop n path) last ∙ sym is in (
+    let same : drop index path ≡ rest = ap (λ n. drop n path) last ∙ sym is in (
       λ s. end.0 (subst (λ r. SomeLeads states before glob r) same ((at.leads glob).0 s)),
       λ h. (at.leads glob).1 (subst (λ r. SomeLeads states before glob r) (sym same) (end.1 h)),
     )

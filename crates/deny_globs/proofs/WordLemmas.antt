@@ -13,8 +13,9 @@ use Rattle.std.proofs.lemmas.Option.{slice_get_within, slice_get_past, slice_get
 use Rattle.std.proofs.lemmas.List.Elements.{Contains-push, Contains-push_cases, Contains-append_left}
 use Rattle.std.proofs.lemmas.List.Elements.{Contains-append_right, Contains-append_cases}
 use Rattle.deny_lists.proofs.Members.{tail-same, contains_none}
-use Rattle.deny_lists.proofs.Places.{slice_get-push_cases, slice_get-push_left, slice_get-push_last, slice_get-set_same}
-use Rattle.deny_lists.proofs.Places.{slice_get-set_cases, slice_get-set_other}
+use Rattle.deny_lists.proofs.Indices.{slice_get-push_cases, slice_get-push_left, slice_get-push_last}
+use Rattle.deny_lists.proofs.Indices.{slice_get-set_same}
+use Rattle.deny_lists.proofs.Indices.{slice_get-set_cases, slice_get-set_other}
 use Rattle.deny_lists.proofs.Options.{none_is_no_some, some_inj}
 use Rattle.deny_globs.specs.declared.words.Node.{Node}
 use Rattle.deny_globs.specs.Words.{next_of, IsEdge, HasNoEdge, IsTree, Finds, ends_here, goes_on, IsBare, AddsBare}
@@ -390,26 +391,26 @@ read_at : (nodes : List Node) (number : ℕ) (node : Node) → number < length n
     → slice_get nodes number ≡ Some node
 read_at nodes number node less is = slice_get_read nodes (length nodes) number node refl less is
 
-drop_past : (path : List ℕ) (place : ℕ) → length path ≤ place → drop place path ≡ []
+drop_past : (path : List ℕ) (index : ℕ) → length path ≤ index → drop index path ≡ []
 drop_past [] zero p = refl
 drop_past [] (suc n) p = refl
 drop_past (c ∷ cs) zero p = absurd (omega (arith, p))
 drop_past (c ∷ cs) (suc n) p = drop_past cs n (omega (arith, p))
 
-pub reading_step : (nodes : List Node) (path : List ℕ) (place : ℕ) {first found after slice rest : List ℕ}
+pub reading_step : (nodes : List Node) (path : List ℕ) (index : ℕ) {first found after slice rest : List ℕ}
     {number next : ℕ} (one two : Node) → number < length nodes → one ≡ get_or nodes number one →
-    two ≡ get_or nodes number two → slice ≡ one.numbers → after ≡ found ++ slice → rest ≡ drop place path →
-    next_of two rest ≡ Some next → place ≤ length path → IsReading nodes path first found number (drop place path)
-    → IsReading nodes path first after next (drop (place + 1) path) × (place + 1 ≤ length path)
-reading_step nodes path place {first} {found} {after} {slice} {rest} {number}
-    {next} one two less is same has added whole leads inside reading = elim (cases_lt place (length path)) [
+    two ≡ get_or nodes number two → slice ≡ one.numbers → after ≡ found ++ slice → rest ≡ drop index path →
+    next_of two rest ≡ Some next → index ≤ length path → IsReading nodes path first found number (drop index path)
+    → IsReading nodes path first after next (drop (index + 1) path) × (index + 1 ≤ length path)
+reading_step nodes path index {first} {found} {after} {slice} {rest} {number}
+    {next} one two less is same has added whole leads inside reading = elim (cases_lt index (length path)) [
       | inl below ↦
-          let d = drop_one path place below in (
+          let d = drop_one path index below in (
             subst (λ n. IsReading nodes path first after next (drop n path)) step
                 (reading_more one at (added ∙ ap (λ l. found ++ l) has) leads_one d.1 reading),
             omega (arith, below),
           )
-      | inr past ↦ none_is_no_some (subst (λ r. next_of one r ≡ Some next) (drop_past path place past) leads_one)
+      | inr past ↦ none_is_no_some (subst (λ r. next_of one r ≡ Some next) (drop_past path index past) leads_one)
     ] where
       at : slice_get nodes number ≡ Some one
       at = read_at nodes number one less is
@@ -417,19 +418,19 @@ reading_step nodes path place {first} {found} {after} {slice} {rest} {number}
       equal : two ≡ one
       equal = some_inj (sym (read_at nodes number two less same) ∙ at)
 
-      leads_one : next_of one (drop place path) ≡ Some next
-      leads_one = subst (λ (n : Node). next_of n (drop place path) ≡ Some next) equal
+      leads_one : next_of one (drop index path) ≡ Some next
+      leads_one = subst (λ (n : Node). next_of n (drop index path) ≡ Some next) equal
           (subst (λ r. next_of two r ≡ Some next) whole leads)
 
-      step : suc place ≡ place + 1
+      step : suc index ≡ index + 1
       step = omega arith
 
-pub reading_end : (nodes : List Node) (path : List ℕ) (place : ℕ) {first found after slice rest : List ℕ} {number : ℕ}
+pub reading_end : (nodes : List Node) (path : List ℕ) (index : ℕ) {first found after slice rest : List ℕ} {number : ℕ}
     (one two : Node) → number < length nodes → one ≡ get_or nodes number one → two ≡ get_or nodes number two →
-    slice ≡ one.numbers → after ≡ found ++ slice → rest ≡ drop place path → next_of two rest ≡ None
-    → IsReading nodes path first found number (drop place path) →
+    slice ≡ one.numbers → after ≡ found ++ slice → rest ≡ drop index path → next_of two rest ≡ None
+    → IsReading nodes path first found number (drop index path) →
     (k : ℕ) → Contains after k ↔ (Contains first k ⊎ Finds nodes 0 path k)
-reading_end nodes path place {first} {found} {after} {slice} {rest}
+reading_end nodes path index {first} {found} {after} {slice} {rest}
     {number} one two less is same has added whole none reading =
     reading_last one at (added ∙ ap (λ l. found ++ l) has) none_one reading where
       at : slice_get nodes number ≡ Some one
@@ -438,8 +439,8 @@ reading_end nodes path place {first} {found} {after} {slice} {rest}
       equal : two ≡ one
       equal = some_inj (sym (read_at nodes number two less same) ∙ at)
 
-      none_one : next_of one (drop place path) ≡ None
-      none_one = subst (λ (n : Node). next_of n (drop place path) ≡ None) equal
+      none_one : next_of one (drop index path) ≡ None
+      none_one = subst (λ (n : Node). next_of n (drop index path) ≡ None) equal
           (subst (λ r. next_of two r ≡ None) whole none)
 
 -- what each step of adding a word promises

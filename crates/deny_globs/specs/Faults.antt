@@ -67,4 +67,4 @@ pub data FirstFault : List ℕ → ℕ → Type 0 where
 pub record IsBadAt (text : List ℕ) (byte : ℕ) : Type 0 where
   pub character : ℕ
   pub fault : FirstFault (chars text) character
-  pub place : byte ≡ length (encode_utf8_all (take character (chars text)))
+  pub offset : byte ≡ length (encode_utf8_all (take character (chars text)))

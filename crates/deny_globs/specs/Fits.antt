@@ -31,5 +31,5 @@ mutual
   -- the characters are the tokens' texts, one after the other
   pub data Fits : List Token → List ℕ → Type 0 where
     nothing : Fits [] []
-    joined : {token : Token} {tokens : List Token} (front rest : List ℕ) → IsText token front → Fits tokens rest
-        → Fits (token ∷ tokens) (front ++ rest)
+    joined : {token : Token} {tokens : List Token} (prefix rest : List ℕ) → IsText token prefix → Fits tokens rest
+        → Fits (token ∷ tokens) (prefix ++ rest)

@@ -37,10 +37,10 @@ globs_of extension = extension.globs
 abbrev pub Ascend : List Extension → Type 0
 Ascend extensions = IsStrictlySortedBy (slice_cmp nat_cmp) (map name_of extensions)
 
--- the extension at this place has the name
-pub record IsNamedAt (extensions : List Extension) (name : List ℕ) (place : ℕ) : Type 0 where
+-- the extension at this index has the name
+pub record IsNamedAt (extensions : List Extension) (name : List ℕ) (index : ℕ) : Type 0 where
   pub extension : Extension
-  pub at : slice_get extensions place ≡ Some extension
+  pub at : slice_get extensions index ≡ Some extension
   pub named : extension.name ≡ name
 
 -- the extensions before `low` are below the name, and those from `high` on above it
@@ -52,47 +52,47 @@ pub record IsBetween (extensions : List Extension) (name : List ℕ) (low high :
   pub above : (i : ℕ) (extension : Extension) → high ≤ i → slice_get extensions i ≡ Some extension
       → slice_cmp nat_cmp name extension.name ≡ Less
 
--- the extensions before this place are below the name, and the others above it
-pub record IsGap (extensions : List Extension) (name : List ℕ) (place : ℕ) : Type 0 where
-  pub inside : place ≤ length extensions
-  pub below : (i : ℕ) (extension : Extension) → i < place → slice_get extensions i ≡ Some extension
+-- the extensions before this index are below the name, and the others above it
+pub record IsGap (extensions : List Extension) (name : List ℕ) (index : ℕ) : Type 0 where
+  pub inside : index ≤ length extensions
+  pub below : (i : ℕ) (extension : Extension) → i < index → slice_get extensions i ≡ Some extension
       → slice_cmp nat_cmp extension.name name ≡ Less
-  pub above : (i : ℕ) (extension : Extension) → place ≤ i → slice_get extensions i ≡ Some extension
+  pub above : (i : ℕ) (extension : Extension) → index ≤ i → slice_get extensions i ≡ Some extension
       → slice_cmp nat_cmp name extension.name ≡ Less
 
--- a comparison has found the place, or left at most half of those between
+-- a comparison has found the index, or left at most half of those between
 pub record IsHalf (extensions : List Extension) (name : List ℕ) (low high low' high' : ℕ) : Type 0 where
   pub between : IsBetween extensions name low' high'
   pub half : high' + high' + low ≤ low' + low' + high
   pub fewer : high' + low < low' + high
 
 abbrev pub IsHalved : List Extension → List ℕ → ℕ → ℕ → Search → Type 0
-IsHalved extensions name low high (Found place) = IsNamedAt extensions name place
+IsHalved extensions name low high (Found index) = IsNamedAt extensions name index
 IsHalved extensions name low high (Between low' high') = IsHalf extensions name low high low' high'
 
--- the extension at this place has a number more
-pub record IsNumbered (old : List Extension) (place number : ℕ) (new : List Extension) : Type 0 where
+-- the extension at this index has a number more
+pub record IsNumbered (old : List Extension) (index number : ℕ) (new : List Extension) : Type 0 where
   pub extension : Extension
-  pub at : slice_get old place ≡ Some extension
-  pub whole : new ≡ slice_set old place (record { name = extension.name; globs = extension.globs ++ number ∷ [] })
+  pub at : slice_get old index ≡ Some extension
+  pub whole : new ≡ slice_set old index (record { name = extension.name; globs = extension.globs ++ number ∷ [] })
 
 -- the number has come to its extension, or with a new one
 pub data IsExtended (old : List Extension) (name : List ℕ) (number : ℕ) : List Extension → Type 0 where
-  numbered : {new : List Extension} (place : ℕ) → IsNamedAt old name place → IsNumbered old place number new
+  numbered : {new : List Extension} (index : ℕ) → IsNamedAt old name index → IsNumbered old index number new
       → IsExtended old name number new
-  inserted : {new : List Extension} (place : ℕ) → IsGap old name place
-      → new ≡ insert old place (record { name = name; globs = number ∷ [] }) → IsExtended old name number new
+  inserted : {new : List Extension} (index : ℕ) → IsGap old name index
+      → new ≡ insert old index (record { name = name; globs = number ∷ [] }) → IsExtended old name number new
 
 -- the extensions are those of the simple globs, each with the numbers of the globs that ask for it
 pub record IsIndexed (globs : List Pattern) (extensions : List Extension) : Type 0 where
   pub ascend : Ascend extensions
-  pub numbers : (place : ℕ) (extension : Extension) → slice_get extensions place ≡ Some extension → (i : ℕ)
+  pub numbers : (index : ℕ) (extension : Extension) → slice_get extensions index ≡ Some extension → (i : ℕ)
       → Contains extension.globs i ↔ AsksFor globs i extension.name
-  pub once : (place : ℕ) (extension : Extension) → slice_get extensions place ≡ Some extension
+  pub once : (index : ℕ) (extension : Extension) → slice_get extensions index ≡ Some extension
       → IsStrictlySortedBy nat_cmp extension.globs
-  pub some : (place : ℕ) (extension : Extension) → slice_get extensions place ≡ Some extension
+  pub some : (index : ℕ) (extension : Extension) → slice_get extensions index ≡ Some extension
       → (i : ℕ) × Contains extension.globs i
-  pub all : (i : ℕ) (name : List ℕ) → AsksFor globs i name → (place : ℕ) × IsNamedAt extensions name place
+  pub all : (i : ℕ) (name : List ℕ) → AsksFor globs i name → (index : ℕ) × IsNamedAt extensions name index
 
 -- the states stand for the globs that are not simple
 pub record AreCompiled (globs : List Pattern) (states : List State) (starts : Starts) : Type 0 where

@@ -1,4 +1,4 @@
--- The states that are marked at one place.
+-- The states that are marked at one index.
 use Rattle.std.specs.Prelude.{ℕ, suc, ◌≡◌, ◌⊎◌, ◌↔◌, List, [], ◌∷◌, ◌++◌, length, Bool, true, false, Contains, get_or}
 
 -- how many marks there are

@@ -50,7 +50,7 @@ is_middle (a ∷ []) = false
 is_middle (a ∷ b ∷ []) = false
 is_middle (a ∷ b ∷ c ∷ rest) = (a == star) && ((b == star) && (c == slash))
 
--- a run of this many `*` at this place, before these characters, is part of `**/` at the start
+-- a run of this many `*` at this index, before these characters, is part of `**/` at the start
 abbrev pub is_leading : ℕ → ℕ → List ℕ → Bool
 is_leading at count behind = (at == 0) && ((count == 2) && begins slash behind)
 
@@ -79,6 +79,6 @@ pub data IsPiece : ℕ → List ℕ → List ℕ → Piece → Type 0 where
 -- characters, the first with this number, are these pieces, with what comes behind them
 pub data Spells : ℕ → List ℕ → List ℕ → List Piece → Type 0 where
   nothing : {at : ℕ} {behind : List ℕ} → Spells at [] behind []
-  next : {at : ℕ} {behind : List ℕ} {piece : Piece} {pieces : List Piece} (front more : List ℕ) →
-      IsPiece at front (more ++ behind) piece → Spells (at + length front) more behind pieces
-      → Spells at (front ++ more) behind (piece ∷ pieces)
+  next : {at : ℕ} {behind : List ℕ} {piece : Piece} {pieces : List Piece} (prefix more : List ℕ) →
+      IsPiece at prefix (more ++ behind) piece → Spells (at + length prefix) more behind pieces
+      → Spells at (prefix ++ more) behind (piece ∷ pieces)

@@ -64,7 +64,7 @@ pub record AreFirstFitting (globs : List Pattern) (path indices : List ℕ) : Ty
   pub first : (i j : ℕ) → Contains indices j → i < j → FitsAt globs i path → Contains indices i
 
 -- the steps: for the least number d with 2^d above the number of extensions, d, one for each simple glob that fits, and
--- the weights once at each place of the path, its end too
+-- the weights once at each index of the path, its end too
 abbrev pub KeepsBound : List Pattern → List ℕ → ℕ → ℕ → Type 0
 KeepsBound globs path old new = (names : List (List ℕ)) (hits : List ℕ) (d : ℕ) → HasExtensions globs names
     → HasSimpleHits globs path hits → length names < 2 ^ d →

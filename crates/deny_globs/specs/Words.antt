@@ -42,26 +42,26 @@ pub record AddsBare (old new : List Node) : Type 0 where
   pub bare : IsBare node
   pub whole : new ≡ old ++ node ∷ []
 
--- the character leads from the node at this place to the next, or nothing has changed
-pub record PutsEdge (old : List Node) (place c next : ℕ) (new : List Node) : Type 0 where
+-- the character leads from the node at this index to the next, or nothing has changed
+pub record PutsEdge (old : List Node) (index c next : ℕ) (new : List Node) : Type 0 where
   pub node : Node
-  pub at : slice_get old place ≡ Some node
+  pub at : slice_get old index ≡ Some node
   pub edges : BTreeMap ℕ ℕ
-  pub whole : new ≡ slice_set old place (record { numbers = node.numbers; edges = edges })
+  pub whole : new ≡ slice_set old index (record { numbers = node.numbers; edges = edges })
   pub updates : Updates nat_cmp node.edges edges c (Some next)
 
-pub record PutsNoEdge (old : List Node) (place : ℕ) (new : List Node) : Type 0 where
+pub record PutsNoEdge (old : List Node) (index : ℕ) (new : List Node) : Type 0 where
   pub node : Node
-  pub at : slice_get old place ≡ Some node
+  pub at : slice_get old index ≡ Some node
   pub edges : BTreeMap ℕ ℕ
-  pub whole : new ≡ slice_set old place (record { numbers = node.numbers; edges = edges })
+  pub whole : new ≡ slice_set old index (record { numbers = node.numbers; edges = edges })
   pub unchanged : IsUnchanged node.edges edges
 
--- the number has come to the node at this place
-pub record PutsNumber (old : List Node) (place number : ℕ) (new : List Node) : Type 0 where
+-- the number has come to the node at this index
+pub record PutsNumber (old : List Node) (index number : ℕ) (new : List Node) : Type 0 where
   pub node : Node
-  pub at : slice_get old place ≡ Some node
-  pub whole : new ≡ slice_set old place (record { numbers = node.numbers ++ number ∷ []; edges = node.edges })
+  pub at : slice_get old index ≡ Some node
+  pub whole : new ≡ slice_set old index (record { numbers = node.numbers ++ number ∷ []; edges = node.edges })
 
 -- nodes and edges may have come, and no number
 pub record Keeps (old new : List Node) : Type 0 where

@@ -35,27 +35,27 @@ pub fn is_simple(characters: &[char]) -> bool
     }
 }
 
-/// Whether the character before this place is a `.`.
-fn is_dot_before(path: &[char], place: usize) -> bool
-    requires some { 0 < place }
-    requires inside { place ≤ length path.now }
-    ensures { result ≡ nat_eq (slice_index path.now (place - 1)) dot }
+/// Whether the character before this index is a `.`.
+fn is_dot_before(path: &[char], index: usize) -> bool
+    requires some { 0 < index }
+    requires inside { index ≤ length path.now }
+    ensures { result ≡ nat_eq (slice_index path.now (index - 1)) dot }
 {
-    path[place - 1] == '.'
+    path[index - 1] == '.'
 }
 
 /// Where what is behind the path's last `.` begins, if it has one.
 pub fn last_extension(path: &[char]) -> Option<usize>
-    ensures inside { IfSome result (λ place. place ≤ length path.now) }
-    ensures found { IfSome result (λ place. behind_last_dot path.now ≡ Some (drop place path.now)) }
+    ensures inside { IfSome result (λ index. index ≤ length path.now) }
+    ensures found { IfSome result (λ index. behind_last_dot path.now ≡ Some (drop index path.now)) }
     ensures none { IfNone result (behind_last_dot path.now ≡ None) }
 {
-    let mut place = path.len();
-    while 0 < place {
-        if is_dot_before(path, place) {
-            return Some(place);
+    let mut index = path.len();
+    while 0 < index {
+        if is_dot_before(path, index) {
+            return Some(index);
         }
-        place -= 1;
+        index -= 1;
     }
     None
 }
@@ -77,9 +77,9 @@ fn compare(extension: &Extension, name: &[char]) -> Ordering
 /// What a comparison leaves of a search.
 #[derive(Drop)]
 pub enum Search {
-    /// The extension is at this place.
+    /// The extension is at this index.
     Found(usize),
-    /// It can only be among those from the first place on, before the second.
+    /// It can only be among those from the first index on, before the second.
     Between(usize, usize),
 }
 
@@ -121,7 +121,7 @@ pub fn find_extension<L: Ledger>(
     let mut high = extensions.len();
     while low < high {
         match halve(extensions, name, low, high, steps) {
-            Search::Found(place) => return Ok(place),
+            Search::Found(index) => return Ok(index),
             Search::Between(next_low, next_high) => {
                 low = next_low;
                 high = next_high;
@@ -148,32 +148,32 @@ fn find_uncounted<L: Ledger>(
     find_extension(extensions, name, &mut steps)
 }
 
-/// Adds a number to the extension at this place.
-fn push_number(extensions: &mut Vec<Extension>, place: usize, number: usize) -> Result<(), NoMemory>
-    requires { place < length extensions.old.items }
-    ensures ok { OnOk result (IsNumbered extensions.old.items place number extensions.new.items) }
+/// Adds a number to the extension at this index.
+fn push_number(extensions: &mut Vec<Extension>, index: usize, number: usize) -> Result<(), NoMemory>
+    requires { index < length extensions.old.items }
+    ensures ok { OnOk result (IsNumbered extensions.old.items index number extensions.new.items) }
     ensures err { OnErr result (extensions.new.items ≡ extensions.old.items) }
 {
-    extensions[place].globs.push(number)
+    extensions[index].globs.push(number)
 }
 
-/// Puts a new extension at this place, which one glob asks for.
+/// Puts a new extension at this index, which one glob asks for.
 fn insert_extension(
     extensions: &mut Vec<Extension>,
-    place: usize,
+    index: usize,
     name: &[char],
     number: usize,
 ) -> Result<(), NoMemory>
-    requires { place ≤ length extensions.old.items }
+    requires { index ≤ length extensions.old.items }
     ensures ok { OnOk result (extensions.new.items
-        ≡ insert extensions.old.items place (record { name = name.now; globs = number ∷ [] })) }
+        ≡ insert extensions.old.items index (record { name = name.now; globs = number ∷ [] })) }
     ensures err { OnErr result (extensions.new.items ≡ extensions.old.items) }
 {
     let alloc = *extensions.allocator();
     let name = List::from_vec(Vec::from_slice(alloc, name)?);
     let mut globs = List::new(alloc);
     globs.push(number)?;
-    extensions.insert(place, Extension { name, globs })?;
+    extensions.insert(index, Extension { name, globs })?;
     Ok(())
 }
 
@@ -188,7 +188,7 @@ pub fn add_extension(
     ensures err { OnErr result (extensions.new.items ≡ extensions.old.items) }
 {
     match find_uncounted::<Brand>(extensions, name, Blank::new(1)) {
-        Ok(place) => push_number(extensions, place, number),
-        Err(place) => insert_extension(extensions, place, name, number),
+        Ok(index) => push_number(extensions, index, number),
+        Err(index) => insert_extension(extensions, index, name, number),
     }
 }

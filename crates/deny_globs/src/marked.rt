@@ -7,7 +7,7 @@ use std::alloc::Global;
 use std::marker::Model;
 use std::sync::ledger::Ledger;
 
-/// The states that are marked at one place of a path, in the order in which they were marked.
+/// The states that are marked at one index of a path, in the order in which they were marked.
 #[derive(Drop)]
 pub struct Marked {
     order: Vec<usize>,

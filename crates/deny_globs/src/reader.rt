@@ -32,7 +32,7 @@ fn begins_slash(rest: &[char]) -> bool
     }
 }
 
-/// Whether so many `*` at this place are part of `**/` at the start.
+/// Whether so many `*` at this index are part of `**/` at the start.
 fn is_leading(rest: &[char], at: usize, count: usize) -> bool
     requires { count ≤ length rest.now }
     ensures { result ≡ is_leading at count (drop count rest.now) }

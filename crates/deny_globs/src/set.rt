@@ -92,7 +92,7 @@ impl GlobSet {
     }
 
     /// The same, and counts its steps: a step is one comparison of extensions, one number of a
-    /// simple glob given, or one state marked at one place of the path.
+    /// simple glob given, or one state marked at one index of the path.
     pub fn matches_counted<L: Ledger>(
         &self,
         path: &str,
@@ -243,7 +243,7 @@ fn note_simple<L: Ledger>(
     ensures steps { BoundsSimple extensions.now path.now steps.old steps.new }
 {
     match last_extension(path) {
-        Some(place) => note_named(extensions, &path[place..], fitting, steps),
+        Some(index) => note_named(extensions, &path[index..], fitting, steps),
         None => Ok(()),
     }
 }
@@ -260,8 +260,8 @@ fn note_named<L: Ledger>(
     ensures steps { BoundsNamed extensions.now name.now steps.old steps.new }
 {
     match find_extension(extensions, name, steps) {
-        Ok(place) => note_all(extensions[place].globs.as_slice(), fitting, steps),
-        Err(_place) => Ok(()),
+        Ok(index) => note_all(extensions[index].globs.as_slice(), fitting, steps),
+        Err(_index) => Ok(()),
     }
 }
 

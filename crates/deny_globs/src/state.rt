@@ -1,6 +1,6 @@
 use crate::token::Class;
 
-/// What is still to come of a glob, at a place of a path. The numbers are those of the states that
+/// What is still to come of a glob, at an index of a path. The numbers are those of the states that
 /// come next, and at the end that of the glob.
 #[derive(Drop)]
 pub enum State {

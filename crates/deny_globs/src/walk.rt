@@ -59,7 +59,7 @@ fn begins_of_class(rest: &[char], class: &Class) -> bool
     }
 }
 
-/// Marks what the state stands for at this place, and what is behind it at the next.
+/// Marks what the state stands for at this index, and what is behind it at the next.
 fn step_over<L: Ledger>(
     states: &[State],
     rest: &[char],
@@ -100,7 +100,7 @@ fn step_over<L: Ledger>(
     }
 }
 
-/// Goes over the states that are marked at a place, those too that come while it goes.
+/// Goes over the states that are marked at an index, those too that come while it goes.
 fn pass<L: Ledger>(
     states: &[State],
     rest: &[char],
@@ -210,11 +210,11 @@ pub fn walk<L: Ledger>(
     let mut now = Marked::new(alloc, states.len())?;
     let mut next = Marked::new(alloc, states.len())?;
     mark_starts(starts, &mut now, steps)?;
-    for place in 0..path.len() {
+    for index in 0..path.len() {
         if now.is_empty() {
             return Ok(());
         }
-        pass(states, &path[place..], &mut now, &mut next, steps)?;
+        pass(states, &path[index..], &mut now, &mut next, steps)?;
         now.clear();
         std::mem::swap(&mut now, &mut next);
     }

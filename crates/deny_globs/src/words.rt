@@ -8,7 +8,7 @@ use deny_lists::{List, NoMemory};
 use std::alloc::Global;
 use std::collections::BTreeMap;
 
-/// A place in a tree of words: the numbers of the words that end here, and the nodes to which
+/// A node of a tree of words: the numbers of the words that end here, and the nodes to which
 /// characters lead. The first node of a tree is where each word begins.
 #[derive(Drop)]
 pub struct Node {
@@ -130,13 +130,13 @@ pub fn find_words(nodes: &[Node], path: &[char], found: &mut Vec<usize>) -> Resu
         (Contains found.old.items number ⊎ Finds nodes.now 0 path.now number)) }
 {
     let mut node = 0;
-    let mut place = 0;
+    let mut index = 0;
     while node < nodes.len() {
         found.extend_from_slice(nodes[node].numbers.as_slice())?;
-        match next_of(&nodes[node], &path[place..]) {
+        match next_of(&nodes[node], &path[index..]) {
             Some(next) => {
                 node = next;
-                place += 1;
+                index += 1;
             }
             None => return Ok(()),
         }

@@ -63,7 +63,7 @@ fn push_answer(
 fn push_added(added: Added, answers: &mut String) -> Result<(), AllocError> {
     match added {
         Added::Numbered(number) => push_number(": ", number, answers),
-        Added::Bad(place) => push_number(": bad ", place, answers),
+        Added::Bad(offset) => push_number(": bad ", offset, answers),
         Added::Memory => answers.push_str(": memory"),
     }
 }
@@ -113,7 +113,7 @@ impl Globs {
     fn add(&mut self, alloc: Global, text: &str) -> Added {
         match Glob::parse(alloc, text) {
             Ok(glob) => self.add_glob(glob),
-            Err(GlobError::Bad(place)) => Added::Bad(place),
+            Err(GlobError::Bad(offset)) => Added::Bad(offset),
             Err(GlobError::Memory) => Added::Memory,
         }
     }

@@ -3,40 +3,41 @@ use Rattle.std.proofs.Common.{◌≡◌, ◌≢◌, ◌==◌, ◌++◌, ◌∙�
 use Rattle.std.specs.Prelude.{reverse}
 use Rattle.std.proofs.lemmas.Bool.{cases_Bool, cond-false, cond-true, eq-eqb, eqb-true}
 use Rattle.std.proofs.lemmas.List.{reverse-append, reverse-reverse}
-use Rattle.deny_json.specs.Labels.{without_end, without_front}
+use Rattle.deny_json.specs.Labels.{without_end, without_start}
 
-no_front : (text : List ℕ) → ((rest : List ℕ) → text ≢ 34 ∷ rest) → without_front text ≡ text
-no_front [] none = refl
-no_front (byte ∷ bytes) none = elim (cases_Bool (byte == 34)) as (λ _. without_front (byte ∷ bytes) ≡ byte ∷ bytes) [
+no_prefix : (text : List ℕ) → ((rest : List ℕ) → text ≢ 34 ∷ rest) → without_start text ≡ text
+no_prefix [] none = refl
+no_prefix (byte ∷ bytes) none = elim (cases_Bool (byte == 34)) as (λ _. without_start (byte ∷ bytes) ≡ byte ∷ bytes) [
   | inl e ↦ absurd (none bytes (ap (λ (b : ℕ). b ∷ bytes) (eqb-true byte 34 e)))
-  | inr e ↦ cond-false (byte == 34) (without_front bytes) (byte ∷ bytes) e
+  | inr e ↦ cond-false (byte == 34) (without_start bytes) (byte ∷ bytes) e
 ]
 
-one_front : (bytes : List ℕ) → without_front (34 ∷ bytes) ≡ without_front bytes
-one_front bytes = cond-true (34 == 34) (without_front bytes) (34 ∷ bytes) (eq-eqb 34 34 refl)
+one_prefix : (bytes : List ℕ) → without_start (34 ∷ bytes) ≡ without_start bytes
+one_prefix bytes = cond-true (34 == 34) (without_start bytes) (34 ∷ bytes) (eq-eqb 34 34 refl)
 
-pub front_done : (text whole : List ℕ) → ((rest : List ℕ) → text ≢ 34 ∷ rest) → without_front text ≡ without_front whole
-    → text ≡ without_front whole
-front_done text whole none so = sym (no_front text none) ∙ so
+pub prefix_done : (text whole : List ℕ) → ((rest : List ℕ) → text ≢ 34 ∷ rest)
+    → without_start text ≡ without_start whole
+    → text ≡ without_start whole
+prefix_done text whole none so = sym (no_prefix text none) ∙ so
 
-pub front_shorter : (text shorter whole : List ℕ) → text ≡ 34 ∷ shorter → without_front text ≡ without_front whole
-    → without_front shorter ≡ without_front whole
-front_shorter text shorter whole is so = sym (ap without_front is ∙ one_front shorter) ∙ so
+pub prefix_shorter : (text shorter whole : List ℕ) → text ≡ 34 ∷ shorter → without_start text ≡ without_start whole
+    → without_start shorter ≡ without_start whole
+prefix_shorter text shorter whole is so = sym (ap without_start is ∙ one_prefix shorter) ∙ so
 
 flipped : (text rest : List ℕ) → reverse text ≡ 34 ∷ rest → text ≡ reverse rest ++ 34 ∷ []
 flipped text rest is = sym (reverse-reverse text) ∙ (ap reverse is ∙ reverse-append (34 ∷ []) rest)
 
-no_end : (text : List ℕ) → ((front : List ℕ) → text ≢ front ++ 34 ∷ []) → without_end text ≡ text
-no_end text none = ap reverse (no_front (reverse text) (λ rest is. none (reverse rest) (flipped text rest is)))
+no_end : (text : List ℕ) → ((prefix : List ℕ) → text ≢ prefix ++ 34 ∷ []) → without_end text ≡ text
+no_end text none = ap reverse (no_prefix (reverse text) (λ rest is. none (reverse rest) (flipped text rest is)))
     ∙ reverse-reverse text
 
-pub end_done : (text whole : List ℕ) → ((front : List ℕ) → text ≢ front ++ 34 ∷ [])
+pub end_done : (text whole : List ℕ) → ((prefix : List ℕ) → text ≢ prefix ++ 34 ∷ [])
     → without_end text ≡ without_end whole → text ≡ without_end whole
 end_done text whole none so = sym (no_end text none) ∙ so
 
 pub end_shorter : (text shorter whole : List ℕ) → text ≡ shorter ++ 34 ∷ [] → without_end text ≡ without_end whole
     → without_end shorter ≡ without_end whole
 end_shorter text shorter whole is so =
-    sym (ap (λ (t : List ℕ). reverse (without_front (reverse t))) is
-    ∙ (ap (λ (t : List ℕ). reverse (without_front t)) (reverse-append shorter (34 ∷ []))
-    ∙ ap reverse (one_front (reverse shorter)))) ∙ so
+    sym (ap (λ (t : List ℕ). reverse (without_start (reverse t))) is
+    ∙ (ap (λ (t : List ℕ). reverse (without_start t)) (reverse-append shorter (34 ∷ []))
+    ∙ ap reverse (one_prefix (reverse shorter)))) ∙ so

@@ -24,16 +24,16 @@ range_in text span =
     if nat_le span.start span.end && (is_boundary text span.start && is_boundary text span.end) then take
     (span.end - span.start) (drop span.start text) else []
 
--- a text without the quotes at its front, at its end, and at both
-abbrev pub without_front : List ℕ → List ℕ
-without_front [] = []
-without_front (byte ∷ bytes) = if byte == 34 then without_front bytes else byte ∷ bytes
+-- a text without the quotes at its start, at its end, and at both
+abbrev pub without_start : List ℕ → List ℕ
+without_start [] = []
+without_start (byte ∷ bytes) = if byte == 34 then without_start bytes else byte ∷ bytes
 
 abbrev pub without_end : List ℕ → List ℕ
-without_end text = reverse (without_front (reverse text))
+without_end text = reverse (without_start (reverse text))
 
 unfoldable pub trimmed : List ℕ → List ℕ
-trimmed text = without_end (without_front text)
+trimmed text = without_end (without_start text)
 
 abbrev pub marked_in : Option File → Span → List ℕ
 marked_in None span = []

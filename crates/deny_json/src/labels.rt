@@ -5,7 +5,7 @@ ghost use Rattle.serde_json.specs.Data.{member, no_members, number, object, stri
 ghost use Rattle.serde_json.specs.View.{view};
 ghost use Rattle.deny_base.specs.Files.{is_boundary, location_in};
 ghost use Rattle.deny_json.specs.Labels.{column_of, label_value, line_of, marked};
-ghost use Rattle.deny_json.specs.Labels.{range_in, trimmed, without_end, without_front};
+ghost use Rattle.deny_json.specs.Labels.{range_in, trimmed, without_end, without_start};
 ghost use Rattle.deny_json.specs.Reading.{AreCounted, IsCounted};
 
 use deny_base::{Files, Label, Location, Span};
@@ -56,8 +56,8 @@ fn range_in(text: &str, span: Span) -> &str
     }
 }
 
-fn without_front(text: &str) -> &str
-    ensures { result.now ≡ without_front text.now }
+fn without_start(text: &str) -> &str
+    ensures { result.now ≡ without_start text.now }
 {
     let mut rest = text;
     while let Some(shorter) = rest.strip_prefix('"') {
@@ -81,7 +81,7 @@ fn without_end(text: &str) -> &str
 fn trimmed(text: &str) -> &str
     ensures { result.now ≡ trimmed text.now }
 {
-    without_end(without_front(text))
+    without_end(without_start(text))
 }
 
 /// What a label marks, without the quotes at its ends.

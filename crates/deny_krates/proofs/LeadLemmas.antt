@@ -127,7 +127,7 @@ marked text rest name mark is = tests_agree (same_text rest name) (same_text tex
     (λ same. (bytes_eq-Decides rest name).1
     (drop_last rest name mark (sym is ∙ (bytes_eq-Decides text (name ++ mark ∷ [])).0 same)))
 
-pub unmarked : (text name : List ℕ) (mark : ℕ) → ((front : List ℕ) → text ≡ front ++ mark ∷ [] → ⊥)
+pub unmarked : (text name : List ℕ) (mark : ℕ) → ((prefix : List ℕ) → text ≡ prefix ++ mark ∷ [] → ⊥)
     → false ≡ same_text text (name ++ mark ∷ [])
 unmarked text name mark never = sym (false_from_ne_true (same_text text (name ++ mark ∷ []))
     (λ same. never name ((bytes_eq-Decides text (name ++ mark ∷ [])).0 same)))

@@ -16,7 +16,7 @@ use Rattle.std.proofs.lemmas.Option.{none-some, same_Some, slice_get-get_or, sli
 use Rattle.deny_lists.proofs.Members.{from_there, one_there, some_at}
 use Rattle.deny_lists.proofs.Orders.{not_below_itself}
 use Rattle.deny_lists.proofs.Sorted.{ascends_at}
-use Rattle.deny_lists.proofs.Places.{slice_get-append_left}
+use Rattle.deny_lists.proofs.Indices.{slice_get-append_left}
 use Rattle.deny_model.specs.Graph.{Crate, Graph}
 use Rattle.deny_crate_graph.specs.Bounds.{node_count}
 use Rattle.deny_crate_graph.specs.Crates.{crate_view, crates_from}

@@ -22,7 +22,7 @@ use Rattle.deny_model.specs.Licensing.{Licensing}
 use Rattle.deny_model.specs.Told.{crate_at}
 use Rattle.deny_codes.specs.Circumstances.{Circumstances}
 use Rattle.deny_codes.specs.EachCode.{words_licensed}
-use Rattle.deny_codes.specs.Licences.{Asked, TellsCounting, accepted_told, asked_in, asked_of, bad_place}
+use Rattle.deny_codes.specs.Licences.{Asked, TellsCounting, accepted_told, asked_in, asked_of, bad_offset}
 use Rattle.deny_codes.specs.Licences.{exception_not_encountered_told, expression_in, expression_of, holds, is_granted}
 use Rattle.deny_codes.specs.Licences.{is_licensed, is_passed_over, licence_text, licensed_key}
 use Rattle.deny_codes.specs.Licences.{not_encountered_told, parse_error_told, rejected_notes, rejected_told}
@@ -73,7 +73,7 @@ module _ (l : Licensing) (c : Crate) where
   abbrev Fits : Judgement → Type 0
   Fits judgement.Private = Unit {0}
   Fits judgement.Unlicensed = Unit {0}
-  Fits (judgement.Unreadable at) = bad_place (reading_in (licence_text c)) ≡ at
+  Fits (judgement.Unreadable at) = bad_offset (reading_in (licence_text c)) ≡ at
   Fits (judgement.Accepted granters) = Unit {0}
   Fits (judgement.Rejected granters notes) = rejected_notes l c ≡ notes
 
@@ -99,7 +99,7 @@ module _ (l : Licensing) (c : Crate) where
   unfolding rejected_notes
   fits-by true licensed reading is reads = tt
   fits-by false false reading is reads = tt
-  fits-by false true (BadAt at) is reads = ap bad_place reads
+  fits-by false true (BadAt at) is reads = ap bad_offset reads
   fits-by false true (Read e) is reads = fits-at e (holds l c e)
       (ap (λ (asked : List Asked). map note (filter (λ a. not (is_granted l a)) asked)) (asks true (Read e) is reads)
       ∙ notes-from e.requirements)
@@ -120,7 +120,7 @@ module _ (l : Licensing) (c : Crate) where
     words-by judgement.Unlicensed fit = ap (λ (o : Option Crate). plainly severity.Error
         (codes "crate '" ++ (option_map_or crate_text o [] ++ codes "' is unlicensed")) [] (option_map kid_of o)) here
     words-by (judgement.Unreadable at) fit =
-        ap (λ (o : Option Crate). told_at o (option_map_or (λ d. bad_place (reading_in (licence_text d))) o 0)) here
+        ap (λ (o : Option Crate). told_at o (option_map_or (λ d. bad_offset (reading_in (licence_text d))) o 0)) here
         ∙ ap (told_at (Some c)) fit
       where
         told_at : Option Crate → ℕ → Words

@@ -1,4 +1,4 @@
--- Lists that are alike place by place, and what is computed of them.
+-- Lists that are alike element by element, and what is computed of them.
 use Rattle.std.proofs.Common.{Bool, List, Option, Some, [], ap, false, map, refl, true, ◌++◌, ◌∷◌, ◌≡◌}
 use Rattle.std.specs.List.{AllZip, cons_option, flat_map}
 use Rattle.std.specs.Prelude.{cond, filter, filter_map, find, option_map}

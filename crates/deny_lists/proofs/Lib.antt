@@ -7,12 +7,12 @@ pub mod Filters
 pub mod Finding
 pub mod FirstLemmas
 pub mod Fuel
+pub mod Indices
 pub mod Loops
 pub mod Members
 pub mod Numbers
 pub mod Options
 pub mod Orders
-pub mod Places
 pub mod PrefixLemmas
 pub mod ReachingLemmas
 pub mod ReaderLemmas

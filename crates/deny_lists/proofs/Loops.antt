@@ -40,14 +40,14 @@ pub pushed_all : {X Y : Type 0} (each : List X → List Y) (xs : List X) (i : �
 pushed_all each xs i new whole none past so =
     sym (append-nil new) ∙ (ap (λ ys. new ++ ys) (sym none ∙ sym (at_drop_all each xs i past)) ∙ so)
 
--- a step of a loop over places
-pub flat-run : {X : Type 0} (f : ℕ → List X) (old new whole : List X) (place end : ℕ) → place < end → new ≡ old
-    ++ f place
-    → old ++ flat_map f (range_with_len place (end - place)) ≡ whole
-    → new ++ flat_map f (range_with_len (place + 1) (end - (place + 1))) ≡ whole
-flat-run f old new whole place end below added =
-    appended (flat_map f) (range_with_len place (end - place)) (range_with_len (place + 1) (end - (place + 1)))
-    (f place) old
+-- a step of a loop over indices
+pub flat-run : {X : Type 0} (f : ℕ → List X) (old new whole : List X) (index end : ℕ) → index < end → new ≡ old
+    ++ f index
+    → old ++ flat_map f (range_with_len index (end - index)) ≡ whole
+    → new ++ flat_map f (range_with_len (index + 1) (end - (index + 1))) ≡ whole
+flat-run f old new whole index end below added =
+    appended (flat_map f) (range_with_len index (end - index)) (range_with_len (index + 1) (end - (index + 1)))
+    (f index) old
     new whole (ap (flat_map f)
-    (range_with_len-same place place (end - place) (suc (end - (place + 1))) refl (omega arith)))
+    (range_with_len-same index index (end - index) (suc (end - (index + 1))) refl (omega arith)))
     added

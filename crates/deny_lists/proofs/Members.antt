@@ -1,4 +1,4 @@
--- Members of lists: what stands at a place, what the words that make lists hold, and tests of some or all members.
+-- Members of lists: what stands at an index, what the words that make lists hold, and tests of some or all members.
 use Rattle.std.proofs.Common.{Bool, List, None, Option, Some, [], ap, arith, false, inl, inr, length, map, refl, subst}
 use Rattle.std.proofs.Common.{suc, sym, true, zero, ℕ, ◌<◌, ◌∙◌, ◌∷◌, ◌≡◌, ◌⊎◌, ◌++◌}
 use Rattle.std.specs.List.{AllByRecursion, AllZip, cons_option, flat_map, list_all, list_any}
@@ -42,13 +42,13 @@ pub Contains-by_cases : {T : Type 0} (x : T) (xs : List T) (z : T) {P : Type 0} 
 Contains-by_cases x xs z {P} is first later = elim (Contains-cases x xs z is) as (λ _. P)
     [ inl e ↦ first e | inr h ↦ later h ]
 
--- an element stands at each place within a list
+-- an element stands at each index within a list
 pub some_at : {X : Type 0} (xs : List X) (n : ℕ) → n < length xs → (x : X) × (slice_get xs n ≡ Some x)
 some_at [] n inside = absurd (omega arith)
 some_at (x ∷ xs) zero inside = (x, refl)
 some_at (x ∷ xs) (suc n) inside = some_at xs n (omega arith)
 
--- an element stands at a place
+-- an element stands at an index
 pub there : {A : Type 0} (xs : List A) (x : A) → Contains xs x → (k : ℕ) × (slice_get xs k ≡ Some x)
 there xs x is = (is.0, slice_get_read xs (length xs) is.0 x refl is.1 (sym is.2))
 
@@ -102,7 +102,7 @@ filter_keeps {A} p (y ∷ xs) zero x at is =
 filter_keeps {A} p (y ∷ xs) (suc k) x at is = by_test (p y) (filter_keeps p xs k x at is)
   where
     by_test : (b : Bool) → Contains (filter p xs) x → Contains (cond b (y ∷ filter p xs) (filter p xs)) x
-    by_test true has = let place = there (filter p xs) x has in from_there (y ∷ filter p xs) (suc place.0) x place.1
+    by_test true has = let index = there (filter p xs) x has in from_there (y ∷ filter p xs) (suc index.0) x index.1
     by_test false has = has
 
 pub filtered : {A : Type 0} (p : A → Bool) (xs : List A) (x : A) → Contains (filter p xs) x → Contains xs x
@@ -115,12 +115,12 @@ filtered {A} p (y ∷ xs) x stands = by_test (filtered p xs x) (p y) stands
     by_test : (Contains (filter p xs) x → Contains xs x) → (b : Bool)
         → Contains (cond b (y ∷ filter p xs) (filter p xs)) x → Contains (y ∷ xs) x
     by_test rest false has = later (rest has)
-    by_test rest true has = by_place rest (there (y ∷ filter p xs) x has).0 (there (y ∷ filter p xs) x has).1
+    by_test rest true has = by_index rest (there (y ∷ filter p xs) x has).0 (there (y ∷ filter p xs) x has).1
       where
-        by_place : (Contains (filter p xs) x → Contains xs x) → (k : ℕ) → slice_get (y ∷ filter p xs) k ≡ Some x
+        by_index : (Contains (filter p xs) x → Contains xs x) → (k : ℕ) → slice_get (y ∷ filter p xs) k ≡ Some x
             → Contains (y ∷ xs) x
-        by_place rest zero at = from_there (y ∷ xs) 0 x at
-        by_place rest (suc k) at = later (rest (from_there (filter p xs) k x at))
+        by_index rest zero at = from_there (y ∷ xs) 0 x at
+        by_index rest (suc k) at = later (rest (from_there (filter p xs) k x at))
 
 pub passes_filter : {A : Type 0} (p : A → Bool) (xs : List A) (x : A) → Contains (filter p xs) x → p x ≡ true
 passes_filter {A} p xs x stands =

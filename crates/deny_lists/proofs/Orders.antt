@@ -143,8 +143,8 @@ option_cmp-exact cmp exact (Some a) None e = cc e
 option_cmp-exact cmp exact (Some a) (Some b) e = ap (λ x. Some x) (exact a b e)
 
 -- lists with one beginning compare as what follows it
-pub slice_cmp-append : {A : Type 0} {R : A → A → Ordering} → IsTotalOrder R → (front a b : List A)
-    → slice_cmp R (front ++ a) (front ++ b) ≡ slice_cmp R a b
+pub slice_cmp-append : {A : Type 0} {R : A → A → Ordering} → IsTotalOrder R → (prefix a b : List A)
+    → slice_cmp R (prefix ++ a) (prefix ++ b) ≡ slice_cmp R a b
 slice_cmp-append total [] a b = refl
 slice_cmp-append {R = R} total (x ∷ xs) a b =
     ap (λ o. ordering_then o (slice_cmp R (xs ++ a) (xs ++ b))) (tied_itself total x)

@@ -16,11 +16,11 @@ length-before_source c =
 -- a line is one byte shorter than with its end
 pub length-lock_line : (c : Crate) → length (lock_line c) + 1 ≡ lock_line_length c
 length-lock_line c =
-    let front : length (before_source c) ≡ length c.name + (length (parts_text c.version) + 2) =
+    let prefix : length (before_source c) ≡ length c.name + (length (parts_text c.version) + 2) =
     length-before_source c in
     let all : length (lock_line c) ≡ length (before_source c) + length (source_shown c) =
     length-append (before_source c) (source_shown c) in
-    omega (arith, front, all)
+    omega (arith, prefix, all)
 
 abbrev pub span_from : ℕ → ℕ → ℕ → LockSpan
 span_from start source end = record {
@@ -29,16 +29,16 @@ span_from start source end = record {
 }
 
 -- the offsets before, within and behind what was put
-pub span-is : (c : Crate) (old front text : List ℕ) (start source end : ℕ) → front ≡ old ++ before_source c
-    → text ≡ front ++ source_shown c → start ≡ length old → source ≡ length front → end ≡ length text
+pub span-is : (c : Crate) (old prefix text : List ℕ) (start source end : ℕ) → prefix ≡ old ++ before_source c
+    → text ≡ prefix ++ source_shown c → start ≡ length old → source ≡ length prefix → end ≡ length text
     → span_from start source end ≡ line_span (length old) c
 unfolding line_span
-span-is c old front text start source end first second at_start at_source at_end =
-    let front_long : source ≡ length old + length (before_source c) =
+span-is c old prefix text start source end first second at_start at_source at_end =
+    let prefix_long : source ≡ length old + length (before_source c) =
     at_source ∙ (ap length first ∙ length-append old (before_source c)) in
     let line_long : length (lock_line c) ≡ length (before_source c) + length (source_shown c) =
     length-append (before_source c) (source_shown c) in
-    let text_long : end ≡ length front + length (source_shown c) =
-    at_end ∙ (ap length second ∙ length-append front (source_shown c)) in
-    let whole : end ≡ length old + length (lock_line c) = omega (arith, front_long, line_long, text_long, at_source) in
-    λ i. span_from (at_start i) (front_long i) (whole i)
+    let text_long : end ≡ length prefix + length (source_shown c) =
+    at_end ∙ (ap length second ∙ length-append prefix (source_shown c)) in
+    let whole : end ≡ length old + length (lock_line c) = omega (arith, prefix_long, line_long, text_long, at_source) in
+    λ i. span_from (at_start i) (prefix_long i) (whole i)

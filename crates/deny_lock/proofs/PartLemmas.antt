@@ -45,7 +45,7 @@ before_byte text before behind b at ascii is here =
 -- ---- lines
 
 -- lines end with a newline
-last_newline : (c : Crate) (cs : List Crate) → (front : List ℕ) × (lock_lines (c ∷ cs) ≡ front ++ 10 ∷ [])
+last_newline : (c : Crate) (cs : List Crate) → (prefix : List ℕ) × (lock_lines (c ∷ cs) ≡ prefix ++ 10 ∷ [])
 unfolding lock_lines
 last_newline c [] = (lock_line c, append-nil (ended_line c))
 last_newline c (d ∷ cs) =
@@ -61,72 +61,73 @@ unfolding lock_lines
 line_starts text [] behind utf8 is = IsCharBoundary-start text utf8
 line_starts text (c ∷ before) behind utf8 is =
     let last = last_newline c before in
-    let front : List ℕ = last.0 in
+    let prefix : List ℕ = last.0 in
     let lines : List ℕ = lock_lines (c ∷ before) in
-    let whole : lines ≡ front ++ 10 ∷ [] = last.1 in
-    after_byte text front behind 10 (length lines) utf8 (omega arith)
-    (is ∙ (ap (λ part. part ++ behind) whole ∙ append_assoc front (10 ∷ []) behind))
-    (ap length whole ∙ length-append front (10 ∷ []))
+    let whole : lines ≡ prefix ++ 10 ∷ [] = last.1 in
+    after_byte text prefix behind 10 (length lines) utf8 (omega arith)
+    (is ∙ (ap (λ part. part ++ behind) whole ∙ append_assoc prefix (10 ∷ []) behind))
+    (ap length whole ∙ length-append prefix (10 ∷ []))
 
 -- what stands before the source, without the blank
-front_of : Crate → List ℕ
-front_of c = c.name ++ (codes " " ++ parts_text c.version)
+prefix_of : Crate → List ℕ
+prefix_of c = c.name ++ (codes " " ++ parts_text c.version)
 
-before_source-is : (c : Crate) → before_source c ≡ front_of c ++ 32 ∷ []
-unfolding front_of
+before_source-is : (c : Crate) → before_source c ≡ prefix_of c ++ 32 ∷ []
+unfolding prefix_of
 before_source-is c =
     sym (append_assoc c.name (codes " " ++ parts_text c.version) (32 ∷ [])
     ∙ ap (λ rest. c.name ++ rest) (append_assoc (codes " ") (parts_text c.version) (32 ∷ [])))
 
-module _ (text front behind : List ℕ) (c : Crate) (utf8 : IsUtf8 text) (is : text ≡ front ++ (ended_line c ++ behind))
-    (starts : IsCharBoundary text (length front)) where
-  line_behind : text ≡ front ++ (lock_line c ++ (10 ∷ behind))
-  line_behind = is ∙ ap (λ rest. front ++ rest) (append_assoc (lock_line c) (10 ∷ []) behind)
+module _ (text prefix behind : List ℕ) (c : Crate) (utf8 : IsUtf8 text) (is : text ≡ prefix ++ (ended_line c ++ behind))
+    (starts : IsCharBoundary text (length prefix)) where
+  line_behind : text ≡ prefix ++ (lock_line c ++ (10 ∷ behind))
+  line_behind = is ∙ ap (λ rest. prefix ++ rest) (append_assoc (lock_line c) (10 ∷ []) behind)
 
-  source_behind : text ≡ (front ++ before_source c) ++ (source_shown c ++ (10 ∷ behind))
+  source_behind : text ≡ (prefix ++ before_source c) ++ (source_shown c ++ (10 ∷ behind))
   source_behind =
       line_behind
-      ∙ (ap (λ rest. front ++ rest) (append_assoc (before_source c) (source_shown c) (10 ∷ behind))
-      ∙ sym (append_assoc front (before_source c) (source_shown c ++ (10 ∷ behind))))
+      ∙ (ap (λ rest. prefix ++ rest) (append_assoc (before_source c) (source_shown c) (10 ∷ behind))
+      ∙ sym (append_assoc prefix (before_source c) (source_shown c ++ (10 ∷ behind))))
 
   line_long : length (lock_line c) ≡ length (before_source c) + length (source_shown c)
   line_long = length-append (before_source c) (source_shown c)
 
-  line_ends : IsCharBoundary text (length front + length (lock_line c))
-  line_ends = before_byte text (front ++ lock_line c) behind 10 (length front + length (lock_line c)) (omega arith)
-      (line_behind ∙ sym (append_assoc front (lock_line c) (10 ∷ behind))) (sym (length-append front (lock_line c)))
+  line_ends : IsCharBoundary text (length prefix + length (lock_line c))
+  line_ends = before_byte text (prefix ++ lock_line c) behind 10 (length prefix + length (lock_line c)) (omega arith)
+      (line_behind ∙ sym (append_assoc prefix (lock_line c) (10 ∷ behind))) (sym (length-append prefix (lock_line c)))
 
-  source_starts : IsCharBoundary text (length front + length (before_source c))
+  source_starts : IsCharBoundary text (length prefix + length (before_source c))
   source_starts =
       let rest : List ℕ = source_shown c ++ (10 ∷ behind) in
-      let apart : front ++ before_source c ≡ (front ++ front_of c) ++ 32 ∷ [] =
-      ap (λ part. front ++ part) (before_source-is c) ∙ sym (append_assoc front (front_of c) (32 ∷ [])) in
-      let blank : text ≡ (front ++ front_of c) ++ 32 ∷ rest =
-      source_behind ∙ (ap (λ part. part ++ rest) apart ∙ append_assoc (front ++ front_of c) (32 ∷ []) rest) in
-      let long : length (before_source c) ≡ length (front_of c) + 1 =
-      ap length (before_source-is c) ∙ length-append (front_of c) (32 ∷ []) in
-      after_byte text (front ++ front_of c) rest 32 (length front + length (before_source c)) utf8 (omega arith) blank
-      (omega (arith, long, length-append front (front_of c)))
+      let apart : prefix ++ before_source c ≡ (prefix ++ prefix_of c) ++ 32 ∷ [] =
+      ap (λ part. prefix ++ part) (before_source-is c) ∙ sym (append_assoc prefix (prefix_of c) (32 ∷ [])) in
+      let blank : text ≡ (prefix ++ prefix_of c) ++ 32 ∷ rest =
+      source_behind ∙ (ap (λ part. part ++ rest) apart ∙ append_assoc (prefix ++ prefix_of c) (32 ∷ []) rest) in
+      let long : length (before_source c) ≡ length (prefix_of c) + 1 =
+      ap length (before_source-is c) ∙ length-append (prefix_of c) (32 ∷ []) in
+      after_byte text (prefix ++ prefix_of c) rest 32 (length prefix + length (before_source c))
+      utf8 (omega arith) blank
+      (omega (arith, long, length-append prefix (prefix_of c)))
 
   -- a crate's line stands behind what is in front of it
-  pub line-stands : IsLineOf text c (line_span (length front) c)
+  pub line-stands : IsLineOf text c (line_span (length prefix) c)
   unfolding line_span
   line-stands = record {
     line = record {
       upward = omega arith;
       starts = starts;
       ends = line_ends;
-      is = part-is text front (lock_line c) (10 ∷ behind) (length front) (length front + length (lock_line c))
+      is = part-is text prefix (lock_line c) (10 ∷ behind) (length prefix) (length prefix + length (lock_line c))
           line_behind refl refl;
     };
     source = record {
       upward = omega (arith, line_long);
       starts = source_starts;
       ends = line_ends;
-      is = part-is text (front ++ before_source c) (source_shown c) (10 ∷ behind)
-          (length front + length (before_source c)) (length front + length (lock_line c)) source_behind
-          (sym (length-append front (before_source c)))
-          (omega (arith, line_long, length-append front (before_source c)));
+      is = part-is text (prefix ++ before_source c) (source_shown c) (10 ∷ behind)
+          (length prefix + length (before_source c)) (length prefix + length (lock_line c)) source_behind
+          (sym (length-append prefix (before_source c)))
+          (omega (arith, line_long, length-append prefix (before_source c)));
     };
   }
 

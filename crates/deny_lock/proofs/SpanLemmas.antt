@@ -56,19 +56,19 @@ lines-ascend crates own = λ c d one other below.
     let order : List Crate = in_lock_order crates in
     let up : IsStrictlySortedBy lock_cmp order = order_ascends crates own in
     let at = there order d (Contains-permutation crates order d (moved-in_lock_order crates) other) in
-    let front : List Crate = take at.0 order in
+    let prefix : List Crate = take at.0 order in
     let behind : List Crate = drop (at.0 + 1) order in
-    let split : order ≡ front ++ d ∷ behind = around crates own at.0 d at.1 in
-    let first = there front c (stands_before front c d behind
+    let split : order ≡ prefix ++ d ∷ behind = around crates own at.0 d at.1 in
+    let first = there prefix c (stands_before prefix c d behind
     (subst (λ (cs : List Crate). IsStrictlySortedBy lock_cmp cs) split up)
     (subst (λ (cs : List Crate). Contains cs c) split
     (Contains-permutation crates order c (moved-in_lock_order crates) one)) below) in
-    let before : List Crate = take first.0 front in
-    let between : List Crate = drop (first.0 + 1) front in
-    let parts : front ≡ before ++ c ∷ between = parted front first.0 c first.1 in
+    let before : List Crate = take first.0 prefix in
+    let between : List Crate = drop (first.0 + 1) prefix in
+    let parts : prefix ≡ before ++ c ∷ between = parted prefix first.0 c first.1 in
     let start_c : line_start crates c ≡ length (lock_lines before) =
     line_start-is crates before (between ++ d ∷ behind) c up
     (split ∙ (ap (λ cs. cs ++ d ∷ behind) parts ∙ append_assoc before (c ∷ between) (d ∷ behind))) in
     let start_d : line_start crates d ≡ length (lock_lines (before ++ c ∷ between)) =
-    line_start-is crates front behind d up split ∙ ap (λ cs. length (lock_lines cs)) parts in
+    line_start-is crates prefix behind d up split ∙ ap (λ cs. length (lock_lines cs)) parts in
     omega (arith, start_c, start_d, lines_long before between c)

@@ -25,7 +25,7 @@ pub fn put_line(alloc: Global, text: &mut Text, krate: &Krate) -> Result<LockSpa
     ensures span { IfOk result (λ span. span ≡ line_span (length text.old) (crate_view 0 krate.now)) }
 {
     let start = len_of(text);
-    put_front(alloc, text, krate)?;
+    put_start(alloc, text, krate)?;
     let source = len_of(text);
     text.push_str(source_shown(krate))?;
     let end = len_of(text);
@@ -37,7 +37,7 @@ pub fn put_line(alloc: Global, text: &mut Text, krate: &Krate) -> Result<LockSpa
 }
 
 /// Puts what stands before the source.
-fn put_front(alloc: Global, text: &mut Text, krate: &Krate) -> Result<(), NoMemory>
+fn put_start(alloc: Global, text: &mut Text, krate: &Krate) -> Result<(), NoMemory>
     ensures { IfOk result (λ _. text.new ≡ text.old ++ before_source (crate_view 0 krate.now)) }
 {
     let version = version_text(alloc, krate)?;

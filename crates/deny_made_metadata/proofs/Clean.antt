@@ -12,10 +12,10 @@ use Rattle.json.specs.Run.{is_plain}
 use Rattle.deny_generator.specs.Made.{name_at, name_of, version_at}
 use Rattle.deny_generator.specs.MetadataText.{id_at, path_text, registry}
 
-pub clean-append : (front back : List ℕ) → escape front ≡ front → escape back ≡ back
-    → escape (front ++ back) ≡ front ++ back
-clean-append front back first second =
-    flat_map-append escape_byte front back ∙ ap₂ (λ (x y : List ℕ). x ++ y) first second
+pub clean-append : (prefix back : List ℕ) → escape prefix ≡ prefix → escape back ≡ back
+    → escape (prefix ++ back) ≡ prefix ++ back
+clean-append prefix back first second =
+    flat_map-append escape_byte prefix back ∙ ap₂ (λ (x y : List ℕ). x ++ y) first second
 
 plain_digit : (byte : ℕ) → 48 ≤ byte → byte ≤ 57 → is_plain byte ≡ true
 plain_digit byte least most = rw (
@@ -37,10 +37,10 @@ name_clean : (number : ℕ) → IsFew number → escape (name_of number) ≡ nam
 unfolding name_of escape_byte
 name_clean number few = clean-append (codes "c") (decimal number) refl (decimal_clean number few)
 
-either_clean : (b : Bool) (front back : List ℕ) → escape front ≡ front → escape back ≡ back
-    → escape (if b then front else back) ≡ (if b then front else back)
-either_clean true front back first second = first
-either_clean false front back first second = second
+either_clean : (b : Bool) (prefix back : List ℕ) → escape prefix ≡ prefix → escape back ≡ back
+    → escape (if b then prefix else back) ≡ (if b then prefix else back)
+either_clean true prefix back first second = first
+either_clean false prefix back first second = second
 
 pub version_at-clean : (number : ℕ) → escape (version_at number) ≡ version_at number
 unfolding version_at escape_byte

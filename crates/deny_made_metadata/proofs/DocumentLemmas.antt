@@ -19,18 +19,18 @@ use Rattle.deny_made_metadata.proofs.Values.{value}
 -- what each number's element is read as, wherever it stands
 elements_from-each : {A : Type 0} (read : List ℕ → Data → Result A MetadataFault) (element : ℕ → Data) (found : ℕ → A)
     → ((path : List ℕ) (n : ℕ) → read path (element n) ≡ Ok (found n))
-    → (path : List ℕ) (place : ℕ) (numbers : List ℕ)
-    → elements_from read path place (each element numbers) ≡ Ok (map found numbers)
+    → (path : List ℕ) (index : ℕ) (numbers : List ℕ)
+    → elements_from read path index (each element numbers) ≡ Ok (map found numbers)
 unfolding elements_from
-elements_from-each read element found is path place [] = refl
-elements_from-each read element found is path place (n ∷ numbers) =
-    rw (is (part_of path (decimal place)) n, elements_from-each read element found is path (place + 1) numbers)
+elements_from-each read element found is path index [] = refl
+elements_from-each read element found is path index (n ∷ numbers) =
+    rw (is (part_of path (decimal index)) n, elements_from-each read element found is path (index + 1) numbers)
 
-elements_from-first : {A : Type 0} (read : List ℕ → Data → Result A MetadataFault) (path : List ℕ) (place : ℕ)
-    → (d : Data) (ds : Items) (x : A) (xs : List A) → read (part_of path (decimal place)) d ≡ Ok x
-    → elements_from read path (place + 1) ds ≡ Ok xs → elements_from read path place (item d ds) ≡ Ok (x ∷ xs)
+elements_from-first : {A : Type 0} (read : List ℕ → Data → Result A MetadataFault) (path : List ℕ) (index : ℕ)
+    → (d : Data) (ds : Items) (x : A) (xs : List A) → read (part_of path (decimal index)) d ≡ Ok x
+    → elements_from read path (index + 1) ds ≡ Ok xs → elements_from read path index (item d ds) ≡ Ok (x ∷ xs)
 unfolding elements_from
-elements_from-first read path place d ds x xs first others = rw (first, others)
+elements_from-first read path index d ds x xs first others = rw (first, others)
 
 declaration-found : (path : List ℕ) (n : ℕ) → declaration_at path (declaration n) ≡ Ok (declared n)
 unfolding declaration declaration_at object_at text_member kind_member kind_given optional_text optional_text_of

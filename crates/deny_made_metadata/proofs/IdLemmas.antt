@@ -36,7 +36,7 @@ cut_at (x ∷ first) (y ∷ second) first_rest second_rest lacks also is =
     let head : x ≡ y = cc in
     let rest : first ++ (64 ∷ first_rest) ≡ second ++ (64 ∷ second_rest) = cc in
     let both = cut_at first second first_rest second_rest lacks.1 also.1 rest in
-    let fronts = both.0 in
+    let prefixes = both.0 in
     (cc, both.1)
 
 -- ---- what a version says of a number

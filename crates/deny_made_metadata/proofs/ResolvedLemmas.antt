@@ -72,15 +72,15 @@ ids-distinct crates few =
 
 -- ---- each id is known: that of `app` by 0, that of a crate by the number behind its own
 
-place_of_id : (m from count : ℕ) → from + count < 2 ^ 64 → from ≤ m → m < from + count
+index_of_id : (m from count : ℕ) → from + count < 2 ^ 64 → from ≤ m → m < from + count
     → position_from (same_text (id_at m)) (from + 1) (map id_at (range_with_len from count)) ≡ Some (m + 1)
-place_of_id m from zero few least less = absurd (omega arith)
-place_of_id m from (suc count) few least less = elim (cases_eq m from) [
+index_of_id m from zero few least less = absurd (omega arith)
+index_of_id m from (suc count) few least less = elim (cases_eq m from) [
   | inl same ↦
       rw ((bytes_decides (id_at m) (id_at from)).1 (ap id_at same)) (ap (λ (n : ℕ). Some (n + 1)) (sym same))
   | inr other ↦
       rw (other_id m from (omega arith) (omega arith) other)
-      (place_of_id m (from + 1) count (omega (arith, few)) (omega arith) (omega (arith, less)))
+      (index_of_id m (from + 1) count (omega (arith, few)) (omega arith) (omega (arith, less)))
 ]
 
 abbrev by_id : ℕ → Numbering
@@ -94,7 +94,7 @@ known-crate : (crates m : ℕ) → crates < 2 ^ 64 → m < crates
     → known (by_id crates) (by_id crates) (id_at m) ≡ Ok (m + 1)
 unfolding known number_or
 known-crate crates m few less =
-    rw (id_app m, place_of_id m 0 crates (omega (arith, few)) (omega arith) (omega (arith, less)))
+    rw (id_app m, index_of_id m 0 crates (omega (arith, few)) (omega arith) (omega (arith, less)))
 
 -- ---- what each node resolves to
 
@@ -123,7 +123,7 @@ module _ (crates : ℕ) (few : crates < 2 ^ 64) where
 
   row-crate : (m : ℕ) → m < crates → resolved_node (by_id crates) (by_id crates) (crate_node m) ≡ Ok (row m)
   unfolding resolved_node number_or links_of
-  row-crate m less = rw (id_app m, place_of_id m 0 crates (omega (arith, few)) (omega arith) (omega (arith, less)))
+  row-crate m less = rw (id_app m, index_of_id m 0 crates (omega (arith, few)) (omega arith) (omega (arith, less)))
 
   rows-crates : (from count : ℕ) → from + count ≤ crates
       → each (resolved_node (by_id crates) (by_id crates)) (map crate_node (range_with_len from count))

@@ -25,9 +25,9 @@ just text ascii = record { text = text; is = IsUtf8-are_ascii text ascii }
 abbrev before : Written → Written → Written
 before a b = record { text = a.text ++ b.text; is = IsUtf8-append a.text b.text a.is b.is }
 
-either : (b : Bool) (front back : List ℕ) → IsUtf8 front → IsUtf8 back → IsUtf8 (if b then front else back)
-either true front back first second = first
-either false front back first second = second
+either : (b : Bool) (prefix back : List ℕ) → IsUtf8 prefix → IsUtf8 back → IsUtf8 (if b then prefix else back)
+either true prefix back first second = first
+either false prefix back first second = second
 
 pieces : (text : ℕ → List ℕ) (from count : ℕ) → ((m : ℕ) → m < from + count → IsUtf8 (text m))
     → IsUtf8 (flat_map text (range_with_len from count))

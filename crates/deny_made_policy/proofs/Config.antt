@@ -27,7 +27,7 @@ skipped_spec v number = record {
 abbrev pub skipped_entry : Value → ℕ → PackageSpecOrExtended Reason
 skipped_entry v number = record { spec = skipped_spec v number; inner = None }
 
--- the entries of a list whose first quote stands at a place
+-- the entries of a list whose first quote stands at an offset
 abbrev pub skipped_from : ℕ → List ℕ → List (PackageSpecOrExtended Reason)
 skipped_from at [] = []
 skipped_from at (number ∷ numbers) =

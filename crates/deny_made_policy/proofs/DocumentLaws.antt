@@ -60,10 +60,10 @@ skip-line texts plain =
     (grammar.array 63 55 (elements_text texts) (texts_from 56 texts) (elements-texts 63 56 texts plain)))
 
 -- a line and those behind it
-line_before : (at place : ℕ) (text rest : List ℕ) (e : Expression) (es : List Expression)
-    → IsLine at text (e ∷ []) → at + length text + 1 ≡ place → AreLines place rest es
+line_before : (at offset : ℕ) (text rest : List ℕ) (e : Expression) (es : List Expression)
+    → IsLine at text (e ∷ []) → at + length text + 1 ≡ offset → AreLines offset rest es
     → AreLines at (text ++ (10 ∷ rest)) (e ∷ es)
-line_before at place text rest e es is here others =
+line_before at offset text rest e es is here others =
     grammar.more at text (10 ∷ []) rest (e ∷ []) es is strings.line_feed
     (subst (λ p. AreLines p rest es) (sym here) others)
 

@@ -19,11 +19,11 @@ abbrev pub elements_text : List (List ℕ) → List ℕ
 elements_text [] = 93 ∷ []
 elements_text (text ∷ texts) = in_quotes text ++ after_element texts
 
--- a text whose quote stands at a place
+-- a text whose quote stands at an offset
 abbrev pub text_at : ℕ → List ℕ → Written
 text_at at text = written_with (span_of (at + 1) (length text)) (written.Scalar (Text text))
 
--- the elements of a list from a place on
+-- the elements of a list from an offset on
 abbrev pub texts_from : ℕ → List (List ℕ) → List Written
 texts_from at [] = []
 texts_from at (text ∷ texts) = text_at at text ∷ texts_from (at + length (in_quotes text) + 2) texts

@@ -44,17 +44,17 @@ elements-from depth at blank text [] is_blank plain all =
     (value-text depth (at + length blank) text plain) strings.none
 elements-from depth at blank text (next ∷ texts) is_blank plain all =
     let here = at + length blank + length (in_quotes text) in
-    let place : here + 0 + 1 + 1 ≡ here + 2 = omega arith in
+    let offset : here + 0 + 1 + 1 ≡ here + 2 = omega arith in
     let rest = 32 ∷ (in_quotes next ++ after_element texts) in
     grammar.more_elements depth at blank (in_quotes text) [] rest (text_at (at + length blank) text)
     (texts_from (here + 2) (next ∷ texts)) is_blank (value-text depth (at + length blank) text plain) strings.none
-    (subst (λ p. IsElements depth (here + 0 + 1) rest (texts_from p (next ∷ texts))) place
+    (subst (λ p. IsElements depth (here + 0 + 1) rest (texts_from p (next ∷ texts))) offset
     (elements-from depth (here + 0 + 1) (32 ∷ []) next texts one_space all.0 all.1))
 
 pub elements-texts : (depth at : ℕ) (texts : List (List ℕ)) → ArePlain texts
     → IsElements depth at (elements_text texts) (texts_from at texts)
 elements-texts depth at [] all = grammar.closed depth at [] strings.none
 elements-texts depth at (text ∷ texts) all =
-    let place : at + 0 ≡ at = omega arith in
-    subst (λ p. IsElements depth at (in_quotes text ++ after_element texts) (texts_from p (text ∷ texts))) place
+    let offset : at + 0 ≡ at = omega arith in
+    subst (λ p. IsElements depth at (in_quotes text ++ after_element texts) (texts_from p (text ∷ texts))) offset
     (elements-from depth at [] text texts strings.none all.0 all.1)

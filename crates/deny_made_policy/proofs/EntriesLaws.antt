@@ -32,12 +32,12 @@ unfolding in_order
 faults-list faults_of span values none =
     ap (faults_of_array faults_of (array_value span values)) (array-in span values) ∙ ap in_order none
 
-pub faults-specs : (fields : List Field) (place at : ℕ) (numbers : List ℕ)
-    → faults_from (faults_of_entry fields) place (values_from at (map spec_text numbers)) ≡ []
-faults-specs fields place at [] = refl
-faults-specs fields place at (number ∷ numbers) =
+pub faults-specs : (fields : List Field) (index at : ℕ) (numbers : List ℕ)
+    → faults_from (faults_of_entry fields) index (values_from at (map spec_text numbers)) ≡ []
+faults-specs fields index at [] = refl
+faults-specs fields index at (number ∷ numbers) =
     rw (faults-text fields at (spec_text number) _ (spec-in number))
-    (faults-specs fields (place + 1) (at + length (in_quotes (spec_text number)) + 2) numbers)
+    (faults-specs fields (index + 1) (at + length (in_quotes (spec_text number)) + 2) numbers)
 
 -- what is read from a text that is a spec
 pub reads-text : {T : Type 0} (Reads : Entries → Option T → Type 0) (at : ℕ) (text : List ℕ) (spec : PackageSpec)

@@ -19,11 +19,11 @@ divided_at-first : (name rest : List ℕ) → list_all (λ b. not (b == 64)) nam
     → divided_at 64 (name ++ (64 ∷ rest)) ≡ Some (name, rest)
 divided_at-first name rest none =
     let text = name ++ (64 ∷ rest) in
-    let place : position_or_len (λ b. b == 64) text ≡ length name =
+    let offset : position_or_len (λ b. b == 64) text ≡ length name =
     prefix_len-run (λ b. not (b == 64)) name (64 ∷ rest) none refl in
     let lens : length text ≡ length name + length (64 ∷ rest) = length-append name (64 ∷ rest) in
     let other : (length name == length text) ≡ false = grind (arith, nat_tests) in
-    rw (place, other, take-append_seam name (64 ∷ rest), drop-append-add name (64 ∷ rest) 1) refl
+    rw (offset, other, take-append_seam name (64 ∷ rest), drop-append-add name (64 ∷ rest) 1) refl
 
 digit_divides_not : (c : ℕ) → is_ascii_digit c ≡ true → not (c == 64) ≡ true
 digit_divides_not c digit = grind (arith, nat_tests)

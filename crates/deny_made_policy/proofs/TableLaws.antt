@@ -30,14 +30,14 @@ use Rattle.deny_made_policy.proofs.ValuesLaws.{table-in, text-in}
 
 -- the faults of the keys of a table that holds these entries
 abbrev faults_at : Span → Entries → List ConfigFault
-faults_at place entries =
-    in_order (faults_of_fields bans_fields place entries ++ map unknown (unknown_keys bans_fields entries))
+faults_at span entries =
+    in_order (faults_of_fields bans_fields span entries ++ map unknown (unknown_keys bans_fields entries))
 
-none_at : (place : Span) (level deny skip : Value) → faults_as level_of level ≡ []
+none_at : (span : Span) (level deny skip : Value) → faults_as level_of level ≡ []
     → faults_of_list faults_of_ban deny ≡ [] → faults_of_list faults_of_reasoned skip ≡ []
-    → faults_at place (bans_entries level deny skip) ≡ []
+    → faults_at span (bans_entries level deny skip) ≡ []
 unfolding name_of in_order
-none_at place level deny skip one two three = rw (one, two, three) refl
+none_at span level deny skip one two three = rw (one, two, three) refl
 
 faults_with : (level deny skip : Value) → faults_as level_of level ≡ [] → faults_of_list faults_of_ban deny ≡ []
     → faults_of_list faults_of_reasoned skip ≡ [] → faults_of_config (bans_value level deny skip) ≡ []
@@ -65,7 +65,7 @@ bans-faultless numbers =
     (faults-list faults_of_reasoned (span_of 55 (length (91 ∷ elements_text texts))) (values_from 56 texts)
     (faults-specs reason_fields 0 56 numbers))
 
--- what one row says, and those behind it
+-- what one key says, and those behind it
 infixr 4 ◌▹◌
 abbrev ◌▹◌ : {A B : Type 0} → A → B → A × B
 a ▹ b = (a, b)

@@ -13,11 +13,11 @@ use Rattle.deny_made_policy.proofs.Elements.{elements_text, in_quotes}
 abbrev pub array_value : Span → List Value → Value
 array_value span values = value_with span (content.Array values)
 
--- a text whose quote stands at a place
+-- a text whose quote stands at an offset
 abbrev pub text_value : ℕ → List ℕ → Value
 text_value at text = value_with (span_of (at + 1) (length text)) (content.Scalar (Text text))
 
--- the elements of a list from a place on
+-- the elements of a list from an offset on
 abbrev pub values_from : ℕ → List (List ℕ) → List Value
 values_from at [] = []
 values_from at (text ∷ texts) = text_value at text ∷ values_from (at + length (in_quotes text) + 2) texts

@@ -12,18 +12,18 @@ use Rattle.deny_codes.specs.Sharing.{Use, is_use_of}
 use Rattle.deny_manifests.specs.declared.declarations.ManifestDep.{ManifestDep}
 use Rattle.deny_model.specs.Policy.{Sharing}
 use Rattle.deny_manifest_rules.specs.Uses.{row_at, use_view}
-use Rattle.deny_manifest_rules.specs.declared.uses.Use.{Use as Kept}
+use Rattle.deny_manifest_rules.specs.declared.uses.Use.{Use as UseValue}
 use Rattle.deny_manifest_rules.specs.private.Rows.{AreRowsBut, AreRowsOf, counted_in, is_counted, use_of}
 
 -- ---- one declaration
 
-module _ (crates : ℕ) (uses : List Use) (rows : List (List Kept)) (row : List Kept) (one : Kept)
+module _ (crates : ℕ) (uses : List Use) (rows : List (List UseValue)) (row : List UseValue) (one : UseValue)
     (inside : one.dep.now.place < length rows) (is : row ≡ row_at rows one.dep.now.place ++ one ∷ [])
     (are : AreRowsOf crates uses rows) where
   abbrev child : ℕ
   child = one.dep.now.place
 
-  abbrev put : List (List Kept)
+  abbrev put : List (List UseValue)
   put = slice_set rows child row
 
   same_place : map use_view (row_at put child) ≡ filter (is_use_of child) (uses ++ use_view one ∷ [])
@@ -79,13 +79,14 @@ module _ (file : ℕ) (s : Sharing) where
   counted_one d true is = ap (λ b. map (use_of file) (cond b (d ∷ []) [])) is
   counted_one d false is = ap (λ b. map (use_of file) (cond b (d ∷ []) [])) is
 
-  pub passed_over : (d : ManifestDep) (crates : ℕ) (uses : List Use) (rows : List (List Kept)) → is_counted s d ≡ false
+  pub passed_over : (d : ManifestDep) (crates : ℕ) (uses : List Use) (rows : List (List UseValue))
+      → is_counted s d ≡ false
       → AreRowsOf crates uses rows → AreRowsOf crates (uses ++ counted_in file s (d ∷ [])) rows
   passed_over d crates uses rows is are =
       subst (λ (us : List Use). AreRowsOf crates us rows)
       (sym (append-nil uses) ∙ ap (λ us. uses ++ us) (sym (counted_one d false is))) are
 
-  pub kept_one : (d : ManifestDep) (crates : ℕ) (uses : List Use) (rows : List (List Kept)) → is_counted s d ≡ true
+  pub kept_one : (d : ManifestDep) (crates : ℕ) (uses : List Use) (rows : List (List UseValue)) → is_counted s d ≡ true
       → AreRowsOf crates (uses ++ use_of file d ∷ []) rows
       → AreRowsOf crates (uses ++ counted_in file s (d ∷ [])) rows
   kept_one d crates uses rows is are =
@@ -98,7 +99,7 @@ module _ (file : ℕ) (s : Sharing) where
       ∙ map-append (use_of file) (filter (is_counted s) (d ∷ [])) (filter (is_counted s) ds)
 
   pub one_more : (d : ManifestDep) (ds left : List ManifestDep) (crates : ℕ) (all : List Use)
-      (old new : List (List Kept))
+      (old new : List (List UseValue))
       → left ≡ d ∷ ds → AreRowsBut crates (counted_in file s left) all old
       → ((uses : List Use) → AreRowsOf crates uses old → AreRowsOf crates (uses ++ counted_in file s (d ∷ [])) new)
       → AreRowsBut crates (counted_in file s ds) all new
@@ -109,7 +110,7 @@ module _ (file : ℕ) (s : Sharing) where
     are = puts before.done before.are;
   }
 
-  pub all_put : (left : List ManifestDep) (crates : ℕ) (all : List Use) (rows : List (List Kept)) → left ≡ []
+  pub all_put : (left : List ManifestDep) (crates : ℕ) (all : List Use) (rows : List (List UseValue)) → left ≡ []
       → AreRowsBut crates (counted_in file s left) all rows → AreRowsOf crates all rows
   unfolding counted_in
   all_put left crates all rows none but =

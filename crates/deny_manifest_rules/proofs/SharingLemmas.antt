@@ -17,19 +17,19 @@ use Rattle.deny_model.specs.Keys.{key_of, no_span}
 use Rattle.deny_model.specs.Policy.{Policy, Sharing}
 use Rattle.deny_model.specs.View.{View}
 use Rattle.deny_manifest_rules.specs.Uses.{AreUses, rows_in, use_view}
-use Rattle.deny_manifest_rules.specs.declared.uses.Use.{Use as Kept}
+use Rattle.deny_manifest_rules.specs.declared.uses.Use.{Use as UseValue}
 use Rattle.deny_manifest_rules.specs.declared.uses.Uses.{Uses}
 use Rattle.deny_manifest_rules.specs.private.Sharing.{duplicated_keys_at, minds_duplicates}
 use Rattle.deny_krates.proofs.PlaceLemmas.{flat_map-place_of}
 
 -- ---- some declarations
 
-pub any_viewed : (uses : List Kept) → list_any (λ one. is_unshared (use_view one)) uses
+pub any_viewed : (uses : List UseValue) → list_any (λ one. is_unshared (use_view one)) uses
     ≡ list_any is_unshared (map use_view uses)
 any_viewed [] = refl
 any_viewed (one ∷ uses) = ap (λ b. is_unshared (use_view one) || b) (any_viewed uses)
 
-pub two_viewed : (uses : List Kept) → 2 ≤ length uses → nat_le 2 (length (map use_view uses)) ≡ true
+pub two_viewed : (uses : List UseValue) → 2 ≤ length uses → nat_le 2 (length (map use_view uses)) ≡ true
 two_viewed uses enough = le-leb 2 (length (map use_view uses)) (omega (arith, length-map uses use_view, enough))
 
 -- ---- keys

@@ -5,18 +5,18 @@ use Rattle.deny_manifests.specs.Manifest.{dep_view}
 use Rattle.deny_model.specs.Graph.{Graph}
 use Rattle.deny_model.specs.Policy.{Policy, Sharing}
 use Rattle.deny_model.specs.View.{View}
-use Rattle.deny_manifest_rules.specs.declared.uses.Use.{Use as Kept}
+use Rattle.deny_manifest_rules.specs.declared.uses.Use.{Use as UseValue}
 use Rattle.deny_manifest_rules.specs.declared.uses.Uses.{Uses}
 
 -- a declaration as plain data
-abbrev pub use_view : Kept → Use
+abbrev pub use_view : UseValue → Use
 use_view u = record { file = u.file; declared = dep_view u.dep.now }
 
-abbrev pub rows_in : Uses → List (List Kept)
+abbrev pub rows_in : Uses → List (List UseValue)
 rows_in uses = uses.rows
 
 -- those that resolve to the crate at a place
-abbrev pub row_at : List (List Kept) → ℕ → List Kept
+abbrev pub row_at : List (List UseValue) → ℕ → List UseValue
 row_at rows place = slice_index_or rows place []
 
 -- at each place exactly those of the crate there, in order, where the policy minds what a workspace shares

@@ -20,7 +20,7 @@ use Rattle.deny_krates.specs.krate.Dependency.{Dependency as Own}
 use Rattle.deny_krates.specs.krate.Krate.{Krate}
 use Rattle.deny_lists.proofs.Each.{all_found, all_mapped, all_from_members}
 use Rattle.deny_lists.proofs.Members.{map_at, passes_filter}
-use Rattle.deny_lists.proofs.Places.{slice_get-read}
+use Rattle.deny_lists.proofs.Indices.{slice_get-read}
 use Rattle.deny_manifests.specs.Declarations.{declared_at, declared_by}
 use Rattle.deny_model.specs.View.{Declared}
 use Rattle.deny_manifests.specs.Found.{rename_of, version_of, workspace_of}

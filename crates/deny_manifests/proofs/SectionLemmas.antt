@@ -22,18 +22,19 @@ use Rattle.deny_lists.proofs.FirstLemmas.{finds_more}
 use Rattle.deny_lists.proofs.Members.{Contains-first, Contains-rest}
 use Rattle.deny_lists.specs.First.{FindsFirst, GainsEntry}
 use Rattle.deny_lists.proofs.Orders.{is_eq-nat_cmp}
-use Rattle.deny_lists.proofs.Places.{map-take_next}
+use Rattle.deny_lists.proofs.Indices.{map-take_next}
 use Rattle.deny_manifests.proofs.TargetLemmas.{numbers_tell, same_numbers}
 use Rattle.deny_manifests.specs.Agreement.{TellsAgreement}
 use Rattle.deny_manifests.specs.Written.{Written, declares, entries_at, entry_in, found_in, key_name, kinds, of_target}
 use Rattle.deny_manifests.specs.Written.{section_in, section_name, sections_in, written_in, written_with}
 use Rattle.deny_manifests.specs.declared.firsts.Firsts.{Firsts}
-use Rattle.deny_manifests.specs.declared.sections.Place.{Place}
+use Rattle.deny_manifests.specs.declared.sections.SectionKey.{SectionKey}
 use Rattle.deny_manifests.specs.declared.sections.Sections.{Sections}
 use Rattle.deny_manifests.specs.private.Firsts.{first_at}
-use Rattle.deny_manifests.specs.private.Sections.{FindsPlaced, IsIndexOf, Placed, entry_found, kind_placed, place_cmp}
-use Rattle.deny_manifests.specs.private.Sections.{placed_at, sections_placed, target_entries, target_keys}
-use Rattle.deny_manifests.specs.private.Sections.{target_placed, targets_placed}
+use Rattle.deny_manifests.specs.private.Sections.{FindsKeyed, IsIndexOf, KeyedEntry, entry_found}
+use Rattle.deny_manifests.specs.private.Sections.{kind_keyed, section_key_cmp}
+use Rattle.deny_manifests.specs.private.Sections.{keyed_at, sections_keyed, target_entries, target_keys}
+use Rattle.deny_manifests.specs.private.Sections.{target_keyed, targets_keyed}
 use Rattle.deny_manifests.specs.private.Targets.{NumbersTargets, number_of}
 use Rattle.deny_model.specs.Graph.{Dependency}
 use Rattle.deny_model.specs.Text.{same_text}
@@ -50,133 +51,134 @@ copied_or (Some x) true r = refl
 copied_or (Some x) false r = refl
 
 -- what is found by reference is found by value
-gains_value : (place : Place) (r : Bor (Key × Value)) (old new : Firsts Place (Bor (Key × Value)))
-    → GainsEntry (eq_by_cmp place_cmp) place r (first_at place_cmp old) (first_at place_cmp new)
-    → GainsEntry (eq_by_cmp place_cmp) place r.now (entry_found old) (entry_found new)
-gains_value place r old new gains = record {
+gains_value : (section_key : SectionKey) (r : Bor (Key × Value)) (old new : Firsts SectionKey (Bor (Key × Value)))
+    → GainsEntry (eq_by_cmp section_key_cmp) section_key r (first_at section_key_cmp old) (first_at section_key_cmp new)
+    → GainsEntry (eq_by_cmp section_key_cmp) section_key r.now (entry_found old) (entry_found new)
+gains_value section_key r old new gains = record {
   at = λ asked. ap option_copied (gains.at asked)
-      ∙ copied_or (first_at place_cmp old asked) (eq_by_cmp place_cmp asked place) r;
+      ∙ copied_or (first_at section_key_cmp old asked) (eq_by_cmp section_key_cmp asked section_key) r;
 }
 
 -- one entry more of a section
 pub section_next : (target : Option ℕ) (kind : DepKind) (entries : List (Key × Value)) (i : ℕ) (r : Bor (Key × Value))
-    (name : List ℕ) (placed : List Placed) (old new : Firsts Place (Bor (Key × Value)))
+    (name : List ℕ) (keyed : List KeyedEntry) (old new : Firsts SectionKey (Bor (Key × Value)))
     → i < length entries → r.now ≡ slice_index_or entries i r.now → name ≡ r.now.0.name
-    → FindsPlaced (placed ++ map (placed_at target kind) (take i entries)) old
-    → GainsEntry (eq_by_cmp place_cmp) (record { target = target; kind = kind; name = name }) r
-    (first_at place_cmp old) (first_at place_cmp new)
-    → FindsPlaced (placed ++ map (placed_at target kind) (take (i + 1) entries)) new
-section_next target kind entries i r name placed old new inside is named finds gains =
-    let place : List ℕ → Place = λ bytes. record { target = target; kind = kind; name = bytes } in
-    let before = map (placed_at target kind) (take i entries) in
-    let whole : placed ++ map (placed_at target kind) (take (i + 1) entries)
-    ≡ (placed ++ before) ++ (place name, r.now) ∷ [] =
-    ap (λ es. placed ++ es) (map-take_next (placed_at target kind) entries i r.now inside is)
-    ∙ (sym (append_assoc placed before (placed_at target kind r.now ∷ []))
-    ∙ ap (λ (bytes : List ℕ). (placed ++ before) ++ (place bytes, r.now) ∷ []) (sym named)) in
-    subst (λ (es : List Placed). FindsPlaced es new) (sym whole)
-    (finds_more (eq_by_cmp place_cmp) (placed ++ before) (place name) r.now (entry_found old) (entry_found new) finds
-    (gains_value (place name) r old new gains))
+    → FindsKeyed (keyed ++ map (keyed_at target kind) (take i entries)) old
+    → GainsEntry (eq_by_cmp section_key_cmp) (record { target = target; kind = kind; name = name }) r
+    (first_at section_key_cmp old) (first_at section_key_cmp new)
+    → FindsKeyed (keyed ++ map (keyed_at target kind) (take (i + 1) entries)) new
+section_next target kind entries i r name keyed old new inside is named finds gains =
+    let section_key : List ℕ → SectionKey = λ bytes. record { target = target; kind = kind; name = bytes } in
+    let before = map (keyed_at target kind) (take i entries) in
+    let whole : keyed ++ map (keyed_at target kind) (take (i + 1) entries)
+    ≡ (keyed ++ before) ++ (section_key name, r.now) ∷ [] =
+    ap (λ es. keyed ++ es) (map-take_next (keyed_at target kind) entries i r.now inside is)
+    ∙ (sym (append_assoc keyed before (keyed_at target kind r.now ∷ []))
+    ∙ ap (λ (bytes : List ℕ). (keyed ++ before) ++ (section_key bytes, r.now) ∷ []) (sym named)) in
+    subst (λ (es : List KeyedEntry). FindsKeyed es new) (sym whole)
+    (finds_more (eq_by_cmp section_key_cmp) (keyed ++ before) (section_key name) r.now
+    (entry_found old) (entry_found new) finds
+    (gains_value (section_key name) r old new gains))
 
 -- the sections of the three kinds
-pub kinds_placed : (target : Option ℕ) (v : Value) (placed : List Placed)
-    → ((placed ++ kind_placed target v Normal) ++ kind_placed target v Dev) ++ kind_placed target v Build
-    ≡ placed ++ sections_placed target v
-unfolding sections_placed
-kinds_placed target v placed =
-    let one = kind_placed target v Normal in
-    let two = kind_placed target v Dev in
-    let three = kind_placed target v Build in
-    ap (λ es. es ++ three) (append_assoc placed one two)
-    ∙ (append_assoc placed (one ++ two) three
-    ∙ ap (λ es. placed ++ es) (append_assoc one two three
+pub kinds_keyed : (target : Option ℕ) (v : Value) (keyed : List KeyedEntry)
+    → ((keyed ++ kind_keyed target v Normal) ++ kind_keyed target v Dev) ++ kind_keyed target v Build
+    ≡ keyed ++ sections_keyed target v
+unfolding sections_keyed
+kinds_keyed target v keyed =
+    let one = kind_keyed target v Normal in
+    let two = kind_keyed target v Dev in
+    let three = kind_keyed target v Build in
+    ap (λ es. es ++ three) (append_assoc keyed one two)
+    ∙ (append_assoc keyed (one ++ two) three
+    ∙ ap (λ es. keyed ++ es) (append_assoc one two three
     ∙ ap (λ es. one ++ (two ++ es)) (sym (append-nil three))))
 
 -- one target more
 target_next : (number : List ℕ → ℕ) (entries : List (Key × Value)) (i : ℕ) (entry : Key × Value)
     → i < length entries → entry ≡ slice_index_or entries i entry
-    → targets_placed number (take (i + 1) entries)
-    ≡ targets_placed number (take i entries) ++ target_placed number entry
-unfolding targets_placed
-target_next number entries i entry inside is = ap (flat_map (target_placed number)) (take_more entries i entry inside)
-    ∙ (flat_map-append (target_placed number) (take i entries) (slice_index_or entries i entry ∷ [])
-    ∙ (ap (λ es. flat_map (target_placed number) (take i entries) ++ es)
-    (append-nil (target_placed number (slice_index_or entries i entry)))
-    ∙ ap (λ e. flat_map (target_placed number) (take i entries) ++ target_placed number e) (sym is)))
+    → targets_keyed number (take (i + 1) entries)
+    ≡ targets_keyed number (take i entries) ++ target_keyed number entry
+unfolding targets_keyed
+target_next number entries i entry inside is = ap (flat_map (target_keyed number)) (take_more entries i entry inside)
+    ∙ (flat_map-append (target_keyed number) (take i entries) (slice_index_or entries i entry ∷ [])
+    ∙ (ap (λ es. flat_map (target_keyed number) (take i entries) ++ es)
+    (append-nil (target_keyed number (slice_index_or entries i entry)))
+    ∙ ap (λ e. flat_map (target_keyed number) (take i entries) ++ target_keyed number e) (sym is)))
 
 pub targets_next : (number : List ℕ → ℕ) (entries : List (Key × Value)) (i : ℕ) (entry : Key × Value) (n : ℕ)
-    (placed : List Placed) → i < length entries → entry ≡ slice_index_or entries i entry → n ≡ number entry.0.name
-    → (placed ++ targets_placed number (take i entries)) ++ sections_placed (Some n) entry.1
-    ≡ placed ++ targets_placed number (take (i + 1) entries)
-targets_next number entries i entry n placed inside is numbered =
-    append_assoc placed (targets_placed number (take i entries)) (sections_placed (Some n) entry.1)
-    ∙ ap (λ es. placed ++ es)
-    (ap (λ (m : ℕ). targets_placed number (take i entries) ++ sections_placed (Some m) entry.1) numbered
+    (keyed : List KeyedEntry) → i < length entries → entry ≡ slice_index_or entries i entry → n ≡ number entry.0.name
+    → (keyed ++ targets_keyed number (take i entries)) ++ sections_keyed (Some n) entry.1
+    ≡ keyed ++ targets_keyed number (take (i + 1) entries)
+targets_next number entries i entry n keyed inside is numbered =
+    append_assoc keyed (targets_keyed number (take i entries)) (sections_keyed (Some n) entry.1)
+    ∙ ap (λ es. keyed ++ es)
+    (ap (λ (m : ℕ). targets_keyed number (take i entries) ++ sections_keyed (Some m) entry.1) numbered
     ∙ sym (target_next number entries i entry inside is))
 
-pub place_is : (target other : Option ℕ) (kind : DepKind) (name named : List ℕ) → target ≡ other → name ≡ named
-    → (let one : Place = record { target = target; kind = kind; name = name } in one)
+pub section_key_is : (target other : Option ℕ) (kind : DepKind) (name named : List ℕ) → target ≡ other → name ≡ named
+    → (let one : SectionKey = record { target = target; kind = kind; name = name } in one)
     ≡ record { target = other; kind = kind; name = named }
-place_is target other kind name named one two =
+section_key_is target other kind name named one two =
     ap (λ (t : Option ℕ). record { target = t; kind = kind; name = name }) one
     ∙ ap (λ (n : List ℕ). record { target = other; kind = kind; name = n }) two
 
 -- ---- the index of a tree
 
-pub finds_none : (entries : Firsts Place (Bor (Key × Value)))
-    → FindsFirst (eq_by_cmp place_cmp) [] (first_at place_cmp entries) → FindsPlaced [] entries
+pub finds_none : (entries : Firsts SectionKey (Bor (Key × Value)))
+    → FindsFirst (eq_by_cmp section_key_cmp) [] (first_at section_key_cmp entries) → FindsKeyed [] entries
 finds_none entries finds = record { at = λ asked. ap option_copied (finds.at asked) }
 
 index_from : (tree : Value) (keys : List (Key × Value)) (sections : Sections) → keys ≡ target_entries tree
     → NumbersTargets (map (λ e. e.0.name) keys) sections.targets
-    → ((agrees : List ℕ → List ℕ → Bool) → TellsAgreement agrees → FindsPlaced
-    (sections_placed None tree ++ targets_placed (number_of agrees (map (λ e. e.0.name) keys)) keys) sections.entries)
+    → ((agrees : List ℕ → List ℕ → Bool) → TellsAgreement agrees → FindsKeyed
+    (sections_keyed None tree ++ targets_keyed (number_of agrees (map (λ e. e.0.name) keys)) keys) sections.entries)
     → IsIndexOf tree sections
 index_from tree keys sections same numbers finds = record {
   targets = subst (λ (es : List (Key × Value)). NumbersTargets (map (λ e. e.0.name) es) sections.targets) same numbers;
-  entries = subst (λ (es : List (Key × Value)). (agrees : List ℕ → List ℕ → Bool) → TellsAgreement agrees → FindsPlaced
-      (sections_placed None tree ++ targets_placed (number_of agrees (map (λ e. e.0.name) es)) es) sections.entries)
+  entries = subst (λ (es : List (Key × Value)). (agrees : List ℕ → List ℕ → Bool) → TellsAgreement agrees → FindsKeyed
+      (sections_keyed None tree ++ targets_keyed (number_of agrees (map (λ e. e.0.name) es)) es) sections.entries)
       same finds;
 }
 
 -- with keys of targets, and without
 pub index_with : (tree : Value) (keys : List (Key × Value)) (sections : Sections)
-    (own : Firsts Place (Bor (Key × Value))) → keys ≡ target_entries tree
+    (own : Firsts SectionKey (Bor (Key × Value))) → keys ≡ target_entries tree
     → NumbersTargets (map (λ e. e.0.name) keys) sections.targets
-    → FindsPlaced (sections_placed None tree) own
+    → FindsKeyed (sections_keyed None tree) own
     → ((agrees : List ℕ → List ℕ → Bool) → TellsAgreement agrees → (names : List (List ℕ))
-    → NumbersTargets names sections.targets → (placed : List Placed) → FindsPlaced placed own
-    → FindsPlaced (placed ++ targets_placed (number_of agrees names) keys) sections.entries)
+    → NumbersTargets names sections.targets → (keyed : List KeyedEntry) → FindsKeyed keyed own
+    → FindsKeyed (keyed ++ targets_keyed (number_of agrees names) keys) sections.entries)
     → IsIndexOf tree sections
 index_with tree keys sections own same numbers first more = index_from tree keys sections same numbers
-    (λ agrees tells. more agrees tells (map (λ e. e.0.name) keys) numbers (sections_placed None tree) first)
+    (λ agrees tells. more agrees tells (map (λ e. e.0.name) keys) numbers (sections_keyed None tree) first)
 
 pub index_without : (tree : Value) (sections : Sections) → target_entries tree ≡ []
-    → NumbersTargets [] sections.targets → FindsPlaced (sections_placed None tree) sections.entries
+    → NumbersTargets [] sections.targets → FindsKeyed (sections_keyed None tree) sections.entries
     → IsIndexOf tree sections
-unfolding targets_placed
+unfolding targets_keyed
 index_without tree sections none numbers first = index_from tree [] sections (sym none) numbers
-    (λ agrees tells. subst (λ (es : List Placed). FindsPlaced es sections.entries)
-    (sym (append-nil (sections_placed None tree))) first)
+    (λ agrees tells. subst (λ (es : List KeyedEntry). FindsKeyed es sections.entries)
+    (sym (append-nil (sections_keyed None tree))) first)
 
--- ---- what is written, at its places
+-- ---- what is written, by where it stands
 
--- a written declaration at its place
-abbrev pub place_of : (List ℕ → ℕ) → Written → Place
-place_of number w = record { target = option_map number w.target; kind = w.kind; name = w.key.name }
+-- a written declaration by where it stands
+abbrev pub section_key_of : (List ℕ → ℕ) → Written → SectionKey
+section_key_of number w = record { target = option_map number w.target; kind = w.kind; name = w.key.name }
 
-abbrev pub placed_by : (List ℕ → ℕ) → Written → Placed
-placed_by number w = (place_of number w, entry_in w)
+abbrev pub keyed_by : (List ℕ → ℕ) → Written → KeyedEntry
+keyed_by number w = (section_key_of number w, entry_in w)
 
 section_is : (number : List ℕ → ℕ) (target : Option (List ℕ)) (kind : DepKind) (entries : List (Key × Value))
-    → map (placed_by number) (map (written_with target kind) entries)
-    ≡ map (placed_at (option_map number target) kind) entries
+    → map (keyed_by number) (map (written_with target kind) entries)
+    ≡ map (keyed_at (option_map number target) kind) entries
 section_is number target kind [] = refl
 section_is number target kind (e ∷ es) =
-    ap (λ ps. placed_at (option_map number target) kind e ∷ ps) (section_is number target kind es)
+    ap (λ ps. keyed_at (option_map number target) kind e ∷ ps) (section_is number target kind es)
 
 kind_is : (number : List ℕ → ℕ) (target : Option (List ℕ)) (v : Value) (kind : DepKind)
-    → map (placed_by number) (section_in target v kind) ≡ kind_placed (option_map number target) v kind
+    → map (keyed_by number) (section_in target v kind) ≡ kind_keyed (option_map number target) v kind
 kind_is number target v kind = section_is number target kind (entries_at (section_name kind) v)
 
 map-flat : {X Y Z : Type 0} (f : Y → Z) (g : X → List Y) (h : X → List Z) (xs : List X)
@@ -186,29 +188,29 @@ map-flat f g h (x ∷ xs) same = map-append f (g x) (flat_map g xs)
     ∙ (ap (λ ys. ys ++ map f (flat_map g xs)) (same x) ∙ ap (λ ys. h x ++ ys) (map-flat f g h xs same))
 
 sections_are : (number : List ℕ → ℕ) (target : Option (List ℕ)) (v : Value)
-    → map (placed_by number) (sections_in target v) ≡ sections_placed (option_map number target) v
-unfolding sections_in sections_placed
-sections_are number target v = map-flat (placed_by number) (section_in target v)
-    (kind_placed (option_map number target) v) kinds (kind_is number target v)
+    → map (keyed_by number) (sections_in target v) ≡ sections_keyed (option_map number target) v
+unfolding sections_in sections_keyed
+sections_are number target v = map-flat (keyed_by number) (section_in target v)
+    (kind_keyed (option_map number target) v) kinds (kind_is number target v)
 
 targets_are : (number : List ℕ → ℕ) (entries : List (Key × Value))
-    → map (placed_by number) (flat_map of_target entries) ≡ targets_placed number entries
-unfolding targets_placed
-targets_are number entries = map-flat (placed_by number) of_target (target_placed number) entries
+    → map (keyed_by number) (flat_map of_target entries) ≡ targets_keyed number entries
+unfolding targets_keyed
+targets_are number entries = map-flat (keyed_by number) of_target (target_keyed number) entries
     (λ entry. sections_are number (Some entry.0.name) entry.1)
 
--- all that is written, at its places
-abbrev pub all_placed : (List ℕ → ℕ) → Value → List Placed
-all_placed number tree = sections_placed None tree ++ targets_placed number (target_entries tree)
+-- all that is written, by where it stands
+abbrev pub all_keyed : (List ℕ → ℕ) → Value → List KeyedEntry
+all_keyed number tree = sections_keyed None tree ++ targets_keyed number (target_entries tree)
 
-written_placed : (number : List ℕ → ℕ) (tree : Value)
-    → map (placed_by number) (written_in tree) ≡ all_placed number tree
+written_keyed : (number : List ℕ → ℕ) (tree : Value)
+    → map (keyed_by number) (written_in tree) ≡ all_keyed number tree
 unfolding written_in
-written_placed number tree =
-    map-append (placed_by number) (sections_in None tree) (flat_map of_target (target_entries tree))
-    ∙ (ap (λ ps. ps ++ map (placed_by number) (flat_map of_target (target_entries tree)))
+written_keyed number tree =
+    map-append (keyed_by number) (sections_in None tree) (flat_map of_target (target_entries tree))
+    ∙ (ap (λ ps. ps ++ map (keyed_by number) (flat_map of_target (target_entries tree)))
     (sections_are number None tree)
-    ∙ ap (λ ps. sections_placed None tree ++ ps) (targets_are number (target_entries tree)))
+    ∙ ap (λ ps. sections_keyed None tree ++ ps) (targets_are number (target_entries tree)))
 
 -- ---- which of them is found
 
@@ -223,9 +225,9 @@ option_ties None (Some y) = refl
 option_ties (Some x) None = refl
 option_ties (Some x) (Some y) = is_eq-nat_cmp x y
 
-place_ties : (a b : Place) → eq_by_cmp place_cmp a b
+section_key_ties : (a b : SectionKey) → eq_by_cmp section_key_cmp a b
     ≡ option_eq nat_eq a.target b.target && (kind_number a.kind == kind_number b.kind && same_text a.name b.name)
-place_ties a b =
+section_key_ties a b =
     let by_kind = nat_cmp (kind_number a.kind) (kind_number b.kind) in
     let by_name = slice_cmp nat_cmp a.name b.name in
     is_eq-then (option_cmp nat_cmp a.target b.target) (ordering_then by_kind by_name)
@@ -271,9 +273,9 @@ module _ (agrees : List ℕ → List ℕ → Bool) (tells : TellsAgreement agree
   abbrev number : List ℕ → ℕ
   number = number_of agrees (target_keys tree)
 
-  -- the place of a declaration
-  abbrev pub asked_place : Place
-  asked_place = record { target = option_map number d.target; kind = d.kind; name = key_name d }
+  -- where a declaration stands
+  abbrev pub asked_key : SectionKey
+  asked_key = record { target = option_map number d.target; kind = d.kind; name = key_name d }
 
   targets_tell : (asked written : Option (List ℕ)) → IfSome written (Contains (target_keys tree))
       → option_eq nat_eq (option_map number asked) (option_map number written) ≡ option_eq agrees written asked
@@ -285,9 +287,9 @@ module _ (agrees : List ℕ → List ℕ → Bool) (tells : TellsAgreement agree
       (λ e. (Decides-eqb (number a) (number w)).1 (sym (same_numbers agrees tells (target_keys tree) w a e)))
 
   is_declared : (w : Written) → HasTarget (target_keys tree) w
-      → eq_by_cmp place_cmp asked_place (place_of number w) ≡ declares agrees d w
+      → eq_by_cmp section_key_cmp asked_key (section_key_of number w) ≡ declares agrees d w
   unfolding declares
-  is_declared w has = place_ties asked_place (place_of number w)
+  is_declared w has = section_key_ties asked_key (section_key_of number w)
       ∙ ap (λ t. t && (kind_number d.kind == kind_number w.kind && same_text (key_name d) w.key.name))
       (targets_tell d.target w.target has)
 
@@ -297,19 +299,19 @@ module _ (agrees : List ℕ → List ℕ → Bool) (tells : TellsAgreement agree
   by_test false w o r rest = rest
 
   found_among : (ws : List Written) → AllByRecursion (HasTarget (target_keys tree)) ws
-      → lookup (eq_by_cmp place_cmp asked_place) (map (placed_by number) ws)
+      → lookup (eq_by_cmp section_key_cmp asked_key) (map (keyed_by number) ws)
       ≡ option_map entry_in (find (declares agrees d) ws)
   found_among [] all = refl
   found_among (w ∷ ws) all =
-      let rest = lookup (eq_by_cmp place_cmp asked_place) (map (placed_by number) ws) in
+      let rest = lookup (eq_by_cmp section_key_cmp asked_key) (map (keyed_by number) ws) in
       ap (λ b. cond b (Some (entry_in w)) rest) (is_declared w all.0)
       ∙ by_test (declares agrees d w) w rest (find (declares agrees d) ws) (found_among ws all.1)
 
-  -- what an index finds at the place of a declaration is how it is written
-  pub found_by_place : (sections : Sections) → IsIndexOf tree sections
-      → entry_found sections.entries asked_place ≡ found_in agrees tree d
+  -- what an index finds where a declaration stands is how it is written
+  pub found_by_key : (sections : Sections) → IsIndexOf tree sections
+      → entry_found sections.entries asked_key ≡ found_in agrees tree d
   unfolding found_in
-  found_by_place sections index =
-      (index.entries agrees tells).at asked_place
-      ∙ (ap (lookup (eq_by_cmp place_cmp asked_place)) (sym (written_placed number tree))
+  found_by_key sections index =
+      (index.entries agrees tells).at asked_key
+      ∙ (ap (lookup (eq_by_cmp section_key_cmp asked_key)) (sym (written_keyed number tree))
       ∙ found_among (written_in tree) (written_have tree))

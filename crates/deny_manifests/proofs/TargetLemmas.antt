@@ -16,7 +16,7 @@ use Rattle.deny_lists.proofs.Booleans.{tests_agree}
 use Rattle.deny_lists.proofs.Members.{Contains-by_cases, no_member}
 use Rattle.deny_lists.proofs.Orders.{text_cmp-exact}
 use Rattle.deny_lists.specs.First.{GainsEntry}
-use Rattle.deny_lists.proofs.Places.{map-take_next}
+use Rattle.deny_lists.proofs.Indices.{map-take_next}
 use Rattle.deny_manifests.proofs.FormLemmas.{agree-sym, agree-trans, agree_from, same_forms}
 use Rattle.deny_manifests.specs.Agreement.{TellsAgreement}
 use Rattle.deny_manifests.specs.private.Firsts.{first_at}

@@ -4,8 +4,8 @@ ghost use Rattle.std.specs.Option.{option_copied};
 ghost use Rattle.deny_krates.specs.Crates.{dependency_view};
 ghost use Rattle.deny_manifests.specs.Agreement.{TellsAgreement};
 ghost use Rattle.deny_manifests.specs.Written.{entries_at, found_in, key_name, section_name};
-ghost use Rattle.deny_manifests.specs.private.Sections.{FindsPlaced, IsIndexOf, Placed, kind_placed};
-ghost use Rattle.deny_manifests.specs.private.Sections.{placed_at, sections_placed, targets_placed};
+ghost use Rattle.deny_manifests.specs.private.Sections.{FindsKeyed, IsIndexOf, KeyedEntry, kind_keyed};
+ghost use Rattle.deny_manifests.specs.private.Sections.{keyed_at, sections_keyed, targets_keyed};
 ghost use Rattle.deny_manifests.specs.private.Targets.{NumbersTargets, number_of};
 ghost use Rattle.deny_toml.specs.declared.value.Value.{Value};
 
@@ -20,17 +20,17 @@ use std::alloc::Global;
 /// Where a declaration stands: for all targets or under the keys of a number, in the section of a kind,
 /// under its key.
 #[derive(PartialEq, Eq, PartialOrd, Ord, Drop)]
-pub struct Place {
+pub struct SectionKey {
     pub target: Option<usize>,
     pub kind: DepKind,
     pub name: Text,
 }
 
-/// The entries of a manifest's sections by where they stand, of those at one place the first.
+/// The entries of a manifest's sections by where they stand, of those with one key the first.
 #[derive(Drop)]
 pub struct Sections<'m, 't> {
     targets: Targets,
-    entries: Firsts<Place, &'m (Key<'t>, Value<'t>)>,
+    entries: Firsts<SectionKey, &'m (Key<'t>, Value<'t>)>,
 }
 
 impl<'m, 't> Sections<'m, 't> {
@@ -61,12 +61,12 @@ impl<'m, 't> Sections<'m, 't> {
             → (tree : Value) → IsIndexOf tree self.now
             → option_copied found ≡ found_in agrees tree (dependency_view declaration.now)) }
     {
-        let place = Place {
+        let section_key = SectionKey {
             target: self.number(alloc, &declaration.target)?,
             kind: declaration.kind,
             name: key_name(declaration).clone()?,
         };
-        Ok(self.entries.find(&place))
+        Ok(self.entries.find(&section_key))
     }
 
     /// The number of a target, if there is one.
@@ -116,21 +116,21 @@ fn entries_at<'v, 't>(value: &'v Value<'t>, name: &str) -> Option<&'v [(Key<'t>,
 /// Adds the entries of a section.
 fn add_section<'m, 't>(
     alloc: Global,
-    entries: &mut Firsts<Place, &'m (Key<'t>, Value<'t>)>,
+    entries: &mut Firsts<SectionKey, &'m (Key<'t>, Value<'t>)>,
     target: Option<usize>,
     kind: DepKind,
     section: &'m [(Key<'t>, Value<'t>)],
 ) -> Result<(), NoMemory>
-    ensures { OnOk result ((placed : List Placed) → FindsPlaced placed entries.old
-        → FindsPlaced (placed ++ map (placed_at target kind) section.now) entries.new) }
+    ensures { OnOk result ((keyed : List KeyedEntry) → FindsKeyed keyed entries.old
+        → FindsKeyed (keyed ++ map (keyed_at target kind) section.now) entries.new) }
 {
     for entry in section {
-        let place = Place {
+        let section_key = SectionKey {
             target,
             kind,
             name: Text::from_str(alloc, entry.0.name.as_str())?,
         };
-        entries.add(place, entry)?;
+        entries.add(section_key, entry)?;
     }
     Ok(())
 }
@@ -138,13 +138,13 @@ fn add_section<'m, 't>(
 /// Adds the section of a kind.
 fn add_kind<'m, 't>(
     alloc: Global,
-    entries: &mut Firsts<Place, &'m (Key<'t>, Value<'t>)>,
+    entries: &mut Firsts<SectionKey, &'m (Key<'t>, Value<'t>)>,
     target: Option<usize>,
     value: &'m Value<'t>,
     kind: DepKind,
 ) -> Result<(), NoMemory>
-    ensures { OnOk result ((placed : List Placed) → FindsPlaced placed entries.old
-        → FindsPlaced (placed ++ kind_placed target value.now kind) entries.new) }
+    ensures { OnOk result ((keyed : List KeyedEntry) → FindsKeyed keyed entries.old
+        → FindsKeyed (keyed ++ kind_keyed target value.now kind) entries.new) }
 {
     match entries_at(value, section_name(kind)) {
         Some(section) => add_section(alloc, entries, target, kind, section),
@@ -155,12 +155,12 @@ fn add_kind<'m, 't>(
 /// Adds the sections of all kinds, for all targets or for one.
 fn add_sections<'m, 't>(
     alloc: Global,
-    entries: &mut Firsts<Place, &'m (Key<'t>, Value<'t>)>,
+    entries: &mut Firsts<SectionKey, &'m (Key<'t>, Value<'t>)>,
     target: Option<usize>,
     value: &'m Value<'t>,
 ) -> Result<(), NoMemory>
-    ensures { OnOk result ((placed : List Placed) → FindsPlaced placed entries.old
-        → FindsPlaced (placed ++ sections_placed target value.now) entries.new) }
+    ensures { OnOk result ((keyed : List KeyedEntry) → FindsKeyed keyed entries.old
+        → FindsKeyed (keyed ++ sections_keyed target value.now) entries.new) }
 {
     add_kind(alloc, entries, target, value, DepKind::Normal)?;
     add_kind(alloc, entries, target, value, DepKind::Dev)?;
@@ -171,14 +171,14 @@ fn add_sections<'m, 't>(
 /// Adds the sections of targets.
 fn add_targets<'m, 't>(
     alloc: Global,
-    entries: &mut Firsts<Place, &'m (Key<'t>, Value<'t>)>,
+    entries: &mut Firsts<SectionKey, &'m (Key<'t>, Value<'t>)>,
     targets: &Targets,
     keys: &'m [(Key<'t>, Value<'t>)],
 ) -> Result<(), NoMemory>
     ensures { OnOk result ((agrees : List ℕ → List ℕ → Bool) → TellsAgreement agrees
         → (names : List (List ℕ)) → NumbersTargets names targets.now
-        → (placed : List Placed) → FindsPlaced placed entries.old
-        → FindsPlaced (placed ++ targets_placed (number_of agrees names) keys.now) entries.new) }
+        → (keyed : List KeyedEntry) → FindsKeyed keyed entries.old
+        → FindsKeyed (keyed ++ targets_keyed (number_of agrees names) keys.now) entries.new) }
 {
     for entry in keys {
         let number = targets.number(alloc, entry.0.name.as_str())?;

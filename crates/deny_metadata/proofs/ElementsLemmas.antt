@@ -1,4 +1,4 @@
--- The elements of an array, read from a place on.
+-- The elements of an array, read from an index on.
 use Rattle.std.proofs.Common.{◌≡◌, ◌<◌, ◌+◌, ℕ, List, [], ◌∷◌, Result, Ok, length, drop, refl, add-one}
 use Rattle.std.specs.Prelude.{slice_index_or}
 use Rattle.std.specs.Fmt.{decimal}

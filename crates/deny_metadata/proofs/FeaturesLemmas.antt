@@ -42,7 +42,7 @@ pub sorted_insert : {A : Type 0} (es : List (Sorted A)) (k : Bor (List ℕ)) (v 
 sorted_insert [] k v = refl
 sorted_insert (e ∷ es) k v = sorted_by (slice_cmp nat_cmp k.now e.0.now) _ _ _ ∙ rw (sorted_insert es k v) refl
 
--- the members from a place on
+-- the members from an index on
 pub next_member : {A : Type 0} (ms : List (Bor (List ℕ) × Value A)) (i : ℕ) (m : Bor (List ℕ) × Value A)
     (found : Members)
     → i < length ms → m ≡ slice_index_or ms i m

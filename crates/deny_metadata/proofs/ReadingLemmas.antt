@@ -84,7 +84,7 @@ fails_here_by whole here rest next made xs e so_far step fails =
     fails_through e next whole (λ f is. so_far ∙ ap (with_prefix xs)
     (step ∙ ap (λ r. r >>= (λ y. rest >>= (λ ys. Ok (made y ++ ys)))) is)) fails
 
--- each in turn, from a place on
+-- each in turn, from an index on
 pub next_each : {A B : Type 0} (read : A → Result B MetadataFault) (xs : List A) (i : ℕ) (x : A) → i < length xs
     → x ≡ slice_index_or xs i x
     → each read (drop i xs) ≡ read x >>= (λ y. each read (drop (i + 1) xs) >>= (λ ys. Ok (y ∷ ys)))

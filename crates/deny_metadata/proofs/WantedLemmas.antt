@@ -189,15 +189,15 @@ abbrev Reads : {A : Type 0} → Wanted → (List ℕ → Data → Result A Metad
 Reads w read = (path : List ℕ) (j : Json) → read path (part w j) ≡ read path (data_of j)
 
 elements_same : {A : Type 0} (w : Wanted) (read : List ℕ → Data → Result A MetadataFault) → is_nothing w ≡ false
-    → Reads w read → (path : List ℕ) (place : ℕ) (js : json.Items)
-    → elements_from read path place (items_of (pruned_items w js)) ≡ elements_from read path place (items_of js)
+    → Reads w read → (path : List ℕ) (index : ℕ) (js : json.Items)
+    → elements_from read path index (items_of (pruned_items w js)) ≡ elements_from read path index (items_of js)
 unfolding elements_from
-elements_same w read some same path place json.no_items = refl
-elements_same w read some same path place (json.item j js) =
-    ap (λ b. elements_from read path place
+elements_same w read some same path index json.no_items = refl
+elements_same w read some same path index (json.item j js) =
+    ap (λ b. elements_from read path index
     (items_of (if b then pruned_items w js else json.item (pruned w j) (pruned_items w js)))) some
-    ∙ ap₂ (λ x xs. x >>= (λ y. xs >>= (λ ys. Ok (y ∷ ys)))) (same (part_of path (decimal place)) j)
-    (elements_same w read some same path (place + 1) js)
+    ∙ ap₂ (λ x xs. x >>= (λ y. xs >>= (λ ys. Ok (y ∷ ys)))) (same (part_of path (decimal index)) j)
+    (elements_same w read some same path (index + 1) js)
 
 given_same : {A : Type 0} (w : Wanted) (read : List ℕ → Data → Result A MetadataFault) → is_nothing w ≡ false
     → Reads w read → (path : List ℕ) (o : Option Json)

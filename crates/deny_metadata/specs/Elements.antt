@@ -1,5 +1,5 @@
--- Readers of a value's members and elements. A path is a member's place in the text: names and
--- places joined by dots, the root's the empty text.
+-- Readers of a value's members and elements. A path says where a member stands in the text: names
+-- and indices joined by dots, the root's the empty text.
 use Rattle.std.specs.Prelude.{ℕ, ◌+◌, ◌++◌, List, [], ◌∷◌, Bool, Option, Some, None, Result, Ok, Err, is_some}
 use Rattle.std.specs.Prelude.{option_and_then, if◌then◌else◌}
 use Rattle.std.specs.Fmt.{decimal}
@@ -64,13 +64,13 @@ object_itself d = if is_some (as_object d) then Some d else None
 unfoldable pub object_member : List ℕ → Member → Data → Result Data MetadataFault
 object_member path m d = required (path_to path m) (option_and_then object_itself (get (name_of m) d))
 
--- each element in turn, from this place on
+-- each element in turn, from this index on
 unfoldable pub elements_from : {A : Type 0} → (List ℕ → Data → Result A MetadataFault) → List ℕ → ℕ → Items
     → Result (List A) MetadataFault
-elements_from read path place no_items = Ok []
-elements_from read path place (item d ds) = do
-  x ← read (part_of path (decimal place)) d
-  xs ← elements_from read path (place + 1) ds
+elements_from read path index no_items = Ok []
+elements_from read path index (item d ds) = do
+  x ← read (part_of path (decimal index)) d
+  xs ← elements_from read path (index + 1) ds
   Ok (x ∷ xs)
 
 unfoldable pub each_member : {A : Type 0} → (List ℕ → Data → Result A MetadataFault) → List ℕ → Member → Data

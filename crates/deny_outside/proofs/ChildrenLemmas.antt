@@ -1,4 +1,4 @@
--- What listing a folder gives: entries behind its front, with names that ascend.
+-- What listing a folder gives: entries behind its prefix, with names that ascend.
 use Rattle.std.proofs.Common.{◌≡◌, ℕ, ◌&&◌, Bool, true, false, List, [], ◌∷◌, ◌++◌, map, cond, drop, length, Option}
 use Rattle.std.proofs.Common.{None, Some, Result, Ok, Err, T, refl, sym, ap, ◌∙◌, subst, String}
 use Rattle.std.specs.Prelude.{IfOk, IsTrue, MatchOption, codes, option_map, option_copied, nat_eq, unwrap_or}
@@ -26,37 +26,37 @@ use Rattle.deny_lists.proofs.TextMapLemmas.{texts_tie}
 use Rattle.deny_lists.specs.TextMap.{map_of, with_bytes}
 use Rattle.deny_lists.specs.declared.memory.NoMemory.{NoMemory}
 use Rattle.deny_lists.proofs.Orders.{slice_cmp-append}
-use Rattle.deny_outside.specs.Children.{AreListed, children, entry_behind, front_of, if_child_name, is_child_name}
+use Rattle.deny_outside.specs.Children.{AreListed, children, entry_behind, prefix_of, if_child_name, is_child_name}
 use Rattle.deny_outside.specs.Children.{text_behind}
 use Rattle.deny_outside.specs.Disk.{Files, is_folder}
 use Rattle.deny_outside.specs.declared.disk.Entry.{Entry}
 use Rattle.deny_outside.specs.declared.disk.Place.{Place}
 
--- ---- what stands behind a front
+-- ---- what stands behind a prefix
 
-pub behind_is : (result : Option (Bor (List ℕ))) (front path : List ℕ)
-    → MatchOption result (FindsTextPrefix front path None) (λ x. StripsPrefix (FindsTextPrefix front) path x.now)
-    → option_copied result ≡ text_behind front path
+pub behind_is : (result : Option (Bor (List ℕ))) (prefix path : List ℕ)
+    → MatchOption result (FindsTextPrefix prefix path None) (λ x. StripsPrefix (FindsTextPrefix prefix) path x.now)
+    → option_copied result ≡ text_behind prefix path
 unfolding text_behind
-behind_is None front path lacks = rw (sym (starts_text false front path lacks)) refl
-behind_is (Some x) front path strips =
-    let begins : starts_with (λ a b. nat_eq a b) path front ≡ true = (starts_is Decides-eqb path front _ refl).1
+behind_is None prefix path lacks = rw (sym (starts_text false prefix path lacks)) refl
+behind_is (Some x) prefix path strips =
+    let begins : starts_with (λ a b. nat_eq a b) path prefix ≡ true = (starts_is Decides-eqb path prefix _ refl).1
     (drop strips.0 path) strips.1.1 in
     rw begins (ap (λ t. Some t) (strips.2 ∙ ap (λ n. drop n path) strips.1.0))
 
--- a path behind whose front something stands is the two together
-pub front_found : (front path rest : List ℕ) → Some rest ≡ text_behind front path → path ≡ front ++ rest
+-- a path behind whose prefix something stands is the two together
+pub prefix_found : (prefix path rest : List ℕ) → Some rest ≡ text_behind prefix path → path ≡ prefix ++ rest
 unfolding text_behind
-front_found front path rest is = elim (starts_with nat_eq path front) as (λ b. starts_with nat_eq path front ≡ b
-    → Some rest ≡ cond b (Some (drop (length front) path)) None → path ≡ front ++ rest) [
-      | true ↦ λ begins found. (starts_is Decides-eqb path front _ refl).0 begins
-          ∙ ap (λ (o : Option (List ℕ)). front ++ unwrap_or o rest) (sym found)
+prefix_found prefix path rest is = elim (starts_with nat_eq path prefix) as (λ b. starts_with nat_eq path prefix ≡ b
+    → Some rest ≡ cond b (Some (drop (length prefix) path)) None → path ≡ prefix ++ rest) [
+      | true ↦ λ begins found. (starts_is Decides-eqb path prefix _ refl).0 begins
+          ∙ ap (λ (o : Option (List ℕ)). prefix ++ unwrap_or o rest) (sym found)
       | false ↦ λ _ found. absurd (none-some rest (sym found))
     ] refl is
 
 -- what stands behind two texts stands behind the second, in what stands behind the first
-behind_both : (front more path : List ℕ)
-    → text_behind (front ++ more) path ≡ option_and_then (text_behind more) (text_behind front path)
+behind_both : (prefix more path : List ℕ)
+    → text_behind (prefix ++ more) path ≡ option_and_then (text_behind more) (text_behind prefix path)
 unfolding text_behind
 behind_both [] more [] = refl
 behind_both [] more (p ∷ ps) = refl
@@ -68,61 +68,61 @@ behind_both (f ∷ fs) more (p ∷ ps) = elim (nat_eq f p) as (λ b. nat_eq f p 
     ] refl
 
 -- what stands behind a folder and its slash, by what stands behind the folder
-below_front : (dir path : List ℕ) → text_behind (front_of dir) path
+below_prefix : (dir path : List ℕ) → text_behind (prefix_of dir) path
     ≡ cond (ends_with nat_eq dir (codes "/")) (text_behind dir path)
     (option_and_then (text_behind (codes "/")) (text_behind dir path))
-unfolding front_of
-below_front dir path = elim (ends_with nat_eq dir (codes "/"))
+unfolding prefix_of
+below_prefix dir path = elim (ends_with nat_eq dir (codes "/"))
     as (λ b. text_behind (cond b dir (dir ++ codes "/")) path
     ≡ cond b (text_behind dir path) (option_and_then (text_behind (codes "/")) (text_behind dir path)))
     [ true ↦ refl | false ↦ behind_both dir (codes "/") path ]
 
 pub below_some : (dir path rest : List ℕ) → Some rest ≡ text_behind dir path
     → cond (ends_with nat_eq dir (codes "/")) (Some rest) (text_behind (codes "/") rest)
-    ≡ text_behind (front_of dir) path
+    ≡ text_behind (prefix_of dir) path
 below_some dir path rest is = ap (λ (found : Option (List ℕ)). cond (ends_with nat_eq dir (codes "/")) found
-    (option_and_then (text_behind (codes "/")) found)) is ∙ sym (below_front dir path)
+    (option_and_then (text_behind (codes "/")) found)) is ∙ sym (below_prefix dir path)
 
-pub below_none : (dir path : List ℕ) → None ≡ text_behind dir path → None ≡ text_behind (front_of dir) path
+pub below_none : (dir path : List ℕ) → None ≡ text_behind dir path → None ≡ text_behind (prefix_of dir) path
 below_none dir path is = never (ends_with nat_eq dir (codes "/"))
     ∙ (ap (λ (found : Option (List ℕ)). cond (ends_with nat_eq dir (codes "/")) found
-    (option_and_then (text_behind (codes "/")) found)) is ∙ sym (below_front dir path)) where
+    (option_and_then (text_behind (codes "/")) found)) is ∙ sym (below_prefix dir path)) where
       never : (b : Bool) → None ≡ cond b None (option_and_then (text_behind (codes "/")) None)
       never true = refl
       never false = refl
 
--- an entry tells of what stands behind the front
-record IsBehind (front : List ℕ) (at : List ℕ × Place) (entry : Entry) : Type 0 where
+-- an entry tells of what stands behind the prefix
+record IsBehind (prefix : List ℕ) (at : List ℕ × Place) (entry : Entry) : Type 0 where
   named : is_child_name entry.name ≡ true
-  path : at.0 ≡ front ++ entry.name
+  path : at.0 ≡ prefix ++ entry.name
 
-behind_named : (front : List ℕ) (at : List ℕ × Place) (name : List ℕ) (entry : Entry) → at.0 ≡ front ++ name
+behind_named : (prefix : List ℕ) (at : List ℕ × Place) (name : List ℕ) (entry : Entry) → at.0 ≡ prefix ++ name
     → option_map (λ n. record { name = n; folder = is_folder (Some at.1) }) (if_child_name name) ≡ Some entry
-    → IsBehind front at entry
-behind_named front at name entry begins = elim (is_child_name name)
+    → IsBehind prefix at entry
+behind_named prefix at name entry begins = elim (is_child_name name)
     as (λ b. is_child_name name ≡ b
     → option_map (λ n. record { name = n; folder = is_folder (Some at.1) }) (cond b (Some name) None) ≡ Some entry
-    → IsBehind front at entry) [
+    → IsBehind prefix at entry) [
       | true ↦ λ good is.
           let same : record { name = name; folder = is_folder (Some at.1) } ≡ entry =
           ap (λ o. unwrap_or o entry) is in
           record {
             named = subst (λ (e : Entry). is_child_name e.name ≡ true) same good;
-            path = begins ∙ ap (λ (e : Entry). front ++ e.name) same;
+            path = begins ∙ ap (λ (e : Entry). prefix ++ e.name) same;
           }
       | false ↦ λ _ is. absurd (none-some entry is)
     ] refl
 
-behind_of : (front : List ℕ) (at : List ℕ × Place) (entry : Entry) → entry_behind front at ≡ Some entry
-    → IsBehind front at entry
+behind_of : (prefix : List ℕ) (at : List ℕ × Place) (entry : Entry) → entry_behind prefix at ≡ Some entry
+    → IsBehind prefix at entry
 unfolding text_behind
-behind_of front at entry = elim (starts_with nat_eq at.0 front)
-    as (λ b. starts_with nat_eq at.0 front ≡ b
+behind_of prefix at entry = elim (starts_with nat_eq at.0 prefix)
+    as (λ b. starts_with nat_eq at.0 prefix ≡ b
     → option_map (λ n. record { name = n; folder = is_folder (Some at.1) })
-    (option_and_then if_child_name (cond b (Some (drop (length front) at.0)) None)) ≡ Some entry
-    → IsBehind front at entry) [
-      | true ↦ λ begins is. behind_named front at (drop (length front) at.0) entry
-          ((starts_is Decides-eqb at.0 front _ refl).0 begins) is
+    (option_and_then if_child_name (cond b (Some (drop (length prefix) at.0)) None)) ≡ Some entry
+    → IsBehind prefix at entry) [
+      | true ↦ λ begins is. behind_named prefix at (drop (length prefix) at.0) entry
+          ((starts_is Decides-eqb at.0 prefix _ refl).0 begins) is
       | false ↦ λ _ is. absurd (none-some entry is)
     ] refl
 
@@ -145,62 +145,62 @@ both : (a b : Bool) → T a → T b → T (a && b)
 both true b p q = q
 both false b p q = p
 
-names_good : (front : List ℕ) (es : List (List ℕ × Place))
-    → AllByRecursion (λ entry. IsTrue (is_child_name entry.name)) (filter_map (entry_behind front) es)
-names_good front [] = tt
-names_good front (e ∷ es) =
-    let others = filter_map (entry_behind front) es in
-    elim (entry_behind front e)
-    as (λ o. entry_behind front e ≡ o
+names_good : (prefix : List ℕ) (es : List (List ℕ × Place))
+    → AllByRecursion (λ entry. IsTrue (is_child_name entry.name)) (filter_map (entry_behind prefix) es)
+names_good prefix [] = tt
+names_good prefix (e ∷ es) =
+    let others = filter_map (entry_behind prefix) es in
+    elim (entry_behind prefix e)
+    as (λ o. entry_behind prefix e ≡ o
     → AllByRecursion (λ entry. IsTrue (is_child_name entry.name)) (cons_option o others)) [
-      | None ↦ λ _. names_good front es
-      | Some entry ↦ λ is. ((behind_of front e entry is).named, names_good front es)
+      | None ↦ λ _. names_good prefix es
+      | Some entry ↦ λ is. ((behind_of prefix e entry is).named, names_good prefix es)
     ] refl
 
-names_above : (front : List ℕ) (at : List ℕ × Place) (first_entry : Entry) (es : List (List ℕ × Place))
-    → at.0 ≡ front ++ first_entry.name → T (below_all (slice_cmp nat_cmp) at.0 es)
+names_above : (prefix : List ℕ) (at : List ℕ × Place) (first_entry : Entry) (es : List (List ℕ × Place))
+    → at.0 ≡ prefix ++ first_entry.name → T (below_all (slice_cmp nat_cmp) at.0 es)
     → AllByRecursion (λ name. slice_cmp nat_cmp first_entry.name name ≡ Less)
-    (map (λ entry. entry.name) (filter_map (entry_behind front) es))
-names_above front at first_entry [] here below = tt
-names_above front at first_entry (e ∷ es) here below =
-    let others = filter_map (entry_behind front) es in
-    let further = names_above front at first_entry es here (second _ _ below) in
-    elim (entry_behind front e)
-    as (λ o. entry_behind front e ≡ o
+    (map (λ entry. entry.name) (filter_map (entry_behind prefix) es))
+names_above prefix at first_entry [] here below = tt
+names_above prefix at first_entry (e ∷ es) here below =
+    let others = filter_map (entry_behind prefix) es in
+    let further = names_above prefix at first_entry es here (second _ _ below) in
+    elim (entry_behind prefix e)
+    as (λ o. entry_behind prefix e ≡ o
     → AllByRecursion (λ name. slice_cmp nat_cmp first_entry.name name ≡ Less)
     (map (λ entry. entry.name) (cons_option o others))) [
       | None ↦ λ _. further
       | Some entry ↦ λ is. (
-        sym (slice_cmp-append nat_cmp_total front first_entry.name entry.name)
-            ∙ (λ i. slice_cmp nat_cmp (sym here i) (sym ((behind_of front e entry is).path) i))
+        sym (slice_cmp-append nat_cmp_total prefix first_entry.name entry.name)
+            ∙ (λ i. slice_cmp nat_cmp (sym here i) (sym ((behind_of prefix e entry is).path) i))
             ∙ less _ (first _ _ below),
         further,
       )
     ] refl
 
-names_ascend : (front : List ℕ) (es : List (List ℕ × Place)) → T (is_sorted (slice_cmp nat_cmp) es)
-    → IsStrictlySortedBy (slice_cmp nat_cmp) (map (λ entry. entry.name) (filter_map (entry_behind front) es))
+names_ascend : (prefix : List ℕ) (es : List (List ℕ × Place)) → T (is_sorted (slice_cmp nat_cmp) es)
+    → IsStrictlySortedBy (slice_cmp nat_cmp) (map (λ entry. entry.name) (filter_map (entry_behind prefix) es))
 unfolding IsStrictlySortedBy
-names_ascend front [] sorted = tt
-names_ascend front (e ∷ es) sorted =
-    let others = filter_map (entry_behind front) es in
-    let further = names_ascend front es (second _ _ sorted) in
-    elim (entry_behind front e)
-    as (λ o. entry_behind front e ≡ o
+names_ascend prefix [] sorted = tt
+names_ascend prefix (e ∷ es) sorted =
+    let others = filter_map (entry_behind prefix) es in
+    let further = names_ascend prefix es (second _ _ sorted) in
+    elim (entry_behind prefix e)
+    as (λ o. entry_behind prefix e ≡ o
     → IsStrictlySortedBy (slice_cmp nat_cmp) (map (λ entry. entry.name) (cons_option o others))) [
       | None ↦ λ _. further
       | Some entry ↦ λ is.
-          (names_above front e entry es ((behind_of front e entry is).path) (first _ _ sorted), further)
+          (names_above prefix e entry es ((behind_of prefix e entry is).path) (first _ _ sorted), further)
     ] refl
 
 -- what a folder holds has names that children can have, ascending
 pub children_listed : (files : Files) (dir : List ℕ) → AreListed (children files dir)
 unfolding children IsStrictlySortedBy
 children_listed files dir = elim (is_folder (finite.get files dir))
-    as (λ b. AreListed (cond b (filter_map (entry_behind (front_of dir)) (finite.entries files)) [])) [
+    as (λ b. AreListed (cond b (filter_map (entry_behind (prefix_of dir)) (finite.entries files)) [])) [
       | true ↦ record {
-        names = All-from_recursion _ _ (names_good (front_of dir) (finite.entries files));
-        ascending = names_ascend (front_of dir) (finite.entries files) (finite.entries_sorted files);
+        names = All-from_recursion _ _ (names_good (prefix_of dir) (finite.entries files));
+        ascending = names_ascend (prefix_of dir) (finite.entries files) (finite.entries_sorted files);
       }
       | false ↦ record { names = All-nil _; ascending = tt }
     ]
@@ -242,14 +242,14 @@ kept_next f x left rest old new whole next put = appended (filter_map f) left re
 
 -- walking the tree of a map gives what its folder holds
 pub children_are : {A : Type 0} (result : Result (List Entry) NoMemory) (tree : BTreeMap (String A) Place)
-    (files : Files) (dir front : List ℕ) → map_of tree.entries ≡ files → IsOrdered string_cmp tree
-    → is_folder (finite.get files dir) ≡ true → front ≡ front_of dir
-    → IfOk result (λ entries. entries ≡ filter_map (entry_behind front) (map with_bytes tree.entries))
+    (files : Files) (dir prefix : List ℕ) → map_of tree.entries ≡ files → IsOrdered string_cmp tree
+    → is_folder (finite.get files dir) ≡ true → prefix ≡ prefix_of dir
+    → IfOk result (λ entries. entries ≡ filter_map (entry_behind prefix) (map with_bytes tree.entries))
     → IfOk result (λ entries. entries ≡ children files dir)
 unfolding children
-children_are (Err e) tree files dir front view sorted folder at is = tt
-children_are (Ok entries) tree files dir front view sorted folder at is =
+children_are (Err e) tree files dir prefix view sorted folder at is = tt
+children_are (Ok entries) tree files dir prefix view sorted folder at is =
     let walked : map with_bytes tree.entries ≡ finite.entries files =
     sym (entries_of (map with_bytes tree.entries) (sorted_bytes tree.entries sorted)) ∙ ap finite.entries view in
     is ∙ (λ i. filter_map (entry_behind (at i)) (walked i))
-    ∙ ap (λ b. cond b (filter_map (entry_behind (front_of dir)) (finite.entries files)) []) (sym folder)
+    ∙ ap (λ b. cond b (filter_map (entry_behind (prefix_of dir)) (finite.entries files)) []) (sym folder)

@@ -18,23 +18,23 @@ use Rattle.deny_outside.specs.declared.read.ReadEnd.{ReadEnd}
 use Rattle.deny_outside.specs.declared.read.ReadEnd.TheVariants.{Fault, Long, Memory as OutOfMemory}
 use Rattle.deny_outside.specs.Read.{GaveAtMost, GaveOnce, IsReading, read_end_of}
 
--- a front of a text with the next piece behind it is a longer front
-pub front_more : (text bytes piece : List ℕ) → bytes ≡ take (length bytes) text
+-- a prefix of a text with the next piece behind it is a longer prefix
+pub prefix_more : (text bytes piece : List ℕ) → bytes ≡ take (length bytes) text
     → piece ≡ take (length piece) (drop (length bytes) text)
     → bytes ++ piece ≡ take (length (bytes ++ piece)) text
-front_more text bytes piece front next =
-    (λ i. front i ++ next i) ∙ sym (take-add (length bytes) (length piece) text)
+prefix_more text bytes piece prefix next =
+    (λ i. prefix i ++ next i) ∙ sym (take-add (length bytes) (length piece) text)
     ∙ ap (λ n. take n text) (sym (length-append bytes piece))
 
 text_more : (known : Option Files) (path bytes buf : List ℕ) (at n : ℕ) → n ≤ length buf → at ≡ length bytes
     → IfSome known (λ files. bytes ≡ take (length bytes) (bytes_at files path))
     → IfSome known (λ files. IsPieceOf (bytes_at files path) at n buf)
     → IfSome known (λ files. bytes ++ take n buf ≡ take (length (bytes ++ take n buf)) (bytes_at files path))
-text_more None path bytes buf at n fits here front next = search rules
-text_more (Some files) path bytes buf at n fits here front next =
+text_more None path bytes buf at n fits here prefix next = search rules
+text_more (Some files) path bytes buf at n fits here prefix next =
     let text = bytes_at files path in
     let all : length (take n buf) ≡ n = length-take-le n buf fits in
-    front_more text bytes (take n buf) front (next.bytes ∙ ap (λ k. take n (drop k text)) here
+    prefix_more text bytes (take n buf) prefix (next.bytes ∙ ap (λ k. take n (drop k text)) here
     ∙ ap (λ k. take k (drop (length bytes) text)) (sym all))
 
 pub reading_more : (start old new : Disk) (path bytes buf : List ℕ) (at n : ℕ) → n ≤ length buf → at ≡ length bytes
@@ -67,9 +67,9 @@ failed_then start between now call path before failed = record {
 pub long_text : (known : Option Files) (path bytes : List ℕ) (n : ℕ) → n ≤ length bytes
     → IfSome known (λ files. bytes ≡ take (length bytes) (bytes_at files path))
     → IfSome known (λ files. n ≤ length (bytes_at files path))
-long_text None path bytes n least front = tt
-long_text (Some files) path bytes n least front =
-    omega (arith, least, ap length front, length-take (length bytes) (bytes_at files path))
+long_text None path bytes n least prefix = tt
+long_text (Some files) path bytes n least prefix =
+    omega (arith, least, ap length prefix, length-take (length bytes) (bytes_at files path))
 
 -- what was given before and behind
 pub gave_then : (a b c : Disk) (few more : Files → ℕ) → b.files ≡ a.files → GaveAtMost a b few → GaveAtMost b c more
@@ -148,9 +148,9 @@ gave_once start now path bytes reading = by_files start.files reading.text
   where
     by_files : (told : Option Files) → IfSome told (λ files. bytes ≡ take (length bytes) (bytes_at files path))
         → IfSome told (λ files. now.given ≤ start.given + length (bytes_at files path))
-    by_files None front = tt
-    by_files (Some files) front =
-        omega (arith, reading.once, ap length front, length-take (length bytes) (bytes_at files path))
+    by_files None prefix = tt
+    by_files (Some files) prefix =
+        omega (arith, reading.once, ap length prefix, length-take (length bytes) (bytes_at files path))
 
 -- ---- whether there was a piece
 
@@ -177,11 +177,11 @@ pub whole_at_end : (told : Option Files) (path bytes buf new : List ℕ) (at n :
     → IfSome told (λ files. bytes ≡ take (length bytes) (bytes_at files path))
     → IfSome told (λ files. IsPieceOf (bytes_at files path) at n buf)
     → IfSome told (λ files. new ≡ bytes_at files path)
-whole_at_end None path bytes buf new at n here none room same front piece = tt
-whole_at_end (Some files) path bytes buf new at n here none room same front piece =
+whole_at_end None path bytes buf new at n here none room same prefix piece = tt
+whole_at_end (Some files) path bytes buf new at n here none room same prefix piece =
     let text = bytes_at files path in
     let past : length text ≤ at = piece.ends none room in
-    same ∙ front ∙ take_all (length bytes) text (omega (arith, past, here))
+    same ∙ prefix ∙ take_all (length bytes) text (omega (arith, past, here))
 
 -- ---- how reading ends
 

@@ -17,7 +17,7 @@ appends_more : (old mid new : Option (List ℕ)) (first second : List ℕ) → A
 appends_more None mid new first second a b = tt
 appends_more (Some xs) None new first second a b = absurd a
 appends_more (Some xs) (Some ys) None first second a b = absurd b
-appends_more (Some xs) (Some ys) (Some zs) first second a b = b ∙ ap (λ (front : List ℕ). front ++ second) a
+appends_more (Some xs) (Some ys) (Some zs) first second a b = b ∙ ap (λ (prefix : List ℕ). prefix ++ second) a
     ∙ append_assoc xs first second
 
 -- a write that takes `n` of what is left, as a slice from there on says it

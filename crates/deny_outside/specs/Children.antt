@@ -17,33 +17,33 @@ abbrev pub is_child_name : List ℕ → Bool
 is_child_name name = is_name name && not (list_any is_slash name)
 
 -- what stands before the names of a folder's children: its path, and a slash where that ends with none
-unfoldable pub front_of : List ℕ → List ℕ
-front_of dir = if ends_with nat_eq dir (codes "/") then dir else dir ++ codes "/"
+unfoldable pub prefix_of : List ℕ → List ℕ
+prefix_of dir = if ends_with nat_eq dir (codes "/") then dir else dir ++ codes "/"
 
 -- the path of a folder's child
 abbrev pub child : List ℕ → List ℕ → List ℕ
-child dir name = front_of dir ++ name
+child dir name = prefix_of dir ++ name
 
 abbrev pub if_child_name : List ℕ → Option (List ℕ)
 if_child_name name = if is_child_name name then Some name else None
 
--- what stands behind the front, at a path that begins with it
+-- what stands behind the prefix, at a path that begins with it
 unfoldable pub text_behind : List ℕ → List ℕ → Option (List ℕ)
-text_behind front path = if starts_with nat_eq path front then Some (drop (length front) path) else None
+text_behind prefix path = if starts_with nat_eq path prefix then Some (drop (length prefix) path) else None
 
--- the name behind this front, at the path of a child
+-- the name behind this prefix, at the path of a child
 abbrev pub name_behind : List ℕ → List ℕ → Option (List ℕ)
-name_behind front path = option_and_then if_child_name (text_behind front path)
+name_behind prefix path = option_and_then if_child_name (text_behind prefix path)
 
--- what stands there as a child of the folder with this front, if it is one
+-- what stands there as a child of the folder with this prefix, if it is one
 abbrev pub entry_behind : List ℕ → List ℕ × Place → Option Entry
-entry_behind front at =
-    option_map (λ name. record { name = name; folder = is_folder (Some at.1) }) (name_behind front at.0)
+entry_behind prefix at =
+    option_map (λ name. record { name = name; folder = is_folder (Some at.1) }) (name_behind prefix at.0)
 
 -- the children of a folder; there are none where no folder stands
 unfoldable pub children : Files → List ℕ → List Entry
 children files dir =
-    if is_folder (finite.get files dir) then filter_map (entry_behind (front_of dir)) (finite.entries files) else []
+    if is_folder (finite.get files dir) then filter_map (entry_behind (prefix_of dir)) (finite.entries files) else []
 
 -- what listing gives on any disk: names that children can have, ascending, each once
 pub record AreListed (entries : List Entry) : Type 0 where

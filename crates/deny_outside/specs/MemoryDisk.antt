@@ -73,11 +73,11 @@ abbrev pub failed_by : DiskError → Memory → Memory
 failed_by Failed memory = record memory { calls = counted memory.calls 1; faults = counted memory.faults 1 }
 failed_by OutOfMemory memory = called memory
 
--- the path of the folder whose name ends before the slash at this place; the root is its slash
+-- the path of the folder whose name ends before the slash at this offset; the root is its slash
 abbrev pub folder_before : List ℕ → ℕ → List ℕ
-folder_before path place = if place == 0 then codes "/" else take place path
+folder_before path offset = if offset == 0 then codes "/" else take offset path
 
--- the folder whose name ends at this place, if a slash, whose code is 47, stands there
+-- the folder whose name ends at this offset, if a slash, whose code is 47, stands there
 abbrev pub folder_at : List ℕ → ℕ × ℕ → Option (List ℕ)
 folder_at path at = if at.1 == 47 then Some (folder_before path at.0) else None
 

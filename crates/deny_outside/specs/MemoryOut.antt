@@ -1,7 +1,7 @@
 -- An output in memory, as contracts see it.
 use Rattle.std.specs.Prelude.{ℕ, List}
 
-pub record Kept : Type 0 where
+pub record BoundedOutput : Type 0 where
   -- what was written
   pub bytes : List ℕ
   -- how many bytes it still takes

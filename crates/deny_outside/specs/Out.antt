@@ -6,5 +6,5 @@ abbrev pub Appends : Option (List ℕ) → Option (List ℕ) → List ℕ → Ty
 Appends old new bytes = MatchOption old (new ≡ None) (λ written. new ≡ Some (written ++ bytes))
 
 -- the first bytes, maybe none of them, were put at the end
-abbrev pub AppendsFront : Option (List ℕ) → Option (List ℕ) → List ℕ → Type 0
-AppendsFront old new bytes = (n : ℕ) × (n ≤ length bytes) × Appends old new (take n bytes)
+abbrev pub AppendsPrefix : Option (List ℕ) → Option (List ℕ) → List ℕ → Type 0
+AppendsPrefix old new bytes = (n : ℕ) × (n ≤ length bytes) × Appends old new (take n bytes)

@@ -6,7 +6,7 @@ ghost use Rattle.std.specs.List.{cons_option, ends_with, filter_map, list_any};
 ghost use Rattle.std.specs.Option.{option_copied};
 ghost use Rattle.std.specs.String.{string_cmp};
 ghost use Rattle.deny_lists.specs.TextMap.{with_bytes};
-ghost use Rattle.deny_outside.specs.Children.{child, children, entry_behind, front_of};
+ghost use Rattle.deny_outside.specs.Children.{child, children, entry_behind, prefix_of};
 ghost use Rattle.deny_outside.specs.Children.{is_child_name, name_behind, text_behind};
 ghost use Rattle.deny_outside.specs.Disk.{is_folder};
 ghost use Rattle.deny_outside.specs.Paths.{is_slash};
@@ -22,23 +22,23 @@ use std::collections::BTreeMap;
 pub fn child_path(alloc: Global, dir: &str, name: &str) -> Result<Text, NoMemory>
     ensures { IfOk result (λ path. path ≡ child dir.now name.now) }
 {
-    let mut path = front_with_room(alloc, dir, name.len())?;
+    let mut path = prefix_with_room(alloc, dir, name.len())?;
     path.push_str(name)?;
     Ok(path)
 }
 
 /// What stands before the names of a folder's children, with room for a name of this length.
-#[tactic(auto, unfolding(crate::specs::Children::front_of))]
-fn front_with_room(alloc: Global, dir: &str, room: usize) -> Result<Text, NoMemory>
-    ensures { IfOk result (λ front. front ≡ front_of dir.now) }
+#[tactic(auto, unfolding(crate::specs::Children::prefix_of))]
+fn prefix_with_room(alloc: Global, dir: &str, room: usize) -> Result<Text, NoMemory>
+    ensures { IfOk result (λ prefix. prefix ≡ prefix_of dir.now) }
 {
     let length = dir.len().saturating_add(1).saturating_add(room);
-    let mut front = Text::from_string(String::with_capacity(alloc, length)?);
-    front.push_str(dir)?;
+    let mut prefix = Text::from_string(String::with_capacity(alloc, length)?);
+    prefix.push_str(dir)?;
     if !dir.as_bytes().ends_with(b"/") {
-        front.push_str("/")?;
+        prefix.push_str("/")?;
     }
-    Ok(front)
+    Ok(prefix)
 }
 
 /// Whether a child can have this name: it is a name, and has no slash.
@@ -55,15 +55,15 @@ fn has_slash(name: &[u8]) -> bool
 }
 
 /// What stands behind the prefix, in a path that begins with it.
-pub fn path_behind<'p>(front: &str, path: &'p str) -> Option<&'p str>
-    ensures { option_copied result ≡ text_behind front.now path.now }
+pub fn path_behind<'p>(prefix: &str, path: &'p str) -> Option<&'p str>
+    ensures { option_copied result ≡ text_behind prefix.now path.now }
 {
-    path.strip_prefix(front)
+    path.strip_prefix(prefix)
 }
 
 /// What stands behind a folder and its slash, in a path that begins with these.
 pub fn path_below<'p>(dir: &str, path: &'p str) -> Option<&'p str>
-    ensures { option_copied result ≡ text_behind (front_of dir.now) path.now }
+    ensures { option_copied result ≡ text_behind (prefix_of dir.now) path.now }
 {
     match path_behind(dir, path) {
         Some(rest) => behind_slash(dir, rest),
@@ -83,11 +83,11 @@ fn behind_slash<'p>(dir: &str, rest: &'p str) -> Option<&'p str>
     }
 }
 
-/// The name behind the front of a folder, at the path of one of its children.
-fn name_behind<'p>(front: &str, path: &'p str) -> Option<&'p str>
-    ensures { option_copied result ≡ name_behind front.now path.now }
+/// The name behind the prefix of a folder, at the path of one of its children.
+fn name_behind<'p>(prefix: &str, path: &'p str) -> Option<&'p str>
+    ensures { option_copied result ≡ name_behind prefix.now path.now }
 {
-    let name = path_behind(front, path)?;
+    let name = path_behind(prefix, path)?;
     if is_child_name(name.as_bytes()) {
         Some(name)
     } else {
@@ -95,35 +95,35 @@ fn name_behind<'p>(front: &str, path: &'p str) -> Option<&'p str>
     }
 }
 
-/// The entries of what stands behind a front, in the order of the map.
+/// The entries of what stands behind a prefix, in the order of the map.
 fn entries_behind(
     alloc: Global,
     tree: &BTreeMap<String, Place>,
-    front: &str,
+    prefix: &str,
 ) -> Result<List<Entry>, NoMemory>
     ensures entries { IfOk result (λ entries. entries ≡
-        filter_map (entry_behind front.now) (map with_bytes tree.now.entries)) }
+        filter_map (entry_behind prefix.now) (map with_bytes tree.now.entries)) }
     ensures ordered { IsOrdered string_cmp tree.now }
 {
     let mut entries = List::new(alloc);
     for (path, place) in tree.iter() {
-        add_behind(alloc, front, path.as_str(), place, &mut entries)?;
+        add_behind(alloc, prefix, path.as_str(), place, &mut entries)?;
     }
     Ok(entries)
 }
 
-/// Puts the entry of what stands at a path at the end, if the path is that of a child behind the front.
+/// Puts the entry of what stands at a path at the end, if the path is that of a child behind the prefix.
 fn add_behind(
     alloc: Global,
-    front: &str,
+    prefix: &str,
     path: &str,
     place: &Place,
     entries: &mut List<Entry>,
 ) -> Result<(), NoMemory>
     ensures { OnOk result (entries.new ≡
-        entries.old ++ cons_option (entry_behind front.now (path.now, place.now)) []) }
+        entries.old ++ cons_option (entry_behind prefix.now (path.now, place.now)) []) }
 {
-    match name_behind(front, path) {
+    match name_behind(prefix, path) {
         Some(name) => entries.push(Entry {
             name: Text::from_str(alloc, name)?,
             folder: matches!(place, Place::Folder),
@@ -150,6 +150,6 @@ pub(crate) fn children_of(
     if !is_folder_at(files, dir) {
         return Ok(List::new(alloc));
     }
-    let front = front_with_room(alloc, dir, 0)?;
-    entries_behind(alloc, &files.tree, front.as_str())
+    let prefix = prefix_with_room(alloc, dir, 0)?;
+    entries_behind(alloc, &files.tree, prefix.as_str())
 }

@@ -113,7 +113,7 @@ pub trait PackageFiles {
         ensures failed { IsErrOf result DiskError.Failed →
             FailedAt (seen self.old) (seen self.new) Call.List dir.now };
 
-    /// Reads bytes of the file at `path`, from `offset` on, into the front of `buf`, and says how
+    /// Reads bytes of the file at `path`, from `offset` on, into the start of `buf`, and says how
     /// many. There are none only for an empty buffer or where the text has ended. Where a disk
     /// answers for a path that holds no file, the text is empty.
     ///

@@ -60,13 +60,13 @@ impl Model for MemoryDisk {
     ghost invariant = { λ d. (1 ≤ d.piece) × HoldsPaths d.files };
 }
 
-/// The path of the folder whose name ends before the slash at `place`.
-fn folder_before(path: &str, place: usize) -> &str
-    requires slash { slice_index path.now place ≡ 47 }
-    requires within { place < length path.now }
-    ensures { result.now ≡ folder_before path.now place }
+/// The path of the folder whose name ends before the slash at `offset`.
+fn folder_before(path: &str, offset: usize) -> &str
+    requires slash { slice_index path.now offset ≡ 47 }
+    requires within { offset < length path.now }
+    ensures { result.now ≡ folder_before path.now offset }
 {
-    if place == 0 { "/" } else { &path[..place] }
+    if offset == 0 { "/" } else { &path[..offset] }
 }
 
 /// The folders that the path goes through, the outermost first.
@@ -74,9 +74,9 @@ fn folders_of(alloc: Global, path: &str) -> Result<List<Text>, NoMemory>
     ensures { IfOk result (λ folders. folders ≡ folders_of path.now) }
 {
     let mut folders = List::new(alloc);
-    for (place, byte) in path.as_bytes().iter().enumerate() {
+    for (offset, byte) in path.as_bytes().iter().enumerate() {
         if *byte == b'/' {
-            folders.push(Text::from_str(alloc, folder_before(path, place))?)?;
+            folders.push(Text::from_str(alloc, folder_before(path, offset))?)?;
         }
     }
     Ok(folders)
@@ -139,7 +139,7 @@ pub(crate) fn put_at(
     put_below(alloc, files, folders.as_slice(), path, bytes)
 }
 
-/// Copies the text from `offset` on to the front of `buf`, at most `piece` bytes of it.
+/// Copies the text from `offset` to the start of `buf`, at most `piece` bytes of it.
 pub(crate) fn copy_piece(text: &[u8], offset: u64, piece: usize, buf: &mut [u8]) -> usize
     requires { 1 ≤ piece }
     ensures count { result ≡ min (min piece (length buf.new)) (length text.now - offset) }

@@ -1,7 +1,7 @@
 ghost use Rattle.std.specs.Prelude.{◌≡◌, ◌-◌, ◌<◌, ◌≤◌, ◌↔◌, ◌++◌, [], length, take};
 ghost use Rattle.std.specs.Prelude.{min, Some, IsErr, IfOk, OnOk, OnErr, MatchResult};
 ghost use Rattle.deny_outside.specs.Count.{Rose, counted};
-ghost use Rattle.deny_outside.specs.Out.{Appends, AppendsFront};
+ghost use Rattle.deny_outside.specs.Out.{Appends, AppendsPrefix};
 
 use crate::out::{Out, OutFault};
 use deny_lists::NoMemory;
@@ -18,9 +18,9 @@ pub struct MemoryOut {
 
 impl Model for MemoryOut {
     ghost use Rattle.std.specs.Prelude.{◌+◌, ◌≤◌, length, vec_capacity};
-    ghost use Rattle.deny_outside.specs.MemoryOut.{Kept};
+    ghost use Rattle.deny_outside.specs.MemoryOut.{BoundedOutput};
 
-    ghost Value = { Kept };
+    ghost Value = { BoundedOutput };
 
     ghost view = { λ o. record { bytes = o.bytes.items; room = o.room; faults = o.faults } };
 
@@ -55,8 +55,8 @@ impl Out for MemoryOut {
     /// Takes as many of the bytes as there is room for, and fails exactly where there are more.
     fn put(&mut self, bytes: &[u8]) -> Result<(), OutFault>
         ensures ok { OnOk result (Appends (Some self.old.bytes) (Some self.new.bytes) bytes.now) }
-        ensures front { OnErr result
-            (AppendsFront (Some self.old.bytes) (Some self.new.bytes) bytes.now) }
+        ensures prefix { OnErr result
+            (AppendsPrefix (Some self.old.bytes) (Some self.new.bytes) bytes.now) }
         ensures later { self.old.faults ≤ self.new.faults }
         ensures failed { OnErr result (Rose self.old.faults self.new.faults) }
 

@@ -1,6 +1,6 @@
 ghost use Rattle.std.specs.Prelude.{◌≤◌, ℕ, List, Option, OnOk, OnErr};
 ghost use Rattle.deny_outside.specs.Count.{Rose};
-ghost use Rattle.deny_outside.specs.Out.{Appends, AppendsFront};
+ghost use Rattle.deny_outside.specs.Out.{Appends, AppendsPrefix};
 
 use thiserror::Error;
 
@@ -19,8 +19,8 @@ pub trait Out {
     /// Writes all of `bytes`. After an `OutFault` the output took the first of them, maybe none.
     fn put(&mut self, bytes: &[u8]) -> Result<(), OutFault>
         ensures ok { OnOk result (Appends (written self.old) (written self.new) bytes.now) }
-        ensures front { OnErr result
-            (AppendsFront (written self.old) (written self.new) bytes.now) }
+        ensures prefix { OnErr result
+            (AppendsPrefix (written self.old) (written self.new) bytes.now) }
         ensures later { faults self.old ≤ faults self.new }
         ensures failed { OnErr result (Rose (faults self.old) (faults self.new)) };
 }

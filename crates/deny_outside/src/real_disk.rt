@@ -100,7 +100,7 @@ const NAMES: usize = 0x2000;
 /// What was read of a folder. The paths of what it holds are written in one place, one after the other.
 #[derive(Drop)]
 struct Listing {
-    front: Text,
+    prefix: Text,
     path: String,
     entries: List<Entry>,
 }
@@ -122,7 +122,7 @@ impl Listing {
             return Err(DiskError::Failed);
         };
         self.path.clear();
-        self.path.push_str(self.front.as_str())?;
+        self.path.push_str(self.prefix.as_str())?;
         self.path.push_str(name)?;
         let found = rt.symlink_metadata(self.path.as_str()).map_err(disk_error)?;
         self.entries.push(Entry {
@@ -138,10 +138,10 @@ fn read_folder(rt: &HostRuntime, alloc: Global, dir: &str) -> Result<List<Entry>
     if dir.is_empty() {
         return Err(DiskError::Failed);
     }
-    let front = child_path(alloc, dir, "")?;
-    let mut folder = rt.open_dir(front.as_str()).map_err(disk_error)?;
+    let prefix = child_path(alloc, dir, "")?;
+    let mut folder = rt.open_dir(prefix.as_str()).map_err(disk_error)?;
     let mut listing = Listing {
-        front,
+        prefix,
         path: String::new(alloc),
         entries: List::new(alloc),
     };

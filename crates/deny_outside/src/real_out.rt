@@ -45,7 +45,7 @@ impl<'r> RealOut<'r> {
 /// Writes all of the bytes, or stops where a write fails or takes nothing.
 fn write_all<W: Write>(writer: &mut W, bytes: &[u8]) -> Result<(), OutFault>
     ensures ok { OnOk result (Appends (W.contents writer.old) (W.contents writer.new) bytes.now) }
-    ensures front { OnErr result ((n : ℕ) × (n ≤ length bytes.now)
+    ensures prefix { OnErr result ((n : ℕ) × (n ≤ length bytes.now)
         × Appends (W.contents writer.old) (W.contents writer.new) (take n bytes.now)) }
 {
     let mut rest = bytes;

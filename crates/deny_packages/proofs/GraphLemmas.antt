@@ -38,25 +38,25 @@ module _ (g : Graph) (ks : List Krate) (same : crates_from 0 ks ≡ g.crates) wh
   all_long = ap length (sym same) ∙ length-crates_from 0 ks
 
   module _ (n : ℕ) (inside : n < length ks) where
-    pub front_long : length (take n g.crates) ≡ n
-    front_long =
+    pub prefix_long : length (take n g.crates) ≡ n
+    prefix_long =
         let long : length g.crates ≡ length ks = all_long in
         omega (arith, length-take n g.crates, inside, long)
 
-    pub front_places : (d : Crate) → Contains (take n g.crates) d → d.place < length (take n g.crates)
-    front_places d is =
+    pub prefix_places : (d : Crate) → Contains (take n g.crates) d → d.place < length (take n g.crates)
+    prefix_places d is =
         let at = there (take n g.crates) d is in
-        let front = in_front g.crates n at.0 d at.1 in
-        let place : d.place ≡ at.0 = place_at at.0 d front.at in
-        let below : at.0 < n = front.below in
-        let long : length (take n g.crates) ≡ n = front_long in
+        let prefix = in_front g.crates n at.0 d at.1 in
+        let place : d.place ≡ at.0 = place_at at.0 d prefix.at in
+        let below : at.0 < n = prefix.below in
+        let long : length (take n g.crates) ≡ n = prefix_long in
         omega (arith, place, below, long)
 
-    pub front_apart : AllPairs (λ c d. c.id ≢ d.id) g.crates → (c : Crate) → slice_get g.crates n ≡ Some c
+    pub prefix_apart : AllPairs (λ c d. c.id ≢ d.id) g.crates → (c : Crate) → slice_get g.crates n ≡ Some c
         → (d : Crate) → Contains (take n g.crates) d → d.id ≡ c.id → ⊥
-    front_apart ids c at_c d is equal =
+    prefix_apart ids c at_c d is equal =
         let at = there (take n g.crates) d is in
-        let front = in_front g.crates n at.0 d at.1 in
-        ids at.0 n d front.below (slice_get_within g.crates n c at_c)
-        (ap (λ (e : Crate). e.id) (get_or_from_slice_get g.crates at.0 d d front.at) ∙ equal
+        let prefix = in_front g.crates n at.0 d at.1 in
+        ids at.0 n d prefix.below (slice_get_within g.crates n c at_c)
+        (ap (λ (e : Crate). e.id) (get_or_from_slice_get g.crates at.0 d d prefix.at) ∙ equal
         ∙ sym (ap (λ (e : Crate). e.id) (get_or_from_slice_get g.crates n c d at_c)))

@@ -15,7 +15,7 @@ use Rattle.deny_build_model.specs.Paths.{path_cmp, rank}
 use Rattle.deny_lists.proofs.Members.{Contains-from_map, contains_map}
 use Rattle.deny_lists.proofs.Orders.{slice_cmp-append}
 use Rattle.deny_lists.specs.Ascending.{Lists}
-use Rattle.deny_outside.proofs.ChildrenLemmas.{front_found}
+use Rattle.deny_outside.proofs.ChildrenLemmas.{prefix_found}
 use Rattle.deny_outside.specs.Children.{text_behind}
 use Rattle.deny_packages.specs.declared.order.FilePath.{FilePath}
 use Rattle.deny_packages.specs.private.Order.{file_cmp}
@@ -86,7 +86,7 @@ pub behind_same : (piece a b rest other : List ℕ) (at : ℕ) → piece ≡ tak
 behind_same piece a b rest other at is_piece is_rest found =
     let whole : a ≡ piece ++ rest = sym (ap (λ p. p ++ rest) is_piece ∙ ap (λ r. take at a ++ r) is_rest
     ∙ take-append-drop at a) in
-    ap (λ p. path_cmp p b) whole ∙ ap (λ q. path_cmp (piece ++ rest) q) (front_found piece b other found)
+    ap (λ p. path_cmp p b) whole ∙ ap (λ q. path_cmp (piece ++ rest) q) (prefix_found piece b other found)
     ∙ slice_cmp-append (on_total rank nat_cmp_total) piece rest other
 
 other_bytes : (x y : ℕ) → nat_eq x y ≡ false → x ≡ y → ⊥

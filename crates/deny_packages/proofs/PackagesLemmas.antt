@@ -13,7 +13,7 @@ use Rattle.deny_build_model.specs.Unseen.{package_at, unseen_package}
 use Rattle.deny_build_model.specs.declared.package.Package.{Package}
 use Rattle.deny_lists.proofs.Booleans.{tests_agree}
 use Rattle.deny_lists.proofs.Members.{Contains-first, no_member}
-use Rattle.deny_lists.proofs.Places.{slice_get-push}
+use Rattle.deny_lists.proofs.Indices.{slice_get-push}
 use Rattle.deny_model.specs.Crates as crates
 use Rattle.deny_model.specs.Graph.{Crate, Graph, kid_of}
 use Rattle.deny_outside.specs.Disk.{Disk, Files, IsLater}

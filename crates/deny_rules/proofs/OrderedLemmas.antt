@@ -22,10 +22,10 @@ module _ {T : Type 0} {cmp : T → T → Ordering} (total : IsTotalOrder cmp) (e
   abbrev IsOneOf : T → List T → T → Type 0
   IsOneOf x ys z = (x ≡ z) ⊎ Contains ys z
 
-  front : (x y : T) (ys : List T) → cmp x y ≡ Less → IsStrictlySortedBy cmp (y ∷ ys)
+  prefix : (x y : T) (ys : List T) → cmp x y ≡ Less → IsStrictlySortedBy cmp (y ∷ ys)
       → Ordered cmp (IsOneOf x (y ∷ ys))
   unfolding IsStrictlySortedBy
-  front x y ys below up = record {
+  prefix x y ys below up = record {
     list = x ∷ (y ∷ ys);
     listed = record {
       ascending = (
@@ -100,7 +100,7 @@ module _ {T : Type 0} {cmp : T → T → Ordering} (total : IsTotalOrder cmp) (e
   with_one x (y ∷ ys) up = by (cmp x y) refl (with_one x ys up.1)
     where
       by : (o : Ordering) → cmp x y ≡ o → Ordered cmp (IsOneOf x ys) → Ordered cmp (IsOneOf x (y ∷ ys))
-      by Less is rest = front x y ys is up
+      by Less is rest = prefix x y ys is up
       by Equal is rest = there_already x y ys (exact x y is) up
       by Greater is rest = behind x y ys (total.antisymm y x ∙ ap ordering_reverse is) up rest
 

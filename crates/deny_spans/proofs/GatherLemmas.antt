@@ -26,7 +26,7 @@ use Rattle.deny_spans.specs.Look.{IsLook, Look, ReadsAs, Reading, kept_as, kept_
 use Rattle.deny_spans.specs.Seen.{manifest_by, manifest_in}
 use Rattle.deny_spans.specs.SpansView.{IsManifestAt, manifest_view}
 use Rattle.deny_spans.specs.declared.gathered.Gathered.{Gathered}
-use Rattle.deny_spans.specs.declared.gathered.Kept.{Kept}
+use Rattle.deny_spans.specs.declared.gathered.ReadManifest.{ReadManifest}
 use Rattle.deny_spans.specs.private.Gathered.{IsGathered, IsKept, IsLookedAt, IsReadLocally, SaysRead, broken_if}
 use Rattle.deny_spans.specs.private.Gathered.{broken_of, is_broken, look_of, missing_if, missing_of}
 use Rattle.deny_unread.specs.declared.unread.Unread.{Unread}
@@ -193,7 +193,7 @@ broken_so g c (Some r) text manifest texts says =
 -- ---- one crate, as it was looked at
 
 pub looked_is : {V : Type 0} (told : Option Files) (g : Graph) (c : Crate) (old_files new_files : List File)
-    (old new : Gathered) (mid : List Unread) (items : V → List ℕ) (read : Option V) (kept : Kept) (was : Bool)
+    (old new : Gathered) (mid : List Unread) (items : V → List ℕ) (read : Option V) (kept : ReadManifest) (was : Bool)
     → IsReadLocally told c old.missed.unread mid (option_map items read)
     → IsKept g c (option_map items read) old_files new_files kept → was ≡ is_some read
     → new.manifests ≡ old.manifests ++ kept.manifest ∷ [] → new.numbers ≡ old.numbers ++ kept.number ∷ []

@@ -44,7 +44,7 @@ module _ (text : List ℕ) where
     value : StandsIn text e.1
 
   value_lies : (v : Value) → StandsIn text v → IsRange text (span_in v)
-  value_lies _ (AllOfValue.value v here below) = here.placed
+  value_lies _ (AllOfValue.value v here below) = here.lies
 
   content_of : (v : Value) → StandsIn text v → AllOfContent (KeyStands text) (ValueStands text) (layer_in v)
   content_of _ (AllOfValue.value v here below) = below
@@ -154,7 +154,7 @@ module _ (text : List ℕ) where
   declared_lies : (index : ℕ) (d : Dependency) (child : ℕ) (e : Key × Value) → Entry_stands e
       → DeclaredLies text (declared_by index d child e)
   declared_lies index d child e is = record {
-    key = is.key.placed;
+    key = is.key.lies;
     value = value_lies e.1 is.value;
     version_req = version_lies e.1 is.value;
     workspace = workspace_lies e.1 is.value;
@@ -217,7 +217,7 @@ module _ (text : List ℕ) where
       by_wanted : (e : Key × Value) → Entry_stands e → (o : Option Wanted) → IfSome o Wanted_lies
           → IfSome (option_map (λ wanted. (e.0.span, wanted)) o) Patch_lies
       by_wanted e is None lies = tt
-      by_wanted e is (Some wanted) lies = record { key = is.key.placed; wanted = lies }
+      by_wanted e is (Some wanted) lies = record { key = is.key.lies; wanted = lies }
 
       by_entry : (o : Option (Key × Value)) → IfSome o Entry_stands → IfSome (option_and_then patch_from o) Patch_lies
       by_entry None is = tt
@@ -232,9 +232,9 @@ module _ (text : List ℕ) where
   replaced_lies : (patch : Option (Span × Wanted)) (k : Key) (value : Span) (wanted : Wanted) → IfSome patch Patch_lies
       → KeyStands text k → IsRange text value → Wanted_lies wanted → Shared_lies (replaced_by patch k value wanted)
   replaced_lies None k value wanted patch named here lies =
-      record { key = named.placed; value = here; wanted = lies; patched = tt }
+      record { key = named.lies; value = here; wanted = lies; patched = tt }
   replaced_lies (Some p) k value wanted patch named here lies =
-      record { key = patch.key; value = here; wanted = patch.wanted; patched = named.placed }
+      record { key = patch.key; value = here; wanted = patch.wanted; patched = named.lies }
 
   entry_lies : (patches : List (Key × Value)) (e : Key × Value) → AllByRecursion Entry_stands patches → Entry_stands e
       → IfSome (entry_of patches e) Shared_lies

@@ -123,7 +123,7 @@ fn read_local<D: PackageFiles>(
 
 /// A manifest's text as a file, if it is UTF-8, and as a manifest, if it has a tree.
 #[derive(Drop)]
-pub struct Kept<'k> {
+pub struct ReadManifest<'k> {
     pub number: Option<FileId>,
     pub manifest: Option<Manifest<'k>>,
 }
@@ -136,7 +136,7 @@ fn keep_read<'k>(
     krate: &'k Krate,
     read: &Option<Vec<u8>>,
     files: &mut Files,
-) -> Result<Kept<'k>, NoMemory>
+) -> Result<ReadManifest<'k>, NoMemory>
     requires stands { slice_get krates.now.crates place ≡ Some (crate_view place krate.now) }
     requires few { length files.old < 2 ^ 32 - 1 }
     requires short { IfSome read.now (λ bytes. length bytes.items < 2 ^ 28) }
@@ -145,7 +145,7 @@ fn keep_read<'k>(
 {
     match read {
         Some(bytes) => keep(alloc, krates, place, krate, bytes.as_slice(), files),
-        None => Ok(Kept {
+        None => Ok(ReadManifest {
             number: None,
             manifest: None,
         }),
@@ -159,7 +159,7 @@ fn keep<'k>(
     krate: &'k Krate,
     bytes: &[u8],
     files: &mut Files,
-) -> Result<Kept<'k>, NoMemory>
+) -> Result<ReadManifest<'k>, NoMemory>
     requires stands { slice_get krates.now.crates place ≡ Some (crate_view place krate.now) }
     requires few { length files.old < 2 ^ 32 - 1 }
     requires short { length bytes.now < 2 ^ 28 }
@@ -170,12 +170,12 @@ fn keep<'k>(
         Ok(text) => {
             let number = files.add(krate.manifest_path.as_str(), text)?;
             let manifest = manifest_in(alloc, krates, place, krate, text, number)?;
-            Ok(Kept {
+            Ok(ReadManifest {
                 number: Some(number),
                 manifest,
             })
         }
-        Err(_) => Ok(Kept {
+        Err(_) => Ok(ReadManifest {
             number: None,
             manifest: None,
         }),
@@ -222,7 +222,7 @@ fn put<'k>(
     gathered: &mut Gathered<'k>,
     krate: &Krate,
     was_read: bool,
-    kept: Kept<'k>,
+    kept: ReadManifest<'k>,
 ) -> Result<(), NoMemory>
     ensures manifests { OnOk result (gathered.new.manifests ≡ gathered.old.manifests ++ kept.entry.manifest ∷ []) }
     ensures numbers { OnOk result (gathered.new.numbers ≡ gathered.old.numbers ++ kept.entry.number ∷ []) }

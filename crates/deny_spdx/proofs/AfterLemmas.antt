@@ -164,7 +164,7 @@ settled_after tokens q o l (Named id) d = requirement_added tokens d.outside d.l
 settled_after tokens q o l (Excepted id) d = d
 settled_after tokens q o l Operator d = d
 
--- the same place of the level, with another end
+-- the same point of the level, with another end
 moved : (tokens more : List Token) (q : List Requirement) (o : List Level) (l l' : Level) (p p' : Phase)
     (d : IsAfter tokens q o l p) → tokens ++ more ≡ d.outside ++ (d.inner ++ more)
     → IsLevel p' d.nesting (length d.before) (d.inner ++ more) d.within l' → IsAfter (tokens ++ more) q o l' p'

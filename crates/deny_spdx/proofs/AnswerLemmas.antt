@@ -73,9 +73,9 @@ wrong_at {A = A} S step start whole k tokens last rest runs plain (reading.token
 
 -- a byte or a token can't stand there
 pub stops_bad : {R A : Type 0} (S : List Token → A → Type 0) (step : R → Token → Option R) (start : R) (whole : R
-    → Option A) → KeepsTo S step start whole → (text : List ℕ) (place : ℕ) → StopsAt step start text place
-    → IsBadAt S text place
-stops_bad S step start whole k text place d = record {
+    → Option A) → KeepsTo S step start whole → (text : List ℕ) (offset : ℕ) → StopsAt step start text offset
+    → IsBadAt S text offset
+stops_bad S step start whole k text offset d = record {
   tokens = d.to.tokens;
   rest = d.rest;
   before = d.to.before;
@@ -87,9 +87,9 @@ stops_bad S step start whole k text place d = record {
 pub stops_answer : {R A : Type 0} (S : List Token → A → Type 0) (step : R → Token → Option R) (start : R) (whole : R
     → Option A) → KeepsTo S step start whole → (text : List ℕ) (e : SpdxError) → Stops step start text e
     → IsAnswer S text (Err e)
-stops_answer S step start whole k text (Bad place) d = stops_bad S step start whole k text place d
+stops_answer S step start whole k text (Bad offset) d = stops_bad S step start whole k text offset d
 stops_answer S step start whole k text Memory d = tt
 
-pub refused_at : {A : Type 0} (S : List Token → A → Type 0) (text : List ℕ) (result : Result A SpdxError) (place : ℕ)
-    → IsAnswer S text result → result ≡ Err (Bad place) → IsBadAt S text place
-refused_at {A} S text result place d e = let P : Result A SpdxError → Type 0 = λ x. IsAnswer S text x in subst P e d
+pub refused_at : {A : Type 0} (S : List Token → A → Type 0) (text : List ℕ) (result : Result A SpdxError) (offset : ℕ)
+    → IsAnswer S text result → result ≡ Err (Bad offset) → IsBadAt S text offset
+refused_at {A} S text result offset d e = let P : Result A SpdxError → Type 0 = λ x. IsAnswer S text x in subst P e d

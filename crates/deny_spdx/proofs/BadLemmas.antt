@@ -1,4 +1,4 @@
--- A text spells one thing at most, or goes wrong at one place, and never both.
+-- A text spells one thing at most, or goes wrong at one offset, and never both.
 use Rattle.std.proofs.Common.{◌≡◌, ℕ, inl, inr, true, false, List, [], ◌∷◌, ◌++◌, length, Result, Ok, Err, refl, sym}
 use Rattle.std.proofs.Common.{◌∙◌, ap, subst, arith, append_assoc, append-nil}
 use Rattle.deny_lists.specs.Reader.{Answers}
@@ -30,7 +30,7 @@ begin_first {A} S tokens others t t' e b =
       subst Q (append_assoc tokens (t' ∷ others) b.0 ∙ sym (append_assoc tokens (t' ∷ []) (others ++ b.0))) b.1,
     )
 
--- behind a place where it goes wrong nothing goes on
+-- behind an offset where it goes wrong nothing goes on
 wrong_ends : {A : Type 0} (S : List Token → A → Type 0) (tokens : List Token) (rest text : List ℕ) (others : List Token)
     (rest' : List ℕ) → rest ≡ text → GoesWrong S tokens rest → HasTokens text others rest' → Begin S (tokens ++ others)
     → (others ≡ []) × (rest' ≡ rest)
@@ -55,10 +55,10 @@ rest_same : {A : Type 0} (S : List Token → A → Type 0) (tokens tokens' : Lis
 rest_same S tokens tokens' rest rest' g w
     b = (wrong_ends S tokens rest rest g.others rest' refl w g.between (begin_as S _ _ g.all b)).1
 
--- a text goes wrong at one place
-pub place_same : {A : Type 0} (S : List Token → A → Type 0) (text : List ℕ) (p q : ℕ) → IsBadAt S text p
+-- a text goes wrong at one offset
+pub offset_same : {A : Type 0} (S : List Token → A → Type 0) (text : List ℕ) (p q : ℕ) → IsBadAt S text p
     → IsBadAt S text q → p ≡ q
-place_same S text p q d e = elim (tokens_meet refl d.before e.before) [
+offset_same S text p q d e = elim (tokens_meet refl d.before e.before) [
   | inl g ↦ omega (arith, d.at, e.at, ap length (rest_same S _ _ _ _ g d.wrong e.begins))
   | inr g ↦ omega (arith, d.at, e.at, ap length (rest_same S _ _ _ _ g e.wrong d.begins))
 ]
@@ -110,9 +110,9 @@ only_answer S clear text (Ok y) d x e = ap Ok (spells_same S clear text x y e d)
 only_answer S clear text (Err (Bad p)) d x e = absurd (bad_spells S text p x d e)
 only_answer S clear text (Err Memory) d x e = inl refl
 
--- the place at which it goes wrong is the answer
-pub only_place : {A : Type 0} (S : List Token → A → Type 0) (text : List ℕ) (result : Result A SpdxError)
+-- the offset at which it goes wrong is the answer
+pub only_offset : {A : Type 0} (S : List Token → A → Type 0) (text : List ℕ) (result : Result A SpdxError)
     → IsAnswer S text result → (p : ℕ) → IsBadAt S text p → Answers Memory (Err (Bad p)) result
-only_place S text (Ok x) d p e = absurd (bad_spells S text p x e d)
-only_place S text (Err (Bad q)) d p e = inr (ap (λ n. Err (Bad n)) (place_same S text p q e d))
-only_place S text (Err Memory) d p e = inl refl
+only_offset S text (Ok x) d p e = absurd (bad_spells S text p x e d)
+only_offset S text (Err (Bad q)) d p e = inr (ap (λ n. Err (Bad n)) (offset_same S text p q e d))
+only_offset S text (Err Memory) d p e = inl refl

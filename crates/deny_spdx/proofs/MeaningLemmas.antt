@@ -203,9 +203,9 @@ word_then w rest d (inr f) = let P : List ℕ → Type 0 = λ x. parts_of (w ++ 
 abbrev tokens_at : List ℕ → List (Option Token)
 tokens_at text = map part_token (parts_of text)
 
-front_token : (text part : List ℕ) (parts : List (List ℕ)) (t : Token) (ts : List Token) → parts_of text ≡ part ∷ parts
+prefix_token : (text part : List ℕ) (parts : List (List ℕ)) (t : Token) (ts : List Token) → parts_of text ≡ part ∷ parts
     → part_token part ≡ Some t → map part_token parts ≡ map Some ts → tokens_at text ≡ map Some (t ∷ ts)
-front_token text part parts t ts e f g = ap (map part_token) e
+prefix_token text part parts t ts e f g = ap (map part_token) e
     ∙ (ap (λ x. x ∷ map part_token parts) f ∙ ap (λ xs. Some t ∷ xs) g)
 
 parts_spelled : {text last : List ℕ} {tokens : List Token} → last ≡ [] → HasTokens text tokens last → AreNames tokens
@@ -214,10 +214,10 @@ parts_spelled e none names = ap tokens_at e
 parts_spelled e (blank b {text} is d) names = ap (map part_token) (parts_blank b text is) ∙ parts_spelled e d names
 parts_spelled e (more {tokens = ts} (word bytes {rest} w ends) d) names =
     let behind : AreNames ts = names_behind (token_of bytes) ts names in
-    front_token (bytes ++ rest) bytes (parts_of rest) (token_of bytes) ts
+    prefix_token (bytes ++ rest) bytes (parts_of rest) (token_of bytes) ts
     (word_then bytes rest w (at_end e ends d behind)) (token_of_word bytes w) (parts_spelled e d behind)
 parts_spelled e (more {tokens = ts} (plus bytes {rest} w) d) names =
-    front_token (bytes ++ 43 ∷ rest) (bytes ++ 43 ∷ []) (parts_of rest) (Word bytes) ts (parts_plus bytes rest w.each)
+    prefix_token (bytes ++ 43 ∷ rest) (bytes ++ 43 ∷ []) (parts_of rest) (Word bytes) ts (parts_plus bytes rest w.each)
     (token_of_plus bytes w) (parts_spelled e d names)
 parts_spelled e (more slash d) names = absurd names
 parts_spelled e (more opening d) names = absurd names
@@ -423,6 +423,6 @@ nothing_meant text (Some r) e refuses = absurd (refuses r (spelled text r e))
 pub answer_means : (text : List ℕ) (result : Result Requirement SpdxError) → IsAnswer IsRequirement text result
     → IsMeaning text result
 answer_means text (Ok r) d = meant text r d
-answer_means text (Err (Bad place)) d = nothing_meant text (requirement_in text) refl
-    (λ r. bad_spells IsRequirement text place r d)
+answer_means text (Err (Bad offset)) d = nothing_meant text (requirement_in text) refl
+    (λ r. bad_spells IsRequirement text offset r d)
 answer_means text (Err Memory) d = tt

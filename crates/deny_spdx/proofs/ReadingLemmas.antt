@@ -86,10 +86,10 @@ read_all step start last last' text rest d e =
     let P : List ℕ → Type 0 = λ x. HasTokens text d.tokens x in
     record { tokens = d.tokens; all = subst P e.0 d.before; runs = d.runs ∙ ap Some (sym e.1) }
 
-pub read_stops : {R : Type 0} (step : R → Token → Option R) (start last : R) (text rest : List ℕ) (place : ℕ)
-    → IsReadTo step start text rest last → IsStuck step last rest → place ≡ length text - length rest
-    → StopsAt step start text place
-read_stops step start last text rest place d s e = record
+pub read_stops : {R : Type 0} (step : R → Token → Option R) (start last : R) (text rest : List ℕ) (offset : ℕ)
+    → IsReadTo step start text rest last → IsStuck step last rest → offset ≡ length text - length rest
+    → StopsAt step start text offset
+read_stops step start last text rest offset d s e = record
     { rest = rest; last = last; to = d; stuck = s; at = omega (arith, e, rest_shorter d.before) }
 
 pub turn_on : {R : Type 0} (step : R → Token → Option R) (r : R) (rest : List ℕ) (turn : Turn R) (after : R) (n : ℕ)

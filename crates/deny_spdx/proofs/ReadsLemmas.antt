@@ -1,4 +1,4 @@
--- What a text is read as is what it spells, or the place where it goes wrong.
+-- What a text is read as is what it spells, or the offset where it goes wrong.
 use Rattle.std.proofs.Common.{◌≡◌, ◌≤◌, ℕ, ◌+◌, ◌-◌, ◌==◌, if◌then◌else◌, Bool, true, false, List, [], ◌∷◌, ◌++◌}
 use Rattle.std.proofs.Common.{length, Option, Some, None, Result, Ok, Err, refl, sym, ◌∙◌, ap, subst, append_assoc}
 use Rattle.std.proofs.Common.{append-nil, length-append, option_and_then, arith}
@@ -25,12 +25,12 @@ use Rattle.deny_spdx.proofs.PrefixLemmas.{no_plus_byte, plus_byte, no_token_byte
 use Rattle.deny_spdx.proofs.StepsLemmas.{run_by-append}
 use Rattle.deny_spdx.proofs.AnswerLemmas.{stops_bad}
 use Rattle.deny_spdx.proofs.KeepsLemmas.{expression_keeps, expression_clear, expression_found, expression_ends}
-use Rattle.deny_spdx.proofs.BadLemmas.{spells_same, place_same, bad_spells}
+use Rattle.deny_spdx.proofs.BadLemmas.{spells_same, offset_same, bad_spells}
 
 -- the grammar says the same of the text
 abbrev pub IsRight : List ℕ → Reading → Type 0
 IsRight text (Read e) = Spells IsExpression text e
-IsRight text (BadAt place) = IsBadAt IsExpression text place
+IsRight text (BadAt offset) = IsBadAt IsExpression text offset
 
 -- before the rest stand tokens, which lead to this reader, and bytes of a word; the rest begins at an offset
 pub record IsAmid (text rest : List ℕ) (at : ℕ) (reader : Reader) (word : List ℕ) : Type 0 where
@@ -38,16 +38,16 @@ pub record IsAmid (text rest : List ℕ) (at : ℕ) (reader : Reader) (word : Li
   pub before : HasTokens text tokens (word ++ rest)
   pub runs : run_by step start tokens ≡ Some reader
   pub each : list_all is_word_byte word ≡ true
-  pub place : at + length rest ≡ length text
+  pub offset : at + length rest ≡ length text
 
 abbrev IsProgress : List ℕ → List ℕ → ℕ → Progress → Type 0
 IsProgress text rest at (On reader w) = IsAmid text rest at reader w
-IsProgress text rest at (Bad place) = IsBadAt IsExpression text place
+IsProgress text rest at (Bad offset) = IsBadAt IsExpression text offset
 
 -- the same where no word is left that may go on
 abbrev IsEnded : List ℕ → List ℕ → ℕ → Progress → Type 0
 IsEnded text rest at (On reader w) = IsAmid text rest at reader []
-IsEnded text rest at (Bad place) = IsBadAt IsExpression text place
+IsEnded text rest at (Bad offset) = IsBadAt IsExpression text offset
 
 -- ---- a token
 
@@ -60,11 +60,11 @@ plain_first (b ∷ bs) begins = plain_at (is_blank b) refl
     plain_at false e = e
 
 -- the reader can't go on behind these tokens
-stuck_bad : (text rest : List ℕ) (place : ℕ) (reader : Reader) (tokens : List Token) → HasTokens text tokens rest
+stuck_bad : (text rest : List ℕ) (offset : ℕ) (reader : Reader) (tokens : List Token) → HasTokens text tokens rest
     → run_by step start tokens ≡ Some reader → NoBlankFirst rest → IsStuck step reader rest
-    → place + length rest ≡ length text → IsBadAt IsExpression text place
-stuck_bad text rest place reader tokens before runs plain stuck at =
-    stops_bad IsExpression step start (λ s. whole (settled s)) expression_keeps text place (record {
+    → offset + length rest ≡ length text → IsBadAt IsExpression text offset
+stuck_bad text rest offset reader tokens before runs plain stuck at =
+    stops_bad IsExpression step start (λ s. whole (settled s)) expression_keeps text offset (record {
       rest = rest;
       last = reader;
       to = record { tokens = tokens; before = before; runs = runs; plain = plain };
@@ -73,32 +73,32 @@ stuck_bad text rest place reader tokens before runs plain stuck at =
     })
 
 -- a token that takes the bytes of the word and some of the rest
-taken_ended : {text rest after w : List ℕ} {at : ℕ} {reader : Reader} {t : Token} (place behind : ℕ)
+taken_ended : {text rest after w : List ℕ} {at : ℕ} {reader : Reader} {t : Token} (offset behind : ℕ)
     → IsAmid text rest at reader w → BeginsWith (w ++ rest) t after
-    → place + length (w ++ rest) ≡ length text → behind + length after ≡ length text
-    → (o : Option Reader) → step reader t ≡ o → IsEnded text after behind (taken o place)
-taken_ended {text} {rest} {w = w} {reader = reader} {t = t} place behind d begins here there None e =
-    stuck_bad text (w ++ rest) place reader d.tokens d.before d.runs (plain_first (w ++ rest) begins)
+    → offset + length (w ++ rest) ≡ length text → behind + length after ≡ length text
+    → (o : Option Reader) → step reader t ≡ o → IsEnded text after behind (taken o offset)
+taken_ended {text} {rest} {w = w} {reader = reader} {t = t} offset behind d begins here there None e =
+    stuck_bad text (w ++ rest) offset reader d.tokens d.before d.runs (plain_first (w ++ rest) begins)
     (reading.token t begins e) here
-taken_ended {after = after} {reader = reader} {t = t} place behind d begins here there (Some next) e = record {
+taken_ended {after = after} {reader = reader} {t = t} offset behind d begins here there (Some next) e = record {
   tokens = d.tokens ++ t ∷ [];
   before = tokens_then after (t ∷ []) d.before (more begins none);
   runs = run_by-append step start reader d.tokens (t ∷ []) d.runs ∙ ap (option_and_then (λ x. Some x)) e;
   each = refl;
-  place = there;
+  offset = there;
 }
 
 -- behind a token no word is left
-taken_progress : (text rest : List ℕ) (at place : ℕ) (o : Option Reader) → IsEnded text rest at (taken o place)
-    → IsProgress text rest at (taken o place)
-taken_progress text rest at place None d = d
-taken_progress text rest at place (Some reader) d = d
+taken_progress : (text rest : List ℕ) (at offset : ℕ) (o : Option Reader) → IsEnded text rest at (taken o offset)
+    → IsProgress text rest at (taken o offset)
+taken_progress text rest at offset None d = d
+taken_progress text rest at offset (Some reader) d = d
 
 -- a byte that begins no token
 byte_bad : (text bytes : List ℕ) (b at : ℕ) (reader : Reader) → IsAmid text (b ∷ bytes) at reader []
     → is_blank b ≡ false → begins_token b ≡ false → IsBadAt IsExpression text at
 byte_bad text bytes b at reader d plain nothing =
-    stuck_bad text (b ∷ bytes) at reader d.tokens d.before d.runs plain (reading.no_token b nothing) d.place
+    stuck_bad text (b ∷ bytes) at reader d.tokens d.before d.runs plain (reading.no_token b nothing) d.offset
 
 -- ---- a word that ends
 
@@ -109,7 +109,7 @@ some_bytes x xs = grind (arith, nat_tests)
 word_begins : {text rest : List ℕ} {at : ℕ} {reader : Reader} (w : List ℕ) → IsAmid text rest at reader w
     → (at - length w) + length (w ++ rest) ≡ length text
 word_begins {text} {rest} {at} w d =
-    let here : at + length rest ≡ length text = d.place in
+    let here : at + length rest ≡ length text = d.offset in
     let within : length (w ++ rest) ≤ length text = rest_shorter d.before in
     let all : length (w ++ rest) ≡ length w + length rest = length-append w rest in
     omega arith
@@ -123,7 +123,7 @@ word_is_ended text rest at reader (x ∷ xs) d ends =
     let P : Bool → Type 0 = λ c. IsEnded text rest at
     (if c then On reader [] else taken (step reader (token_of (x ∷ xs))) (at - length (x ∷ xs))) in
     subst P (sym (some_bytes x xs)) (taken_ended (at - length (x ∷ xs)) at d (word (x ∷ xs) is ends)
-    (word_begins (x ∷ xs) d) d.place (step reader (token_of (x ∷ xs))) refl)
+    (word_begins (x ∷ xs) d) d.offset (step reader (token_of (x ∷ xs))) refl)
 
 behind_byte : (text bytes : List ℕ) (b at : ℕ) → at + length (b ∷ bytes) ≡ length text
     → (at + 1) + length bytes ≡ length text
@@ -139,7 +139,7 @@ plus_is_ended text bytes at reader (x ∷ xs) d =
     (if c then Bad at else taken (step reader (Word (x ∷ xs))) (at - length (x ∷ xs))) in
     subst P (sym (some_bytes x xs)) (taken_progress text bytes (at + 1) (at - length (x ∷ xs))
     (step reader (Word (x ∷ xs))) (taken_ended (at - length (x ∷ xs)) (at + 1) d (plus (x ∷ xs) is)
-    (word_begins (x ∷ xs) d) (behind_byte text bytes 43 at d.place) (step reader (Word (x ∷ xs))) refl))
+    (word_begins (x ∷ xs) d) (behind_byte text bytes 43 at d.offset) (step reader (Word (x ∷ xs))) refl))
 
 -- ---- a byte
 
@@ -150,13 +150,13 @@ blank_taken text bytes b at reader d is = let P : List Token → Type 0 = λ x. 
   before = subst P (append-nil d.tokens) (tokens_then bytes [] d.before (blank b is none));
   runs = d.runs;
   each = refl;
-  place = behind_byte text bytes b at d.place;
+  offset = behind_byte text bytes b at d.offset;
 }
 
 one_byte : (text bytes : List ℕ) (b at : ℕ) (reader : Reader) (t : Token) → IsAmid text (b ∷ bytes) at reader []
     → BeginsWith (b ∷ bytes) t bytes → IsProgress text bytes (at + 1) (taken (step reader t) at)
 one_byte text bytes b at reader t d begins = taken_progress text bytes (at + 1) at (step reader t)
-    (taken_ended at (at + 1) d begins d.place (behind_byte text bytes b at d.place) (step reader t) refl)
+    (taken_ended at (at + 1) d begins d.offset (behind_byte text bytes b at d.offset) (step reader t) refl)
 
 mark_at : (text bytes : List ℕ) (b at : ℕ) (reader : Reader) → IsAmid text (b ∷ bytes) at reader []
     → is_word_byte b ≡ false → (u x y z : Bool) → is_blank b ≡ u → (b == 40) ≡ x → (b == 41) ≡ y → (b == 47) ≡ z
@@ -184,7 +184,7 @@ mark_is_taken : (text bytes : List ℕ) (b at : ℕ) (p : Progress) → IsEnded 
 unfolding mark_taken
 mark_is_taken text bytes b at (On reader w) d other = mark_at text bytes b at reader d other
     (is_blank b) (b == 40) (b == 41) (b == 47) refl refl refl refl
-mark_is_taken text bytes b at (Bad place) d other = d
+mark_is_taken text bytes b at (Bad offset) d other = d
 
 word_goes_on : (text bytes : List ℕ) (b at : ℕ) (reader : Reader) (w : List ℕ) → IsAmid text (b ∷ bytes) at reader w
     → is_word_byte b ≡ true → IsAmid text bytes (at + 1) reader (w ++ b ∷ [])
@@ -193,7 +193,7 @@ word_goes_on text bytes b at reader w d is = let P : List ℕ → Type 0 = λ x.
   before = subst P (sym (append_assoc w (b ∷ []) bytes)) d.before;
   runs = d.runs;
   each = list_all-append is_word_byte w (b ∷ []) ∙ rw (d.each, is) refl;
-  place = behind_byte text bytes b at d.place;
+  offset = behind_byte text bytes b at d.offset;
 }
 
 byte_at : (text bytes : List ℕ) (b at : ℕ) (reader : Reader) (w : List ℕ) → IsAmid text (b ∷ bytes) at reader w
@@ -220,21 +220,21 @@ whole_right : (text : List ℕ) (at : ℕ) (reader : Reader) → IsAmid text [] 
 whole_right text at reader d (Some e) is = expression_found start reader text (Some e) e refl
     (record { tokens = d.tokens; all = d.before; runs = d.runs }) is refl
 whole_right text at reader d None is =
-    let end : length text ≡ at = omega (arith, d.place) in
+    let end : length text ≡ at = omega (arith, d.offset) in
     let P : ℕ → Type 0 = λ n. IsBadAt IsExpression text n in
     subst P end (expression_ends start reader text None refl
     (record { tokens = d.tokens; all = d.before; runs = d.runs }) is refl)
 
 end_right : (text : List ℕ) (at : ℕ) (p : Progress) → IsEnded text [] at p → IsRight text (at_end at p)
 end_right text at (On reader w) d = whole_right text at reader d (whole (settled reader)) refl
-end_right text at (Bad place) d = d
+end_right text at (Bad offset) d = d
 
 then_right : (text bytes : List ℕ) (at : ℕ)
     → ((reader : Reader) (w : List ℕ) → IsAmid text bytes at reader w → IsRight text (read_from reader w at bytes))
     → (p : Progress) → IsProgress text bytes at p
     → IsRight text (then_read (λ reader w. read_from reader w at bytes) p)
 then_right text bytes at on (On reader w) d = on reader w d
-then_right text bytes at on (Bad place) d = d
+then_right text bytes at on (Bad offset) d = d
 
 read_right : (text : List ℕ) (reader : Reader) (w : List ℕ) (at : ℕ) (bytes : List ℕ) → IsAmid text bytes at reader w
     → IsRight text (read_from reader w at bytes)
@@ -247,7 +247,7 @@ read_right text reader w at (b ∷ bytes) d = then_right text bytes (at + 1)
 reading_right : (text : List ℕ) → IsRight text (reading_in text)
 unfolding reading_in
 reading_right text = read_right text start [] 0 text
-    (record { tokens = []; before = none; runs = refl; each = refl; place = omega arith })
+    (record { tokens = []; before = none; runs = refl; each = refl; offset = omega arith })
 
 pub right_as : (text : List ℕ) (found : Reading) → reading_in text ≡ found → IsRight text found
 right_as text found e = let P : Reading → Type 0 = λ x. IsRight text x in subst P e (reading_right text)
@@ -257,15 +257,15 @@ right_as text found e = let P : Reading → Type 0 = λ x. IsRight text x in sub
 read_same : (text : List ℕ) (e : Expression) (found : Reading) → Spells IsExpression text e → IsRight text found
     → found ≡ Read e
 read_same text e (Read x) d is = ap Read (spells_same IsExpression expression_clear text x e is d)
-read_same text e (BadAt place) d is = absurd (bad_spells IsExpression text place e is d)
+read_same text e (BadAt offset) d is = absurd (bad_spells IsExpression text offset e is d)
 
-bad_same : (text : List ℕ) (place : ℕ) (found : Reading) → IsBadAt IsExpression text place → IsRight text found
-    → found ≡ BadAt place
-bad_same text place (Read x) d is = absurd (bad_spells IsExpression text place x d is)
-bad_same text place (BadAt other) d is = ap BadAt (place_same IsExpression text other place is d)
+bad_same : (text : List ℕ) (offset : ℕ) (found : Reading) → IsBadAt IsExpression text offset → IsRight text found
+    → found ≡ BadAt offset
+bad_same text offset (Read x) d is = absurd (bad_spells IsExpression text offset x d is)
+bad_same text offset (BadAt other) d is = ap BadAt (offset_same IsExpression text other offset is d)
 
 pub answer_reads : (text : List ℕ) (result : Result Expression SpdxError) → IsAnswer IsExpression text result
     → IsReading text result
 answer_reads text (Ok e) d = read_same text e (reading_in text) d (reading_right text)
-answer_reads text (Err (error.Bad place)) d = bad_same text place (reading_in text) d (reading_right text)
+answer_reads text (Err (error.Bad offset)) d = bad_same text offset (reading_in text) d (reading_right text)
 answer_reads text (Err error.Memory) d = tt

@@ -1,4 +1,4 @@
--- What a text spells, and the place where a text stops to be the begin of anything that is spelled.
+-- What a text spells, and the offset where a text stops to be the begin of anything that is spelled.
 -- S says which tokens spell what.
 use Rattle.std.specs.Prelude.{◌≡◌, ◌+◌, ℕ, false, List, [], ◌∷◌, ◌++◌, length, Result, Ok, Err}
 use Rattle.deny_spdx.specs.declared.token.Token.{Token}
@@ -32,16 +32,16 @@ pub data GoesWrong {A : Type 0} (S : List Token → A → Type 0) : List Token �
       → ¬ Begin S (tokens ++ t ∷ []) → GoesWrong S tokens rest
 
 -- The text goes wrong first at this byte: the tokens before it begin something.
-pub record IsBadAt {A : Type 0} (S : List Token → A → Type 0) (text : List ℕ) (place : ℕ) : Type 0 where
+pub record IsBadAt {A : Type 0} (S : List Token → A → Type 0) (text : List ℕ) (offset : ℕ) : Type 0 where
   pub tokens : List Token
   pub rest : List ℕ
   pub before : HasTokens text tokens rest
   pub begins : Begin S tokens
   pub wrong : GoesWrong S tokens rest
-  pub at : place + length rest ≡ length text
+  pub at : offset + length rest ≡ length text
 
 -- what is read is spelled, and what is refused goes wrong there
 abbrev pub IsAnswer : {A : Type 0} → (List Token → A → Type 0) → List ℕ → Result A SpdxError → Type 0
 IsAnswer S text (Ok x) = Spells S text x
-IsAnswer S text (Err (Bad place)) = IsBadAt S text place
+IsAnswer S text (Err (Bad offset)) = IsBadAt S text offset
 IsAnswer S text (Err Memory) = Unit {0}

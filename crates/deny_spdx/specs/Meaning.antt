@@ -47,5 +47,5 @@ requirement_in text = requirement_of (map part_token (parts_of text))
 -- what is read is what the text means, and it is bad where that is nothing
 abbrev pub IsMeaning : List ℕ → Result Requirement SpdxError → Type 0
 IsMeaning text (Ok r) = requirement_in text ≡ Some r
-IsMeaning text (Err (Bad place)) = requirement_in text ≡ None
+IsMeaning text (Err (Bad offset)) = requirement_in text ≡ None
 IsMeaning text (Err Memory) = Unit {0}

@@ -44,14 +44,14 @@ pub record IsReadTo {R : Type 0} (step : R → Token → Option R) (start : R) (
   pub runs : run_by step start tokens ≡ Some last
   pub plain : NoBlankFirst rest
 
--- the reader can't go on at this place
-pub record StopsAt {R : Type 0} (step : R → Token → Option R) (start : R) (text : List ℕ) (place : ℕ) : Type 0 where
+-- the reader can't go on at this offset
+pub record StopsAt {R : Type 0} (step : R → Token → Option R) (start : R) (text : List ℕ) (offset : ℕ) : Type 0 where
   pub rest : List ℕ
   pub last : R
   pub to : IsReadTo step start text rest last
   pub stuck : IsStuck step last rest
-  pub at : place + length rest ≡ length text
+  pub at : offset + length rest ≡ length text
 
 abbrev pub Stops : {R : Type 0} → (R → Token → Option R) → R → List ℕ → SpdxError → Type 0
-Stops step start text (Bad place) = StopsAt step start text place
+Stops step start text (Bad offset) = StopsAt step start text offset
 Stops step start text Memory = Unit {0}

@@ -78,5 +78,5 @@ reading_in text = read_from start [] 0 text
 -- what is parsed is what the text is read as
 abbrev pub IsReading : List ℕ → Result Expression SpdxError → Type 0
 IsReading text (Ok e) = reading_in text ≡ Read e
-IsReading text (Err (error.Bad place)) = reading_in text ≡ BadAt place
+IsReading text (Err (error.Bad offset)) = reading_in text ≡ BadAt offset
 IsReading text (Err error.Memory) = Unit {0}

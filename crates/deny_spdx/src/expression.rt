@@ -33,15 +33,15 @@ pub struct Expression {
 }
 
 impl Expression {
-    /// The expression that the text spells. `Bad` comes exactly where it spells none, at the place
+    /// The expression that the text spells. `Bad` comes exactly where it spells none, at the offset
     /// where it goes wrong first, and `Memory` where an allocation fails.
     pub fn parse(alloc: Global, text: &str) -> Result<Expression, SpdxError>
         ensures read { IfOk result (Spells IsExpression text.now) }
         ensures spelled { (e : Expression) → Spells IsExpression text.now e → Answers SpdxError.Memory (Ok e) result }
 
-        ensures refused { (place : ℕ) → result ≡ Err (SpdxError.Bad place) → IsBadAt IsExpression text.now place }
-        ensures bad { (place : ℕ) → IsBadAt IsExpression text.now place
-            → Answers SpdxError.Memory (Err (SpdxError.Bad place)) result }
+        ensures refused { (offset : ℕ) → result ≡ Err (SpdxError.Bad offset) → IsBadAt IsExpression text.now offset }
+        ensures bad { (offset : ℕ) → IsBadAt IsExpression text.now offset
+            → Answers SpdxError.Memory (Err (SpdxError.Bad offset)) result }
         ensures meaning { IsReading text.now result }
     {
         read_expression(alloc, text)

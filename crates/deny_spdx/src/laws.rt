@@ -4,9 +4,9 @@ ghost use Rattle.deny_spdx.specs.Grammar.{IsExpression};
 ghost use Rattle.deny_spdx.specs.Reads.{BadAt, Read, reading_in};
 ghost use Rattle.deny_spdx.specs.declared.expression.Expression.{Expression};
 
-/// What a text is read as, as a function of the text, is what it spells by the grammar, or the place
+/// What a text is read as, as a function of the text, is what it spells by the grammar, or the offset
 /// where it goes wrong first.
 pub fn one_reading()
     ensures read { (text : List ℕ) → (e : Expression) → reading_in text ≡ Read e → Spells IsExpression text e }
-    ensures bad { (text : List ℕ) → (place : ℕ) → reading_in text ≡ BadAt place → IsBadAt IsExpression text place }
+    ensures bad { (text : List ℕ) → (offset : ℕ) → reading_in text ≡ BadAt offset → IsBadAt IsExpression text offset }
 {}

@@ -5,7 +5,7 @@ use crate::expression::{Tree, all_of};
 use deny_lists::{List, NoMemory};
 use std::alloc::Global;
 
-/// What stands between a parenthesis that is open, or the begin of the text, and the place that is
+/// What stands between a parenthesis that is open, or the begin of the text, and the offset that is
 /// read: the alternatives that are whole, and the parts of the one that is not.
 #[derive(Drop)]
 pub struct Level {

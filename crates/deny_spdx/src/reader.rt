@@ -10,7 +10,7 @@ use crate::token_reader::TokenReader;
 use deny_lists::{List, NoMemory, Text};
 use std::alloc::Global;
 
-/// How many parentheses may be open at a place.
+/// How many parentheses may be open at an offset.
 const NESTING: usize = 64;
 
 /// What the tokens so far end with.

@@ -19,15 +19,15 @@ pub struct Requirement {
 
 impl Requirement {
     /// The one requirement that the text spells: a word, or word `WITH` word. `Bad` comes exactly
-    /// for any other text, at the place where it goes wrong first, and `Memory` where an allocation
+    /// for any other text, at the offset where it goes wrong first, and `Memory` where an allocation
     /// fails.
     pub fn parse(alloc: Global, text: &str) -> Result<Requirement, SpdxError>
         ensures read { IfOk result (Spells IsRequirement text.now) }
         ensures spelled { (r : Requirement) → Spells IsRequirement text.now r → Answers SpdxError.Memory (Ok r) result }
 
-        ensures refused { (place : ℕ) → result ≡ Err (SpdxError.Bad place) → IsBadAt IsRequirement text.now place }
-        ensures bad { (place : ℕ) → IsBadAt IsRequirement text.now place
-            → Answers SpdxError.Memory (Err (SpdxError.Bad place)) result }
+        ensures refused { (offset : ℕ) → result ≡ Err (SpdxError.Bad offset) → IsBadAt IsRequirement text.now offset }
+        ensures bad { (offset : ℕ) → IsBadAt IsRequirement text.now offset
+            → Answers SpdxError.Memory (Err (SpdxError.Bad offset)) result }
         ensures meaning { IsMeaning text.now result }
     {
         read_requirement(alloc, text)

@@ -89,14 +89,14 @@ fn push_requirement(alloc: Global, text: &str, answers: &mut String) -> Result<(
 
 fn push_fault(error: SpdxError, answers: &mut String) -> Result<(), AllocError> {
     match error {
-        SpdxError::Bad(place) => push_place(place, answers),
+        SpdxError::Bad(offset) => push_offset(offset, answers),
         SpdxError::Memory => answers.push_str("memory"),
     }
 }
 
-fn push_place(place: usize, answers: &mut String) -> Result<(), AllocError> {
+fn push_offset(offset: usize, answers: &mut String) -> Result<(), AllocError> {
     answers.push_str("bad ")?;
-    answers.write(place)
+    answers.write(offset)
 }
 
 fn push_names_and_truths(
@@ -175,6 +175,6 @@ fn assignment(alloc: Global, count: usize, bits: u32) -> Result<Vec<bool>, Alloc
 
 /// The value of a requirement: its bit, and past the free ones that of the first.
 fn value(number: usize, bits: u32) -> bool {
-    let place = if number < FREE { number } else { 0 };
-    (bits >> place) & 1 == 1
+    let bit = if number < FREE { number } else { 0 };
+    (bits >> bit) & 1 == 1
 }

@@ -13,8 +13,9 @@ use Rattle.std.proofs.lemmas.List.Elements.{Contains-push, Contains-push_cases, 
 use Rattle.deny_lists.proofs.Orders.{not_below_itself}
 use Rattle.deny_lists.proofs.Options.{some_inj}
 use Rattle.deny_lists.proofs.Members.{contains_none}
-use Rattle.deny_lists.proofs.Places.{slice_get-push_cases, slice_get-push_left, slice_get-push_last, slice_get-set_same}
-use Rattle.deny_lists.proofs.Places.{slice_get-set_cases, slice_get-set_other}
+use Rattle.deny_lists.proofs.Indices.{slice_get-push_cases, slice_get-push_left, slice_get-push_last}
+use Rattle.deny_lists.proofs.Indices.{slice_get-set_same}
+use Rattle.deny_lists.proofs.Indices.{slice_get-set_cases, slice_get-set_other}
 use Rattle.deny_spec_index.specs.declared.bucket.Named.{Named}
 use Rattle.deny_spec_index.specs.Bucket.{name_of, Ascend, IsNamedAt, IsGap, IsNumbered, IsExtended, numbered, inserted}
 use Rattle.deny_spec_index.specs.Hash.{hash_of}
@@ -23,7 +24,7 @@ use Rattle.deny_spec_index.specs.Names.{HasNumber, AreNumbers}
 use Rattle.deny_spec_index.proofs.FindLemmas.{ascends}
 use Rattle.deny_spec_index.proofs.Lists.{get_inserted, inserted_here, inserted_other, ascending_more, ascending_none}
 
--- the order, as a name is put at a place
+-- the order, as a name is put at an index
 
 all_names : (P : List ℕ → Type 0) (xs : List Named) → ((j : ℕ) (e : Named) → slice_get xs j ≡ Some e → P e.name)
     → AllByRecursion P (map name_of xs)
@@ -62,7 +63,7 @@ names_set [] p e new at same = refl
 names_set (x ∷ xs) zero e new at same = ap (λ n. n ∷ map name_of xs) (same ∙ ap name_of (sym (some_inj at)))
 names_set (x ∷ xs) (suc p) e new at same = ap (λ ns. x.name ∷ ns) (names_set xs p e new at same)
 
--- the name that stands at a place stands at no other
+-- the name that stands at an index stands at no other
 one_name : (bucket : List Named) (p q : ℕ) {x y : Named} → Ascend bucket
     → slice_get bucket p ≡ Some x → slice_get bucket q ≡ Some y → q ≢ p → y.name ≡ x.name → ⊥
 one_name bucket p q {x} {y} up at there other same = elim (cases_lt q p) [
@@ -77,9 +78,9 @@ one_name bucket p q {x} {y} up at there other same = elim (cases_lt q p) [
     | inr not ↦ absurd (other (omega (arith, h, not)))
   ]
 
-pub gap_apart : (bucket : List Named) (name : List ℕ) (place : ℕ) → IsGap bucket name place → (p : ℕ) (y : Named)
+pub gap_apart : (bucket : List Named) (name : List ℕ) (index : ℕ) → IsGap bucket name index → (p : ℕ) (y : Named)
     → slice_get bucket p ≡ Some y → y.name ≡ name → ⊥
-gap_apart bucket name place gap p y at same = elim (cases_lt p place) [
+gap_apart bucket name index gap p y at same = elim (cases_lt p index) [
   | inl less ↦ not_below_itself (slice_cmp nat_cmp) nat_list_cmp_total y.name name same (gap.below p y less at)
   | inr more ↦ not_below_itself (slice_cmp nat_cmp) nat_list_cmp_total name y.name (sym same) (gap.above p y more at)
 ]
@@ -151,10 +152,10 @@ bucket_kept names added hash bucket other x = record {
   from i name hashed (inr h) = absurd (other (sym hashed ∙ ap hash_of h.1))
 
 -- the number comes to its name
-bucket_numbered : (names : List (List ℕ)) (name : List ℕ) (old new : List Named) (place : ℕ)
-    → IsBucket names (hash_of name) old → IsNamedAt old name place → IsNumbered old place (length names) new
+bucket_numbered : (names : List (List ℕ)) (name : List ℕ) (old new : List Named) (index : ℕ)
+    → IsBucket names (hash_of name) old → IsNamedAt old name index → IsNumbered old index (length names) new
     → IsBucket (names ++ name ∷ []) (hash_of name) new
-bucket_numbered names name old new place x at n = subst (IsBucket (names ++ name ∷ []) (hash_of name)) (sym n.whole)
+bucket_numbered names name old new index x at n = subst (IsBucket (names ++ name ∷ []) (hash_of name)) (sym n.whole)
     (record { ascend = up; each = each; all = all }) where
       own : Named
       own = record { name = n.named.name; numbers = n.named.numbers ++ length names ∷ [] }
@@ -162,37 +163,37 @@ bucket_numbered names name old new place x at n = subst (IsBucket (names ++ name
       own_name : n.named.name ≡ name
       own_name = ap name_of (some_inj (sym n.at ∙ at.at)) ∙ at.is_name
 
-      up : Ascend (slice_set old place own)
-      up = subst (IsStrictlySortedBy (slice_cmp nat_cmp)) (sym (names_set old place n.named own n.at refl)) x.ascend
+      up : Ascend (slice_set old index own)
+      up = subst (IsStrictlySortedBy (slice_cmp nat_cmp)) (sym (names_set old index n.named own n.at refl)) x.ascend
 
       entry : IsEntry (names ++ name ∷ []) (hash_of name) own
       entry = subst (λ ns. IsEntry (names ++ ns ∷ []) (hash_of name) own) own_name
           (entry_more names n.named.name n.named.numbers (hash_of name) (ap hash_of own_name)
-          (x.each place n.named n.at).are)
+          (x.each index n.named n.at).are)
 
-      each : (p : ℕ) (e : Named) → slice_get (slice_set old place own) p ≡ Some e
+      each : (p : ℕ) (e : Named) → slice_get (slice_set old index own) p ≡ Some e
           → IsEntry (names ++ name ∷ []) (hash_of name) e
-      each p e there = elim (slice_get-set_cases old place own p e there) [
+      each p e there = elim (slice_get-set_cases old index own p e there) [
         | inl same ↦ subst (IsEntry (names ++ name ∷ []) (hash_of name)) (sym same.1) entry
         | inr other ↦ entry_kept names name (hash_of name) e
-            (λ h. one_name old place p x.ascend n.at other.1 other.0 (sym h ∙ sym own_name)) (x.each p e other.1)
+            (λ h. one_name old index p x.ascend n.at other.1 other.0 (sym h ∙ sym own_name)) (x.each p e other.1)
       ]
 
-      place_of : (i : ℕ) (wanted : List ℕ) → hash_of wanted ≡ hash_of name
+      index_of : (i : ℕ) (wanted : List ℕ) → hash_of wanted ≡ hash_of name
           → HasNumber names wanted i ⊎ ((i ≡ length names) × (wanted ≡ name))
-          → (p : ℕ) × IsNamedAt (slice_set old place own) wanted p
-      place_of i wanted hashed (inr h) = (
-        place,
-        record { named = own; at = slice_get-set_same old place own n.named n.at; is_name = own_name ∙ sym h.1 },
+          → (p : ℕ) × IsNamedAt (slice_set old index own) wanted p
+      index_of i wanted hashed (inr h) = (
+        index,
+        record { named = own; at = slice_get-set_same old index own n.named n.at; is_name = own_name ∙ sym h.1 },
       )
-      place_of i wanted hashed (inl h) = let f = x.all i wanted h hashed in elim (cases_eq f.0 place) [
+      index_of i wanted hashed (inl h) = let f = x.all i wanted h hashed in elim (cases_eq f.0 index) [
         | inl same ↦
             let e : n.named ≡ f.1.named = some_inj (sym n.at
             ∙ subst (λ k. slice_get old k ≡ Some f.1.named) same f.1.at) in (
-              place,
+              index,
               record {
                 named = own;
-                at = slice_get-set_same old place own n.named n.at;
+                at = slice_get-set_same old index own n.named n.at;
                 is_name = ap name_of e
                     ∙ f.1.is_name;
               },
@@ -201,64 +202,64 @@ bucket_numbered names name old new place x at n = subst (IsBucket (names ++ name
           f.0,
           record {
             named = f.1.named;
-            at = slice_get-set_other old place own f.0 other ∙ f.1.at;
+            at = slice_get-set_other old index own f.0 other ∙ f.1.at;
             is_name = f.1.is_name;
           },
         )
       ]
 
       all : (i : ℕ) (wanted : List ℕ) → HasNumber (names ++ name ∷ []) wanted i → hash_of wanted ≡ hash_of name
-          → (p : ℕ) × IsNamedAt (slice_set old place own) wanted p
-      all i wanted h hashed = place_of i wanted hashed (slice_get-push_cases names name i h)
+          → (p : ℕ) × IsNamedAt (slice_set old index own) wanted p
+      all i wanted h hashed = index_of i wanted hashed (slice_get-push_cases names name i h)
 
 -- a name that stands nowhere has no numbers
-pub gap_numbers : (names : List (List ℕ)) (name : List ℕ) (bucket : List Named) (place : ℕ)
-    → IsBucket names (hash_of name) bucket → IsGap bucket name place → AreNumbers names name []
-gap_numbers names name bucket place x gap =
+pub gap_numbers : (names : List (List ℕ)) (name : List ℕ) (bucket : List Named) (index : ℕ)
+    → IsBucket names (hash_of name) bucket → IsGap bucket name index → AreNumbers names name []
+gap_numbers names name bucket index x gap =
     record { ascending = ascending_none; exact = λ i. (contains_none, none i) } where
       none : (i : ℕ) → HasNumber names name i → Contains [] i
       none i h = let f = x.all i name h refl in
-          absurd (gap_apart bucket name place gap f.0 f.1.named f.1.at f.1.is_name)
+          absurd (gap_apart bucket name index gap f.0 f.1.named f.1.at f.1.is_name)
 
 -- the number comes with a new name
-bucket_inserted : (names : List (List ℕ)) (name : List ℕ) (old new : List Named) (place : ℕ)
-    → IsBucket names (hash_of name) old → IsGap old name place
-    → new ≡ insert old place (record { name = name; numbers = length names ∷ [] })
+bucket_inserted : (names : List (List ℕ)) (name : List ℕ) (old new : List Named) (index : ℕ)
+    → IsBucket names (hash_of name) old → IsGap old name index
+    → new ≡ insert old index (record { name = name; numbers = length names ∷ [] })
     → IsBucket (names ++ name ∷ []) (hash_of name) new
-bucket_inserted names name old new place x gap e = subst (IsBucket (names ++ name ∷ []) (hash_of name)) (sym e)
-    (record { ascend = ascend_inserted old place own x.ascend gap.below gap.above; each = each; all = all }) where
+bucket_inserted names name old new index x gap e = subst (IsBucket (names ++ name ∷ []) (hash_of name)) (sym e)
+    (record { ascend = ascend_inserted old index own x.ascend gap.below gap.above; each = each; all = all }) where
       own : Named
       own = record { name = name; numbers = length names ∷ [] }
 
       entry : IsEntry (names ++ name ∷ []) (hash_of name) own
-      entry = entry_more names name [] (hash_of name) refl (gap_numbers names name old place x gap)
+      entry = entry_more names name [] (hash_of name) refl (gap_numbers names name old index x gap)
 
-      each : (p : ℕ) (y : Named) → slice_get (insert old place own) p ≡ Some y
+      each : (p : ℕ) (y : Named) → slice_get (insert old index own) p ≡ Some y
           → IsEntry (names ++ name ∷ []) (hash_of name) y
-      each p y there = elim (get_inserted old place own p y there) [
+      each p y there = elim (get_inserted old index own p y there) [
         | inl same ↦ subst (IsEntry (names ++ name ∷ []) (hash_of name)) (sym same) entry
         | inr old_one ↦ entry_kept names name (hash_of name) y
-            (λ h. gap_apart old name place gap old_one.0 y old_one.1 (sym h)) (x.each old_one.0 y old_one.1)
+            (λ h. gap_apart old name index gap old_one.0 y old_one.1 (sym h)) (x.each old_one.0 y old_one.1)
       ]
 
-      place_of : (i : ℕ) (wanted : List ℕ) → hash_of wanted ≡ hash_of name
+      index_of : (i : ℕ) (wanted : List ℕ) → hash_of wanted ≡ hash_of name
           → HasNumber names wanted i ⊎ ((i ≡ length names) × (wanted ≡ name))
-          → (p : ℕ) × IsNamedAt (insert old place own) wanted p
-      place_of i wanted hashed (inr h) = (
-        place,
-        record { named = own; at = inserted_here old place own gap.inside; is_name = sym h.1 },
+          → (p : ℕ) × IsNamedAt (insert old index own) wanted p
+      index_of i wanted hashed (inr h) = (
+        index,
+        record { named = own; at = inserted_here old index own gap.inside; is_name = sym h.1 },
       )
-      place_of i wanted hashed (inl h) =
+      index_of i wanted hashed (inl h) =
           let f = x.all i wanted h hashed in
-          let o = inserted_other old place own f.0 f.1.named f.1.at in
+          let o = inserted_other old index own f.0 f.1.named f.1.at in
           (o.0, record { named = f.1.named; at = o.1; is_name = f.1.is_name })
 
       all : (i : ℕ) (wanted : List ℕ) → HasNumber (names ++ name ∷ []) wanted i → hash_of wanted ≡ hash_of name
-          → (p : ℕ) × IsNamedAt (insert old place own) wanted p
-      all i wanted h hashed = place_of i wanted hashed (slice_get-push_cases names name i h)
+          → (p : ℕ) × IsNamedAt (insert old index own) wanted p
+      all i wanted h hashed = index_of i wanted hashed (slice_get-push_cases names name i h)
 
 pub bucket_extended : (names : List (List ℕ)) (name : List ℕ) (old new : List Named)
     → IsBucket names (hash_of name) old → IsExtended old name (length names) new
     → IsBucket (names ++ name ∷ []) (hash_of name) new
-bucket_extended names name old new x (numbered place at n) = bucket_numbered names name old new place x at n
-bucket_extended names name old new x (inserted place gap e) = bucket_inserted names name old new place x gap e
+bucket_extended names name old new x (numbered index at n) = bucket_numbered names name old new index x at n
+bucket_extended names name old new x (inserted index gap e) = bucket_inserted names name old new index x gap e

@@ -37,9 +37,9 @@ ascends bucket up i j a b p e f =
       named : (k : ℕ) {z : Named} → slice_get bucket k ≡ Some z → slice_get (map name_of bucket) k ≡ Some z.name
       named k {z} at = slice_get-map name_of bucket k ∙ ap (option_map name_of) at
 
-pub at_place : (bucket : List Named) {place : ℕ} {named : Named} → place < length bucket
-    → named ≡ get_or bucket place named → slice_get bucket place ≡ Some named
-at_place bucket {place} {named} inside is = slice_get_read bucket (length bucket) place named
+pub at_index : (bucket : List Named) {index : ℕ} {named : Named} → index < length bucket
+    → named ≡ get_or bucket index named → slice_get bucket index ≡ Some named
+at_index bucket {index} {named} inside is = slice_get_read bucket (length bucket) index named
     refl inside is
 
 pub above_middle : {bucket : List Named} {name : List ℕ} {low high middle : ℕ} {named : Named}
@@ -86,8 +86,8 @@ below_middle {bucket} {name} {low} {high} {middle} {named} up low_is less at is 
         subst (λ x. slice_cmp nat_cmp name (name_of x) ≡ Less) same here_above
   ]
 
-pub named_equal : {bucket : List Named} {name : List ℕ} {place : ℕ} {named : Named}
-    → slice_get bucket place ≡ Some named → slice_cmp nat_cmp named.name name ≡ Equal
-    → IsNamedAt bucket name place
+pub named_equal : {bucket : List Named} {name : List ℕ} {index : ℕ} {named : Named}
+    → slice_get bucket index ≡ Some named → slice_cmp nat_cmp named.name name ≡ Equal
+    → IsNamedAt bucket name index
 named_equal {name = name} {named = named} at is = record
     { named = named; at = at; is_name = text_cmp-exact named.name name is }

@@ -62,27 +62,27 @@ bucket_of_hash {names} {buckets} {hash} x is = subst (IsBucket names hash) (sym 
 
 -- what it finds
 
-pub named_at : {bucket : List Named} {name : List ℕ} {place : ℕ} {named : Named} → IsNamedAt bucket name place
-    → named ≡ get_or bucket place named → (slice_get bucket place ≡ Some named) × (named.name ≡ name)
-named_at {bucket} {name} {place} {named} found is =
-    let at = slice_get_read bucket (length bucket) place named refl
-    (slice_get_within bucket place found.named found.at) is in
+pub named_at : {bucket : List Named} {name : List ℕ} {index : ℕ} {named : Named} → IsNamedAt bucket name index
+    → named ≡ get_or bucket index named → (slice_get bucket index ≡ Some named) × (named.name ≡ name)
+named_at {bucket} {name} {index} {named} found is =
+    let at = slice_get_read bucket (length bucket) index named refl
+    (slice_get_within bucket index found.named found.at) is in
     (at, ap name_of (some_inj (sym at ∙ found.at)) ∙ found.is_name)
 
-pub gives_named : {bucket : List Named} {name : List ℕ} (place : ℕ) (named : Named)
-    → slice_get bucket place ≡ Some named → named.name ≡ name → GivesNumbers bucket name named.numbers
-gives_named place named at is names x =
-    subst (λ n. AreNumbers names n named.numbers) is (x.each place named at).are
+pub gives_named : {bucket : List Named} {name : List ℕ} (index : ℕ) (named : Named)
+    → slice_get bucket index ≡ Some named → named.name ≡ name → GivesNumbers bucket name named.numbers
+gives_named index named at is names x =
+    subst (λ n. AreNumbers names n named.numbers) is (x.each index named at).are
 
-pub gives_first : {bucket : List Named} {name numbers : List ℕ} (place : ℕ) (named : Named)
-    → slice_get bucket place ≡ Some named → named.name ≡ name → IsPrefix named.numbers numbers
+pub gives_first : {bucket : List Named} {name numbers : List ℕ} (index : ℕ) (named : Named)
+    → slice_get bucket index ≡ Some named → named.name ≡ name → IsPrefix named.numbers numbers
     → GivesFirst bucket name numbers
-gives_first place named at is first names x = record
-    { whole = named.numbers; are = gives_named place named at is names x; first = first }
+gives_first index named at is first names x = record
+    { whole = named.numbers; are = gives_named index named at is names x; first = first }
 
-pub gives_none : {bucket : List Named} {name : List ℕ} (place : ℕ) → IsGap bucket name place
+pub gives_none : {bucket : List Named} {name : List ℕ} (index : ℕ) → IsGap bucket name index
     → GivesNumbers bucket name []
-gives_none {bucket} {name} place gap names x = gap_numbers names name bucket place x gap
+gives_none {bucket} {name} index gap names x = gap_numbers names name bucket index x gap
 
 -- its steps
 
@@ -104,13 +104,13 @@ names_fewer names hash bucket different x has = omega (
       subst (λ n. Contains different n) from.2
       (has_at entry.some.0 (name_of from.0) ((entry.are.exact entry.some.0).0 entry.some.1))
 
-pub bound_named : {bucket : List Named} {name : List ℕ} (place start middle end : ℕ) (named : Named)
-    → slice_get bucket place ≡ Some named → named.name ≡ name
+pub bound_named : {bucket : List Named} {name : List ℕ} (index start middle end : ℕ) (named : Named)
+    → slice_get bucket index ≡ Some named → named.name ≡ name
     → ((d : ℕ) → length bucket < 2 ^ d → middle ≤ start + d) → end ≤ middle + length named.numbers
     → BoundsSteps bucket name start end
-bound_named {bucket} {name} place start middle end named at is search_bound given names x different hits d has covers
+bound_named {bucket} {name} index start middle end named at is search_bound given names x different hits d has covers
     less =
-    let are = gives_named place named at is names x in
+    let are = gives_named index named at is names x in
     let fewer = length-ascending nat_cmp_total named.numbers hits
     (sorted_from_strictly_increasing named.numbers are.ascending) (λ i c. covers i ((are.exact i).0 c)) in
     let first = search_bound d (omega (arith, less, names_fewer names (hash_of name) bucket different x has)) in

@@ -1,4 +1,4 @@
--- What stands where in a list that gains an item, at its end, at a place or in place of another.
+-- What stands where in a list that gains an item, at its end, at an index or in place of another.
 use Rattle.std.proofs.Common.{◌≡◌, ℕ, zero, suc, ◌+◌, ◌<◌, ◌≤◌, List, [], ◌∷◌, ◌++◌, length, refl, sym, inl, inr, arith}
 use Rattle.std.proofs.Common.{get_or}
 use Rattle.std.specs.Prelude.{◌⊎◌, Some, Contains, slice_get, insert}

@@ -19,10 +19,10 @@ numbers_of named = named.numbers
 abbrev pub Ascend : List Named → Type 0
 Ascend bucket = IsStrictlySortedBy (slice_cmp nat_cmp) (map name_of bucket)
 
--- the name stands at this place
-pub record IsNamedAt (bucket : List Named) (name : List ℕ) (place : ℕ) : Type 0 where
+-- the name stands at this index
+pub record IsNamedAt (bucket : List Named) (name : List ℕ) (index : ℕ) : Type 0 where
   pub named : Named
-  pub at : slice_get bucket place ≡ Some named
+  pub at : slice_get bucket index ≡ Some named
   pub is_name : named.name ≡ name
 
 -- the names before `low` are below the name, and those from `high` on above it
@@ -34,12 +34,12 @@ pub record IsBetween (bucket : List Named) (name : List ℕ) (low high : ℕ) : 
   pub above : (i : ℕ) (named : Named) → high ≤ i → slice_get bucket i ≡ Some named
       → slice_cmp nat_cmp name named.name ≡ Less
 
--- the names before this place are below the name, and the others above it
-pub record IsGap (bucket : List Named) (name : List ℕ) (place : ℕ) : Type 0 where
-  pub inside : place ≤ length bucket
-  pub below : (i : ℕ) (named : Named) → i < place → slice_get bucket i ≡ Some named
+-- the names before this index are below the name, and the others above it
+pub record IsGap (bucket : List Named) (name : List ℕ) (index : ℕ) : Type 0 where
+  pub inside : index ≤ length bucket
+  pub below : (i : ℕ) (named : Named) → i < index → slice_get bucket i ≡ Some named
       → slice_cmp nat_cmp named.name name ≡ Less
-  pub above : (i : ℕ) (named : Named) → place ≤ i → slice_get bucket i ≡ Some named
+  pub above : (i : ℕ) (named : Named) → index ≤ i → slice_get bucket i ≡ Some named
       → slice_cmp nat_cmp name named.name ≡ Less
 
 -- a comparison has left at most half of those between
@@ -48,20 +48,20 @@ pub record IsHalf (bucket : List Named) (name : List ℕ) (low high low' high' :
   pub half : high' + high' + low ≤ low' + low' + high
   pub fewer : high' + low < low' + high
 
--- it has found the place, or left at most half
+-- it has found the index, or left at most half
 abbrev pub IsHalved : List Named → List ℕ → ℕ → ℕ → Search → Type 0
-IsHalved bucket name low high (Found place) = IsNamedAt bucket name place
+IsHalved bucket name low high (Found index) = IsNamedAt bucket name index
 IsHalved bucket name low high (Between low' high') = IsHalf bucket name low high low' high'
 
--- the name at this place has a number more
-pub record IsNumbered (old : List Named) (place number : ℕ) (new : List Named) : Type 0 where
+-- the name at this index has a number more
+pub record IsNumbered (old : List Named) (index number : ℕ) (new : List Named) : Type 0 where
   pub named : Named
-  pub at : slice_get old place ≡ Some named
-  pub whole : new ≡ slice_set old place (record { name = named.name; numbers = named.numbers ++ number ∷ [] })
+  pub at : slice_get old index ≡ Some named
+  pub whole : new ≡ slice_set old index (record { name = named.name; numbers = named.numbers ++ number ∷ [] })
 
 -- the number has come to its name, or with a new one
 pub data IsExtended (old : List Named) (name : List ℕ) (number : ℕ) : List Named → Type 0 where
-  numbered : {new : List Named} (place : ℕ) → IsNamedAt old name place → IsNumbered old place number new
+  numbered : {new : List Named} (index : ℕ) → IsNamedAt old name index → IsNumbered old index number new
       → IsExtended old name number new
-  inserted : {new : List Named} (place : ℕ) → IsGap old name place
-      → new ≡ insert old place (record { name = name; numbers = number ∷ [] }) → IsExtended old name number new
+  inserted : {new : List Named} (index : ℕ) → IsGap old name index
+      → new ≡ insert old index (record { name = name; numbers = number ∷ [] }) → IsExtended old name number new

@@ -21,9 +21,9 @@ pub record IsEntry (names : List (List ℕ)) (hash : ℕ) (named : Named) : Type
 -- the names of this hash, each with all its numbers
 pub record IsBucket (names : List (List ℕ)) (hash : ℕ) (bucket : List Named) : Type 0 where
   pub ascend : Ascend bucket
-  pub each : (place : ℕ) (named : Named) → slice_get bucket place ≡ Some named → IsEntry names hash named
+  pub each : (index : ℕ) (named : Named) → slice_get bucket index ≡ Some named → IsEntry names hash named
   pub all : (i : ℕ) (name : List ℕ) → HasNumber names name i → hash_of name ≡ hash
-      → (place : ℕ) × IsNamedAt bucket name place
+      → (index : ℕ) × IsNamedAt bucket name index
 
 abbrev pub IsIndexed : List (List ℕ) → (ℕ → List Named) → Type 0
 IsIndexed names buckets = (hash : ℕ) → IsBucket names hash (buckets hash)

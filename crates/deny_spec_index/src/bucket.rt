@@ -20,7 +20,7 @@ pub struct Named {
     pub numbers: List<usize>,
 }
 
-/// How the name at a place stands to another.
+/// How the name at an index stands to another.
 fn compare(named: &Named, name: &[u8]) -> Ordering
     ensures { result ≡ slice_cmp nat_cmp named.now.name name.now }
 {
@@ -30,9 +30,9 @@ fn compare(named: &Named, name: &[u8]) -> Ordering
 /// What a comparison leaves of a search.
 #[derive(Drop)]
 pub enum Search {
-    /// The name is at this place.
+    /// The name is at this index.
     Found(usize),
-    /// It can only be among those from the first place on, before the second.
+    /// It can only be among those from the first index on, before the second.
     Between(usize, usize),
 }
 
@@ -70,7 +70,7 @@ fn find_name<L: Ledger>(bucket: &[Named], name: &[u8], steps: &mut Steps<L>) -> 
     let mut high = bucket.len();
     while low < high {
         match halve(bucket, name, low, high, steps) {
-            Search::Found(place) => return Ok(place),
+            Search::Found(index) => return Ok(index),
             Search::Between(next_low, next_high) => {
                 low = next_low;
                 high = next_high;
@@ -93,32 +93,32 @@ fn find_uncounted<L: Ledger>(bucket: &[Named], name: &[u8], blank: Blank) -> Res
     find_name(bucket, name, &mut steps)
 }
 
-/// Adds a number to the name at this place.
-fn push_number(bucket: &mut List<Named>, place: usize, number: usize) -> Result<(), NoMemory>
-    requires { place < length bucket.old }
-    ensures ok { OnOk result (IsNumbered bucket.old place number bucket.new) }
+/// Adds a number to the name at this index.
+fn push_number(bucket: &mut List<Named>, index: usize, number: usize) -> Result<(), NoMemory>
+    requires { index < length bucket.old }
+    ensures ok { OnOk result (IsNumbered bucket.old index number bucket.new) }
     ensures err { OnErr result (bucket.new ≡ bucket.old) }
 {
-    bucket.vec[place].numbers.push(number)
+    bucket.vec[index].numbers.push(number)
 }
 
-/// Puts a new name at this place, with one number.
+/// Puts a new name at this index, with one number.
 fn insert_name(
     alloc: Global,
     bucket: &mut List<Named>,
-    place: usize,
+    index: usize,
     name: &[u8],
     number: usize,
 ) -> Result<(), NoMemory>
-    requires { place ≤ length bucket.old }
+    requires { index ≤ length bucket.old }
     ensures ok { OnOk result (bucket.new
-        ≡ insert bucket.old place (record { name = name.now; numbers = number ∷ [] })) }
+        ≡ insert bucket.old index (record { name = name.now; numbers = number ∷ [] })) }
     ensures err { OnErr result (bucket.new ≡ bucket.old) }
 {
     let name = List::from_vec(Vec::from_slice(alloc, name)?);
     let mut numbers = List::new(alloc);
     numbers.push(number)?;
-    bucket.vec.insert(place, Named { name, numbers })?;
+    bucket.vec.insert(index, Named { name, numbers })?;
     Ok(())
 }
 
@@ -134,8 +134,8 @@ pub fn add_name(
     ensures err { OnErr result (bucket.new ≡ bucket.old) }
 {
     match find_uncounted::<Brand>(bucket.as_slice(), name, Blank::new(1)) {
-        Ok(place) => push_number(bucket, place, number),
-        Err(place) => insert_name(alloc, bucket, place, name, number),
+        Ok(index) => push_number(bucket, index, number),
+        Err(index) => insert_name(alloc, bucket, index, name, number),
     }
 }
 
@@ -153,8 +153,8 @@ pub fn give_numbers<L: Ledger>(
     ensures steps { BoundsSteps bucket.now name.now steps.old steps.new }
 {
     match find_name(bucket, name, steps) {
-        Ok(place) => give_all(bucket[place].numbers.as_slice(), numbers, steps),
-        Err(_place) => Ok(()),
+        Ok(index) => give_all(bucket[index].numbers.as_slice(), numbers, steps),
+        Err(_index) => Ok(()),
     }
 }
 

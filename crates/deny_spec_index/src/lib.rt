@@ -3,7 +3,7 @@
 //! The numbers of a name:
 //!
 //! ```rust
-//! pub fn places(alloc: Global, names: &[&str], name: &str) -> Result<Vec<usize>, NoMemory> {
+//! pub fn numbers_of(alloc: Global, names: &[&str], name: &str) -> Result<Vec<usize>, NoMemory> {
 //!     let mut index = SpecIndex::new(alloc);
 //!     for entry in names {
 //!         index.add(entry)?;

@@ -3,8 +3,8 @@ use Rattle.std.proofs.Common.{◌≡◌, ℕ, zero, suc, ◌+◌, ◌*◌, ◌&&
 use Rattle.std.proofs.Common.{Option, None, Some, Result, Ok, Err, if◌then◌else◌, ap, ◌∙◌}
 use Rattle.deny_std_table.specs.declared.error.ReplacementError.{ReplacementError}
 use Rattle.deny_std_table.specs.declared.error.ReplacementError.TheVariants.{Bad, Memory}
-use Rattle.deny_std_table.specs.declared.place.TextPlace.{TextPlace}
-use Rattle.deny_std_table.specs.declared.place.Read.{Read}
+use Rattle.deny_std_table.specs.declared.spans.TextSpan.{TextSpan}
+use Rattle.deny_std_table.specs.declared.spans.Read.{Read}
 use Rattle.deny_std_table.specs.Reading.{◌>>=◌, ◌>>◌, unless_bad, many, number}
 use Rattle.deny_std_table.specs.Region.{Bounds, byte, text, api, replacement, group_head, group, counts, counted_items}
 use Rattle.deny_std_table.specs.Region.{items}
@@ -76,12 +76,12 @@ items-answer b at = bound _ _
     (λ unstable. bound _ _ (many-answer (api b) (api-answer b) count.value.unavailable unstable.next)
     (λ last. given _))))
 
-entry-answer : (b : Bounds) (before : Option TextPlace) (start : ℕ) → IsAnswer (entry b before start)
+entry-answer : (b : Bounds) (before : Option TextSpan) (start : ℕ) → IsAnswer (entry b before start)
 unfolding entry
 entry-answer b before start = bound _ _ (text-answer b start)
     (λ name. after _ _ _ (bound _ _ (items-answer b name.next) (λ rest. given _)))
 
-entries-answer : (width : ℕ) (bytes : List ℕ) (count : ℕ) (before : Option TextPlace) (i left : ℕ)
+entries-answer : (width : ℕ) (bytes : List ℕ) (count : ℕ) (before : Option TextSpan) (i left : ℕ)
     → IsAnswer (entries width bytes count before i left)
 unfolding entries
 entries-answer width bytes count before i zero = given _

@@ -4,12 +4,12 @@ use Rattle.std.proofs.Common.{subst}
 use Rattle.std.specs.Prelude.{flat_map, IsOk}
 use Rattle.std.proofs.lemmas.List.{length-map}
 use Rattle.deny_std_table.specs.declared.error.ReplacementError.{ReplacementError}
-use Rattle.deny_std_table.specs.declared.place.TextPlace.{TextPlace}
-use Rattle.deny_std_table.specs.declared.place.Read.{Read}
-use Rattle.deny_std_table.specs.declared.place.Counts.{Counts}
-use Rattle.deny_std_table.specs.declared.place.GroupHead.{GroupHead}
+use Rattle.deny_std_table.specs.declared.spans.TextSpan.{TextSpan}
+use Rattle.deny_std_table.specs.declared.spans.Read.{Read}
+use Rattle.deny_std_table.specs.declared.spans.Counts.{Counts}
+use Rattle.deny_std_table.specs.declared.spans.GroupHead.{GroupHead}
 use Rattle.deny_std_table.specs.declared.draft.Draft.{Draft}
-use Rattle.deny_std_table.specs.Place.{contents}
+use Rattle.deny_std_table.specs.Spans.{contents}
 use Rattle.deny_std_table.specs.Reading.{read, many, next_of}
 use Rattle.deny_std_table.specs.Region.{Bounds, Group, Items, text, api, replacement, group_head, group, counts}
 use Rattle.deny_std_table.specs.Region.{counted_items, items}
@@ -126,7 +126,7 @@ items-written b at count unstable unavailable d0 d1 d2 d3 d4 d5 d6 r here writte
     (written.unstable_row.row others.0 other_reads) (written.unavailable_row.row apis.0 api_reads)))
 
 -- an entry is written, where it can be read
-pub entry-written : (b : Bounds) (start : ℕ) (name : Read TextPlace) (d0 d1 d2 : Draft)
+pub entry-written : (b : Bounds) (start : ℕ) (name : Read TextSpan) (d0 d1 d2 : Draft)
     (stop : Result ℕ ReplacementError) (e : Entry) → text b start ≡ Ok name
     → Writes d0 d1 (text_bytes (contents b.bytes name.value))
     → stop ≡ next_of (items b name.next)
@@ -137,14 +137,14 @@ entry-written b start name d0 d1 d2 stop e here name_written stops items_written
     let first = bind-ok (text b start) _ e is in
     let same : first.0 ≡ name = cc in
     let rest = bind-ok (items b first.0.next) _ e first.2 in
-    let reads : items b name.next ≡ Ok rest.0 = ap (λ (n : Read TextPlace). items b n.next) (sym same) ∙ rest.1 in
+    let reads : items b name.next ≡ Ok rest.0 = ap (λ (n : Read TextSpan). items b n.next) (sym same) ∙ rest.1 in
     let all : record { name = first.0.value; items = rest.0.value } ≡ e = cc in
     let there : stop ≡ Ok rest.0.next = stops ∙ ap next_of reads in (
       subst IsOk (sym there) refl,
       subst (λ (x : Entry). Writes d0 d2 (text_bytes (contents b.bytes x.name)
           ++ items_bytes (items_text b.bytes x.items)))
           all
-          (subst (λ (n : Read TextPlace). Writes d0 d2 (text_bytes (contents b.bytes n.value)
+          (subst (λ (n : Read TextSpan). Writes d0 d2 (text_bytes (contents b.bytes n.value)
           ++ items_bytes (items_text b.bytes rest.0.value))) (sym same)
           (writes-then d0 d1 d2 _ _ name_written (items_written rest.0 reads))),
     )

@@ -3,13 +3,13 @@ use Rattle.std.proofs.Common.{◌≡◌, ℕ, zero, suc, ◌-◌, ◌<◌, List,
 use Rattle.std.proofs.Common.{arith, subst, append_assoc}
 use Rattle.std.specs.Prelude.{flat_map}
 use Rattle.deny_std_table.specs.declared.error.ReplacementError.{ReplacementError}
-use Rattle.deny_std_table.specs.declared.place.ApiPlace.{ApiPlace}
-use Rattle.deny_std_table.specs.declared.place.ReplacementPlace.{ReplacementPlace}
-use Rattle.deny_std_table.specs.declared.place.ItemPlace.{ItemPlace}
-use Rattle.deny_std_table.specs.declared.place.ItemPlace.TheVariants.{Stable, Unstable, Unavailable}
-use Rattle.deny_std_table.specs.declared.place.GroupHead.{GroupHead}
-use Rattle.deny_std_table.specs.declared.place.Counts.{Counts}
-use Rattle.deny_std_table.specs.declared.place.Read.{Read}
+use Rattle.deny_std_table.specs.declared.spans.ApiSpans.{ApiSpans}
+use Rattle.deny_std_table.specs.declared.spans.ReplacementSpans.{ReplacementSpans}
+use Rattle.deny_std_table.specs.declared.spans.ItemSpans.{ItemSpans}
+use Rattle.deny_std_table.specs.declared.spans.ItemSpans.TheVariants.{Stable, Unstable, Unavailable}
+use Rattle.deny_std_table.specs.declared.spans.GroupHead.{GroupHead}
+use Rattle.deny_std_table.specs.declared.spans.Counts.{Counts}
+use Rattle.deny_std_table.specs.declared.spans.Read.{Read}
 use Rattle.deny_std_table.specs.Reading.{read, many}
 use Rattle.deny_std_table.specs.Region.{Bounds, Group, Items, api, replacement, group_head, group, counted_items}
 use Rattle.deny_std_table.specs.Item.{group_items, items_of}
@@ -41,11 +41,11 @@ unfolding many
 zero-is reader at all is = cc
 
 -- What is still to come, part by part.
-pub record IsComing (b : Bounds) (minor stable : ℕ) (counts : Counts) (at : ℕ) (items : List ItemPlace) : Type 0 where
-  pub own : Read (List ReplacementPlace)
+pub record IsComing (b : Bounds) (minor stable : ℕ) (counts : Counts) (at : ℕ) (items : List ItemSpans) : Type 0 where
+  pub own : Read (List ReplacementSpans)
   pub others : Read (List Group)
-  pub unstable : Read (List ReplacementPlace)
-  pub unavailable : Read (List ApiPlace)
+  pub unstable : Read (List ReplacementSpans)
+  pub unavailable : Read (List ApiSpans)
   pub own_read : many (replacement b) stable at ≡ Ok own
   pub others_read : many (group b) counts.groups own.next ≡ Ok others
   pub unstable_read : many (replacement b) counts.unstable others.next ≡ Ok unstable
@@ -53,7 +53,7 @@ pub record IsComing (b : Bounds) (minor stable : ℕ) (counts : Counts) (at : �
   pub all : map (λ r. Stable r minor) own.value
       ++ (flat_map group_items others.value ++ map Unstable unstable.value ++ map Unavailable unavailable.value) ≡ items
 
-coming-parts : (b : Bounds) (minor stable : ℕ) (counts : Counts) (at : ℕ) (items : List ItemPlace)
+coming-parts : (b : Bounds) (minor stable : ℕ) (counts : Counts) (at : ℕ) (items : List ItemSpans)
     → coming b minor stable counts at ≡ Ok items → IsComing b minor stable counts at items
 unfolding coming counted_items
 coming-parts b minor stable counts at items is =
@@ -77,26 +77,26 @@ coming-parts b minor stable counts at items is =
       all = ap (λ (r : Read Items). map (λ p. Stable p minor) own.0.value ++ items_of r.value) same ∙ whole;
     }
 
-coming-whole : (b : Bounds) (minor stable : ℕ) (counts : Counts) (at : ℕ) (items : List ItemPlace)
+coming-whole : (b : Bounds) (minor stable : ℕ) (counts : Counts) (at : ℕ) (items : List ItemSpans)
     → IsComing b minor stable counts at items → coming b minor stable counts at ≡ Ok items
 unfolding coming counted_items
 coming-whole b minor stable counts at items is =
     rw (is.own_read, is.others_read, is.unstable_read, is.unavailable_read) (ap Ok is.all)
 
 -- What comes after one item.
-pub record IsStep (b : Bounds) (minor stable : ℕ) (counts : Counts) (at : ℕ) (items : List ItemPlace)
-    (place : ItemPlace) : Type 0 where
-  pub rest : List ItemPlace
+pub record IsStep (b : Bounds) (minor stable : ℕ) (counts : Counts) (at : ℕ) (items : List ItemSpans)
+    (spans : ItemSpans) : Type 0 where
+  pub rest : List ItemSpans
   pub reads : coming b minor stable counts at ≡ Ok rest
-  pub item : items ≡ place ∷ rest
+  pub item : items ≡ spans ∷ rest
 
-stable_step : (b : Bounds) (minor left : ℕ) (counts : Counts) (at : ℕ) (items : List ItemPlace)
+stable_step : (b : Bounds) (minor left : ℕ) (counts : Counts) (at : ℕ) (items : List ItemSpans)
     → IsComing b minor (suc left) counts at items
-    → (first : Read ReplacementPlace) × (replacement b at ≡ Ok first) × IsStep b minor left counts first.next items
+    → (first : Read ReplacementSpans) × (replacement b at ≡ Ok first) × IsStep b minor left counts first.next items
     (Stable first.value minor)
 stable_step b minor left counts at items is =
     let parts = many-first (replacement b) left at is.own is.own_read in
-    let later : List ItemPlace = flat_map group_items is.others.value ++ map Unstable is.unstable.value
+    let later : List ItemSpans = flat_map group_items is.others.value ++ map Unstable is.unstable.value
     ++ map Unavailable is.unavailable.value in (
       parts.0,
       parts.1,
@@ -110,49 +110,49 @@ stable_step b minor left counts at items is =
               unavailable = is.unavailable;
               own_read = parts.3;
               others_read = subst
-                  (λ (r : Read (List ReplacementPlace)). many (group b) counts.groups r.next ≡ Ok is.others)
+                  (λ (r : Read (List ReplacementSpans)). many (group b) counts.groups r.next ≡ Ok is.others)
                   (sym parts.4) is.others_read;
               unstable_read = is.unstable_read;
               unavailable_read = is.unavailable_read;
               all = refl;
             });
         item = sym is.all ∙ sym
-            (ap (λ (r : Read (List ReplacementPlace)). map (λ p. Stable p minor) r.value ++ later) parts.4);
+            (ap (λ (r : Read (List ReplacementSpans)). map (λ p. Stable p minor) r.value ++ later) parts.4);
       },
     )
 
 -- with nothing left of the group at hand, the other groups come at once
-others-first : (b : Bounds) (minor : ℕ) (counts : Counts) (at : ℕ) (items : List ItemPlace)
+others-first : (b : Bounds) (minor : ℕ) (counts : Counts) (at : ℕ) (items : List ItemSpans)
     (is : IsComing b minor 0 counts at items)
     → (many (group b) counts.groups at ≡ Ok is.others)
     × (flat_map group_items is.others.value ++ map Unstable is.unstable.value ++ map Unavailable is.unavailable.value
     ≡ items)
 others-first b minor counts at items is =
     let none : read [] at ≡ is.own = zero-is (replacement b) at is.own is.own_read in
-    let later : List ItemPlace = flat_map group_items is.others.value ++ map Unstable is.unstable.value
+    let later : List ItemSpans = flat_map group_items is.others.value ++ map Unstable is.unstable.value
     ++ map Unavailable is.unavailable.value in (
-      subst (λ (r : Read (List ReplacementPlace)). many (group b) counts.groups r.next ≡ Ok is.others) (sym none)
+      subst (λ (r : Read (List ReplacementSpans)). many (group b) counts.groups r.next ≡ Ok is.others) (sym none)
           is.others_read,
-      subst (λ (r : Read (List ReplacementPlace)). map (λ p. Stable p minor) r.value ++ later ≡ items) (sym none)
+      subst (λ (r : Read (List ReplacementSpans)). map (λ p. Stable p minor) r.value ++ later ≡ items) (sym none)
           is.all,
     )
 
-unstable_step : (b : Bounds) (minor left unavailable at : ℕ) (items : List ItemPlace)
+unstable_step : (b : Bounds) (minor left unavailable at : ℕ) (items : List ItemSpans)
     → IsComing b minor 0 (record { groups = 0; unstable = suc left; unavailable = unavailable }) at items
-    → (first : Read ReplacementPlace) × (replacement b at ≡ Ok first)
+    → (first : Read ReplacementSpans) × (replacement b at ≡ Ok first)
     × IsStep b minor 0 (record { groups = 0; unstable = left; unavailable = unavailable }) first.next items
     (Unstable first.value)
 unstable_step b minor left unavailable at items is =
-    let front = others-first b minor (record { groups = 0; unstable = suc left; unavailable = unavailable }) at items is
-    in
-    let none : read [] at ≡ is.others = zero-is (group b) at is.others front.0 in
-    let last : List ItemPlace = map Unavailable is.unavailable.value in
+    let prefix =
+    others-first b minor (record { groups = 0; unstable = suc left; unavailable = unavailable }) at items is in
+    let none : read [] at ≡ is.others = zero-is (group b) at is.others prefix.0 in
+    let last : List ItemSpans = map Unavailable is.unavailable.value in
     let here : many (replacement b) (suc left) at ≡ Ok is.unstable =
     subst (λ (r : Read (List Group)). many (replacement b) (suc left) r.next ≡ Ok is.unstable) (sym none)
     is.unstable_read in
     let all : map Unstable is.unstable.value ++ last ≡ items =
     subst (λ (r : Read (List Group)). flat_map group_items r.value ++ map Unstable is.unstable.value ++ last ≡ items)
-    (sym none) front.1 in
+    (sym none) prefix.1 in
     let parts = many-first (replacement b) left at is.unstable here in (
       parts.0,
       parts.1,
@@ -168,36 +168,36 @@ unstable_step b minor left unavailable at items is =
               others_read = many-zero (group b) parts.0.next;
               unstable_read = parts.3;
               unavailable_read = subst
-                  (λ (r : Read (List ReplacementPlace)).
+                  (λ (r : Read (List ReplacementSpans)).
                   many (api b) unavailable r.next ≡ Ok is.unavailable) (sym parts.4)
                   is.unavailable_read;
               all = refl;
             });
-        item = sym all ∙ sym (ap (λ (r : Read (List ReplacementPlace)). map Unstable r.value ++ last) parts.4);
+        item = sym all ∙ sym (ap (λ (r : Read (List ReplacementSpans)). map Unstable r.value ++ last) parts.4);
       },
     )
 
-unavailable_step : (b : Bounds) (minor left at : ℕ) (items : List ItemPlace)
+unavailable_step : (b : Bounds) (minor left at : ℕ) (items : List ItemSpans)
     → IsComing b minor 0 (record { groups = 0; unstable = 0; unavailable = suc left }) at items
-    → (first : Read ApiPlace) × (api b at ≡ Ok first)
+    → (first : Read ApiSpans) × (api b at ≡ Ok first)
     × IsStep b minor 0 (record { groups = 0; unstable = 0; unavailable = left }) first.next items
     (Unavailable first.value)
 unavailable_step b minor left at items is =
-    let front = others-first b minor (record { groups = 0; unstable = 0; unavailable = suc left }) at items is in
-    let no_groups : read [] at ≡ is.others = zero-is (group b) at is.others front.0 in
+    let prefix = others-first b minor (record { groups = 0; unstable = 0; unavailable = suc left }) at items is in
+    let no_groups : read [] at ≡ is.others = zero-is (group b) at is.others prefix.0 in
     let unstable_read : many (replacement b) 0 at ≡ Ok is.unstable =
     subst (λ (r : Read (List Group)). many (replacement b) 0 r.next ≡ Ok is.unstable) (sym no_groups) is.unstable_read
     in
     let no_unstable : read [] at ≡ is.unstable = zero-is (replacement b) at is.unstable unstable_read in
     let here : many (api b) (suc left) at ≡ Ok is.unavailable =
-    subst (λ (r : Read (List ReplacementPlace)). many (api b) (suc left) r.next ≡ Ok is.unavailable) (sym no_unstable)
+    subst (λ (r : Read (List ReplacementSpans)). many (api b) (suc left) r.next ≡ Ok is.unavailable) (sym no_unstable)
     is.unavailable_read in
     let behind : map Unstable is.unstable.value ++ map Unavailable is.unavailable.value ≡ items =
     subst (λ (r : Read (List Group)). flat_map group_items r.value ++ map Unstable is.unstable.value
     ++ map Unavailable is.unavailable.value ≡ items)
-    (sym no_groups) front.1 in
+    (sym no_groups) prefix.1 in
     let all : map Unavailable is.unavailable.value ≡ items =
-    subst (λ (r : Read (List ReplacementPlace)). map Unstable r.value ++ map Unavailable is.unavailable.value ≡ items)
+    subst (λ (r : Read (List ReplacementSpans)). map Unstable r.value ++ map Unavailable is.unavailable.value ≡ items)
     (sym no_unstable) behind in
     let parts = many-first (api b) left at is.unavailable here in (
       parts.0,
@@ -216,7 +216,7 @@ unavailable_step b minor left at items is =
               unavailable_read = parts.3;
               all = refl;
             });
-        item = sym all ∙ sym (ap (λ (r : Read (List ApiPlace)). map Unavailable r.value) parts.4);
+        item = sym all ∙ sym (ap (λ (r : Read (List ApiSpans)). map Unavailable r.value) parts.4);
       },
     )
 
@@ -228,7 +228,7 @@ none_left b minor at = refl
 
 -- a group is its head and its replacements
 group-parts : (b : Bounds) (at : ℕ) (whole : Read Group) → group b at ≡ Ok whole
-    → (head : Read GroupHead) × (group_head b at ≡ Ok head) × (own : Read (List ReplacementPlace))
+    → (head : Read GroupHead) × (group_head b at ≡ Ok head) × (own : Read (List ReplacementSpans))
     × (many (replacement b) head.value.count head.next ≡ Ok own)
     × (read (record { minor = head.value.minor; replacements = own.value }) own.next ≡ whole)
 unfolding group
@@ -237,26 +237,26 @@ group-parts b at whole is =
     let own = bind-ok (many (replacement b) head.0.value.count head.0.next) _ whole head.2 in
     (head.0, head.1, own.0, own.1, cc)
 
-regrouped : (own later unstable unavailable : List ItemPlace)
+regrouped : (own later unstable unavailable : List ItemSpans)
     → own ++ (later ++ unstable ++ unavailable) ≡ (own ++ later) ++ unstable ++ unavailable
 regrouped own later unstable unavailable = simp append_assoc
 
 -- the next group is at hand, with all of its replacements
-group_step : (b : Bounds) (minor left unstable unavailable at : ℕ) (items : List ItemPlace)
+group_step : (b : Bounds) (minor left unstable unavailable at : ℕ) (items : List ItemSpans)
     → IsComing b minor 0 (record { groups = suc left; unstable = unstable; unavailable = unavailable }) at items
     → (head : Read GroupHead) × (group_head b at ≡ Ok head)
     × (coming b head.value.minor head.value.count
     (record { groups = left; unstable = unstable; unavailable = unavailable }) head.next ≡ Ok items)
 group_step b minor left unstable unavailable at items is =
-    let front = others-first b minor (record { groups = suc left; unstable = unstable; unavailable = unavailable }) at
+    let prefix = others-first b minor (record { groups = suc left; unstable = unstable; unavailable = unavailable }) at
     items is in
-    let parts = many-first (group b) left at is.others front.0 in
+    let parts = many-first (group b) left at is.others prefix.0 in
     let own = group-parts b at parts.0 parts.1 in
-    let later : List ItemPlace = map Unstable is.unstable.value ++ map Unavailable is.unavailable.value in
+    let later : List ItemSpans = map Unstable is.unstable.value ++ map Unavailable is.unavailable.value in
     let all : (group_items parts.0.value ++ flat_map group_items parts.2.value) ++ map Unstable is.unstable.value
     ++ map Unavailable is.unavailable.value ≡ items =
     ap (λ (r : Read (List Group)). flat_map group_items r.value ++ map Unstable is.unstable.value
-    ++ map Unavailable is.unavailable.value) parts.4 ∙ front.1 in
+    ++ map Unavailable is.unavailable.value) parts.4 ∙ prefix.1 in
     let own_items : map (λ r. Stable r own.0.value.minor) own.2.value ≡ group_items parts.0.value =
     ap (λ (r : Read Group). group_items r.value) own.4 in (
       own.0,
@@ -288,9 +288,9 @@ coming-begin b minor counts at all is = rw is refl
 
 -- the same, where the numbers are not zero
 
-pub stable_gives : (b : Bounds) (minor stable : ℕ) (counts : Counts) (at : ℕ) (items : List ItemPlace) → 0 < stable
+pub stable_gives : (b : Bounds) (minor stable : ℕ) (counts : Counts) (at : ℕ) (items : List ItemSpans) → 0 < stable
     → coming b minor stable counts at ≡ Ok items
-    → (first : Read ReplacementPlace) × (replacement b at ≡ Ok first) × IsStep b minor (stable - 1) counts first.next
+    → (first : Read ReplacementSpans) × (replacement b at ≡ Ok first) × IsStep b minor (stable - 1) counts first.next
     items (Stable first.value minor)
 stable_gives b minor stable counts at items some is =
     let e : stable ≡ suc (stable - 1) = omega arith in
@@ -303,9 +303,9 @@ pub counts_are : (counts : Counts) (groups unstable unavailable : ℕ) → count
     → counts ≡ record { groups = groups; unstable = unstable; unavailable = unavailable }
 counts_are counts groups unstable unavailable first second third = rw (← first, ← second, ← third) refl
 
-pub unstable_gives : (b : Bounds) (minor stable : ℕ) (counts : Counts) (at : ℕ) (items : List ItemPlace) → stable ≡ 0
+pub unstable_gives : (b : Bounds) (minor stable : ℕ) (counts : Counts) (at : ℕ) (items : List ItemSpans) → stable ≡ 0
     → counts.groups ≡ 0 → 0 < counts.unstable → coming b minor stable counts at ≡ Ok items
-    → (first : Read ReplacementPlace) × (replacement b at ≡ Ok first)
+    → (first : Read ReplacementSpans) × (replacement b at ≡ Ok first)
     × IsStep b minor stable (record counts { unstable = counts.unstable - 1 }) first.next items (Unstable first.value)
 unstable_gives b minor stable counts at items none groups some is =
     let e : counts.unstable ≡ suc (counts.unstable - 1) = omega arith in
@@ -326,9 +326,9 @@ unstable_gives b minor stable counts at items none groups some is =
           (sym groups) step.2),
     )
 
-pub unavailable_gives : (b : Bounds) (minor stable : ℕ) (counts : Counts) (at : ℕ) (items : List ItemPlace) → stable ≡ 0
+pub unavailable_gives : (b : Bounds) (minor stable : ℕ) (counts : Counts) (at : ℕ) (items : List ItemSpans) → stable ≡ 0
     → counts.groups ≡ 0 → counts.unstable ≡ 0 → 0 < counts.unavailable → coming b minor stable counts at ≡ Ok items
-    → (first : Read ApiPlace) × (api b at ≡ Ok first)
+    → (first : Read ApiSpans) × (api b at ≡ Ok first)
     × IsStep b minor stable (record counts { unavailable = counts.unavailable - 1 }) first.next items
     (Unavailable first.value)
 unavailable_gives b minor stable counts at items none groups unstable some is =
@@ -352,7 +352,7 @@ unavailable_gives b minor stable counts at items none groups unstable some is =
           (sym unstable) step.2)),
     )
 
-pub group_gives : (b : Bounds) (minor stable : ℕ) (counts : Counts) (at : ℕ) (items : List ItemPlace) → stable ≡ 0
+pub group_gives : (b : Bounds) (minor stable : ℕ) (counts : Counts) (at : ℕ) (items : List ItemSpans) → stable ≡ 0
     → 0 < counts.groups → coming b minor stable counts at ≡ Ok items
     → (head : Read GroupHead) × (group_head b at ≡ Ok head)
     × (coming b head.value.minor head.value.count (record counts { groups = counts.groups - 1 }) head.next ≡ Ok items)

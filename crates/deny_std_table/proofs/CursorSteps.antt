@@ -4,15 +4,15 @@ use Rattle.std.proofs.Common.{arith, subst}
 use Rattle.std.specs.Prelude.{IsOk}
 use Rattle.std.specs.Result.{result_unwrap_or}
 use Rattle.deny_std_table.specs.declared.error.ReplacementError.{ReplacementError}
-use Rattle.deny_std_table.specs.declared.place.TextPlace.{TextPlace}
-use Rattle.deny_std_table.specs.declared.place.ApiPlace.{ApiPlace}
-use Rattle.deny_std_table.specs.declared.place.ReplacementPlace.{ReplacementPlace}
-use Rattle.deny_std_table.specs.declared.place.ItemPlace.{ItemPlace}
-use Rattle.deny_std_table.specs.declared.place.ItemPlace.TheVariants.{Stable, Unstable, Unavailable}
-use Rattle.deny_std_table.specs.declared.place.GroupHead.{GroupHead}
-use Rattle.deny_std_table.specs.declared.place.Read.{Read}
+use Rattle.deny_std_table.specs.declared.spans.TextSpan.{TextSpan}
+use Rattle.deny_std_table.specs.declared.spans.ApiSpans.{ApiSpans}
+use Rattle.deny_std_table.specs.declared.spans.ReplacementSpans.{ReplacementSpans}
+use Rattle.deny_std_table.specs.declared.spans.ItemSpans.{ItemSpans}
+use Rattle.deny_std_table.specs.declared.spans.ItemSpans.TheVariants.{Stable, Unstable, Unavailable}
+use Rattle.deny_std_table.specs.declared.spans.GroupHead.{GroupHead}
+use Rattle.deny_std_table.specs.declared.spans.Read.{Read}
 use Rattle.deny_std_table.specs.declared.cursor.Cursor.{Cursor}
-use Rattle.deny_std_table.specs.Place.{IsTextIn, IsApiIn, IsReplacementIn, IsItemIn}
+use Rattle.deny_std_table.specs.Spans.{IsTextIn, IsApiIn, IsReplacementIn, IsItemIn}
 use Rattle.deny_std_table.specs.Width.{width_of}
 use Rattle.deny_std_table.specs.Region.{Bounds, bounds, api, replacement, group_head, note_of}
 use Rattle.deny_std_table.specs.Layout.{IsText, IsApi}
@@ -21,40 +21,40 @@ use Rattle.deny_std_table.proofs.LayoutLemmas.{api-sound, replacement-sound, gro
 use Rattle.deny_std_table.proofs.CursorLemmas.{ok-is, counts_are, none_left, IsStep, stable_gives, unstable_gives}
 use Rattle.deny_std_table.proofs.CursorLemmas.{unavailable_gives, group_gives}
 
-text-in : (b : Bounds) (at : ℕ) (place : TextPlace) (next : ℕ) → b.stop ≤ length b.bytes → IsText b at place next
-    → IsTextIn b.bytes place
-text-in b at place next within is =
+text-in : (b : Bounds) (at : ℕ) (span : TextSpan) (next : ℕ) → b.stop ≤ length b.bytes → IsText b at span next
+    → IsTextIn b.bytes span
+text-in b at span next within is =
     let after = is.after in
     let inside = is.inside in
     record { inside = omega arith; utf8 = is.utf8 }
 
-api-in : (b : Bounds) (at : ℕ) (place : ApiPlace) (next : ℕ) → b.stop ≤ length b.bytes → IsApi b at place next
-    → IsApiIn b.bytes place
-api-in b at place next within is = record {
-  name = text-in b at place.name is.after_name within is.name;
-  url = text-in b is.after_name place.url next within is.url;
+api-in : (b : Bounds) (at : ℕ) (spans : ApiSpans) (next : ℕ) → b.stop ≤ length b.bytes → IsApi b at spans next
+    → IsApiIn b.bytes spans
+api-in b at spans next within is = record {
+  name = text-in b at spans.name is.after_name within is.name;
+  url = text-in b is.after_name spans.url next within is.url;
 }
 
-note-in : (b : Bounds) (at : ℕ) (place : TextPlace) (next : ℕ) (said : Option TextPlace) → b.stop ≤ length b.bytes
-    → IsText b at place next
-    → said ≡ note_of place → (t : TextPlace) → said ≡ Some t → IsTextIn b.bytes t
-note-in b at place next said within is noted t some = picked place (text-in b at place next within is) t (sym noted
+note-in : (b : Bounds) (at : ℕ) (span : TextSpan) (next : ℕ) (said : Option TextSpan) → b.stop ≤ length b.bytes
+    → IsText b at span next
+    → said ≡ note_of span → (t : TextSpan) → said ≡ Some t → IsTextIn b.bytes t
+note-in b at span next said within is noted t some = picked span (text-in b at span next within is) t (sym noted
     ∙ some)
   where
-    picked : (p : TextPlace) → IsTextIn b.bytes p → (t : TextPlace) → note_of p ≡ Some t → IsTextIn b.bytes t
+    picked : (p : TextSpan) → IsTextIn b.bytes p → (t : TextSpan) → note_of p ≡ Some t → IsTextIn b.bytes t
     picked p here t is_t = grind arith
 
-pub replacement-in : (b : Bounds) (at : ℕ) (r : Read ReplacementPlace) → b.stop ≤ length b.bytes
+pub replacement-in : (b : Bounds) (at : ℕ) (r : Read ReplacementSpans) → b.stop ≤ length b.bytes
     → replacement b at ≡ Ok r → IsReplacementIn b.bytes r.value
 replacement-in b at r within is =
     let layout = replacement-sound b at r is in
     record {
       krate = api-in b at r.value.krate layout.after_krate within layout.krate;
       std = api-in b layout.after_krate r.value.std layout.after_std within layout.std;
-      note = note-in b layout.after_std layout.note_place r.next r.value.note within layout.note_text layout.note;
+      note = note-in b layout.after_std layout.note_span r.next r.value.note within layout.note_text layout.note;
     }
 
-pub api-read-in : (b : Bounds) (at : ℕ) (r : Read ApiPlace) → b.stop ≤ length b.bytes → api b at ≡ Ok r
+pub api-read-in : (b : Bounds) (at : ℕ) (r : Read ApiSpans) → b.stop ≤ length b.bytes → api b at ≡ Ok r
     → IsApiIn b.bytes r.value
 api-read-in b at r within is = api-in b at r.value r.next within (api-sound b at r is)
 
@@ -65,20 +65,20 @@ left-is : {A : Type 0} (r : Result A ReplacementError) (x other : A) → r ≡ O
 left-is r x other is = sym (ap (λ t. result_unwrap_or t other) is)
 
 -- a step is what a cursor gives
-gives : (old new : Cursor) (place : ItemPlace) → new.region ≡ old.region
+gives : (old new : Cursor) (spans : ItemSpans) → new.region ≡ old.region
     → IsStep (bounds (width_of new.region.width) new.region.bytes.now new.region.stop) new.minor new.stable new.counts
-    new.at (left_of old) place
-    → IsItemIn old.region.bytes.now place → Gives old new place
-gives old new place same step texts =
+    new.at (left_of old) spans
+    → IsItemIn old.region.bytes.now spans → Gives old new spans
+gives old new spans same step texts =
     let rest_is : step.rest ≡ left_of new = left-is (coming_of new) step.rest [] step.reads in
     record {
       same = same;
       reads = step.reads ∙ ap Ok rest_is;
-      item = step.item ∙ ap (λ l. place ∷ l) rest_is;
+      item = step.item ∙ ap (λ l. spans ∷ l) rest_is;
       texts = texts;
     }
 
-pub stable_answer : (old : Cursor) (got : Read ReplacementPlace) → 0 < old.stable → coming_of old ≡ Ok (left_of old)
+pub stable_answer : (old : Cursor) (got : Read ReplacementSpans) → 0 < old.stable → coming_of old ≡ Ok (left_of old)
     → replacement (bounds (width_of old.region.width) old.region.bytes.now old.region.stop) old.at ≡ Ok got
     → Gives old (record old { at = got.next; stable = old.stable - 1 }) (Stable got.value old.minor)
 stable_answer old got some reads is =
@@ -86,11 +86,11 @@ stable_answer old got some reads is =
     let step = stable_gives b old.minor old.stable old.counts old.at (left_of old) some reads in
     let same : step.0 ≡ got = ok-is _ step.1 is in
     gives old (record old { at = got.next; stable = old.stable - 1 }) (Stable got.value old.minor) refl
-    (subst (λ (r : Read ReplacementPlace). IsStep b old.minor (old.stable - 1) old.counts r.next (left_of old)
+    (subst (λ (r : Read ReplacementSpans). IsStep b old.minor (old.stable - 1) old.counts r.next (left_of old)
     (Stable r.value old.minor)) same step.2)
     (replacement-in b old.at got old.region.within is)
 
-pub unstable_answer : (old : Cursor) (got : Read ReplacementPlace) → old.stable ≡ 0 → old.counts.groups ≡ 0
+pub unstable_answer : (old : Cursor) (got : Read ReplacementSpans) → old.stable ≡ 0 → old.counts.groups ≡ 0
     → 0 < old.counts.unstable
     → coming_of old ≡ Ok (left_of old)
     → replacement (bounds (width_of old.region.width) old.region.bytes.now old.region.stop) old.at ≡ Ok got
@@ -102,11 +102,11 @@ unstable_answer old got none groups some reads is =
     let step = unstable_gives b old.minor old.stable old.counts old.at (left_of old) none groups some reads in
     let same : step.0 ≡ got = ok-is _ step.1 is in
     gives old (record old { at = got.next; counts = counts }) (Unstable got.value) refl
-    (subst (λ (r : Read ReplacementPlace). IsStep b old.minor old.stable counts r.next (left_of old) (Unstable r.value))
+    (subst (λ (r : Read ReplacementSpans). IsStep b old.minor old.stable counts r.next (left_of old) (Unstable r.value))
     same step.2)
     (replacement-in b old.at got old.region.within is)
 
-pub unavailable_answer : (old : Cursor) (got : Read ApiPlace) → old.stable ≡ 0 → old.counts.groups ≡ 0
+pub unavailable_answer : (old : Cursor) (got : Read ApiSpans) → old.stable ≡ 0 → old.counts.groups ≡ 0
     → old.counts.unstable ≡ 0
     → 0 < old.counts.unavailable → coming_of old ≡ Ok (left_of old)
     → api (bounds (width_of old.region.width) old.region.bytes.now old.region.stop) old.at ≡ Ok got
@@ -119,7 +119,7 @@ unavailable_answer old got none groups unstable some reads is =
     in
     let same : step.0 ≡ got = ok-is _ step.1 is in
     gives old (record old { at = got.next; counts = counts }) (Unavailable got.value) refl
-    (subst (λ (r : Read ApiPlace). IsStep b old.minor old.stable counts r.next (left_of old) (Unavailable r.value)) same
+    (subst (λ (r : Read ApiSpans). IsStep b old.minor old.stable counts r.next (left_of old) (Unavailable r.value)) same
     step.2)
     (api-read-in b old.at got old.region.within is)
 
@@ -142,7 +142,7 @@ group_answer old got none some reads is =
     )
 
 -- what a cursor is about to read is there
-pub stable_ready : (old : Cursor) (r : Result (Read ReplacementPlace) ReplacementError) → 0 < old.stable
+pub stable_ready : (old : Cursor) (r : Result (Read ReplacementSpans) ReplacementError) → 0 < old.stable
     → coming_of old ≡ Ok (left_of old)
     → r ≡ replacement (bounds (width_of old.region.width) old.region.bytes.now old.region.stop) old.at → IsOk r
 stable_ready old r some reads is =
@@ -150,7 +150,7 @@ stable_ready old r some reads is =
     old.stable old.counts old.at (left_of old) some reads in
     is-ok r _ step.0 is step.1
 
-pub unstable_ready : (old : Cursor) (r : Result (Read ReplacementPlace) ReplacementError) → old.stable ≡ 0
+pub unstable_ready : (old : Cursor) (r : Result (Read ReplacementSpans) ReplacementError) → old.stable ≡ 0
     → old.counts.groups ≡ 0
     → 0 < old.counts.unstable → coming_of old ≡ Ok (left_of old)
     → r ≡ replacement (bounds (width_of old.region.width) old.region.bytes.now old.region.stop) old.at → IsOk r
@@ -159,7 +159,7 @@ unstable_ready old r none groups some reads is =
     old.stable old.counts old.at (left_of old) none groups some reads in
     is-ok r _ step.0 is step.1
 
-pub unavailable_ready : (old : Cursor) (r : Result (Read ApiPlace) ReplacementError) → old.stable ≡ 0
+pub unavailable_ready : (old : Cursor) (r : Result (Read ApiSpans) ReplacementError) → old.stable ≡ 0
     → old.counts.groups ≡ 0
     → old.counts.unstable ≡ 0 → 0 < old.counts.unavailable → coming_of old ≡ Ok (left_of old)
     → r ≡ api (bounds (width_of old.region.width) old.region.bytes.now old.region.stop) old.at → IsOk r

@@ -18,7 +18,7 @@ writes-then old mid new xs ys first second = record {
 pub writes-same : (old new : Draft) (xs ys : List ℕ) → xs ≡ ys → Writes old new xs → Writes old new ys
 writes-same old new xs ys same is = subst (Writes old new) same is
 
--- the text that stands at a place
+-- the text that stands in a span
 pub writes-text : (old new : Draft) (text other : List ℕ) → text ≡ other → Writes old new (text_bytes text)
     → Writes old new (text_bytes other)
 writes-text old new text other same is = subst (λ t. Writes old new (text_bytes t)) same is

@@ -10,18 +10,18 @@ use Rattle.std.proofs.lemmas.Bool.{ltb-true}
 use Rattle.std.proofs.lemmas.Cmp.{tied_itself}
 use Rattle.std.proofs.lemmas.Slice.Eq.{bytes_eq-Decides}
 use Rattle.std.proofs.lemmas.Option.{slice_get_within}
-use Rattle.deny_std_table.specs.declared.place.TextPlace.{TextPlace}
-use Rattle.deny_std_table.specs.Place.{contents}
+use Rattle.deny_std_table.specs.declared.spans.TextSpan.{TextSpan}
+use Rattle.deny_std_table.specs.Spans.{contents}
 use Rattle.deny_std_table.specs.Region.{Items, bounds}
 use Rattle.deny_std_table.specs.Head.{start_of, HasOffsets}
 use Rattle.deny_std_table.specs.Entries.{Entry, stop_of, bounds_of, entry}
 use Rattle.deny_std_table.specs.Layout.{IsEntry}
-use Rattle.deny_std_table.specs.Names.{name_place, name_at, HasNames}
+use Rattle.deny_std_table.specs.Names.{name_span, name_at, HasNames}
 use Rattle.deny_std_table.specs.Table.{Table, IsRead, read_entries, entry_named, items_in}
 use Rattle.deny_std_table.specs.Replacement.{EntryItems}
 use Rattle.deny_lists.proofs.Members.{some_at}
 use Rattle.deny_lists.proofs.Finding.{find-at, find-none}
-use Rattle.deny_std_table.proofs.LayoutLemmas.{place_is}
+use Rattle.deny_std_table.proofs.LayoutLemmas.{span_is}
 use Rattle.deny_std_table.proofs.TableLaw.{IsEntries, entries-sound, entry-complete}
 use Rattle.deny_std_table.proofs.NamesLemmas.{rising_all}
 
@@ -38,7 +38,7 @@ stop-inside bytes count i has = chosen (nat_lt (i + 1) count) refl
 pub record IsNamed (width : ℕ) (bytes : List ℕ) (count i : ℕ) : Type 0 where
   pub e : Entry
   pub at : slice_get (read_entries width bytes count) i ≡ Some e
-  pub place : name_place width bytes i ≡ e.name
+  pub span : name_span width bytes i ≡ e.name
   pub layout : IsEntry (bounds_of width bytes count i) (start_of bytes i) e
 
 pub all-entries : (width : ℕ) (bytes : List ℕ) (count : ℕ) → IsRead width bytes count
@@ -58,14 +58,14 @@ named width bytes count i is below =
     record {
       e = one.0;
       at = one.1;
-      place = sym (place_is _ _ one.0.name layout.name.after_length layout.name.size);
+      span = sym (span_is _ _ one.0.name layout.name.after_length layout.name.size);
       layout = layout;
     }
 
 names_are : (width : ℕ) (bytes : List ℕ) (count i : ℕ) (n : IsNamed width bytes count i)
     → name_at width bytes i ≡ contents bytes n.e.name
 unfolding name_at
-names_are width bytes count i n = ap (λ p. contents bytes p) n.place
+names_are width bytes count i n = ap (λ p. contents bytes p) n.span
 
 pub has_names : (width : ℕ) (bytes : List ℕ) (count : ℕ) → IsRead width bytes count → HasNames width bytes count
 has_names width bytes count is = record {
@@ -74,15 +74,15 @@ has_names width bytes count is = record {
   rising = rising;
 }
   where
-    inside : (i : ℕ) → i < count → (name_place width bytes i).at + (name_place width bytes i).size ≤ length bytes
+    inside : (i : ℕ) → i < count → (name_span width bytes i).at + (name_span width bytes i).size ≤ length bytes
     inside i below =
         let n = named width bytes count i is below in
         let stop = stop-inside bytes count i is.offsets in
         let after = n.layout.name.after in
         let within = n.layout.name.inside in
         let here : n.e.name.at + n.e.name.size ≤ length bytes = omega arith in
-        let P : TextPlace → Type 0 = λ p. p.at + p.size ≤ length bytes in
-        subst P (sym n.place) here
+        let P : TextSpan → Type 0 = λ p. p.at + p.size ≤ length bytes in
+        subst P (sym n.span) here
 
     rising : (i : ℕ) → i + 1 < count → slice_cmp nat_cmp (name_at width bytes i) (name_at width bytes (i + 1)) ≡ Less
     rising i below =

@@ -9,10 +9,10 @@ use Rattle.std.specs.Ordering.{nat_cmp}
 use Rattle.std.specs.declared.cmp.Ordering.TheVariants.{Less}
 use Rattle.std.proofs.lemmas.Bool.Decides.{nat_tests}
 use Rattle.std.proofs.lemmas.List.{length-map}
-use Rattle.deny_std_table.specs.declared.place.TextPlace.{TextPlace}
-use Rattle.deny_std_table.specs.declared.place.ApiPlace.{ApiPlace}
-use Rattle.deny_std_table.specs.declared.place.ReplacementPlace.{ReplacementPlace}
-use Rattle.deny_std_table.specs.Place.{contents}
+use Rattle.deny_std_table.specs.declared.spans.TextSpan.{TextSpan}
+use Rattle.deny_std_table.specs.declared.spans.ApiSpans.{ApiSpans}
+use Rattle.deny_std_table.specs.declared.spans.ReplacementSpans.{ReplacementSpans}
+use Rattle.deny_std_table.specs.Spans.{contents}
 use Rattle.deny_std_table.specs.Reading.{number}
 use Rattle.deny_std_table.specs.Region.{Bounds, Group, Items, note_of}
 use Rattle.deny_std_table.specs.Head.{start_of}
@@ -47,48 +47,48 @@ number-small width bytes at small known =
       | inr two ↦ subst (λ w. number w bytes at < 65536) (sym two) (omega arith)
     ]
 
-text-fits : (b : Bounds) (at next : ℕ) (place : TextPlace) → IsSound b → IsText b at place next
-    → TextFits (contents b.bytes place)
-text-fits b at next place sound is =
+text-fits : (b : Bounds) (at next : ℕ) (span : TextSpan) → IsSound b → IsText b at span next
+    → TextFits (contents b.bytes span)
+text-fits b at next span sound is =
     let small = number-small b.width b.bytes at sound.bytes sound.known in
     let size = is.size in
-    let most = length-take place.size (drop place.at b.bytes) in
-    record { size = fits_two (length (contents b.bytes place)) (omega arith); utf8 = is.utf8 }
+    let most = length-take span.size (drop span.at b.bytes) in
+    record { size = fits_two (length (contents b.bytes span)) (omega arith); utf8 = is.utf8 }
 
-api-fits : (b : Bounds) (at next : ℕ) (place : ApiPlace) → IsSound b → IsApi b at place next
-    → ApiFits (api_text b.bytes place)
-api-fits b at next place sound is = record {
-  name = text-fits b at is.after_name place.name sound is.name;
-  url = text-fits b is.after_name next place.url sound is.url;
+api-fits : (b : Bounds) (at next : ℕ) (spans : ApiSpans) → IsSound b → IsApi b at spans next
+    → ApiFits (api_text b.bytes spans)
+api-fits b at next spans sound is = record {
+  name = text-fits b at is.after_name spans.name sound is.name;
+  url = text-fits b is.after_name next spans.url sound is.url;
 }
 
-note-fits : (b : Bounds) (at next : ℕ) (place : TextPlace) → IsSound b → IsText b at place next
-    → (n : List ℕ) → option_map (contents b.bytes) (note_of place) ≡ Some n → TextFits n × (0 < length n)
-note-fits b at next place sound is n some =
-    let fits = text-fits b at next place sound is in
+note-fits : (b : Bounds) (at next : ℕ) (span : TextSpan) → IsSound b → IsText b at span next
+    → (n : List ℕ) → option_map (contents b.bytes) (note_of span) ≡ Some n → TextFits n × (0 < length n)
+note-fits b at next span sound is n some =
+    let fits = text-fits b at next span sound is in
     let within = sound.within in
     let ends = is.inside in
     let after = is.after in
-    let most = length-take place.size (drop place.at b.bytes) in
-    let left = length-drop place.at b.bytes in
-    let size : length (contents b.bytes place) ≡ place.size = omega arith in
-    chosen fits size (place.size == 0) refl some
+    let most = length-take span.size (drop span.at b.bytes) in
+    let left = length-drop span.at b.bytes in
+    let size : length (contents b.bytes span) ≡ span.size = omega arith in
+    chosen fits size (span.size == 0) refl some
   where
-    chosen : TextFits (contents b.bytes place) → length (contents b.bytes place) ≡ place.size
-        → (none : Bool) → (place.size == 0) ≡ none
-        → option_map (contents b.bytes) (if none then None else Some place) ≡ Some n → TextFits n × (0 < length n)
+    chosen : TextFits (contents b.bytes span) → length (contents b.bytes span) ≡ span.size
+        → (none : Bool) → (span.size == 0) ≡ none
+        → option_map (contents b.bytes) (if none then None else Some span) ≡ Some n → TextFits n × (0 < length n)
     chosen fits size true empty is_some = cc
     chosen fits size false full is_some =
-        let same : contents b.bytes place ≡ n = cc in
-        let long : 0 < length (contents b.bytes place) = grind (arith, nat_tests) in
+        let same : contents b.bytes span ≡ n = cc in
+        let long : 0 < length (contents b.bytes span) = grind (arith, nat_tests) in
         subst (λ t. TextFits t × (0 < length t)) same (fits, long)
 
-replacement-fits : (b : Bounds) (at next : ℕ) (place : ReplacementPlace) → IsSound b → IsReplacement b at place next
-    → ReplacementFits (replacement_text b.bytes place)
-replacement-fits b at next place sound is = record {
-  krate = api-fits b at is.after_krate place.krate sound is.krate;
-  std = api-fits b is.after_krate is.after_std place.std sound is.std;
-  note = λ n some. note-fits b is.after_std next is.note_place sound is.note_text n
+replacement-fits : (b : Bounds) (at next : ℕ) (spans : ReplacementSpans) → IsSound b → IsReplacement b at spans next
+    → ReplacementFits (replacement_text b.bytes spans)
+replacement-fits b at next spans sound is = record {
+  krate = api-fits b at is.after_krate spans.krate sound is.krate;
+  std = api-fits b is.after_krate is.after_std spans.std sound is.std;
+  note = λ n some. note-fits b is.after_std next is.note_span sound is.note_text n
       (ap (option_map (contents b.bytes)) (sym is.note) ∙ some);
 }
 

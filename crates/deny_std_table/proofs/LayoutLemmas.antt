@@ -7,15 +7,15 @@ use Rattle.std.specs.Str.{is_utf8}
 use Rattle.std.proofs.lemmas.Str.{IsUtf8-from_is_utf8, is_utf8-from_IsUtf8}
 use Rattle.deny_std_table.specs.declared.error.ReplacementError.{ReplacementError}
 use Rattle.deny_std_table.specs.declared.error.ReplacementError.TheVariants.{Bad}
-use Rattle.deny_std_table.specs.declared.place.TextPlace.{TextPlace}
-use Rattle.deny_std_table.specs.declared.place.ApiPlace.{ApiPlace}
-use Rattle.deny_std_table.specs.declared.place.ReplacementPlace.{ReplacementPlace}
-use Rattle.deny_std_table.specs.declared.place.GroupHead.{GroupHead}
-use Rattle.deny_std_table.specs.declared.place.Counts.{Counts}
-use Rattle.deny_std_table.specs.declared.place.Read.{Read}
-use Rattle.deny_std_table.specs.Place.{contents}
+use Rattle.deny_std_table.specs.declared.spans.TextSpan.{TextSpan}
+use Rattle.deny_std_table.specs.declared.spans.ApiSpans.{ApiSpans}
+use Rattle.deny_std_table.specs.declared.spans.ReplacementSpans.{ReplacementSpans}
+use Rattle.deny_std_table.specs.declared.spans.GroupHead.{GroupHead}
+use Rattle.deny_std_table.specs.declared.spans.Counts.{Counts}
+use Rattle.deny_std_table.specs.declared.spans.Read.{Read}
+use Rattle.deny_std_table.specs.Spans.{contents}
 use Rattle.deny_std_table.specs.Reading.{◌>>=◌, ◌>>◌, unless_bad, read, number, many}
-use Rattle.deny_std_table.specs.Region.{Bounds, Group, Items, note_of, text_place, byte, text, api, replacement}
+use Rattle.deny_std_table.specs.Region.{Bounds, Group, Items, note_of, text_span, byte, text, api, replacement}
 use Rattle.deny_std_table.specs.Region.{group_head, group, counts, counted_items, items}
 use Rattle.deny_std_table.specs.Layout.{IsByte, IsText, IsApi, IsReplacement, IsRow, ended, more, IsGroup, IsItems}
 
@@ -52,26 +52,26 @@ unfolding byte
 byte-complete b at value next is =
     test-true (nat_lt at b.stop) _ _ (lt-ltb at b.stop is.inside) ∙ rw (is.is, is.after) refl
 
-pub text-sound : (b : Bounds) (at : ℕ) (r : Read TextPlace) → text b at ≡ Ok r → IsText b at r.value r.next
+pub text-sound : (b : Bounds) (at : ℕ) (r : Read TextSpan) → text b at ≡ Ok r → IsText b at r.value r.next
 unfolding text
 text-sound b at r is =
-    let place = text_place b at in
-    let parts = test-ok (nat_le place.at b.stop && nat_le (place.at + place.size) b.stop && is_utf8
-    (contents b.bytes place))
-    (read place (place.at + place.size)) r (Bad at) is in
-    let both = and_parts (nat_le place.at b.stop && nat_le (place.at + place.size) b.stop)
-    (is_utf8 (contents b.bytes place)) parts.0 in
-    let within = and_parts (nat_le place.at b.stop) (nat_le (place.at + place.size) b.stop) both.0 in
-    let last : nat_le (place.at + place.size) b.stop ≡ true = within.1 in
+    let span = text_span b at in
+    let parts = test-ok (nat_le span.at b.stop && nat_le (span.at + span.size) b.stop && is_utf8
+    (contents b.bytes span))
+    (read span (span.at + span.size)) r (Bad at) is in
+    let both = and_parts (nat_le span.at b.stop && nat_le (span.at + span.size) b.stop)
+    (is_utf8 (contents b.bytes span)) parts.0 in
+    let within = and_parts (nat_le span.at b.stop) (nat_le (span.at + span.size) b.stop) both.0 in
+    let last : nat_le (span.at + span.size) b.stop ≡ true = within.1 in
     subst (λ t. IsText b at t.value t.next) parts.1 (record {
       after_length = refl;
       size = refl;
       after = refl;
       inside = grind (arith, nat_tests);
-      utf8 = IsUtf8-from_is_utf8 (contents b.bytes place) both.1;
+      utf8 = IsUtf8-from_is_utf8 (contents b.bytes span) both.1;
     })
 
-pub api-sound : (b : Bounds) (at : ℕ) (r : Read ApiPlace) → api b at ≡ Ok r → IsApi b at r.value r.next
+pub api-sound : (b : Bounds) (at : ℕ) (r : Read ApiSpans) → api b at ≡ Ok r → IsApi b at r.value r.next
 unfolding api
 api-sound b at r is =
     let first = bind-ok (text b at) _ r is in
@@ -83,7 +83,7 @@ api-sound b at r is =
       url = text-sound b first.0.next second.0 second.1;
     })
 
-pub replacement-sound : (b : Bounds) (at : ℕ) (r : Read ReplacementPlace) → replacement b at ≡ Ok r
+pub replacement-sound : (b : Bounds) (at : ℕ) (r : Read ReplacementSpans) → replacement b at ≡ Ok r
     → IsReplacement b at r.value r.next
 unfolding replacement
 replacement-sound b at r is =
@@ -95,7 +95,7 @@ replacement-sound b at r is =
     subst (λ t. IsReplacement b at t.value t.next) same (record {
       after_krate = krate.0.next;
       after_std = std.0.next;
-      note_place = note.0.value;
+      note_span = note.0.value;
       krate = api-sound b at krate.0 krate.1;
       std = api-sound b krate.0.next std.0 std.1;
       note_text = text-sound b std.0.next note.0 note.1;
@@ -205,40 +205,40 @@ items-sound b at r is =
       unavailable = unavailable_row.0;
     })
 
-pub place_is : (at size : ℕ) (place : TextPlace) → place.at ≡ at → place.size ≡ size
-    → place ≡ record { at = at; size = size }
-place_is at size place first second = rw (← first, ← second) refl
+pub span_is : (at size : ℕ) (span : TextSpan) → span.at ≡ at → span.size ≡ size
+    → span ≡ record { at = at; size = size }
+span_is at size span first second = rw (← first, ← second) refl
 
-pub text-complete : (b : Bounds) (at : ℕ) (place : TextPlace) (next : ℕ) → IsText b at place next
-    → text b at ≡ Ok (read place next)
+pub text-complete : (b : Bounds) (at : ℕ) (span : TextSpan) (next : ℕ) → IsText b at span next
+    → text b at ≡ Ok (read span next)
 unfolding text
-text-complete b at place next is =
-    let same : place ≡ text_place b at = place_is (at + b.width) (number b.width b.bytes at) place is.after_length
+text-complete b at span next is =
+    let same : span ≡ text_span b at = span_is (at + b.width) (number b.width b.bytes at) span is.after_length
     is.size in
-    let ends : place.at + place.size ≡ next = sym is.after in
-    let last : place.at + place.size ≤ b.stop = omega arith in
-    let inside : nat_le place.at b.stop ≡ true = grind (arith, nat_tests) in
-    let whole : nat_le (place.at + place.size) b.stop ≡ true = grind (arith, nat_tests) in
-    let utf8 : is_utf8 (contents b.bytes place) ≡ true = is_utf8-from_IsUtf8 (contents b.bytes place) is.utf8 in
-    let P : TextPlace → Type
+    let ends : span.at + span.size ≡ next = sym is.after in
+    let last : span.at + span.size ≤ b.stop = omega arith in
+    let inside : nat_le span.at b.stop ≡ true = grind (arith, nat_tests) in
+    let whole : nat_le (span.at + span.size) b.stop ≡ true = grind (arith, nat_tests) in
+    let utf8 : is_utf8 (contents b.bytes span) ≡ true = is_utf8-from_IsUtf8 (contents b.bytes span) is.utf8 in
+    let P : TextSpan → Type
     0 = λ p. (if nat_le p.at b.stop && nat_le (p.at + p.size) b.stop && is_utf8 (contents b.bytes p)
-    then Ok (read p (p.at + p.size)) else Err (Bad at)) ≡ Ok (read place next) in
+    then Ok (read p (p.at + p.size)) else Err (Bad at)) ≡ Ok (read span next) in
     subst P same (rw (inside, whole, utf8, ends) refl)
 
-pub api-complete : (b : Bounds) (at : ℕ) (place : ApiPlace) (next : ℕ) → IsApi b at place next
-    → api b at ≡ Ok (read place next)
+pub api-complete : (b : Bounds) (at : ℕ) (spans : ApiSpans) (next : ℕ) → IsApi b at spans next
+    → api b at ≡ Ok (read spans next)
 unfolding api
-api-complete b at place next is =
-    rw (text-complete b at place.name is.after_name is.name, text-complete b is.after_name place.url next is.url) refl
+api-complete b at spans next is =
+    rw (text-complete b at spans.name is.after_name is.name, text-complete b is.after_name spans.url next is.url) refl
 
-pub replacement-complete : (b : Bounds) (at : ℕ) (place : ReplacementPlace) (next : ℕ) → IsReplacement b at place next
-    → replacement b at ≡ Ok (read place next)
+pub replacement-complete : (b : Bounds) (at : ℕ) (spans : ReplacementSpans) (next : ℕ) → IsReplacement b at spans next
+    → replacement b at ≡ Ok (read spans next)
 unfolding replacement
-replacement-complete b at place next is =
+replacement-complete b at spans next is =
     rw (
-      api-complete b at place.krate is.after_krate is.krate,
-      api-complete b is.after_krate place.std is.after_std is.std,
-      text-complete b is.after_std is.note_place next is.note_text,
+      api-complete b at spans.krate is.after_krate is.krate,
+      api-complete b is.after_krate spans.std is.after_std is.std,
+      text-complete b is.after_std is.note_span next is.note_text,
       ← is.note,
     ) refl
 

@@ -8,9 +8,9 @@ pub mod EntryLemmas
 pub mod FitsLemmas
 pub mod LayoutLemmas
 pub mod NamesLemmas
-pub mod PlaceLemmas
 pub mod ReadingLemmas
 pub mod ReplacementLemmas
+pub mod SpanLemmas
 pub mod SpellingLaw
 pub mod SpellingTable
 pub mod TableLaw

@@ -74,15 +74,15 @@ pub not_found : (width : ℕ) (bytes : List ℕ) (count low high : ℕ) (name : 
     → ((k : ℕ) → k < low → slice_cmp nat_cmp (name_at width bytes k) name ≡ Less)
     → ((k : ℕ) → high ≤ k → k < count → slice_cmp nat_cmp (name_at width bytes k) name ≡ Greater)
     → (i : ℕ) → i < count → name_at width bytes i ≡ name → ⊥
-not_found width bytes count low high name crossed below above i inside same = placed (nat_lt i low) refl
+not_found width bytes count low high name crossed below above i inside same = by_side (nat_lt i low) refl
   where
     ties : slice_cmp nat_cmp (name_at width bytes i) name ≡ Equal
     ties = ap (λ n. slice_cmp nat_cmp n name) same ∙ tied_itself nat_list_cmp_total name
 
-    placed : (test : Bool) → nat_lt i low ≡ test → ⊥
-    placed true is = let less : slice_cmp nat_cmp (name_at width bytes i) name ≡ Less = below i (ltb-true i low is) in
+    by_side : (test : Bool) → nat_lt i low ≡ test → ⊥
+    by_side true is = let less : slice_cmp nat_cmp (name_at width bytes i) name ≡ Less = below i (ltb-true i low is) in
         let tie = ties in cc
-    placed false is =
+    by_side false is =
         let from : low ≤ i = ltb-false i low is in
         let more : slice_cmp nat_cmp (name_at width bytes i) name ≡ Greater = above i (omega arith) inside in
         let tie = ties in cc

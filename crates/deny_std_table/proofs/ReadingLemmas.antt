@@ -1,7 +1,7 @@
 -- On readers that come one after the other.
 use Rattle.std.proofs.Common.{◌≡◌, ℕ, suc, ◌+◌, Result, Ok, Err, refl, sym, ap, ◌∙◌, arith, subst}
 use Rattle.deny_std_table.specs.declared.error.ReplacementError.{ReplacementError}
-use Rattle.deny_std_table.specs.declared.place.Read.{Read}
+use Rattle.deny_std_table.specs.declared.spans.Read.{Read}
 use Rattle.deny_std_table.specs.Reading.{◌>>=◌, read, many, next_of}
 
 -- a last step that reads nothing moves nothing

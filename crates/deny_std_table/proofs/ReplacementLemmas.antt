@@ -3,10 +3,10 @@ use Rattle.std.proofs.Common.{◌≡◌, ℕ, List, [], None, Result, Ok, Err, r
 use Rattle.std.specs.Prelude.{IsOk}
 use Rattle.std.specs.Result.{result_unwrap_or}
 use Rattle.deny_std_table.specs.declared.error.ReplacementError.{ReplacementError}
-use Rattle.deny_std_table.specs.declared.place.TextPlace.{TextPlace}
-use Rattle.deny_std_table.specs.declared.place.Counts.{Counts}
-use Rattle.deny_std_table.specs.declared.place.ItemPlace.{ItemPlace}
-use Rattle.deny_std_table.specs.declared.place.Read.{Read}
+use Rattle.deny_std_table.specs.declared.spans.TextSpan.{TextSpan}
+use Rattle.deny_std_table.specs.declared.spans.Counts.{Counts}
+use Rattle.deny_std_table.specs.declared.spans.ItemSpans.{ItemSpans}
+use Rattle.deny_std_table.specs.declared.spans.Read.{Read}
 use Rattle.deny_std_table.specs.Region.{Bounds, Items, text, counts, counted_items, items}
 use Rattle.deny_std_table.specs.Entries.{Entry, entry}
 use Rattle.deny_std_table.specs.Item.{items_of}
@@ -21,7 +21,7 @@ ok-of : {A : Type 0} (r : Result A ReplacementError) → IsOk r → (x : A) × (
 ok-of (Ok x) is = (x, refl)
 ok-of (Err e) is = cc
 
-ok-left : (r : Result (List ItemPlace) ReplacementError) (x : List ItemPlace) → r ≡ Ok x
+ok-left : (r : Result (List ItemSpans) ReplacementError) (x : List ItemSpans) → r ≡ Ok x
     → (r ≡ Ok (result_unwrap_or r [])) × (result_unwrap_or r [] ≡ x)
 ok-left r x is =
     let left : result_unwrap_or r [] ≡ x = ap (λ t. result_unwrap_or t []) is in
@@ -37,7 +37,7 @@ iter_all b counts at is =
 
 -- An entry, part by part.
 pub record IsOpen (b : Bounds) (start : ℕ) (e : Entry) : Type 0 where
-  pub name : Read TextPlace
+  pub name : Read TextSpan
   pub count : Read Counts
   pub all : Read Items
   pub name_read : text b start ≡ Ok name
@@ -62,23 +62,23 @@ open-parts b start e is =
       items = ap (λ (t : Entry). t.items) same;
     }
 
-pub open_name : (b : Bounds) (start : ℕ) (r : Result (Read TextPlace) ReplacementError) → IsOk (entry b None start)
+pub open_name : (b : Bounds) (start : ℕ) (r : Result (Read TextSpan) ReplacementError) → IsOk (entry b None start)
     → r ≡ text b start → IsOk r
 open_name b start r is same =
     let e = ok-of (entry b None start) is in
     let parts = open-parts b start e.0 e.1 in
     is-ok r _ parts.name same parts.name_read
 
-pub open_counts : (b : Bounds) (start : ℕ) (name : Read TextPlace) (r : Result (Read Counts) ReplacementError)
+pub open_counts : (b : Bounds) (start : ℕ) (name : Read TextSpan) (r : Result (Read Counts) ReplacementError)
     → IsOk (entry b None start)
     → text b start ≡ Ok name → r ≡ counts b name.next → IsOk r
 open_counts b start name r is named same =
     let e = ok-of (entry b None start) is in
     let parts = open-parts b start e.0 e.1 in
     let one : parts.name ≡ name = ok-is _ parts.name_read named in
-    is-ok r _ parts.count same (subst (λ (n : Read TextPlace). counts b n.next ≡ Ok parts.count) one parts.count_read)
+    is-ok r _ parts.count same (subst (λ (n : Read TextSpan). counts b n.next ≡ Ok parts.count) one parts.count_read)
 
-pub open_items : (b : Bounds) (start : ℕ) (name : Read TextPlace) (count : Read Counts) (e : Entry)
+pub open_items : (b : Bounds) (start : ℕ) (name : Read TextSpan) (count : Read Counts) (e : Entry)
     → entry b None start ≡ Ok e
     → text b start ≡ Ok name → counts b name.next ≡ Ok count
     → IsOk (counted_items b count.value count.next) × (items_read (counted_items b count.value count.next) ≡ e.items)
@@ -86,12 +86,12 @@ open_items b start name count e is named counted =
     let parts = open-parts b start e is in
     let one : parts.name ≡ name = ok-is _ parts.name_read named in
     let two : parts.count ≡ count =
-    ok-is _ (subst (λ (n : Read TextPlace). counts b n.next ≡ Ok parts.count) one parts.count_read) counted in
+    ok-is _ (subst (λ (n : Read TextSpan). counts b n.next ≡ Ok parts.count) one parts.count_read) counted in
     let all : counted_items b count.value count.next ≡ Ok parts.all =
     subst (λ (k : Read Counts). counted_items b k.value k.next ≡ Ok parts.all) two parts.all_read in
     (is-ok _ _ parts.all refl all, ap items_read all ∙ parts.items)
 
-pub open_holds : (b : Bounds) (start : ℕ) (name : Read TextPlace) (count : Read Counts) → IsOk (entry b None start)
+pub open_holds : (b : Bounds) (start : ℕ) (name : Read TextSpan) (count : Read Counts) → IsOk (entry b None start)
     → text b start ≡ Ok name → counts b name.next ≡ Ok count → IsOk (counted_items b count.value count.next)
 open_holds b start name count is named counted =
     let e = ok-of (entry b None start) is in (open_items b start name count e.0 e.1 named counted).0

@@ -8,8 +8,8 @@ use Rattle.std.proofs.Math.Seq.{drop-nil, drop-append_seam, take-append_seam}
 use Rattle.std.proofs.lemmas.Bool.Decides.{nat_tests}
 use Rattle.std.proofs.lemmas.List.{length-map}
 use Rattle.std.proofs.lemmas.Str.{IsUtf8-nil}
-use Rattle.deny_std_table.specs.declared.place.TextPlace.{TextPlace}
-use Rattle.deny_std_table.specs.Place.{contents}
+use Rattle.deny_std_table.specs.declared.spans.TextSpan.{TextSpan}
+use Rattle.deny_std_table.specs.Spans.{contents}
 use Rattle.deny_std_table.specs.Reading.{number}
 use Rattle.deny_std_table.specs.Region.{Bounds, note_of}
 use Rattle.deny_std_table.specs.Entries.{Entry}
@@ -99,14 +99,14 @@ pub record TextFits (text : List ℕ) : Type 0 where
 pub text-there : (b : Bounds) (at : ℕ) (text : List ℕ) → b.width ≡ 2 → TextFits text → Stands b at (text_bytes text)
     → There (IsText b) (contents b.bytes) at (at + length (text_bytes text)) text
 text-there b at text wide fits is =
-    let place : TextPlace = record { at = at + 2; size = length text } in
+    let span : TextSpan = record { at = at + 2; size = length text } in
     let later = stands-later b at (number_bytes 2 (length text)) text is in
-    let says : contents b.bytes place ≡ text = ap (take (length text)) later.here ∙ take-append_seam text later.rest in
+    let says : contents b.bytes span ≡ text = ap (take (length text)) later.here ∙ take-append_seam text later.rest in
     let size : length text ≡ number 2 b.bytes at =
     sym (number-there 2 b at (length text) fits.size (stands-first b at (number_bytes 2 (length text)) text is)) in
     let within = is.inside in
     record {
-      it = place;
+      it = span;
       layout = record {
         after_length = ap (λ w. at + w) (sym wide);
         size = size ∙ ap (λ w. number w b.bytes at) (sym wide);
@@ -146,42 +146,42 @@ pub record ReplacementFits (r : ReplacementText) : Type 0 where
 
 -- A note stands there, and says this.
 record NoteThere (b : Bounds) (at : ℕ) (note : Option (List ℕ)) : Type 0 where
-  pub place : TextPlace
-  pub layout : IsText b at place (at + length (note_bytes note))
-  pub says : option_map (contents b.bytes) (note_of place) ≡ note
+  pub span : TextSpan
+  pub layout : IsText b at span (at + length (note_bytes note))
+  pub says : option_map (contents b.bytes) (note_of span) ≡ note
 
 note-there : (b : Bounds) (at : ℕ) (note : Option (List ℕ)) → b.width ≡ 2
     → ((n : List ℕ) → note ≡ Some n → TextFits n × (0 < length n)) → Stands b at (note_bytes note) → NoteThere b at note
 note-there b at None wide fits is =
     let one = text-there b at [] wide (record { size = refl; utf8 = IsUtf8-nil }) is in
     record {
-      place = one.it;
+      span = one.it;
       layout = one.layout;
       says = no_note one.it one.layout;
     }
   where
-    no_note : (place : TextPlace) → IsText b at place (at + 2) → option_map (contents b.bytes) (note_of place) ≡ None
-    no_note place layout =
+    no_note : (span : TextSpan) → IsText b at span (at + 2) → option_map (contents b.bytes) (note_of span) ≡ None
+    no_note span layout =
         let ends = layout.after in
         let begins = layout.after_length in
-        let none : place.size ≡ 0 = omega arith in
+        let none : span.size ≡ 0 = omega arith in
         rw none refl
 note-there b at (Some n) wide fits is =
     let one = text-there b at n wide (fits n refl).0 is in
     record {
-      place = one.it;
+      span = one.it;
       layout = one.layout;
       says = some_note one.it one.layout one.says;
     }
   where
-    some_note : (place : TextPlace) → IsText b at place (at + length (text_bytes n)) → contents b.bytes place ≡ n
-        → option_map (contents b.bytes) (note_of place) ≡ Some n
-    some_note place layout says =
+    some_note : (span : TextSpan) → IsText b at span (at + length (text_bytes n)) → contents b.bytes span ≡ n
+        → option_map (contents b.bytes) (note_of span) ≡ Some n
+    some_note span layout says =
         let ends = layout.after in
         let begins = layout.after_length in
         let long = (fits n refl).1 in
-        let some : 0 < place.size = omega arith in
-        let not_none : (place.size == 0) ≡ false = grind (arith, nat_tests) in
+        let some : 0 < span.size = omega arith in
+        let not_none : (span.size == 0) ≡ false = grind (arith, nat_tests) in
         rw (not_none, says) refl
 
 pub replacement-there : (b : Bounds) (at : ℕ) (r : ReplacementText) → b.width ≡ 2 → ReplacementFits r
@@ -201,11 +201,11 @@ replacement-there b at r wide fits is =
     let all = length-append (api_bytes r.krate) (api_bytes r.std ++ note_bytes r.note) in
     let some = length-append (api_bytes r.std) (note_bytes r.note) in
     there-to (IsReplacement b) (replacement_text b.bytes) at _ _ r (omega arith) (record {
-      it = record { krate = krate.it; std = std.it; note = note_of note.place };
+      it = record { krate = krate.it; std = std.it; note = note_of note.span };
       layout = record {
         after_krate = after_krate;
         after_std = after_std;
-        note_place = note.place;
+        note_span = note.span;
         krate = krate.layout;
         std = std.layout;
         note_text = note.layout;

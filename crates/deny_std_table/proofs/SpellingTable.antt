@@ -7,8 +7,8 @@ use Rattle.std.specs.Cmp.Lexicographic.{slice_cmp}
 use Rattle.std.specs.Ordering.{nat_cmp}
 use Rattle.std.specs.declared.cmp.Ordering.TheVariants.{Less}
 use Rattle.std.proofs.lemmas.Bool.Decides.{nat_tests}
-use Rattle.deny_std_table.specs.declared.place.TextPlace.{TextPlace}
-use Rattle.deny_std_table.specs.Place.{contents}
+use Rattle.deny_std_table.specs.declared.spans.TextSpan.{TextSpan}
+use Rattle.deny_std_table.specs.Spans.{contents}
 use Rattle.deny_std_table.specs.Reading.{number}
 use Rattle.deny_std_table.specs.Region.{bounds}
 use Rattle.deny_std_table.specs.Head.{start_of, is_offset, offsets}
@@ -37,17 +37,17 @@ fits_four : (n : ℕ) → n < 4294967296 → Fits 4 n
 fits_four n small = omega arith
 
 -- The name of the first of these is above the one before it, where there is one.
-FirstAbove : List ℕ → Option TextPlace → List EntryText → Type 0
+FirstAbove : List ℕ → Option TextSpan → List EntryText → Type 0
 FirstAbove bytes before [] = Unit {0}
 FirstAbove bytes before (e ∷ es) =
-    (p : TextPlace) → before ≡ Some p → slice_cmp nat_cmp (contents bytes p) e.name ≡ Less
+    (p : TextSpan) → before ≡ Some p → slice_cmp nat_cmp (contents bytes p) e.name ≡ Less
 
-next_above : (bytes : List ℕ) (place : TextPlace) (e : EntryText) (es : List EntryText) → contents bytes place ≡ e.name
-    → Rises (e ∷ es) → FirstAbove bytes (Some place) es
+next_above : (bytes : List ℕ) (span : TextSpan) (e : EntryText) (es : List EntryText) → contents bytes span ≡ e.name
+    → Rises (e ∷ es) → FirstAbove bytes (Some span) es
 unfolding FirstAbove
-next_above bytes place e [] says rises = tt
-next_above bytes place e (f ∷ es) says rises = λ p is.
-    let same : place ≡ p = cc in
+next_above bytes span e [] says rises = tt
+next_above bytes span e (f ∷ es) says rises = λ p is.
+    let same : span ≡ p = cc in
     ap (λ n. slice_cmp nat_cmp n f.name) (ap (contents bytes) (sym same) ∙ says) ∙ rises.0
 
 rises_on : (e : EntryText) (es : List EntryText) → Rises (e ∷ es) → Rises es
@@ -55,7 +55,7 @@ rises_on e [] rises = tt
 rises_on e (f ∷ es) rises = rises.1
 
 -- Entries stand from one of that number on, to the end, and their offsets before them.
-record Placed (bytes : List ℕ) (count i at : ℕ) (es : List EntryText) : Type 0 where
+record Located (bytes : List ℕ) (count i at : ℕ) (es : List EntryText) : Type 0 where
   pub counted : i + length es ≡ count
   pub offsets_stand : Stands (bounds 2 bytes (length bytes)) (8 + 4 * i) (offset_bytes at es)
   pub entries_stand : Stands (bounds 2 bytes (length bytes)) at (flat_map entry_bytes es)
@@ -68,21 +68,21 @@ some_bytes : (e : EntryText) → 0 < length (entry_bytes e)
 unfolding entry_bytes
 some_bytes e = let all = length-append (text_bytes e.name) (items_bytes e.items) in omega arith
 
-placed_start : (bytes : List ℕ) (count i at : ℕ) (e : EntryText) (es : List EntryText)
-    → Placed bytes count i at (e ∷ es) → start_of bytes i ≡ at
-placed_start bytes count i at e es is =
+located_start : (bytes : List ℕ) (count i at : ℕ) (e : EntryText) (es : List EntryText)
+    → Located bytes count i at (e ∷ es) → start_of bytes i ≡ at
+located_start bytes count i at e es is =
     let ends = is.ends in
     let small = is.short in
     number-there 4 (bounds 2 bytes (length bytes)) (8 + 4 * i) at (fits_four at (omega arith))
     (stands-first (bounds 2 bytes (length bytes)) (8 + 4 * i) (number_bytes 4 at)
     (offset_bytes (at + length (entry_bytes e)) es) is.offsets_stand)
 
-placed_on : (bytes : List ℕ) (count i at : ℕ) (e : EntryText) (es : List EntryText)
-    → Placed bytes count i at (e ∷ es) → Placed bytes count (i + 1) (at + length (entry_bytes e)) es
-placed_on bytes count i at e es is =
+located_on : (bytes : List ℕ) (count i at : ℕ) (e : EntryText) (es : List EntryText)
+    → Located bytes count i at (e ∷ es) → Located bytes count (i + 1) (at + length (entry_bytes e)) es
+located_on bytes count i at e es is =
     let b = bounds 2 bytes (length bytes) in
     let next = at + length (entry_bytes e) in
-    let start = placed_start bytes count i at e es is in
+    let start = located_start bytes count i at e es is in
     let counted = is.counted in
     let ends = is.ends in
     let head = is.after_head in
@@ -101,25 +101,25 @@ placed_on bytes count i at e es is =
       short = is.short;
     }
 
-placed_stop : (bytes : List ℕ) (count i at : ℕ) (e : EntryText) (es : List EntryText)
-    → Placed bytes count i at (e ∷ es) → stop_of bytes count i ≡ at + length (entry_bytes e)
+located_stop : (bytes : List ℕ) (count i at : ℕ) (e : EntryText) (es : List EntryText)
+    → Located bytes count i at (e ∷ es) → stop_of bytes count i ≡ at + length (entry_bytes e)
 unfolding stop_of
-placed_stop bytes count i at e [] is =
+located_stop bytes count i at e [] is =
     let counted = is.counted in
     let ends = is.ends in
     let sizes = length-append (entry_bytes e) [] in
     let last : nat_lt (i + 1) count ≡ false = grind (arith, nat_tests) in
     rw last (omega arith)
-placed_stop bytes count i at e (f ∷ es) is =
+located_stop bytes count i at e (f ∷ es) is =
     let counted = is.counted in
     let inner : nat_lt (i + 1) count ≡ true = grind (arith, nat_tests) in
-    rw inner (placed_start bytes count (i + 1) (at + length (entry_bytes e)) f es
-    (placed_on bytes count i at e (f ∷ es) is))
+    rw inner (located_start bytes count (i + 1) (at + length (entry_bytes e)) f es
+    (located_on bytes count i at e (f ∷ es) is))
 
-placed_offset : (bytes : List ℕ) (count i at : ℕ) (e : EntryText) (es : List EntryText)
-    → Placed bytes count i at (e ∷ es) → is_offset bytes count i ≡ true
-placed_offset bytes count i at e es is =
-    let start = placed_start bytes count i at e es is in
+located_offset : (bytes : List ℕ) (count i at : ℕ) (e : EntryText) (es : List EntryText)
+    → Located bytes count i at (e ∷ es) → is_offset bytes count i ≡ true
+located_offset bytes count i at e es is =
+    let start = located_start bytes count i at e es is in
     let counted = is.counted in
     let ends = is.ends in
     let head = is.after_head in
@@ -133,19 +133,19 @@ placed_offset bytes count i at e es is =
     })
 
 -- What is read of these entries.
-record EntriesRead (bytes : List ℕ) (count : ℕ) (before : Option TextPlace) (i : ℕ) (es : List EntryText) : Type 0 where
+record EntriesRead (bytes : List ℕ) (count : ℕ) (before : Option TextSpan) (i : ℕ) (es : List EntryText) : Type 0 where
   pub them : List Entry
   pub offsets_hold : offsets bytes count i (length es) ≡ Ok tt
   pub read : entries 2 bytes count before i (length es) ≡ Ok them
   pub says : texts_of bytes them ≡ es
 
-entry_placed : (bytes : List ℕ) (count i at : ℕ) (before : Option TextPlace) (e : EntryText) (es : List EntryText)
-    → EntryFits e → FirstAbove bytes before (e ∷ es) → Placed bytes count i at (e ∷ es)
+entry_located : (bytes : List ℕ) (count i at : ℕ) (before : Option TextSpan) (e : EntryText) (es : List EntryText)
+    → EntryFits e → FirstAbove bytes before (e ∷ es) → Located bytes count i at (e ∷ es)
     → (x : Entry) × (entry (bounds_of 2 bytes count i) before (start_of bytes i) ≡ Ok x) × (entry_text bytes x ≡ e)
 unfolding FirstAbove
-entry_placed bytes count i at before e es fits above is =
-    let stop = placed_stop bytes count i at e es is in
-    let start = placed_start bytes count i at e es is in
+entry_located bytes count i at before e es fits above is =
+    let stop = located_stop bytes count i at e es is in
+    let start = located_start bytes count i at e es is in
     let here : Stands (bounds 2 bytes (stop_of bytes count i)) at (entry_bytes e) =
     record {
       rest = (stands-first (bounds 2 bytes (length bytes)) at (entry_bytes e) (flat_map entry_bytes es)
@@ -164,20 +164,20 @@ entry_placed bytes count i at before e es fits above is =
       found.says,
     )
 
-entries_read : (bytes : List ℕ) (count i at : ℕ) (before : Option TextPlace) (es : List EntryText)
-    → AllByRecursion EntryFits es → Rises es → FirstAbove bytes before es → Placed bytes count i at es
+entries_read : (bytes : List ℕ) (count i at : ℕ) (before : Option TextSpan) (es : List EntryText)
+    → AllByRecursion EntryFits es → Rises es → FirstAbove bytes before es → Located bytes count i at es
     → EntriesRead bytes count before i es
 unfolding offsets entries
 entries_read bytes count i at before [] fits rises above is =
     record { them = []; offsets_hold = refl; read = refl; says = refl }
 entries_read bytes count i at before (e ∷ es) fits rises above is =
-    let one = entry_placed bytes count i at before e es fits.0 above is in
+    let one = entry_located bytes count i at before e es fits.0 above is in
     let name : contents bytes one.0.name ≡ e.name = ap (λ (t : EntryText). t.name) one.2 in
     let others = entries_read bytes count (i + 1) (at + length (entry_bytes e)) (Some one.0.name) es fits.1
-    (rises_on e es rises) (next_above bytes one.0.name e es name rises) (placed_on bytes count i at e es is) in
+    (rises_on e es rises) (next_above bytes one.0.name e es name rises) (located_on bytes count i at e es is) in
     record {
       them = one.0 ∷ others.them;
-      offsets_hold = rw (placed_offset bytes count i at e es is) others.offsets_hold;
+      offsets_hold = rw (located_offset bytes count i at e es is) others.offsets_hold;
       read = rw (one.1, others.read) refl;
       says = ap (λ t. t ∷ texts_of bytes others.them) one.2 ∙ ap (λ ts. e ∷ ts) others.says;
     }
@@ -207,7 +207,7 @@ marked_so es = refl
 
 record Parts (es : List EntryText) : Type 0 where
   pub count_stands : Stands (bounds 2 (table_bytes es) (length (table_bytes es))) 4 (number_bytes 4 (length es))
-  pub placed : Placed (table_bytes es) (length es) 0 (8 + 4 * length es) es
+  pub located : Located (table_bytes es) (length es) 0 (8 + 4 * length es) es
 
 parts : (es : List EntryText) → length (table_bytes es) < 4294967296 → Parts es
 unfolding table_bytes
@@ -223,13 +223,13 @@ parts es small =
     let behind_offsets = stands-later b 8 (offset_bytes at es) body behind_count in
     let size = offset_size at es in
     let sizes = length-append (offset_bytes at es) body in
-    let place : 8 + length (offset_bytes at es) ≡ at = omega arith in
+    let start : 8 + length (offset_bytes at es) ≡ at = omega arith in
     record {
       count_stands = stands-first b 4 count (offset_bytes at es ++ body) behind_mark;
-      placed = record {
+      located = record {
         counted = omega arith;
         offsets_stand = stands-first b 8 (offset_bytes at es) body behind_count;
-        entries_stand = subst (λ n. Stands b n body) place behind_offsets;
+        entries_stand = subst (λ n. Stands b n body) start behind_offsets;
         ends = omega arith;
         after_head = omega arith;
         after_before = λ some. absurd (omega (arith, some));
@@ -244,12 +244,12 @@ table_read es fits =
     let there = parts es fits.short in
     let some = fits.some in
     let small = fits.short in
-    let within = there.placed.after_head in
-    let ends = there.placed.ends in
+    let within = there.located.after_head in
+    let ends = there.located.ends in
     let count : number 4 bytes 4 ≡ length es = number-there 4 (bounds 2 bytes (length bytes)) 4 (length es)
     (fits_four (length es) (omega arith)) there.count_stands in
     let all = entries_read bytes (length es) 0 (8 + 4 * length es) None es fits.each fits.rises (first_above bytes es)
-    there.placed in
+    there.located in
     record {
       them = all.them;
       read = rw (

@@ -13,8 +13,8 @@ use Rattle.std.proofs.lemmas.List.{get_or-take}
 use Rattle.deny_lists.proofs.Orders.{less_from_is_lt}
 use Rattle.deny_std_table.specs.declared.error.ReplacementError.{ReplacementError}
 use Rattle.deny_std_table.specs.declared.error.ReplacementError.TheVariants.{Bad}
-use Rattle.deny_std_table.specs.declared.place.TextPlace.{TextPlace}
-use Rattle.deny_std_table.specs.Place.{contents}
+use Rattle.deny_std_table.specs.declared.spans.TextSpan.{TextSpan}
+use Rattle.deny_std_table.specs.Spans.{contents}
 use Rattle.deny_std_table.specs.Reading.{◌>>=◌, ◌>>◌, number}
 use Rattle.deny_std_table.specs.Region.{Bounds, text, items}
 use Rattle.deny_std_table.specs.Head.{header, version, has_byte, count_of, start_of, is_offset, IsOffset, HasOffsets}
@@ -27,10 +27,10 @@ use Rattle.deny_std_table.proofs.LayoutLemmas.{bind-ok, unless_bad-then, text-so
 use Rattle.deny_std_table.proofs.LayoutLemmas.{items-complete}
 
 -- The name of an entry is above the one before it, where there is one.
-pub record IsAbove (bytes : List ℕ) (before : Option TextPlace) (name : TextPlace) : Type 0 where
-  pub above : (b : TextPlace) → before ≡ Some b → slice_cmp nat_cmp (contents bytes b) (contents bytes name) ≡ Less
+pub record IsAbove (bytes : List ℕ) (before : Option TextSpan) (name : TextSpan) : Type 0 where
+  pub above : (b : TextSpan) → before ≡ Some b → slice_cmp nat_cmp (contents bytes b) (contents bytes name) ≡ Less
 
-is_above-true : (bytes : List ℕ) (before : Option TextPlace) (name : TextPlace) → is_above bytes before name ≡ true
+is_above-true : (bytes : List ℕ) (before : Option TextSpan) (name : TextSpan) → is_above bytes before name ≡ true
     → IsAbove bytes before name
 is_above-true bytes None name is = record { above = λ b none. cc }
 is_above-true bytes (Some a) name is = record {
@@ -38,12 +38,12 @@ is_above-true bytes (Some a) name is = record {
       subst (λ t. slice_cmp nat_cmp (contents bytes t) (contents bytes name) ≡ Less) same (less_from_is_lt _ is);
 }
 
-true-is_above : (bytes : List ℕ) (before : Option TextPlace) (name : TextPlace) → IsAbove bytes before name
+true-is_above : (bytes : List ℕ) (before : Option TextSpan) (name : TextSpan) → IsAbove bytes before name
     → is_above bytes before name ≡ true
 true-is_above bytes None name is = refl
 true-is_above bytes (Some a) name is = ap is_lt (is.above a refl)
 
-pub entry-sound : (b : Bounds) (before : Option TextPlace) (start : ℕ) (e : Entry) → entry b before start ≡ Ok e
+pub entry-sound : (b : Bounds) (before : Option TextSpan) (start : ℕ) (e : Entry) → entry b before start ≡ Ok e
     → IsEntry b start e × IsAbove b.bytes before e.name
 unfolding entry
 entry-sound b before start e is =
@@ -62,7 +62,7 @@ entry-sound b before start e is =
       is_above-true b.bytes before name.0.value tested.0,
     )
 
-pub entry-complete : (b : Bounds) (before : Option TextPlace) (start : ℕ) (e : Entry) → IsEntry b start e
+pub entry-complete : (b : Bounds) (before : Option TextSpan) (start : ℕ) (e : Entry) → IsEntry b start e
     → IsAbove b.bytes before e.name
     → entry b before start ≡ Ok e
 unfolding entry
@@ -74,7 +74,7 @@ entry-complete b before start e is above =
     ) refl
 
 -- Several entries, from one of that number on.
-pub record IsEntries (width : ℕ) (bytes : List ℕ) (count : ℕ) (before : Option TextPlace) (i : ℕ)
+pub record IsEntries (width : ℕ) (bytes : List ℕ) (count : ℕ) (before : Option TextSpan) (i : ℕ)
     (es : List Entry) : Type 0 where
   pub each : (k : ℕ) (e : Entry) → slice_get es k ≡ Some e
       → IsEntry (bounds_of width bytes count (i + k)) (start_of bytes (i + k)) e
@@ -85,7 +85,7 @@ pub record IsEntries (width : ℕ) (bytes : List ℕ) (count : ℕ) (before : Op
 pub get-suc : {A : Type 0} (x : A) (xs : List A) (n m : ℕ) → m ≡ suc n → slice_get (x ∷ xs) m ≡ slice_get xs n
 get-suc x xs n m is = ap (λ k. slice_get (x ∷ xs) k) is
 
-entries-cons : (width : ℕ) (bytes : List ℕ) (count : ℕ) (before : Option TextPlace) (i : ℕ) (x : Entry)
+entries-cons : (width : ℕ) (bytes : List ℕ) (count : ℕ) (before : Option TextSpan) (i : ℕ) (x : Entry)
     (xs : List Entry)
     → IsEntry (bounds_of width bytes count i) (start_of bytes i) x → IsAbove bytes before x.name
     → IsEntries width bytes count (Some x.name) (i + 1) xs → IsEntries width bytes count before i (x ∷ xs)
@@ -114,7 +114,7 @@ entries-cons width bytes count before i x xs one above others = record {
     rising (suc k) e f is after =
         others.rising k e f is (sym (get-suc x xs (k + 1) (suc k + 1) (omega arith)) ∙ after)
 
-pub entries-sound : (width : ℕ) (bytes : List ℕ) (count : ℕ) (before : Option TextPlace) (i left : ℕ) (es : List Entry)
+pub entries-sound : (width : ℕ) (bytes : List ℕ) (count : ℕ) (before : Option TextSpan) (i left : ℕ) (es : List Entry)
     → entries width bytes count before i left ≡ Ok es → (length es ≡ left) × IsEntries width bytes count before i es
 unfolding entries
 entries-sound width bytes count before i zero es is =
@@ -130,7 +130,7 @@ entries-sound width bytes count before i (suc left) es is =
     subst (λ l. (length l ≡ suc left) × IsEntries width bytes count before i l) same
     (ap suc later.0, entries-cons width bytes count before i one.0 others.0 here.0 here.1 later.1)
 
-entries-tail : (width : ℕ) (bytes : List ℕ) (count : ℕ) (before : Option TextPlace) (i : ℕ) (x : Entry)
+entries-tail : (width : ℕ) (bytes : List ℕ) (count : ℕ) (before : Option TextSpan) (i : ℕ) (x : Entry)
     (xs : List Entry)
     → IsEntries width bytes count before i (x ∷ xs) → IsEntries width bytes count (Some x.name) (i + 1) xs
 entries-tail width bytes count before i x xs all = record {
@@ -140,7 +140,7 @@ entries-tail width bytes count before i x xs all = record {
   rising = λ k e f is after. all.rising (suc k) e f is (get-suc x xs (k + 1) (suc k + 1) (omega arith) ∙ after);
 }
 
-pub entries-complete : (width : ℕ) (bytes : List ℕ) (count : ℕ) (before : Option TextPlace) (i : ℕ) (es : List Entry)
+pub entries-complete : (width : ℕ) (bytes : List ℕ) (count : ℕ) (before : Option TextSpan) (i : ℕ) (es : List Entry)
     → IsEntries width bytes count before i es → entries width bytes count before i (length es) ≡ Ok es
 unfolding entries
 entries-complete width bytes count before i [] all = refl
@@ -172,7 +172,7 @@ marked width (a ∷ b ∷ []) long p q r s = absurd (omega arith)
 marked width (a ∷ b ∷ c ∷ []) long p q r s = absurd (omega arith)
 marked width (a ∷ b ∷ c ∷ d ∷ rest) long p q r s = rw (p, q, r, s) refl
 
--- A version that is known stands at its place.
+-- A version that is known stands in the fourth byte.
 record IsVersion (bytes : List ℕ) (width : ℕ) : Type 0 where
   pub known : (width ≡ 1) ⊎ (width ≡ 2)
   pub long : 3 < length bytes
@@ -283,10 +283,10 @@ then-ok (Err e) s y is = cc
 gathered : (width : ℕ) (bytes : List ℕ) (count : ℕ) (es : List Entry) → (width ≡ 1) ⊎ (width ≡ 2)
     → take 4 bytes ≡ 0xcd ∷ 0xcd ∷ 0xcd ∷ width ∷ [] → 0 < count → number 4 bytes 4 ≡ count
     → offsets bytes count 0 count ≡ Ok tt → length es ≡ count → IsEntries width bytes count None 0 es → IsTable bytes es
-gathered width bytes count es known mark some number_is placed size all =
+gathered width bytes count es known mark some number_is offsets_hold size all =
     let Counted : ℕ → Type 0 = λ n. (0 < n) × (number 4 bytes 4 ≡ n) × (offsets bytes n 0 n ≡ Ok tt)
     × IsEntries width bytes n None 0 es in
-    let counted = subst Counted (sym size) (some, number_is, placed, all) in
+    let counted = subst Counted (sym size) (some, number_is, offsets_hold, all) in
     record {
       width = width;
       known = known;
@@ -307,16 +307,16 @@ table-sound bytes es is =
     let mark = header-sound bytes head.0 head.1 in
     let number_of = bind-ok (count_of bytes) _ es head.2 in
     let count = count-sound bytes number_of.0 number_of.1 in
-    let placed = then-ok (offsets bytes number_of.0 0 number_of.0) _ es number_of.2 in
-    let all = entries-sound head.0 bytes number_of.0 None 0 number_of.0 es placed.1 in
-    gathered head.0 bytes number_of.0 es mark.0 mark.1 count.0 count.1 placed.0 all.0 all.1
+    let offsets_hold = then-ok (offsets bytes number_of.0 0 number_of.0) _ es number_of.2 in
+    let all = entries-sound head.0 bytes number_of.0 None 0 number_of.0 es offsets_hold.1 in
+    gathered head.0 bytes number_of.0 es mark.0 mark.1 count.0 count.1 offsets_hold.0 all.0 all.1
 
 -- a table is what the reading answers
 pub table-complete : (bytes : List ℕ) (es : List Entry) → IsTable bytes es → table bytes ≡ Ok es
 unfolding table
 table-complete bytes es is =
-    let placed : IsOffset bytes (length es) 0 = is.offsets.each 0 is.some in
-    let whole = placed.whole in
+    let first_offset : IsOffset bytes (length es) 0 = is.offsets.each 0 is.some in
+    let whole = first_offset.whole in
     rw (
       header-complete bytes is.width is.known is.mark,
       count-complete bytes (length es) (omega arith) is.some is.count,

@@ -7,7 +7,7 @@ use Rattle.std.proofs.Math.Nat.{eq-or-lt_of_le}
 use Rattle.std.proofs.lemmas.Bool.{ltb-true}
 use Rattle.std.proofs.lemmas.Bool.Decides.{nat_tests}
 use Rattle.deny_std_table.specs.declared.error.ReplacementError.{ReplacementError}
-use Rattle.deny_std_table.specs.declared.place.TextPlace.{TextPlace}
+use Rattle.deny_std_table.specs.declared.spans.TextSpan.{TextSpan}
 use Rattle.deny_std_table.specs.Reading.{◌>>=◌, ◌>>◌, unless_bad, done_of}
 use Rattle.deny_std_table.specs.Region.{bounds}
 use Rattle.deny_std_table.specs.Head.{start_of, is_offset, IsOffset, HasOffsets, offsets, header, count_of}
@@ -101,7 +101,7 @@ done_cons : (x : Entry) (r : Result (List Entry) ReplacementError)
 done_cons x (Ok es) = refl
 done_cons x (Err e) = refl
 
-done_more : (r : Result Entry ReplacementError) (name : TextPlace) (later : TextPlace
+done_more : (r : Result Entry ReplacementError) (name : TextSpan) (later : TextSpan
     → Result (List Entry) ReplacementError)
     → name_of r ≡ Ok name
     → done_of (r >>= (λ first. later first.name >>= (λ others. Ok (first ∷ others)))) ≡ done_of (later name)
@@ -111,7 +111,7 @@ done_more (Ok x) name later is =
 done_more (Err e) name later is = cc
 
 -- an entry breaks
-pub entries-break : (width : ℕ) (bytes : List ℕ) (count : ℕ) (before : Option TextPlace) (i left now : ℕ)
+pub entries-break : (width : ℕ) (bytes : List ℕ) (count : ℕ) (before : Option TextSpan) (i left now : ℕ)
     (e : ReplacementError)
     → left + 1 ≡ now → name_of (entry (bounds_of width bytes count i) before (start_of bytes i)) ≡ Err e
     → done_of (entries width bytes count before i now) ≡ Err e
@@ -123,8 +123,8 @@ entries-break width bytes count before i left now e is broken =
     (λ first. entries width bytes count (Some first.name) (i + 1) left) broken)
 
 -- an entry holds, and the others come next
-pub entries-more : (width : ℕ) (bytes : List ℕ) (count : ℕ) (before : Option TextPlace) (i left now : ℕ)
-    (name : TextPlace)
+pub entries-more : (width : ℕ) (bytes : List ℕ) (count : ℕ) (before : Option TextSpan) (i left now : ℕ)
+    (name : TextSpan)
     → left + 1 ≡ now → name_of (entry (bounds_of width bytes count i) before (start_of bytes i)) ≡ Ok name
     → done_of (entries width bytes count before i now) ≡ done_of (entries width bytes count (Some name) (i + 1) left)
 unfolding entries
@@ -135,24 +135,24 @@ entries-more width bytes count before i left now name is holds =
     (done_more (entry (bounds_of width bytes count i) before (start_of bytes i)) name
     (λ first. entries width bytes count (Some first) (i + 1) left) holds)
 
-pub entries-none : (width : ℕ) (bytes : List ℕ) (count : ℕ) (before : Option TextPlace) (i left : ℕ)
+pub entries-none : (width : ℕ) (bytes : List ℕ) (count : ℕ) (before : Option TextSpan) (i left : ℕ)
     → left ≡ 0 → done_of (entries width bytes count before i left) ≡ Ok tt
 unfolding entries
 entries-none width bytes count before i left is =
     subst (λ n. done_of (entries width bytes count before i n) ≡ Ok tt) (sym is) refl
 
 -- what was checked in a region is the entry there
-pub name_of-region : (width of_width : ℕ) (bytes of_region : List ℕ) (count i stop at : ℕ) (before : Option TextPlace)
-    (r : Result TextPlace ReplacementError) → of_width ≡ width → of_region ≡ bytes → stop ≡ stop_of bytes count i
+pub name_of-region : (width of_width : ℕ) (bytes of_region : List ℕ) (count i stop at : ℕ) (before : Option TextSpan)
+    (r : Result TextSpan ReplacementError) → of_width ≡ width → of_region ≡ bytes → stop ≡ stop_of bytes count i
     → at ≡ start_of bytes i → r ≡ name_of (entry (bounds of_width of_region stop) before at)
     → name_of (entry (bounds_of width bytes count i) before (start_of bytes i)) ≡ r
 name_of-region width of_width bytes of_region count i stop at before r wide same ends begins is =
     rw (← begins, ← ends, ← same, ← wide) (sym is)
 
--- a place that was read in a region is inside the bytes
-pub place_in-region : (bytes of_region : List ℕ) (read here : TextPlace) → of_region ≡ bytes
+-- a span that was read in a region is inside the bytes
+pub span_in-region : (bytes of_region : List ℕ) (read here : TextSpan) → of_region ≡ bytes
     → read.at + read.size ≤ length of_region → Some read ≡ Some here → here.at + here.size ≤ length bytes
-place_in-region bytes of_region read here same inside is =
+span_in-region bytes of_region read here same inside is =
     let one : read ≡ here = cc in
     rw (← same, ← one) inside
 

@@ -7,7 +7,7 @@ use Rattle.std.proofs.lemmas.List.{length-map, take_all}
 use Rattle.std.proofs.lemmas.Grind.{flat_map-append}
 use Rattle.std.proofs.lemmas.List.{take-append-drop}
 use Rattle.std.proofs.lemmas.Option.{slice_get-map}
-use Rattle.deny_lists.proofs.Places.{take-next}
+use Rattle.deny_lists.proofs.Indices.{take-next}
 use Rattle.deny_std_table.specs.declared.draft.Draft.{Draft}
 use Rattle.deny_std_table.specs.Head.{start_of}
 use Rattle.deny_std_table.specs.Entries.{Entry, stop_of, entry}
@@ -61,11 +61,11 @@ copied-more es count i e head body new_head new_body size at short head_writes b
     let before = take i es in
     let begin = 8 + 4 * length es in
     let so_far = flat_map entry_bytes before in
-    let place : 8 + 4 * count + body.size ≡ begin + length so_far =
+    let start : 8 + 4 * count + body.size ≡ begin + length so_far =
     (let counted = is.body.counted short in omega arith) in
     let offset : offset_bytes begin before ++ number_bytes 4 (8 + 4 * count + body.size)
     ≡ offset_bytes begin (take (i + 1) es) =
-    ap (λ n. offset_bytes begin before ++ number_bytes 4 n) place ∙ (sym (offsets-one begin before e)
+    ap (λ n. offset_bytes begin before ++ number_bytes 4 n) start ∙ (sym (offsets-one begin before e)
     ∙ ap (offset_bytes begin) (sym (take-next es i e at))) in
     let all : so_far ++ entry_bytes e ≡ flat_map entry_bytes (take (i + 1) es) = sym (entries-one before e)
     ∙ ap (flat_map entry_bytes) (sym (take-next es i e at)) in

@@ -2,37 +2,37 @@
 use Rattle.std.specs.Prelude.{◌≡◌, ℕ, List, [], ◌∷◌, ◌++◌, map, Result, Ok}
 use Rattle.std.specs.Result.{result_unwrap_or}
 use Rattle.deny_std_table.specs.declared.error.ReplacementError.{ReplacementError}
-use Rattle.deny_std_table.specs.declared.place.ItemPlace.{ItemPlace}
-use Rattle.deny_std_table.specs.declared.place.ItemPlace.TheVariants.{Stable}
-use Rattle.deny_std_table.specs.declared.place.Counts.{Counts}
+use Rattle.deny_std_table.specs.declared.spans.ItemSpans.{ItemSpans}
+use Rattle.deny_std_table.specs.declared.spans.ItemSpans.TheVariants.{Stable}
+use Rattle.deny_std_table.specs.declared.spans.Counts.{Counts}
 use Rattle.deny_std_table.specs.Reading.{◌>>=◌, many}
 use Rattle.deny_std_table.specs.declared.cursor.Cursor.{Cursor}
 use Rattle.deny_std_table.specs.Width.{width_of}
 use Rattle.deny_std_table.specs.Region.{Bounds, bounds, replacement, counted_items}
-use Rattle.deny_std_table.specs.Place.{IsItemIn}
+use Rattle.deny_std_table.specs.Spans.{IsItemIn}
 use Rattle.deny_std_table.specs.Item.{items_of}
 
 -- The items from an offset on, in a group of this minor version with so many replacements left, and
 -- with so many groups, unstable and unavailable items after it.
-unfoldable pub coming : Bounds → ℕ → ℕ → Counts → ℕ → Result (List ItemPlace) ReplacementError
+unfoldable pub coming : Bounds → ℕ → ℕ → Counts → ℕ → Result (List ItemSpans) ReplacementError
 coming b minor stable counts at = do
   group ← many (replacement b) stable at
   rest ← counted_items b counts group.next
   Ok (map (λ replacement. Stable replacement minor) group.value ++ items_of rest.value)
 
 -- the items that a cursor still has to give
-abbrev pub coming_of : Cursor → Result (List ItemPlace) ReplacementError
+abbrev pub coming_of : Cursor → Result (List ItemSpans) ReplacementError
 coming_of c = coming (bounds (width_of c.region.width) c.region.bytes.now c.region.stop) c.minor c.stable c.counts c.at
 
-abbrev pub left_of : Cursor → List ItemPlace
+abbrev pub left_of : Cursor → List ItemSpans
 left_of c = result_unwrap_or (coming_of c) []
 
 -- One item was given: the first of those to come, and the others come after it.
-pub record Gives (old new : Cursor) (place : ItemPlace) : Type 0 where
+pub record Gives (old new : Cursor) (spans : ItemSpans) : Type 0 where
   pub same : new.region ≡ old.region
   pub reads : coming_of new ≡ Ok (left_of new)
-  pub item : left_of old ≡ place ∷ left_of new
-  pub texts : IsItemIn old.region.bytes.now place
+  pub item : left_of old ≡ spans ∷ left_of new
+  pub texts : IsItemIn old.region.bytes.now spans
 
 -- No item is left, now and later.
 pub record Ends (old new : Cursor) : Type 0 where

@@ -4,24 +4,24 @@ use Rattle.std.specs.Prelude.{Ok, Err, if◌then◌else◌}
 use Rattle.std.specs.Cmp.Lexicographic.{slice_cmp}
 use Rattle.std.specs.Ordering.{nat_cmp, is_lt}
 use Rattle.deny_std_table.specs.declared.error.ReplacementError.{ReplacementError}
-use Rattle.deny_std_table.specs.declared.place.TextPlace.{TextPlace}
-use Rattle.deny_std_table.specs.Place.{contents}
+use Rattle.deny_std_table.specs.declared.spans.TextSpan.{TextSpan}
+use Rattle.deny_std_table.specs.Spans.{contents}
 use Rattle.deny_std_table.specs.Reading.{◌>>=◌, ◌>>◌, unless_bad}
 use Rattle.deny_std_table.specs.Region.{Bounds, Items, text, items}
 use Rattle.deny_std_table.specs.Head.{start_of}
 
 -- What an entry says: the name of its crate, and the items.
 pub record Entry : Type 0 where
-  pub name : TextPlace
+  pub name : TextSpan
   pub items : Items
 
 -- a name is above the one before it in byte order; the first has none before it
-abbrev pub is_above : List ℕ → Option TextPlace → TextPlace → Bool
+abbrev pub is_above : List ℕ → Option TextSpan → TextSpan → Bool
 is_above bytes None name = true
 is_above bytes (Some before) name = is_lt (slice_cmp nat_cmp (contents bytes before) (contents bytes name))
 
 -- an entry: its name, which rises, then its items
-unfoldable pub entry : Bounds → Option TextPlace → ℕ → Result Entry ReplacementError
+unfoldable pub entry : Bounds → Option TextSpan → ℕ → Result Entry ReplacementError
 entry b before start = do
   name ← text b start
   unless_bad (is_above b.bytes before name.value) start
@@ -29,7 +29,7 @@ entry b before start = do
   Ok (record { name = name.value; items = rest.value })
 
 -- its name, or its break
-abbrev pub name_of : Result Entry ReplacementError → Result TextPlace ReplacementError
+abbrev pub name_of : Result Entry ReplacementError → Result TextSpan ReplacementError
 name_of (Ok e) = Ok e.name
 name_of (Err e) = Err e
 
@@ -42,7 +42,7 @@ abbrev pub bounds_of : ℕ → List ℕ → ℕ → ℕ → Bounds
 bounds_of width bytes count i = record { bytes = bytes; width = width; stop = stop_of bytes count i }
 
 -- so many entries in turn, from this one on
-unfoldable pub entries : ℕ → List ℕ → ℕ → Option TextPlace → ℕ → ℕ → Result (List Entry) ReplacementError
+unfoldable pub entries : ℕ → List ℕ → ℕ → Option TextSpan → ℕ → ℕ → Result (List Entry) ReplacementError
 entries width bytes count before i zero = Ok []
 entries width bytes count before i (suc left) = do
   first ← entry (bounds_of width bytes count i) before (start_of bytes i)

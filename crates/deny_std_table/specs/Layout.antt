@@ -4,10 +4,10 @@ use Rattle.std.specs.Prelude.{IsUtf8}
 use Rattle.std.specs.Cmp.Lexicographic.{slice_cmp}
 use Rattle.std.specs.Ordering.{nat_cmp}
 use Rattle.std.specs.declared.cmp.Ordering.TheVariants.{Less}
-use Rattle.deny_std_table.specs.declared.place.TextPlace.{TextPlace}
-use Rattle.deny_std_table.specs.declared.place.ApiPlace.{ApiPlace}
-use Rattle.deny_std_table.specs.declared.place.ReplacementPlace.{ReplacementPlace}
-use Rattle.deny_std_table.specs.Place.{contents}
+use Rattle.deny_std_table.specs.declared.spans.TextSpan.{TextSpan}
+use Rattle.deny_std_table.specs.declared.spans.ApiSpans.{ApiSpans}
+use Rattle.deny_std_table.specs.declared.spans.ReplacementSpans.{ReplacementSpans}
+use Rattle.deny_std_table.specs.Spans.{contents}
 use Rattle.deny_std_table.specs.Reading.{number}
 use Rattle.deny_std_table.specs.Region.{Bounds, Group, Items, note_of}
 use Rattle.deny_std_table.specs.Head.{HasOffsets, start_of}
@@ -20,28 +20,28 @@ pub record IsByte (b : Bounds) (at value next : ℕ) : Type 0 where
   pub after : next ≡ at + 1
 
 -- A text: its length, then that many bytes of UTF-8, not past the entry's end.
-pub record IsText (b : Bounds) (at : ℕ) (place : TextPlace) (next : ℕ) : Type 0 where
-  pub after_length : place.at ≡ at + b.width
-  pub size : place.size ≡ number b.width b.bytes at
-  pub after : next ≡ place.at + place.size
+pub record IsText (b : Bounds) (at : ℕ) (span : TextSpan) (next : ℕ) : Type 0 where
+  pub after_length : span.at ≡ at + b.width
+  pub size : span.size ≡ number b.width b.bytes at
+  pub after : next ≡ span.at + span.size
   pub inside : next ≤ b.stop
-  pub utf8 : IsUtf8 (contents b.bytes place)
+  pub utf8 : IsUtf8 (contents b.bytes span)
 
 -- An API: a name, then an address.
-pub record IsApi (b : Bounds) (at : ℕ) (place : ApiPlace) (next : ℕ) : Type 0 where
+pub record IsApi (b : Bounds) (at : ℕ) (spans : ApiSpans) (next : ℕ) : Type 0 where
   pub after_name : ℕ
-  pub name : IsText b at place.name after_name
-  pub url : IsText b after_name place.url next
+  pub name : IsText b at spans.name after_name
+  pub url : IsText b after_name spans.url next
 
 -- A replacement: the API of the crate, the API of std, and a note, which is none where it is empty.
-pub record IsReplacement (b : Bounds) (at : ℕ) (place : ReplacementPlace) (next : ℕ) : Type 0 where
+pub record IsReplacement (b : Bounds) (at : ℕ) (spans : ReplacementSpans) (next : ℕ) : Type 0 where
   pub after_krate : ℕ
   pub after_std : ℕ
-  pub note_place : TextPlace
-  pub krate : IsApi b at place.krate after_krate
-  pub std : IsApi b after_krate place.std after_std
-  pub note_text : IsText b after_std note_place next
-  pub note : place.note ≡ note_of note_place
+  pub note_span : TextSpan
+  pub krate : IsApi b at spans.krate after_krate
+  pub std : IsApi b after_krate spans.std after_std
+  pub note_text : IsText b after_std note_span next
+  pub note : spans.note ≡ note_of note_span
 
 -- Several of a kind, one right after the other.
 pub data IsRow {A : Type 0} (IsOne : ℕ → A → ℕ → Type 0) : ℕ → List A → ℕ → Type 0 where

@@ -4,10 +4,10 @@ pub mod Head
 pub mod Item
 pub mod Layout
 pub mod Names
-pub mod Place
 pub mod Reading
 pub mod Region
 pub mod Replacement
+pub mod Spans
 pub mod Spelling
 pub mod Table
 pub mod Width

@@ -1,17 +1,17 @@
 -- An entry's bytes, from its name to its last item, in the order in which they are read. The first break ends
--- the reading: a text breaks at its length, a missing byte at the entry's end, a number that is 0 at its place.
+-- the reading: a text breaks at its length, a missing byte at the entry's end, a number that is 0 at its offset.
 use Rattle.std.specs.Prelude.{ℕ, ◌+◌, ◌==◌, ◌&&◌, nat_lt, nat_le, List, Option, Some, None, Result, Ok, Err}
 use Rattle.std.specs.Prelude.{slice_index, if◌then◌else◌}
 use Rattle.std.specs.Str.{is_utf8}
 use Rattle.deny_std_table.specs.declared.error.ReplacementError.{ReplacementError}
 use Rattle.deny_std_table.specs.declared.error.ReplacementError.TheVariants.{Bad}
-use Rattle.deny_std_table.specs.declared.place.TextPlace.{TextPlace}
-use Rattle.deny_std_table.specs.declared.place.ApiPlace.{ApiPlace}
-use Rattle.deny_std_table.specs.declared.place.ReplacementPlace.{ReplacementPlace}
-use Rattle.deny_std_table.specs.declared.place.Counts.{Counts}
-use Rattle.deny_std_table.specs.declared.place.GroupHead.{GroupHead}
-use Rattle.deny_std_table.specs.declared.place.Read.{Read}
-use Rattle.deny_std_table.specs.Place.{contents}
+use Rattle.deny_std_table.specs.declared.spans.TextSpan.{TextSpan}
+use Rattle.deny_std_table.specs.declared.spans.ApiSpans.{ApiSpans}
+use Rattle.deny_std_table.specs.declared.spans.ReplacementSpans.{ReplacementSpans}
+use Rattle.deny_std_table.specs.declared.spans.Counts.{Counts}
+use Rattle.deny_std_table.specs.declared.spans.GroupHead.{GroupHead}
+use Rattle.deny_std_table.specs.declared.spans.Read.{Read}
+use Rattle.deny_std_table.specs.Spans.{contents}
 use Rattle.deny_std_table.specs.Reading.{◌>>=◌, ◌>>◌, unless_bad, read, number, many}
 
 -- The bytes of a table, the offset where the entry at hand ends, and how many bytes a text's length has.
@@ -28,31 +28,31 @@ bounds width bytes stop = record { bytes = bytes; width = width; stop = stop }
 unfoldable pub byte : Bounds → ℕ → Result (Read ℕ) ReplacementError
 byte b at = if nat_lt at b.stop then Ok (read (slice_index b.bytes at) (at + 1)) else Err (Bad b.stop)
 
--- the place of the text whose length stands at an offset
-abbrev pub text_place : Bounds → ℕ → TextPlace
-text_place b at = record { at = at + b.width; size = number b.width b.bytes at }
+-- the span of the text whose length stands at an offset
+abbrev pub text_span : Bounds → ℕ → TextSpan
+text_span b at = record { at = at + b.width; size = number b.width b.bytes at }
 
 -- a text: its length, then that many bytes of UTF-8, all inside the entry
-unfoldable pub text : Bounds → ℕ → Result (Read TextPlace) ReplacementError
+unfoldable pub text : Bounds → ℕ → Result (Read TextSpan) ReplacementError
 text b at =
-    let place = text_place b at in
-    let next = place.at + place.size in
-    if nat_le place.at b.stop && nat_le next b.stop && is_utf8 (contents b.bytes place)
-    then Ok (read place next) else Err (Bad at)
+    let span = text_span b at in
+    let next = span.at + span.size in
+    if nat_le span.at b.stop && nat_le next b.stop && is_utf8 (contents b.bytes span)
+    then Ok (read span next) else Err (Bad at)
 
 -- an API: its name, its address
-unfoldable pub api : Bounds → ℕ → Result (Read ApiPlace) ReplacementError
+unfoldable pub api : Bounds → ℕ → Result (Read ApiSpans) ReplacementError
 api b at = do
   name ← text b at
   url ← text b name.next
   Ok (read (record { name = name.value; url = url.value }) url.next)
 
 -- an empty note is none
-abbrev pub note_of : TextPlace → Option TextPlace
-note_of place = if place.size == 0 then None else Some place
+abbrev pub note_of : TextSpan → Option TextSpan
+note_of span = if span.size == 0 then None else Some span
 
 -- a replacement: the API of the crate, the API of std, a note
-unfoldable pub replacement : Bounds → ℕ → Result (Read ReplacementPlace) ReplacementError
+unfoldable pub replacement : Bounds → ℕ → Result (Read ReplacementSpans) ReplacementError
 replacement b at = do
   krate ← api b at
   std ← api b krate.next
@@ -62,7 +62,7 @@ replacement b at = do
 -- Replacements that are stable since one minor version.
 pub record Group : Type 0 where
   pub minor : ℕ
-  pub replacements : List ReplacementPlace
+  pub replacements : List ReplacementSpans
 
 -- the head of a group: its minor version, and the number of its replacements, which is not 0
 unfoldable pub group_head : Bounds → ℕ → Result (Read GroupHead) ReplacementError
@@ -91,8 +91,8 @@ counts b at = do
 -- All that an entry says of its crate.
 pub record Items : Type 0 where
   pub groups : List Group
-  pub unstable : List ReplacementPlace
-  pub unavailable : List ApiPlace
+  pub unstable : List ReplacementSpans
+  pub unavailable : List ApiSpans
 
 -- so many groups, unstable and unavailable items; what follows the last one is not looked at
 unfoldable pub counted_items : Bounds → Counts → ℕ → Result (Read Items) ReplacementError

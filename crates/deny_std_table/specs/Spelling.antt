@@ -1,9 +1,9 @@
 -- What a table says, text by text, and the bytes of version 2 that say so, in which nothing is ignored.
 use Rattle.std.specs.Prelude.{◌≡◌, ℕ, zero, suc, ◌+◌, ◌*◌, ◌%◌, ◌/◌, List, [], ◌∷◌, ◌++◌, Option, Some, None, Ok}
 use Rattle.std.specs.Prelude.{length, map, flat_map, option_map}
-use Rattle.deny_std_table.specs.declared.place.ApiPlace.{ApiPlace}
-use Rattle.deny_std_table.specs.declared.place.ReplacementPlace.{ReplacementPlace}
-use Rattle.deny_std_table.specs.Place.{contents}
+use Rattle.deny_std_table.specs.declared.spans.ApiSpans.{ApiSpans}
+use Rattle.deny_std_table.specs.declared.spans.ReplacementSpans.{ReplacementSpans}
+use Rattle.deny_std_table.specs.Spans.{contents}
 use Rattle.deny_std_table.specs.Region.{Group, Items}
 use Rattle.deny_std_table.specs.Entries.{Entry}
 use Rattle.deny_std_table.specs.Table.{Table, table}
@@ -30,11 +30,11 @@ pub record EntryText : Type 0 where
   pub name : List ℕ
   pub items : ItemsText
 
--- each place's text, in the same order and of the same kind
-abbrev pub api_text : List ℕ → ApiPlace → ApiText
+-- the text of each span, in the same order and of the same kind
+abbrev pub api_text : List ℕ → ApiSpans → ApiText
 api_text bytes a = record { name = contents bytes a.name; url = contents bytes a.url }
 
-abbrev pub replacement_text : List ℕ → ReplacementPlace → ReplacementText
+abbrev pub replacement_text : List ℕ → ReplacementSpans → ReplacementText
 replacement_text bytes r = record {
   krate = api_text bytes r.krate;
   std = api_text bytes r.std;

@@ -4,8 +4,8 @@ use Rattle.deny_std_table.specs.declared.item.Api.{Api}
 use Rattle.deny_std_table.specs.declared.item.ApiReplacement.{ApiReplacement}
 use Rattle.deny_std_table.specs.declared.item.ReplacementItem.{ReplacementItem}
 use Rattle.deny_std_table.specs.declared.item.ReplacementItem.TheVariants as item
-use Rattle.deny_std_table.specs.declared.place.ItemPlace.{ItemPlace}
-use Rattle.deny_std_table.specs.declared.place.ItemPlace.TheVariants as place
+use Rattle.deny_std_table.specs.declared.spans.ItemSpans.{ItemSpans}
+use Rattle.deny_std_table.specs.declared.spans.ItemSpans.TheVariants as spans
 use Rattle.deny_std_table.specs.Replacement.{ItemsLeft}
 use Rattle.deny_std_table.specs.Spelling.{ApiText, GroupText, ItemsText, ReplacementText, api_text, replacement_text}
 
@@ -14,11 +14,11 @@ pub data ItemText : Type 0 where
   Unstable : ReplacementText → ItemText
   Unavailable : ApiText → ItemText
 
--- of an item that stands at a place
-abbrev pub item_text : List ℕ → ItemPlace → ItemText
-item_text bytes (place.Stable r minor) = Stable (replacement_text bytes r) minor
-item_text bytes (place.Unstable r) = Unstable (replacement_text bytes r)
-item_text bytes (place.Unavailable api) = Unavailable (api_text bytes api)
+-- of an item that stands in its spans
+abbrev pub item_text : List ℕ → ItemSpans → ItemText
+item_text bytes (spans.Stable r minor) = Stable (replacement_text bytes r) minor
+item_text bytes (spans.Unstable r) = Unstable (replacement_text bytes r)
+item_text bytes (spans.Unavailable api) = Unavailable (api_text bytes api)
 
 -- of one that is handed out
 abbrev pub api_given : Api → ApiText

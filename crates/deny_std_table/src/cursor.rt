@@ -1,10 +1,10 @@
-//! A place between two items of an entry.
+//! A point between two items of an entry.
 
 ghost use Rattle.std.specs.Prelude.{◌≡◌, ◌<◌, Ok, MatchOption};
 ghost use Rattle.deny_std_table.specs.Cursor.{coming_of, left_of, Gives, Ends};
 
-use crate::place::{Counts, ItemPlace};
 use crate::region::Region;
+use crate::spans::{Counts, ItemSpans};
 
 /// What is still to come of an entry: first what is left of the group at hand, which is stable since
 /// its minor version, then as many groups and other items as the counts say.
@@ -19,7 +19,7 @@ pub(crate) struct Cursor<'d> {
 
 impl<'d> Cursor<'d> {
     /// The next replacement of the group at hand.
-    fn next_stable(&mut self) -> ItemPlace
+    fn next_stable(&mut self) -> ItemSpans
         requires some { 0 < self.old.stable }
         requires reads { coming_of self.old ≡ Ok (left_of self.old) }
         ensures { Gives self.old self.new result }
@@ -27,14 +27,14 @@ impl<'d> Cursor<'d> {
         let read = self.region.replacement(self.at).unwrap();
         self.at = read.next;
         self.stable -= 1;
-        ItemPlace::Stable {
+        ItemSpans::Stable {
             replacement: read.value,
             minor: self.minor,
         }
     }
 
     /// The next replacement that is not stable.
-    fn next_unstable(&mut self) -> ItemPlace
+    fn next_unstable(&mut self) -> ItemSpans
         requires stable { self.old.stable ≡ 0 }
         requires groups { self.old.counts.groups ≡ 0 }
         requires some { 0 < self.old.counts.unstable }
@@ -44,13 +44,13 @@ impl<'d> Cursor<'d> {
         let read = self.region.replacement(self.at).unwrap();
         self.at = read.next;
         self.counts.unstable -= 1;
-        ItemPlace::Unstable {
+        ItemSpans::Unstable {
             replacement: read.value,
         }
     }
 
     /// The next API without a replacement.
-    fn next_unavailable(&mut self) -> ItemPlace
+    fn next_unavailable(&mut self) -> ItemSpans
         requires stable { self.old.stable ≡ 0 }
         requires groups { self.old.counts.groups ≡ 0 }
         requires unstable { self.old.counts.unstable ≡ 0 }
@@ -61,7 +61,7 @@ impl<'d> Cursor<'d> {
         let read = self.region.api(self.at).unwrap();
         self.at = read.next;
         self.counts.unavailable -= 1;
-        ItemPlace::Unavailable { api: read.value }
+        ItemSpans::Unavailable { api: read.value }
     }
 
     /// Goes on to the next group.
@@ -93,10 +93,10 @@ impl<'d> Cursor<'d> {
     }
 
     /// The next item, with no group ahead where none is at hand.
-    fn next_settled(&mut self) -> Option<ItemPlace>
+    fn next_settled(&mut self) -> Option<ItemSpans>
         requires settled { self.old.stable ≡ 0 → self.old.counts.groups ≡ 0 }
         requires reads { coming_of self.old ≡ Ok (left_of self.old) }
-        ensures { MatchOption result (Ends self.old self.new) (λ place. Gives self.old self.new place) }
+        ensures { MatchOption result (Ends self.old self.new) (λ spans. Gives self.old self.new spans) }
     {
         if self.stable > 0 {
             Some(self.next_stable())
@@ -110,9 +110,9 @@ impl<'d> Cursor<'d> {
     }
 
     /// The next item.
-    pub fn next(&mut self) -> Option<ItemPlace>
+    pub fn next(&mut self) -> Option<ItemSpans>
         requires { coming_of self.old ≡ Ok (left_of self.old) }
-        ensures { MatchOption result (Ends self.old self.new) (λ place. Gives self.old self.new place) }
+        ensures { MatchOption result (Ends self.old self.new) (λ spans. Gives self.old self.new spans) }
     {
         self.settle();
         self.next_settled()

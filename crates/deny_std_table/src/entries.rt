@@ -10,12 +10,12 @@ ghost use Rattle.deny_std_table.specs.Entries.{is_above, entry, name_of, stop_of
 
 use crate::error::ReplacementError;
 use crate::head::start_of;
-use crate::place::{TextPlace, slice_at};
 use crate::region::Region;
+use crate::spans::{TextSpan, slice_at};
 use crate::width::Width;
 
 /// A name is above the one before it.
-fn is_above(bytes: &[u8], before: Option<TextPlace>, name: TextPlace) -> bool
+fn is_above(bytes: &[u8], before: Option<TextSpan>, name: TextSpan) -> bool
     requires before { ForSome before (λ p. p.at + p.size ≤ length bytes.now) }
     requires name { name.at + name.size ≤ length bytes.now }
     ensures { result ≡ is_above bytes.now before name }
@@ -30,9 +30,9 @@ fn is_above(bytes: &[u8], before: Option<TextPlace>, name: TextPlace) -> bool
 #[tactic(auto, unfolding(crate::specs::Entries::entry))]
 fn check_entry(
     region: &Region,
-    before: Option<TextPlace>,
+    before: Option<TextSpan>,
     start: usize,
-) -> Result<TextPlace, ReplacementError>
+) -> Result<TextSpan, ReplacementError>
     requires { ForSome before (λ p. p.at + p.size ≤ length region.now.bytes.now) }
     ensures value { result
         ≡ name_of (entry (bounds (width_of region.now.width) region.now.bytes.now region.now.stop) before start) }

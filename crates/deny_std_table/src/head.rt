@@ -28,7 +28,7 @@ fn check_byte(bytes: &[u8], at: usize, value: u8) -> Result<(), ReplacementError
     }
 }
 
-/// The version at its place.
+/// The version, in the fourth byte.
 #[tactic(auto, unfolding(crate::specs::Head::version))]
 fn version(bytes: &[u8]) -> Result<Width, ReplacementError>
     ensures { MatchResult result (λ width. version bytes.now ≡ Ok (width_of width)) (λ e. version bytes.now ≡ Err e) }
@@ -93,20 +93,20 @@ fn rises(bytes: &[u8], i: u32) -> bool
     i == 0 || start_of(bytes, i - 1) < start_of(bytes, i)
 }
 
-/// One offset, at its place.
+/// One offset, in its four bytes.
 fn check_offset(bytes: &[u8], count: u32, i: u32) -> Result<(), ReplacementError>
     requires { i < count }
     ensures { result ≡ unless_bad (is_offset bytes.now count i) (8 + 4 * i) }
 {
-    let place = 8 + 4 * i as usize;
-    if bytes.len() < place + 4 {
-        return Err(ReplacementError::Bad(place));
+    let at = 8 + 4 * i as usize;
+    if bytes.len() < at + 4 {
+        return Err(ReplacementError::Bad(at));
     }
     let start = start_of(bytes, i);
     if start >= 8 + 4 * count as usize && rises(bytes, i) && start < bytes.len() {
         Ok(())
     } else {
-        Err(ReplacementError::Bad(place))
+        Err(ReplacementError::Bad(at))
     }
 }
 

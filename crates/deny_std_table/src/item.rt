@@ -1,11 +1,11 @@
 //! The items of an entry, as they are handed out.
 
 ghost use Rattle.std.specs.Prelude.{◌≡◌, option_map, option_copied, Some};
-ghost use Rattle.deny_std_table.specs.declared.place.TextPlace.{TextPlace};
-ghost use Rattle.deny_std_table.specs.Place.{contents, IsTextIn, IsApiIn, IsReplacementIn, IsItemIn};
+ghost use Rattle.deny_std_table.specs.declared.spans.TextSpan.{TextSpan};
+ghost use Rattle.deny_std_table.specs.Spans.{contents, IsTextIn, IsApiIn, IsReplacementIn, IsItemIn};
 ghost use Rattle.deny_std_table.specs.Item.{IsApiAt, IsReplacementAt, IsItemAt};
 
-use crate::place::{ApiPlace, ItemPlace, ReplacementPlace, TextPlace, text_at};
+use crate::spans::{ApiSpans, ItemSpans, ReplacementSpans, TextSpan, text_at};
 
 /// An API.
 #[derive(Clone, Copy)]
@@ -45,51 +45,51 @@ pub enum ReplacementItem<'d> {
     },
 }
 
-fn api_at(bytes: &[u8], place: ApiPlace) -> Api
-    requires { IsApiIn bytes.now place }
-    ensures { IsApiAt bytes.now place result }
+fn api_at(bytes: &[u8], spans: ApiSpans) -> Api
+    requires { IsApiIn bytes.now spans }
+    ensures { IsApiAt bytes.now spans result }
 {
     Api {
-        name: text_at(bytes, place.name),
-        url: text_at(bytes, place.url),
+        name: text_at(bytes, spans.name),
+        url: text_at(bytes, spans.url),
     }
 }
 
-fn note_at(bytes: &[u8], place: Option<TextPlace>) -> Option<&str>
-    requires { (t : TextPlace) → place ≡ Some t → IsTextIn bytes.now t }
-    ensures { option_copied result ≡ option_map (contents bytes.now) place }
+fn note_at(bytes: &[u8], span: Option<TextSpan>) -> Option<&str>
+    requires { (t : TextSpan) → span ≡ Some t → IsTextIn bytes.now t }
+    ensures { option_copied result ≡ option_map (contents bytes.now) span }
 {
-    match place {
+    match span {
         None => None,
-        Some(place) => Some(text_at(bytes, place)),
+        Some(span) => Some(text_at(bytes, span)),
     }
 }
 
-fn replacement_at(bytes: &[u8], place: ReplacementPlace) -> ApiReplacement
-    requires { IsReplacementIn bytes.now place }
-    ensures { IsReplacementAt bytes.now place result }
+fn replacement_at(bytes: &[u8], spans: ReplacementSpans) -> ApiReplacement
+    requires { IsReplacementIn bytes.now spans }
+    ensures { IsReplacementAt bytes.now spans result }
 {
     ApiReplacement {
-        krate: api_at(bytes, place.krate),
-        std: api_at(bytes, place.std),
-        note: note_at(bytes, place.note),
+        krate: api_at(bytes, spans.krate),
+        std: api_at(bytes, spans.std),
+        note: note_at(bytes, spans.note),
     }
 }
 
-/// An item with the texts that stand at its places.
-pub(crate) fn item_at(bytes: &[u8], place: ItemPlace) -> ReplacementItem
-    requires { IsItemIn bytes.now place }
-    ensures { IsItemAt bytes.now place result }
+/// An item with the texts that stand in its spans.
+pub(crate) fn item_at(bytes: &[u8], spans: ItemSpans) -> ReplacementItem
+    requires { IsItemIn bytes.now spans }
+    ensures { IsItemAt bytes.now spans result }
 {
-    match place {
-        ItemPlace::Stable { replacement, minor } => ReplacementItem::Stable {
+    match spans {
+        ItemSpans::Stable { replacement, minor } => ReplacementItem::Stable {
             replacement: replacement_at(bytes, replacement),
             minor,
         },
-        ItemPlace::Unstable { replacement } => ReplacementItem::Unstable {
+        ItemSpans::Unstable { replacement } => ReplacementItem::Unstable {
             replacement: replacement_at(bytes, replacement),
         },
-        ItemPlace::Unavailable { api } => ReplacementItem::Unavailable {
+        ItemSpans::Unavailable { api } => ReplacementItem::Unavailable {
             api: api_at(bytes, api),
         },
     }

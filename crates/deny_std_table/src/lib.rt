@@ -1,5 +1,5 @@
 //! The table of crates that the standard library replaces. Its bytes are read once from end to end,
-//! and each text that is handed out equals the bytes at its place.
+//! and each text that is handed out equals the bytes of its span.
 //!
 //! | Bytes | Meaning |
 //! |---|---|
@@ -28,9 +28,9 @@ mod error;
 mod head;
 mod item;
 mod names;
-mod place;
 mod region;
 mod replacement;
+mod spans;
 mod table;
 mod upgrade;
 mod width;

@@ -2,10 +2,10 @@
 
 ghost use Rattle.std.specs.Prelude.{◌≡◌, ◌≢◌, ℕ, ◌<◌, MatchOption};
 ghost use Rattle.deny_std_table.specs.Width.{width_of};
-ghost use Rattle.deny_std_table.specs.Names.{name_place, name_at, HasNames};
+ghost use Rattle.deny_std_table.specs.Names.{name_span, name_at, HasNames};
 
 use crate::head::start_of;
-use crate::place::{TextPlace, slice_at};
+use crate::spans::{TextSpan, slice_at};
 use crate::width::Width;
 use std::cmp::Ordering;
 
@@ -17,11 +17,11 @@ fn name_at(width: Width, bytes: &[u8], count: u32, i: u32) -> &[u8]
     ensures { result.now ≡ name_at (width_of width) bytes.now i }
 {
     let start = start_of(bytes, i);
-    let place = TextPlace {
+    let span = TextSpan {
         at: start + width.bytes(),
         size: width.length_at(bytes, start),
     };
-    slice_at(bytes, place)
+    slice_at(bytes, span)
 }
 
 /// The number of the entry with a name.

@@ -2,14 +2,14 @@
 
 ghost use Rattle.std.specs.Prelude.{◌≡◌, ◌+◌, ◌≤◌, length, IfOk};
 ghost use Rattle.std.specs.Str.{is_utf8};
-ghost use Rattle.deny_std_table.specs.Place.{contents};
+ghost use Rattle.deny_std_table.specs.Spans.{contents};
 ghost use Rattle.deny_std_table.specs.Reading.{next_of, many};
 ghost use Rattle.deny_std_table.specs.Width.{width_of};
 ghost use Rattle.deny_std_table.specs.Region.{bounds, byte, text, api, replacement, note_of};
 ghost use Rattle.deny_std_table.specs.Region.{group_head, group, counts, counted_items, items};
 
 use crate::error::ReplacementError;
-use crate::place::{ApiPlace, Counts, GroupHead, Read, ReplacementPlace, TextPlace};
+use crate::spans::{ApiSpans, Counts, GroupHead, Read, ReplacementSpans, TextSpan};
 use crate::width::Width;
 use std::str;
 
@@ -38,7 +38,7 @@ impl<'d> Region<'d> {
     }
 
     #[tactic(auto, unfolding(crate::specs::Region::text))]
-    pub fn text(&self, at: usize) -> Result<Read<TextPlace>, ReplacementError>
+    pub fn text(&self, at: usize) -> Result<Read<TextSpan>, ReplacementError>
         ensures value { result ≡ text (bounds (width_of self.now.width) self.now.bytes.now self.now.stop) at }
         ensures inside { IfOk result (λ t. t.value.at + t.value.size ≤ length self.now.bytes.now) }
     {
@@ -46,27 +46,27 @@ impl<'d> Region<'d> {
         if at >= self.stop || length > self.stop - at {
             return Err(ReplacementError::Bad(at));
         }
-        let place = TextPlace {
+        let span = TextSpan {
             at: at + length,
             size: self.width.length_at(self.bytes, at),
         };
-        if place.size > self.stop - place.at || !is_text(self.bytes, place) {
+        if span.size > self.stop - span.at || !is_text(self.bytes, span) {
             return Err(ReplacementError::Bad(at));
         }
         Ok(Read {
-            value: place,
-            next: place.at + place.size,
+            value: span,
+            next: span.at + span.size,
         })
     }
 
     #[tactic(auto, unfolding(crate::specs::Region::api))]
-    pub fn api(&self, at: usize) -> Result<Read<ApiPlace>, ReplacementError>
+    pub fn api(&self, at: usize) -> Result<Read<ApiSpans>, ReplacementError>
         ensures { result ≡ api (bounds (width_of self.now.width) self.now.bytes.now self.now.stop) at }
     {
         let name = self.text(at)?;
         let url = self.text(name.next)?;
         Ok(Read {
-            value: ApiPlace {
+            value: ApiSpans {
                 name: name.value,
                 url: url.value,
             },
@@ -75,14 +75,14 @@ impl<'d> Region<'d> {
     }
 
     #[tactic(auto, unfolding(crate::specs::Region::replacement))]
-    pub fn replacement(&self, at: usize) -> Result<Read<ReplacementPlace>, ReplacementError>
+    pub fn replacement(&self, at: usize) -> Result<Read<ReplacementSpans>, ReplacementError>
         ensures { result ≡ replacement (bounds (width_of self.now.width) self.now.bytes.now self.now.stop) at }
     {
         let krate = self.api(at)?;
         let std = self.api(krate.next)?;
         let note = self.text(std.next)?;
         Ok(Read {
-            value: ReplacementPlace {
+            value: ReplacementSpans {
                 krate: krate.value,
                 std: std.value,
                 note: note_of(note.value),
@@ -132,7 +132,7 @@ impl<'d> Region<'d> {
             (many (replacement (bounds (width_of self.now.width) self.now.bytes.now self.now.stop)) count at) }
     {
         let mut next = at;
-        for _place in 0..count {
+        for _index in 0..count {
             next = self.replacement(next)?.next;
         }
         Ok(next)
@@ -144,7 +144,7 @@ impl<'d> Region<'d> {
             (many (api (bounds (width_of self.now.width) self.now.bytes.now self.now.stop)) count at) }
     {
         let mut next = at;
-        for _place in 0..count {
+        for _index in 0..count {
             next = self.api(next)?.next;
         }
         Ok(next)
@@ -164,7 +164,7 @@ impl<'d> Region<'d> {
             (many (group (bounds (width_of self.now.width) self.now.bytes.now self.now.stop)) count at) }
     {
         let mut next = at;
-        for _place in 0..count {
+        for _index in 0..count {
             next = self.skip_group(next)?;
         }
         Ok(next)
@@ -183,16 +183,16 @@ impl<'d> Region<'d> {
 }
 
 /// An empty note is none.
-fn note_of(place: TextPlace) -> Option<TextPlace>
-    ensures { result ≡ note_of place }
+fn note_of(span: TextSpan) -> Option<TextSpan>
+    ensures { result ≡ note_of span }
 {
-    if place.size == 0 { None } else { Some(place) }
+    if span.size == 0 { None } else { Some(span) }
 }
 
-/// Whether UTF-8 stands at a place.
-fn is_text(bytes: &[u8], place: TextPlace) -> bool
-    requires { place.at + place.size ≤ length bytes.now }
-    ensures { result ≡ is_utf8 (contents bytes.now place) }
+/// Whether UTF-8 stands in a span.
+fn is_text(bytes: &[u8], span: TextSpan) -> bool
+    requires { span.at + span.size ≤ length bytes.now }
+    ensures { result ≡ is_utf8 (contents bytes.now span) }
 {
-    str::from_utf8(&bytes[place.at..place.at + place.size]).is_ok()
+    str::from_utf8(&bytes[span.at..span.at + span.size]).is_ok()
 }

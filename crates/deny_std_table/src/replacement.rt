@@ -2,15 +2,15 @@
 
 ghost use Rattle.std.specs.Prelude.{◌≡◌, Ok, None, IsOk, MatchOption, List, [], ◌∷◌};
 ghost use Rattle.deny_std_table.specs.Width.{width_of};
-ghost use Rattle.deny_std_table.specs.declared.place.ItemPlace.{ItemPlace};
+ghost use Rattle.deny_std_table.specs.declared.spans.ItemSpans.{ItemSpans};
 ghost use Rattle.deny_std_table.specs.Region.{bounds};
 ghost use Rattle.deny_std_table.specs.Entries.{Entry, entry};
 ghost use Rattle.deny_std_table.specs.Item.{items_of, IsItemAt};
 
 use crate::cursor::Cursor;
 use crate::item::{ReplacementItem, item_at};
-use crate::place::Counts;
 use crate::region::Region;
+use crate::spans::Counts;
 use std::marker::Model;
 
 /// What a table says of one crate, over the table's bytes.
@@ -98,10 +98,10 @@ impl<'d> ReplacementIter<'d> {
         ensures bytes { self.new.bytes ≡ self.old.bytes }
         ensures items { MatchOption result
             ((self.old.items ≡ []) × (self.new.items ≡ []))
-            (λ item. (place : ItemPlace) × (self.old.items ≡ place ∷ self.new.items)
-            × IsItemAt self.old.bytes place item) }
+            (λ item. (spans : ItemSpans) × (self.old.items ≡ spans ∷ self.new.items)
+            × IsItemAt self.old.bytes spans item) }
     {
-        let place = self.cursor.next()?;
-        Some(item_at(self.cursor.region.bytes, place))
+        let spans = self.cursor.next()?;
+        Some(item_at(self.cursor.region.bytes, spans))
     }
 }

@@ -2,15 +2,15 @@
 
 ghost use Rattle.std.specs.Prelude.{◌≡◌, ◌++◌, ◌↔◌, ◌≤◌, ◌<◌, ◌+◌, List, [], ◌∷◌};
 ghost use Rattle.std.specs.Prelude.{length, map, flat_map, Ok, Err, Some, None, IsOk, IfOk, option_map};
-ghost use Rattle.deny_std_table.specs.declared.place.ReplacementPlace.{ReplacementPlace};
-ghost use Rattle.deny_std_table.specs.declared.place.TextPlace.{TextPlace};
-ghost use Rattle.deny_std_table.specs.declared.place.ApiPlace.{ApiPlace};
-ghost use Rattle.deny_std_table.specs.declared.place.Read.{Read};
+ghost use Rattle.deny_std_table.specs.declared.spans.ReplacementSpans.{ReplacementSpans};
+ghost use Rattle.deny_std_table.specs.declared.spans.TextSpan.{TextSpan};
+ghost use Rattle.deny_std_table.specs.declared.spans.ApiSpans.{ApiSpans};
+ghost use Rattle.deny_std_table.specs.declared.spans.Read.{Read};
 ghost use Rattle.deny_std_table.specs.Width.{width_of};
 ghost use Rattle.deny_std_table.specs.Reading.{next_of, done_of, many};
 ghost use Rattle.deny_std_table.specs.Region.{bounds, Group, Items, api, replacement, group, items};
 ghost use Rattle.deny_std_table.specs.Entries.{Entry, entry};
-ghost use Rattle.deny_std_table.specs.Place.{contents, IsTextIn, IsApiIn, IsReplacementIn};
+ghost use Rattle.deny_std_table.specs.Spans.{contents, IsTextIn, IsApiIn, IsReplacementIn};
 ghost use Rattle.deny_std_table.specs.Table.{IsRead, read_entries};
 ghost use Rattle.deny_std_table.specs.Spelling.{SaysTheSame, api_text, replacement_text, group_text, items_text};
 ghost use Rattle.deny_std_table.specs.Spelling.{entry_text, texts_of, api_bytes, note_bytes, replacement_bytes};
@@ -21,37 +21,37 @@ use crate::draft::Draft;
 use crate::entries::region_of;
 use crate::error::{ReplacementError, UpgradeError};
 use crate::head::start_of;
-use crate::place::{ApiPlace, ReplacementPlace, TextPlace, slice_at};
 use crate::region::Region;
+use crate::spans::{ApiSpans, ReplacementSpans, TextSpan, slice_at};
 use crate::width::Width;
 use std::alloc::Global;
 
-fn put_api(draft: &mut Draft, bytes: &[u8], place: ApiPlace)
-    requires { IsApiIn bytes.now place }
-    ensures { Writes draft.old draft.new (api_bytes (api_text bytes.now place)) }
+fn put_api(draft: &mut Draft, bytes: &[u8], spans: ApiSpans)
+    requires { IsApiIn bytes.now spans }
+    ensures { Writes draft.old draft.new (api_bytes (api_text bytes.now spans)) }
 {
-    draft.put_text(slice_at(bytes, place.name));
-    draft.put_text(slice_at(bytes, place.url));
+    draft.put_text(slice_at(bytes, spans.name));
+    draft.put_text(slice_at(bytes, spans.url));
 }
 
 /// A note, which is empty where there is none.
-fn put_note(draft: &mut Draft, bytes: &[u8], place: Option<TextPlace>)
-    requires { (t : TextPlace) → place ≡ Some t → IsTextIn bytes.now t }
-    ensures { Writes draft.old draft.new (note_bytes (option_map (contents bytes.now) place)) }
+fn put_note(draft: &mut Draft, bytes: &[u8], span: Option<TextSpan>)
+    requires { (t : TextSpan) → span ≡ Some t → IsTextIn bytes.now t }
+    ensures { Writes draft.old draft.new (note_bytes (option_map (contents bytes.now) span)) }
 {
-    match place {
+    match span {
         None => draft.put_text(&[]),
-        Some(place) => draft.put_text(slice_at(bytes, place)),
+        Some(span) => draft.put_text(slice_at(bytes, span)),
     }
 }
 
-fn put_replacement(draft: &mut Draft, bytes: &[u8], place: ReplacementPlace)
-    requires { IsReplacementIn bytes.now place }
-    ensures { Writes draft.old draft.new (replacement_bytes (replacement_text bytes.now place)) }
+fn put_replacement(draft: &mut Draft, bytes: &[u8], spans: ReplacementSpans)
+    requires { IsReplacementIn bytes.now spans }
+    ensures { Writes draft.old draft.new (replacement_bytes (replacement_text bytes.now spans)) }
 {
-    put_api(draft, bytes, place.krate);
-    put_api(draft, bytes, place.std);
-    put_note(draft, bytes, place.note);
+    put_api(draft, bytes, spans.krate);
+    put_api(draft, bytes, spans.std);
+    put_note(draft, bytes, spans.note);
 }
 
 /// Writes replacements, and answers where they end.
@@ -63,13 +63,13 @@ fn copy_replacements(
 ) -> Result<usize, ReplacementError>
     ensures value { result ≡ next_of
         (many (replacement (bounds (width_of region.now.width) region.now.bytes.now region.now.stop)) count at) }
-    ensures written { (r : Read (List ReplacementPlace))
+    ensures written { (r : Read (List ReplacementSpans))
         → many (replacement (bounds (width_of region.now.width) region.now.bytes.now region.now.stop)) count at ≡ Ok r
         → Writes draft.old draft.new
         (flat_map replacement_bytes (map (replacement_text region.now.bytes.now) r.value)) }
 {
     let mut next = at;
-    for _place in 0..count {
+    for _index in 0..count {
         let read = region.replacement(next)?;
         put_replacement(draft, region.bytes, read.value);
         next = read.next;
@@ -86,12 +86,12 @@ fn copy_apis(
 ) -> Result<usize, ReplacementError>
     ensures value { result ≡ next_of
         (many (api (bounds (width_of region.now.width) region.now.bytes.now region.now.stop)) count at) }
-    ensures written { (r : Read (List ApiPlace))
+    ensures written { (r : Read (List ApiSpans))
         → many (api (bounds (width_of region.now.width) region.now.bytes.now region.now.stop)) count at ≡ Ok r
         → Writes draft.old draft.new (flat_map api_bytes (map (api_text region.now.bytes.now) r.value)) }
 {
     let mut next = at;
-    for _place in 0..count {
+    for _index in 0..count {
         let read = region.api(next)?;
         put_api(draft, region.bytes, read.value);
         next = read.next;
@@ -128,7 +128,7 @@ fn copy_groups(
         → Writes draft.old draft.new (flat_map group_bytes (map (group_text region.now.bytes.now) r.value)) }
 {
     let mut next = at;
-    for _place in 0..count {
+    for _index in 0..count {
         next = copy_group(draft, region, next)?;
     }
     Ok(next)

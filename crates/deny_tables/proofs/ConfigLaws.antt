@@ -12,7 +12,7 @@ use Rattle.deny_entries.specs.Reasons.{ReadsReason, ReadsReasonKey, ReadsReasone
 use Rattle.deny_tables.specs.Bans.{ReadsBan, ReadsBanEntry, ReadsTreeSkip, ReadsTreeSkipEntry, ban_fields}
 use Rattle.deny_tables.specs.Bans.{tree_skip_fields}
 use Rattle.deny_tables.specs.Config.{ReadsConfig}
-use Rattle.deny_entries.proofs.RowLaws.{says_of}
+use Rattle.deny_entries.proofs.KeyLaws.{says_of}
 use Rattle.deny_entries.specs.PolicyKey.{name_of}
 use Rattle.deny_entries.specs.Entry.{ReadsEntry, ReadsEntryBy, ReadsEntryKeys, ReadsPair, ReadsSome}
 use Rattle.deny_tables.specs.Features.{ReadsCrateFeatures, ReadsFeatures, lists_in, nowhere}
@@ -221,8 +221,8 @@ one_workspace entries x y one two =
 one_workspace_table : ReadsOne (ReadsTable ReadsWorkspace)
 one_workspace_table = alike_table ReadsWorkspace (λ x y. x ≡ y) one_workspace
 
-one_placed_level : ReadsOne (ReadsIfThere (ReadsSpanned (ReadsAs level_of)))
-one_placed_level v x y one two =
+one_spanned_level : ReadsOne (ReadsIfThere (ReadsSpanned (ReadsAs level_of)))
+one_spanned_level v x y one two =
     one_optional (ReadsSpanned (ReadsAs level_of)) (one_spanned (ReadsAs level_of) (one_as level_of)) v x y one two
 
 -- Two configurations are alike in what the rules see, and in what may clash.
@@ -266,10 +266,10 @@ configs_alike entries a b one two = record {
       one_or false ReadsBool one_bool (at_key key.AllowWorkspace entries) a.allow_workspace b.allow_workspace
       (says_of key.AllowWorkspace one) (says_of key.AllowWorkspace two);
   external_default =
-      one_placed_level (at_key key.ExternalDefaultFeatures entries) a.external_default_features
+      one_spanned_level (at_key key.ExternalDefaultFeatures entries) a.external_default_features
       b.external_default_features (says_of key.ExternalDefaultFeatures one) (says_of key.ExternalDefaultFeatures two);
   workspace_default =
-      one_placed_level (at_key key.WorkspaceDefaultFeatures entries) a.workspace_default_features
+      one_spanned_level (at_key key.WorkspaceDefaultFeatures entries) a.workspace_default_features
       b.workspace_default_features (says_of key.WorkspaceDefaultFeatures one)
       (says_of key.WorkspaceDefaultFeatures two);
   features =

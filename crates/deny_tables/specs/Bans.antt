@@ -6,42 +6,42 @@ use Rattle.deny_entries.specs.declared.policy_key.PolicyKey.TheVariants as key
 use Rattle.deny_entries.specs.declared.spec_or_extended.PackageSpecOrExtended.{PackageSpecOrExtended}
 use Rattle.deny_entries.specs.Entry.{ReadsSome, ReadsEntry, faults_of_entry}
 use Rattle.deny_entries.specs.Reasons.{a_reason}
-use Rattle.deny_entries.specs.Table.{Entries, Field, ReadsRows, Row, fields_of, may_hold}
-use Rattle.deny_entries.specs.Words.{Kind, a_count, a_flag, a_text, placed, some_texts}
+use Rattle.deny_entries.specs.Table.{Entries, Field, ReadsKeys, TableKey, fields_of, may_hold}
+use Rattle.deny_entries.specs.Words.{Kind, a_count, a_flag, a_text, some_texts, spanned}
 use Rattle.deny_tables.specs.declared.bans.cfg.ban.CrateBanExtended.{CrateBanExtended}
 use Rattle.deny_tables.specs.declared.bans.cfg.tree_skip.TreeSkipExtended.{TreeSkipExtended}
 
 -- what a table of `deny` says besides its spec
-abbrev pub ban_rows : List (Row CrateBanExtended)
-ban_rows =
-    may_hold key.Wrappers (placed some_texts) (λ ban. ban.wrappers)
-    ∷ may_hold key.DenyMultipleVersions (placed a_flag) (λ ban. ban.deny_multiple_versions)
+abbrev pub ban_keys : List (TableKey CrateBanExtended)
+ban_keys =
+    may_hold key.Wrappers (spanned some_texts) (λ ban. ban.wrappers)
+    ∷ may_hold key.DenyMultipleVersions (spanned a_flag) (λ ban. ban.deny_multiple_versions)
     ∷ may_hold key.Reason a_reason (λ ban. ban.reason)
-    ∷ may_hold key.UseInstead (placed a_text) (λ ban. ban.use_instead)
+    ∷ may_hold key.UseInstead (spanned a_text) (λ ban. ban.use_instead)
     ∷ []
 
 abbrev pub ban_fields : List Field
-ban_fields = fields_of ban_rows
+ban_fields = fields_of ban_keys
 
 abbrev pub ReadsBan : Entries → CrateBanExtended → Type 0
-ReadsBan = ReadsRows ban_rows
+ReadsBan = ReadsKeys ban_keys
 
 abbrev pub says_nothing : CrateBanExtended → Bool
 says_nothing ban =
     is_none ban.wrappers && (is_none ban.deny_multiple_versions && (is_none ban.reason && is_none ban.use_instead))
 
 -- what a table of `skip-tree` says besides its spec
-abbrev pub tree_skip_rows : List (Row TreeSkipExtended)
-tree_skip_rows =
+abbrev pub tree_skip_keys : List (TableKey TreeSkipExtended)
+tree_skip_keys =
     may_hold key.Depth a_count (λ skip. skip.depth)
     ∷ may_hold key.Reason a_reason (λ skip. skip.reason)
     ∷ []
 
 abbrev pub tree_skip_fields : List Field
-tree_skip_fields = fields_of tree_skip_rows
+tree_skip_fields = fields_of tree_skip_keys
 
 abbrev pub ReadsTreeSkip : Entries → TreeSkipExtended → Type 0
-ReadsTreeSkip = ReadsRows tree_skip_rows
+ReadsTreeSkip = ReadsKeys tree_skip_keys
 
 -- entries of `deny`, and of `skip-tree`
 abbrev pub faults_of_ban : Value → List ConfigFault

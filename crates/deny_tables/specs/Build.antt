@@ -6,9 +6,9 @@ use Rattle.deny_toml.specs.declared.value.Value.{Value}
 use Rattle.deny_entries.specs.declared.policy_key.PolicyKey.TheVariants as key
 use Rattle.deny_entries.specs.Entry.{ReadsEntryKeys, entry_fields}
 use Rattle.deny_entries.specs.Spec.{a_spec}
-use Rattle.deny_entries.specs.Table.{Entries, Field, ReadsRows, ReadsTable, Row, a_table, faults_of_table, fields_of}
-use Rattle.deny_entries.specs.Table.{holds_or, may_hold, must_hold}
-use Rattle.deny_entries.specs.Words.{Kind, ReadsAs, a_flag, a_level, a_list, a_text, faults_as, placed, some_texts}
+use Rattle.deny_entries.specs.Table.{Entries, Field, ReadsKeys, ReadsTable, TableKey, a_table, faults_of_table}
+use Rattle.deny_entries.specs.Table.{fields_of, holds_or, may_hold, must_hold}
+use Rattle.deny_entries.specs.Words.{Kind, ReadsAs, a_flag, a_level, a_list, a_text, faults_as, some_texts, spanned}
 use Rattle.deny_tables.specs.declared.bans.cfg.build.BuildConfig.{BuildConfig}
 use Rattle.deny_tables.specs.declared.bans.cfg.bypass.Bypass.{Bypass}
 use Rattle.deny_tables.specs.declared.bans.cfg.bypass.BypassKeys.{BypassKeys}
@@ -23,35 +23,35 @@ abbrev pub a_checksum : Kind Checksum
 a_checksum = record { faults_of = faults_as checksum_of; Reads = ReadsChecksum }
 
 -- an entry of `allow` in an entry of `bypass`
-abbrev pub bypass_path_rows : List (Row BypassPath)
-bypass_path_rows =
-    must_hold key.Path (placed a_text) (λ file. file.path)
-    ∷ may_hold key.Checksum (placed a_checksum) (λ file. file.checksum)
+abbrev pub bypass_path_keys : List (TableKey BypassPath)
+bypass_path_keys =
+    must_hold key.Path (spanned a_text) (λ file. file.path)
+    ∷ may_hold key.Checksum (spanned a_checksum) (λ file. file.checksum)
     ∷ []
 
 abbrev pub bypass_path_fields : List Field
-bypass_path_fields = fields_of bypass_path_rows
+bypass_path_fields = fields_of bypass_path_keys
 
 abbrev pub ReadsBypassPath : Entries → BypassPath → Type 0
-ReadsBypassPath = ReadsRows bypass_path_rows
+ReadsBypassPath = ReadsKeys bypass_path_keys
 
 abbrev pub faults_of_bypass_path : Value → List ConfigFault
 faults_of_bypass_path v = faults_of_table (λ entries. bypass_path_fields) v
 
 -- what an entry of `bypass` says besides its spec
-abbrev pub bypass_rows : List (Row BypassKeys)
-bypass_rows =
-    may_hold key.BuildScript (placed a_checksum) (λ keys. keys.build_script)
+abbrev pub bypass_keys : List (TableKey BypassKeys)
+bypass_keys =
+    may_hold key.BuildScript (spanned a_checksum) (λ keys. keys.build_script)
     ∷ holds_or [] key.RequiredFeatures some_texts (λ keys. keys.required_features)
     ∷ may_hold key.AllowGlobs some_texts (λ keys. keys.allow_globs)
-    ∷ holds_or [] key.Allow (a_list (a_table bypass_path_rows)) (λ keys. keys.allow)
+    ∷ holds_or [] key.Allow (a_list (a_table bypass_path_keys)) (λ keys. keys.allow)
     ∷ []
 
 abbrev pub bypass_fields : List Field
-bypass_fields = fields_of bypass_rows
+bypass_fields = fields_of bypass_keys
 
 abbrev pub ReadsBypassKeys : Entries → BypassKeys → Type 0
-ReadsBypassKeys = ReadsRows bypass_rows
+ReadsBypassKeys = ReadsKeys bypass_keys
 
 abbrev pub keys_in : Bypass → BypassKeys
 keys_in bypass = record {
@@ -71,8 +71,8 @@ ReadsBypass v bypass =
 abbrev pub a_bypass : Kind Bypass
 a_bypass = record { faults_of = faults_of_bypass; Reads = ReadsBypass }
 
-abbrev pub build_rows : List (Row BuildConfig)
-build_rows =
+abbrev pub build_keys : List (TableKey BuildConfig)
+build_keys =
     may_hold key.AllowBuildScripts (a_list a_spec) (λ build. build.allow_build_scripts)
     ∷ holds_or level.Deny key.Executables a_level (λ build. build.executables)
     ∷ holds_or level.Allow key.Interpreted a_level (λ build. build.interpreted)
@@ -85,10 +85,10 @@ build_rows =
     ∷ []
 
 abbrev pub build_fields : List Field
-build_fields = fields_of build_rows
+build_fields = fields_of build_keys
 
 abbrev pub ReadsBuild : Entries → BuildConfig → Type 0
-ReadsBuild = ReadsRows build_rows
+ReadsBuild = ReadsKeys build_keys
 
 abbrev pub faults_of_build : Value → List ConfigFault
 faults_of_build v = faults_of_table (λ entries. build_fields) v

@@ -10,11 +10,11 @@ use Rattle.deny_tables.specs.declared.bans.cfg.checksum.ChecksumParseError.TheVa
 
 -- the character that an error of decoding names
 abbrev pub NamesCharacter : FromHexError → Type 0
-NamesCharacter (hex.InvalidHexCharacter c place) = ⊤
+NamesCharacter (hex.InvalidHexCharacter c index) = ⊤
 NamesCharacter e = ⊥
 
 abbrev pub character_of : FromHexError → ℕ
-character_of (hex.InvalidHexCharacter c place) = c
+character_of (hex.InvalidHexCharacter c index) = c
 character_of e = 0
 
 abbrev pub digit : ℕ → ℕ

@@ -7,9 +7,9 @@ use Rattle.deny_toml.specs.declared.value.Value.{Value}
 use Rattle.deny_entries.specs.declared.policy_key.PolicyKey.TheVariants as key
 use Rattle.deny_entries.specs.Entry.{ReadsEntryKeys, entry_fields}
 use Rattle.deny_entries.specs.Reasons.{a_reason}
-use Rattle.deny_entries.specs.Table.{Entries, Field, ReadsRows, ReadsTable, Row, faults_of_table, fields_of, holds_or}
-use Rattle.deny_entries.specs.Table.{may_hold}
-use Rattle.deny_entries.specs.Words.{Kind, a_flag, placed, some_texts}
+use Rattle.deny_entries.specs.Table.{Entries, Field, ReadsKeys, ReadsTable, TableKey, faults_of_table, fields_of}
+use Rattle.deny_entries.specs.Table.{holds_or, may_hold}
+use Rattle.deny_entries.specs.Words.{Kind, a_flag, some_texts, spanned}
 use Rattle.deny_tables.specs.declared.bans.cfg.features.CrateFeatures.{CrateFeatures}
 use Rattle.deny_tables.specs.declared.bans.cfg.features.FeatureLists.{FeatureLists}
 
@@ -18,19 +18,19 @@ abbrev pub nowhere : {T : Type 0} → T → Spanned T
 nowhere value = record { value = value; span = no_span }
 
 -- what an entry of `features` says besides its spec
-abbrev pub feature_rows : List (Row FeatureLists)
-feature_rows =
-    holds_or (nowhere []) key.Allow (placed some_texts) (λ lists. lists.allow)
+abbrev pub feature_keys : List (TableKey FeatureLists)
+feature_keys =
+    holds_or (nowhere []) key.Allow (spanned some_texts) (λ lists. lists.allow)
     ∷ holds_or [] key.Deny some_texts (λ lists. lists.deny)
-    ∷ holds_or (nowhere false) key.Exact (placed a_flag) (λ lists. lists.exact)
+    ∷ holds_or (nowhere false) key.Exact (spanned a_flag) (λ lists. lists.exact)
     ∷ may_hold key.Reason a_reason (λ lists. lists.reason)
     ∷ []
 
 abbrev pub feature_fields : List Field
-feature_fields = fields_of feature_rows
+feature_fields = fields_of feature_keys
 
 abbrev pub ReadsFeatures : Entries → FeatureLists → Type 0
-ReadsFeatures = ReadsRows feature_rows
+ReadsFeatures = ReadsKeys feature_keys
 
 abbrev pub lists_in : CrateFeatures → FeatureLists
 lists_in features =

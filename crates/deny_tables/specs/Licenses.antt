@@ -5,8 +5,8 @@ use Rattle.deny_toml.specs.declared.error.ConfigFault.{ConfigFault}
 use Rattle.deny_toml.specs.declared.value.Value.{Value}
 use Rattle.deny_entries.specs.Entry.{ReadsEntryKeys, entry_fields}
 use Rattle.deny_entries.specs.Licence.{some_licences}
-use Rattle.deny_entries.specs.Table.{Entries, Field, ReadsRows, ReadsTable, Row, a_table, faults_of_table, fields_of}
-use Rattle.deny_entries.specs.Table.{holds_or, must_hold, unread}
+use Rattle.deny_entries.specs.Table.{Entries, Field, ReadsKeys, ReadsTable, TableKey, a_table, faults_of_table}
+use Rattle.deny_entries.specs.Table.{fields_of, holds_or, must_hold, unread}
 use Rattle.deny_entries.specs.Words.{Kind, a_flag, a_level, a_list, a_text}
 use Rattle.deny_entries.specs.declared.policy_key.PolicyKey.TheVariants as key
 use Rattle.deny_tables.specs.declared.licenses.config.Config.{Config}
@@ -15,14 +15,14 @@ use Rattle.deny_tables.specs.declared.licenses.exception.ExceptionKeys.{Exceptio
 use Rattle.deny_tables.specs.declared.licenses.private.Private.{Private}
 
 -- what an entry of `exceptions` says besides its spec
-abbrev pub exception_rows : List (Row ExceptionKeys)
-exception_rows = must_hold key.Allow some_licences (λ keys. keys.allow) ∷ []
+abbrev pub exception_keys : List (TableKey ExceptionKeys)
+exception_keys = must_hold key.Allow some_licences (λ keys. keys.allow) ∷ []
 
 abbrev pub exception_fields : List Field
-exception_fields = fields_of exception_rows
+exception_fields = fields_of exception_keys
 
 abbrev pub ReadsExceptionKeys : Entries → ExceptionKeys → Type 0
-ReadsExceptionKeys = ReadsRows exception_rows
+ReadsExceptionKeys = ReadsKeys exception_keys
 
 -- an entry of `exceptions` is a table
 abbrev pub faults_of_exception : Value → List ConfigFault
@@ -38,23 +38,23 @@ abbrev pub an_exception : Kind Exception
 an_exception = record { faults_of = faults_of_exception; Reads = ReadsException }
 
 -- the table `private`
-abbrev pub private_rows : List (Row Private)
-private_rows =
+abbrev pub private_keys : List (TableKey Private)
+private_keys =
     holds_or false key.Ignore a_flag (λ private. private.ignore)
     ∷ holds_or [] key.Registries (a_list a_text) (λ private. private.registries)
     ∷ []
 
 abbrev pub private_fields : List Field
-private_fields = fields_of private_rows
+private_fields = fields_of private_keys
 
 abbrev pub ReadsPrivate : Entries → Private → Type 0
-ReadsPrivate = ReadsRows private_rows
+ReadsPrivate = ReadsKeys private_keys
 
 abbrev pub faults_of_private : Value → List ConfigFault
 faults_of_private v = faults_of_table (λ entries. private_fields) v
 
 abbrev pub a_private : Kind Private
-a_private = a_table private_rows
+a_private = a_table private_keys
 
 abbrev pub none_private : Private
 none_private = record { ignore = false; registries = [] }
@@ -63,8 +63,8 @@ none_private = record { ignore = false; registries = [] }
 abbrev pub private_in : Config → Private
 private_in licenses = record { ignore = licenses.private_ignore; registries = licenses.private_registries }
 
-abbrev pub licenses_rows : List (Row Config)
-licenses_rows =
+abbrev pub licenses_keys : List (TableKey Config)
+licenses_keys =
     unread key.Version
     ∷ unread key.ConfidenceThreshold
     ∷ holds_or [] key.Allow some_licences (λ licenses. licenses.allow)
@@ -75,10 +75,10 @@ licenses_rows =
     ∷ []
 
 abbrev pub licenses_fields : List Field
-licenses_fields = fields_of licenses_rows
+licenses_fields = fields_of licenses_keys
 
 abbrev pub ReadsLicenses : Entries → Config → Type 0
-ReadsLicenses = ReadsRows licenses_rows
+ReadsLicenses = ReadsKeys licenses_keys
 
 abbrev pub faults_of_licenses : Value → List ConfigFault
 faults_of_licenses v = faults_of_table (λ entries. licenses_fields) v

@@ -4,22 +4,23 @@ use Rattle.deny_base.specs.declared.level.LintLevel.TheVariants as level
 use Rattle.deny_toml.specs.declared.error.ConfigFault.{ConfigFault}
 use Rattle.deny_toml.specs.declared.value.Value.{Value}
 use Rattle.deny_entries.specs.declared.policy_key.PolicyKey.TheVariants as key
-use Rattle.deny_entries.specs.Table.{Entries, Field, ReadsRows, ReadsTable, Row, faults_of_table, fields_of, holds_or}
+use Rattle.deny_entries.specs.Table.{Entries, Field, ReadsKeys, ReadsTable, TableKey, faults_of_table, fields_of}
+use Rattle.deny_entries.specs.Table.{holds_or}
 use Rattle.deny_entries.specs.Words.{Kind, a_flag, a_level}
 use Rattle.deny_tables.specs.declared.bans.cfg.workspace.WorkspaceDepsConfig.{WorkspaceDepsConfig}
 
-abbrev pub workspace_rows : List (Row WorkspaceDepsConfig)
-workspace_rows =
+abbrev pub workspace_keys : List (TableKey WorkspaceDepsConfig)
+workspace_keys =
     holds_or level.Deny key.Duplicates a_level (λ shared. shared.duplicates)
     ∷ holds_or true key.IncludePathDependencies a_flag (λ shared. shared.include_path_dependencies)
     ∷ holds_or level.Deny key.Unused a_level (λ shared. shared.unused)
     ∷ []
 
 abbrev pub workspace_fields : List Field
-workspace_fields = fields_of workspace_rows
+workspace_fields = fields_of workspace_keys
 
 abbrev pub ReadsWorkspace : Entries → WorkspaceDepsConfig → Type 0
-ReadsWorkspace = ReadsRows workspace_rows
+ReadsWorkspace = ReadsKeys workspace_keys
 
 abbrev pub faults_of_workspace : Value → List ConfigFault
 faults_of_workspace v = faults_of_table (λ entries. workspace_fields) v

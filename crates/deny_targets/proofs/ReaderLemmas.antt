@@ -78,18 +78,18 @@ cfg_accepted tokens tree d = ap (accepts start) d.around
 -- ---- what is accepted is spelled
 
 -- the tokens make an expression whole
-data Front : Phase → List Token → Type 0 where
-  of_whole : Front phase.Whole []
-  of_name : Front phase.Name []
-  of_equals : (text : List ℕ) → Front phase.Name (Equals ∷ Quoted text ∷ [])
-  of_value : (text : List ℕ) → Front phase.Value (Quoted text ∷ [])
+data Prefix : Phase → List Token → Type 0 where
+  of_whole : Prefix phase.Whole []
+  of_name : Prefix phase.Name []
+  of_equals : (text : List ℕ) → Prefix phase.Name (Equals ∷ Quoted text ∷ [])
+  of_value : (text : List ℕ) → Prefix phase.Value (Quoted text ∷ [])
   of_one : (tokens : List Token) {tree : Tree} → IsExpression tokens tree
-      → Front (phase.Head One) (Open ∷ (tokens ++ Close ∷ []))
+      → Prefix (phase.Head One) (Open ∷ (tokens ++ Close ∷ []))
   of_several : (tokens : List Token) {trees : Trees} → AreArguments tokens trees
-      → Front (phase.Head Several) (Open ∷ (tokens ++ Close ∷ []))
-  of_expression : {tokens : List Token} (tree : Tree) → IsExpression tokens tree → Front phase.Expression tokens
-  of_argument : {tokens : List Token} (tree : Tree) → IsExpression tokens tree → Front phase.Argument tokens
-  of_key : {tokens : List Token} (tree : Tree) → IsCfg tokens tree → Front phase.Key tokens
+      → Prefix (phase.Head Several) (Open ∷ (tokens ++ Close ∷ []))
+  of_expression : {tokens : List Token} (tree : Tree) → IsExpression tokens tree → Prefix phase.Expression tokens
+  of_argument : {tokens : List Token} (tree : Tree) → IsExpression tokens tree → Prefix phase.Argument tokens
+  of_key : {tokens : List Token} (tree : Tree) → IsCfg tokens tree → Prefix phase.Key tokens
 
 -- what may stand between an expression and the end of its parenthesis
 data Behind : Holder → List Token → Type 0 where
@@ -99,13 +99,13 @@ data Behind : Holder → List Token → Type 0 where
 -- the tokens close what is open, behind an expression
 data Closes : List Holder → List Token → Type 0 where
   end : Closes [] []
-  close : {holder : Holder} {outer : List Holder} (front rest : List Token) → Behind holder front → Closes outer rest
-      → Closes (holder ∷ outer) (front ++ Close ∷ rest)
+  close : {holder : Holder} {outer : List Holder} (prefix rest : List Token) → Behind holder prefix → Closes outer rest
+      → Closes (holder ∷ outer) (prefix ++ Close ∷ rest)
 
 -- the tokens complete what a reader has begun
 data Completes : Phase → List Holder → List Token → Type 0 where
-  by_front : {p : Phase} {brackets : List Holder} (front rest : List Token) → Front p front → Closes brackets rest
-      → Completes p brackets (front ++ rest)
+  by_prefix : {p : Phase} {brackets : List Holder} (prefix rest : List Token) → Prefix p prefix → Closes brackets rest
+      → Completes p brackets (prefix ++ rest)
   at_once : {holder : Holder} {outer : List Holder} (rest : List Token) → Closes outer rest
       → Completes phase.Argument (holder ∷ outer) (Close ∷ rest)
 
@@ -118,95 +118,95 @@ completes_from {p} {brackets} xs ys e d = let P : List Token → Type 0 = λ x. 
 
 as_closes : {brackets : List Holder} {tokens : List Token} → Completes phase.Whole brackets tokens
     → Closes brackets tokens
-as_closes (by_front front rest of_whole d) = d
+as_closes (by_prefix prefix rest of_whole d) = d
 
 -- an expression, and what closes the rest
 data HasExpression : List Holder → List Token → Type 0 where
-  has : {brackets : List Holder} (front rest : List Token) (tree : Tree) → IsExpression front tree
-      → Closes brackets rest → HasExpression brackets (front ++ rest)
+  has : {brackets : List Holder} (prefix rest : List Token) (tree : Tree) → IsExpression prefix tree
+      → Closes brackets rest → HasExpression brackets (prefix ++ rest)
 
 to_expression : {brackets : List Holder} {tokens : List Token} → HasExpression brackets tokens
     → Completes phase.Expression brackets tokens
-to_expression (has front rest tree d c) = by_front front rest (of_expression tree d) c
+to_expression (has prefix rest tree d c) = by_prefix prefix rest (of_expression tree d) c
 
 to_argument : {brackets : List Holder} {tokens : List Token} → HasExpression brackets tokens
     → Completes phase.Argument brackets tokens
-to_argument (has front rest tree d c) = by_front front rest (of_argument tree d) c
+to_argument (has prefix rest tree d c) = by_prefix prefix rest (of_argument tree d) c
 
 after_name : {brackets : List Holder} {tokens : List Token} (word : List ℕ) → Completes phase.Name brackets tokens
     → HasExpression brackets (Name word ∷ tokens)
-after_name word (by_front front rest of_name c) = has (Name word ∷ []) rest (name word) (is_name word) c
-after_name word (by_front front rest (of_equals text) c) =
+after_name word (by_prefix prefix rest of_name c) = has (Name word ∷ []) rest (name word) (is_name word) c
+after_name word (by_prefix prefix rest (of_equals text) c) =
     has (Name word ∷ Equals ∷ Quoted text ∷ []) rest (value word text) (is_value word text) c
 
 after_all : {brackets : List Holder} {tokens : List Token} → Completes (phase.Head Several) brackets tokens
     → HasExpression brackets (All ∷ tokens)
-after_all (by_front front rest (of_several tokens {trees = trees} d) c) =
+after_all (by_prefix prefix rest (of_several tokens {trees = trees} d) c) =
     has (All ∷ Open ∷ (tokens ++ Close ∷ [])) rest (all trees) (is_all tokens d) c
 
 after_any : {brackets : List Holder} {tokens : List Token} → Completes (phase.Head Several) brackets tokens
     → HasExpression brackets (Any ∷ tokens)
-after_any (by_front front rest (of_several tokens {trees = trees} d) c) =
+after_any (by_prefix prefix rest (of_several tokens {trees = trees} d) c) =
     has (Any ∷ Open ∷ (tokens ++ Close ∷ [])) rest (any trees) (is_any tokens d) c
 
 after_not : {brackets : List Holder} {tokens : List Token} → Completes (phase.Head One) brackets tokens
     → HasExpression brackets (Not ∷ tokens)
-after_not (by_front front rest (of_one tokens {tree = tree} d) c) =
+after_not (by_prefix prefix rest (of_one tokens {tree = tree} d) c) =
     has (Not ∷ Open ∷ (tokens ++ Close ∷ [])) rest (not tree) (is_not tokens d) c
 
 -- one expression in its parenthesis
-one_enclosed : {brackets : List Holder} {tree : Tree} (front rest : List Token) → IsExpression front tree
-    → Closes (One ∷ brackets) rest → Completes (phase.Head One) brackets (Open ∷ (front ++ rest))
-one_enclosed front rest d (close behind after (nothing holder) c) =
-    completes_from _ _ (ap (λ x. Open ∷ x) (append_assoc front (Close ∷ []) after))
-    (by_front (Open ∷ (front ++ Close ∷ [])) after (of_one front d) c)
+one_enclosed : {brackets : List Holder} {tree : Tree} (prefix rest : List Token) → IsExpression prefix tree
+    → Closes (One ∷ brackets) rest → Completes (phase.Head One) brackets (Open ∷ (prefix ++ rest))
+one_enclosed prefix rest d (close behind after (nothing holder) c) =
+    completes_from _ _ (ap (λ x. Open ∷ x) (append_assoc prefix (Close ∷ []) after))
+    (by_prefix (Open ∷ (prefix ++ Close ∷ [])) after (of_one prefix d) c)
 
 head_one : {brackets : List Holder} {tokens : List Token} → Completes phase.Expression (One ∷ brackets) tokens
     → Completes (phase.Head One) brackets (Open ∷ tokens)
-head_one (by_front front rest (of_expression tree d) c) = one_enclosed front rest d c
+head_one (by_prefix prefix rest (of_expression tree d) c) = one_enclosed prefix rest d c
 
 -- arguments in their parenthesis
 enclosed : {brackets : List Holder} {trees : Trees} (tokens rest whole : List Token) → AreArguments tokens trees
     → Closes brackets rest → tokens ++ Close ∷ rest ≡ whole → Completes (phase.Head Several) brackets (Open ∷ whole)
 enclosed tokens rest whole d c e =
     completes_from _ _ (ap (λ x. Open ∷ x) (append_assoc tokens (Close ∷ []) rest ∙ e))
-    (by_front (Open ∷ (tokens ++ Close ∷ [])) rest (of_several tokens d) c)
+    (by_prefix (Open ∷ (tokens ++ Close ∷ [])) rest (of_several tokens d) c)
 
-several_enclosed : {brackets : List Holder} {tree : Tree} (front rest : List Token) → IsExpression front tree
-    → Closes (Several ∷ brackets) rest → Completes (phase.Head Several) brackets (Open ∷ (front ++ rest))
-several_enclosed front rest d (close behind after (nothing holder) c) =
-    enclosed front after (front ++ Close ∷ after) (last front d) c refl
-several_enclosed front rest d (close behind after (others tokens ds) c) =
-    enclosed (front ++ Comma ∷ tokens) after (front ++ Comma ∷ (tokens ++ Close ∷ after)) (comma front tokens d ds) c
-    (append_assoc front (Comma ∷ tokens) (Close ∷ after))
+several_enclosed : {brackets : List Holder} {tree : Tree} (prefix rest : List Token) → IsExpression prefix tree
+    → Closes (Several ∷ brackets) rest → Completes (phase.Head Several) brackets (Open ∷ (prefix ++ rest))
+several_enclosed prefix rest d (close behind after (nothing holder) c) =
+    enclosed prefix after (prefix ++ Close ∷ after) (last prefix d) c refl
+several_enclosed prefix rest d (close behind after (others tokens ds) c) =
+    enclosed (prefix ++ Comma ∷ tokens) after (prefix ++ Comma ∷ (tokens ++ Close ∷ after)) (comma prefix tokens d ds) c
+    (append_assoc prefix (Comma ∷ tokens) (Close ∷ after))
 
 head_several : {brackets : List Holder} {tokens : List Token} → Completes phase.Argument (Several ∷ brackets) tokens
     → Completes (phase.Head Several) brackets (Open ∷ tokens)
-head_several (by_front front rest (of_argument tree d) c) = several_enclosed front rest d c
+head_several (by_prefix prefix rest (of_argument tree d) c) = several_enclosed prefix rest d c
 head_several (at_once rest c) = enclosed [] rest (Close ∷ rest) no_more c refl
 
 after_equals : {brackets : List Holder} {tokens : List Token} → Completes phase.Value brackets tokens
     → Completes phase.Name brackets (Equals ∷ tokens)
-after_equals (by_front front rest (of_value text) c) = by_front (Equals ∷ Quoted text ∷ []) rest (of_equals text) c
+after_equals (by_prefix prefix rest (of_value text) c) = by_prefix (Equals ∷ Quoted text ∷ []) rest (of_equals text) c
 
 -- one argument more, behind a comma
-more_closes : {brackets : List Holder} {tree : Tree} (front rest : List Token) → IsExpression front tree
-    → Closes (Several ∷ brackets) rest → Closes (Several ∷ brackets) (Comma ∷ (front ++ rest))
-more_closes front rest d (close behind after (nothing holder) c) =
-    close (Comma ∷ front) after (others front (last front d)) c
-more_closes front rest d (close behind after (others tokens ds) c) =
-    closes_from _ _ (ap (λ x. Comma ∷ x) (append_assoc front (Comma ∷ tokens) (Close ∷ after)))
-    (close (Comma ∷ (front ++ Comma ∷ tokens)) after (others (front ++ Comma ∷ tokens) (comma front tokens d ds)) c)
+more_closes : {brackets : List Holder} {tree : Tree} (prefix rest : List Token) → IsExpression prefix tree
+    → Closes (Several ∷ brackets) rest → Closes (Several ∷ brackets) (Comma ∷ (prefix ++ rest))
+more_closes prefix rest d (close behind after (nothing holder) c) =
+    close (Comma ∷ prefix) after (others prefix (last prefix d)) c
+more_closes prefix rest d (close behind after (others tokens ds) c) =
+    closes_from _ _ (ap (λ x. Comma ∷ x) (append_assoc prefix (Comma ∷ tokens) (Close ∷ after)))
+    (close (Comma ∷ (prefix ++ Comma ∷ tokens)) after (others (prefix ++ Comma ∷ tokens) (comma prefix tokens d ds)) c)
 
 after_comma : {brackets : List Holder} {tokens : List Token} → Completes phase.Argument (Several ∷ brackets) tokens
     → Closes (Several ∷ brackets) (Comma ∷ tokens)
-after_comma (by_front front rest (of_argument tree d) c) = more_closes front rest d c
+after_comma (by_prefix prefix rest (of_argument tree d) c) = more_closes prefix rest d c
 after_comma (at_once rest c) = close (Comma ∷ []) rest (others [] no_more) c
 
 after_key : {brackets : List Holder} {tokens : List Token} (word : List ℕ) → word ≡ codes "cfg"
     → Completes (phase.Head One) brackets tokens → Completes phase.Key brackets (Name word ∷ tokens)
-after_key word e (by_front front rest (of_one tokens {tree = tree} d) c) =
-    by_front (Name word ∷ Open ∷ (tokens ++ Close ∷ [])) rest
+after_key word e (by_prefix prefix rest (of_one tokens {tree = tree} d) c) =
+    by_prefix (Name word ∷ Open ∷ (tokens ++ Close ∷ [])) rest
     (of_key tree (record {
       inner = tokens;
       expression = d;
@@ -247,7 +247,7 @@ closed_argument tokens [] go e = absurd (cc e)
 closed_argument tokens (holder ∷ outer) go e = at_once tokens (as_closes (go outer phase.Whole e))
 
 at_end : (p : Phase) (brackets : List Holder) → is_done (reader brackets p) ≡ true → Completes p brackets []
-at_end phase.Whole [] e = by_front [] [] of_whole end
+at_end phase.Whole [] e = by_prefix [] [] of_whole end
 at_end phase.Whole (holder ∷ outer) e = absurd (cc e)
 at_end p brackets e = absurd (cc e)
 
@@ -267,12 +267,13 @@ one_step phase.Argument Any tokens brackets go e = to_argument (after_any (go br
 one_step phase.Argument Not tokens brackets go e = to_argument (after_not (go brackets (phase.Head One) e))
 one_step phase.Argument Close tokens brackets go e = closed_argument tokens brackets go e
 one_step phase.Name Equals tokens brackets go e = after_equals (go brackets phase.Value e)
-one_step phase.Name Comma tokens brackets go e = by_front [] (Comma ∷ tokens) of_name (comma_by tokens brackets go e)
-one_step phase.Name Close tokens brackets go e = by_front [] (Close ∷ tokens) of_name (closed_by tokens brackets go e)
+one_step phase.Name Comma tokens brackets go e = by_prefix [] (Comma ∷ tokens) of_name (comma_by tokens brackets go e)
+one_step phase.Name Close tokens brackets go e = by_prefix [] (Close ∷ tokens) of_name (closed_by tokens brackets go e)
 one_step phase.Value (Quoted text) tokens brackets go e =
-    by_front (Quoted text ∷ []) tokens (of_value text) (as_closes (go brackets phase.Whole e))
-one_step phase.Whole Comma tokens brackets go e = by_front [] (Comma ∷ tokens) of_whole (comma_by tokens brackets go e)
-one_step phase.Whole Close tokens brackets go e = by_front [] (Close ∷ tokens) of_whole (closed_by tokens brackets go e)
+    by_prefix (Quoted text ∷ []) tokens (of_value text) (as_closes (go brackets phase.Whole e))
+one_step phase.Whole Comma tokens brackets go e = by_prefix [] (Comma ∷ tokens) of_whole (comma_by tokens brackets go e)
+one_step phase.Whole Close tokens brackets go e =
+    by_prefix [] (Close ∷ tokens) of_whole (closed_by tokens brackets go e)
 one_step p token tokens brackets go e = absurd (cc e)
 
 completes : (tokens : List Token) → Goes tokens
@@ -280,8 +281,8 @@ completes [] = λ brackets p e. at_end p brackets e
 completes (token ∷ tokens) = λ brackets p e. one_step p token tokens brackets (completes tokens) e
 
 key_whole : {tokens : List Token} → Completes phase.Key [] tokens → (tree : Tree) × IsCfg tokens tree
-key_whole (by_front front rest (of_key tree d) end) = let P : List Token → Type 0 = λ x. IsCfg x tree in
-    (tree, subst P (sym (append-nil front)) d)
+key_whole (by_prefix prefix rest (of_key tree d) end) = let P : List Token → Type 0 = λ x. IsCfg x tree in
+    (tree, subst P (sym (append-nil prefix)) d)
 
 pub accepted_cfg : (tokens : List Token) → accepts start tokens ≡ true → (tree : Tree) × IsCfg tokens tree
 accepted_cfg tokens e = key_whole (completes tokens [] phase.Key e)

@@ -23,10 +23,10 @@ blanks_before (b ∷ bs) tokens d = blanks_at b bs tokens (λ h. blanks_before b
     blanks_at b bs tokens before false e d = d
 
 -- what a text without blanks before it begins with
-data IsFront : List ℕ → List Token → Type 0 where
-  at_end : IsFront [] []
+data IsPrefix : List ℕ → List Token → Type 0 where
+  at_end : IsPrefix [] []
   at_token : {text rest : List ℕ} {token : Token} {tokens : List Token} → first_token text ≡ Some (token, rest)
-      → HasTokens rest tokens → IsFront text (token ∷ tokens)
+      → HasTokens rest tokens → IsPrefix text (token ∷ tokens)
 
 pub blank_first : (b : ℕ) (bs : List ℕ) → is_blank b ≡ true → first_token (b ∷ bs) ≡ None
 unfolding is_blank is_name_start mark_first mark_token first_token
@@ -38,31 +38,31 @@ blank_first b bs e = at_blank (b == 32) refl
     at_blank false f = let same : 9 ≡ b = grind (arith, nat_tests, e, f) in
         let P : ℕ → Type 0 = λ n. first_token (n ∷ bs) ≡ None in subst P same refl
 
-front_at : (text : List ℕ) {rest : List ℕ} {token : Token} {tokens : List Token}
+prefix_at : (text : List ℕ) {rest : List ℕ} {token : Token} {tokens : List Token}
     → first_token text ≡ Some (token, rest) → HasTokens rest tokens
-    → IsFront (drop (prefix_len is_blank text) text) (token ∷ tokens)
+    → IsPrefix (drop (prefix_len is_blank text) text) (token ∷ tokens)
 unfolding first_token
-front_at [] e d = cc
-front_at (b ∷ bs) {rest = rest} {token = token} {tokens = tokens} e d = at_first (is_blank b) refl
+prefix_at [] e d = cc
+prefix_at (b ∷ bs) {rest = rest} {token = token} {tokens = tokens} e d = at_first (is_blank b) refl
   where
     at_first : (t : Bool) → is_blank b ≡ t
-        → IsFront (drop (cond t (1 + prefix_len is_blank bs) 0) (b ∷ bs)) (token ∷ tokens)
+        → IsPrefix (drop (cond t (1 + prefix_len is_blank bs) 0) (b ∷ bs)) (token ∷ tokens)
     at_first true f = absurd (cc (e, blank_first b bs f))
     at_first false f = at_token e d
 
-front : {text : List ℕ} {tokens : List Token} → HasTokens text tokens
-    → IsFront (drop (prefix_len is_blank text) text) tokens
-front none = at_end
-front (blank b {text = text} {tokens = tokens} e d) =
+prefix : {text : List ℕ} {tokens : List Token} → HasTokens text tokens
+    → IsPrefix (drop (prefix_len is_blank text) text) tokens
+prefix none = at_end
+prefix (blank b {text = text} {tokens = tokens} e d) =
     let next : suc (prefix_len is_blank text) ≡ 1 + prefix_len is_blank text = omega arith in
-    let P : ℕ → Type 0 = λ n. IsFront (drop n (b ∷ text)) tokens in
-    let Q : Bool → Type 0 = λ t. IsFront (drop (cond t (1 + prefix_len is_blank text) 0) (b ∷ text)) tokens in
-    subst Q (sym e) (subst P next (front d))
-front (more {text = text} e d) = front_at text e d
+    let P : ℕ → Type 0 = λ n. IsPrefix (drop n (b ∷ text)) tokens in
+    let Q : Bool → Type 0 = λ t. IsPrefix (drop (cond t (1 + prefix_len is_blank text) 0) (b ∷ text)) tokens in
+    subst Q (sym e) (subst P next (prefix d))
+prefix (more {text = text} e d) = prefix_at text e d
 
-front_from : (text here : List ℕ) (tokens : List Token) → here ≡ drop (prefix_len is_blank text) text
-    → HasTokens text tokens → IsFront here tokens
-front_from text here tokens e d = let P : List ℕ → Type 0 = λ x. IsFront x tokens in subst P (sym e) (front d)
+prefix_from : (text here : List ℕ) (tokens : List Token) → here ≡ drop (prefix_len is_blank text) text
+    → HasTokens text tokens → IsPrefix here tokens
+prefix_from text here tokens e d = let P : List ℕ → Type 0 = λ x. IsPrefix x tokens in subst P (sym e) (prefix d)
 
 -- before the first token
 pub read_nothing : (text rest : List ℕ) (tokens : List Token) → rest ≡ text → tokens ≡ [] → IsReadTo text rest tokens
@@ -86,9 +86,9 @@ read_all text rest here tokens d e f =
     let Q : List Token → Type 0 = λ x. HasTokens text x in
     subst Q (append-nil tokens) (d.whole [] (blanks_before rest [] (subst P (sym nothing ∙ e) none)))
 
-front_stuck : {here : List ℕ} {tokens : List Token} → IsFront here tokens → here ≢ [] → first_token here ≡ None → ⊥
-front_stuck at_end some e = some refl
-front_stuck (at_token f d) some e = absurd (cc (e, f))
+prefix_stuck : {here : List ℕ} {tokens : List Token} → IsPrefix here tokens → here ≢ [] → first_token here ≡ None → ⊥
+prefix_stuck at_end some e = some refl
+prefix_stuck (at_token f d) some e = absurd (cc (e, f))
 
 -- what is left begins with no token
 pub read_stuck : (text rest here : List ℕ) (tokens : List Token) → IsReadTo text rest tokens
@@ -96,7 +96,7 @@ pub read_stuck : (text rest here : List ℕ) (tokens : List Token) → IsReadTo 
     → HasTokens text all → ⊥
 read_stuck text rest here tokens d e some f all h =
     let b : (others : List Token) × HasTokens rest others × (all ≡ tokens ++ others) = d.back all h in
-    front_stuck (front_from rest here b.0 e b.1) some f
+    prefix_stuck (prefix_from rest here b.0 e b.1) some f
 
 -- the next token, and what is left
 record IsNext (others : List Token) (token : Token) (after : List ℕ) : Type 0 where
@@ -104,11 +104,11 @@ record IsNext (others : List Token) (token : Token) (after : List ℕ) : Type 0 
   has : HasTokens after left
   is : others ≡ token ∷ left
 
-front_next : {here : List ℕ} {others : List Token} (token : Token) (after : List ℕ)
-    → IsFront here others → first_token here ≡ Some (token, after) → IsNext others token after
+prefix_next : {here : List ℕ} {others : List Token} (token : Token) (after : List ℕ)
+    → IsPrefix here others → first_token here ≡ Some (token, after) → IsNext others token after
 unfolding first_token
-front_next token after at_end e = absurd (cc e)
-front_next token after (at_token {rest = rest} {token = t} {tokens = left} f d) e =
+prefix_next token after at_end e = absurd (cc e)
+prefix_next token after (at_token {rest = rest} {token = t} {tokens = left} f d) e =
     let here : Token × List ℕ = (t, rest) in
     let there : Token × List ℕ = (token, after) in
     let found : Some here ≡ Some there = sym f ∙ e in
@@ -128,7 +128,7 @@ read_more text rest here after tokens tokens' token d e f g = record {
       (d.whole (token ∷ others) (blanks_before rest (token ∷ others) (subst P e (more f h))));
   back =
       λ all h. let b : (others : List Token) × HasTokens rest others × (all ≡ tokens ++ others) = d.back all h in
-      let n : IsNext b.0 token after = front_next token after (front_from rest here b.0 e b.1) f in (
+      let n : IsNext b.0 token after = prefix_next token after (prefix_from rest here b.0 e b.1) f in (
         n.left,
         n.has,
         b.2 ∙ (ap (λ x. tokens ++ x) n.is ∙ (sym (append_assoc tokens (token ∷ []) n.left)
@@ -146,9 +146,9 @@ next_same : {text : List ℕ} {others : List Token} (token : Token) (after : Lis
 unfolding first_token
 next_same token after e none = absurd (cc e)
 next_same token after e (blank b {text = text} f d) = absurd (cc (e, blank_first b text f))
-next_same token after e (more f d) = front_next token after (at_token f d) e
+next_same token after e (more f d) = prefix_next token after (at_token f d) e
 
-nothing_same : {others : List Token} → IsFront [] others → [] ≡ others
+nothing_same : {others : List Token} → IsPrefix [] others → [] ≡ others
 unfolding first_token
 nothing_same at_end = refl
 nothing_same (at_token e d) = absurd (cc e)
@@ -156,7 +156,7 @@ nothing_same (at_token e d) = absurd (cc e)
 -- a text has one list of tokens at most
 pub tokens_same : {text : List ℕ} {tokens : List Token} (others : List Token) → HasTokens text tokens
     → HasTokens text others → tokens ≡ others
-tokens_same others none h = nothing_same (front h)
+tokens_same others none h = nothing_same (prefix h)
 tokens_same others (blank b e d) h = tokens_same others d (without_blank e h)
 tokens_same others (more {rest = rest} {token = token} e d) h =
     let n : IsNext others token rest = next_same token rest e h in

@@ -84,7 +84,7 @@ impl Ord for EntryList {
 
 /// Where an entry is looked up: its list, and the range of its name.
 #[derive(Clone, Copy, PartialEq, Eq, PartialOrd, Ord)]
-pub struct EntryPlace {
+pub struct EntryKey {
     pub list: EntryList,
     pub range: Span,
 }
@@ -92,7 +92,7 @@ pub struct EntryPlace {
 /// The numbers of entries in their lists, by the ranges of their names: of those of one range the first.
 #[derive(Drop)]
 pub struct EntryNumbers {
-    pub numbers: BTreeMap<EntryPlace, usize>,
+    pub numbers: BTreeMap<EntryKey, usize>,
 }
 
 impl EntryNumbers {
@@ -137,7 +137,7 @@ impl EntryNumbers {
         ensures { OnOk result ((l : EntryList) (r : Span) → number_at self.new l r
             ≡ number_or list range number l r (number_at self.old l r)) }
     {
-        self.numbers.insert(EntryPlace { list, range }, number)?;
+        self.numbers.insert(EntryKey { list, range }, number)?;
         Ok(())
     }
 
@@ -157,6 +157,6 @@ impl EntryNumbers {
     fn number(&self, list: EntryList, range: Span) -> Option<usize>
         ensures { result ≡ number_at self.now list range }
     {
-        self.numbers.get(&EntryPlace { list, range }).copied()
+        self.numbers.get(&EntryKey { list, range }).copied()
     }
 }

@@ -1,4 +1,4 @@
--- The values of a text stand one after another, so that a place begins one scalar of its tree at most.
+-- The values of a text stand one after another, so that an offset begins one scalar of its tree at most.
 use Rattle.std.proofs.Common.{◌≡◌, ℕ, ◌+◌, ◌<◌, ◌≤◌, cond, ◌==◌, nat_lt, List, [], ◌∷◌, ◌++◌, map, length, refl, sym}
 use Rattle.std.proofs.Common.{ap, subst, ◌∙◌, inl, inr, arith, rules, length-append}
 use Rattle.std.proofs.lemmas.Bool.{cases_Bool}
@@ -39,7 +39,7 @@ assigned_made : (path : List Key) (w : Written) → assigned_value (assignment_w
 assigned_made path w = search (rules, the_lemmas)
 
 module _ (x : ℕ) where
-  -- The place is counted once at most, and not at all where it does not lie from the one place to before the other.
+  -- The offset is counted once at most, and not at all where it does not lie from the one offset to before the other.
   record IsOnce (from to count : ℕ) : Type 0 where
     at_most : count ≤ 1
     before : x < from → count ≡ 0

@@ -1,4 +1,4 @@
--- Where the scalars of a value begin, layer by layer, and how often a place is among them.
+-- Where the scalars of a value begin, layer by layer, and how often an offset is among them.
 use Rattle.std.proofs.Common.{◌≡◌, ◌≢◌, ℕ, ◌+◌, ◌≤◌, true, cond, ◌==◌, List, [], ◌∷◌, ◌++◌, refl, sym, ap, ◌∙◌, inl}
 use Rattle.std.proofs.Common.{inr, arith, rules}
 use Rattle.std.proofs.lemmas.Bool.{cases_Bool}
@@ -24,7 +24,7 @@ use Rattle.deny_toml.specs.Calls.{Layer, layer_in}
 use Rattle.deny_toml.specs.Apart.{content_starts, table_starts, value_starts, starts_in}
 use Rattle.deny_toml.proofs.TreeOrderLaws.{layer_is}
 
--- how often a place is in a list
+-- how often an offset is in a list
 abbrev pub times : ℕ → List ℕ → ℕ
 times x [] = 0
 times x (y ∷ ys) = cond (y == x) 1 0 + times x ys
@@ -55,7 +55,7 @@ apart_from_times (x ∷ xs) once =
 abbrev pub starts_of_entries : List (Key × Value) → List ℕ
 starts_of_entries entries = flat_map (λ e. starts_in e.1) entries
 
--- the starts of one layer of a value that begins at a place
+-- the starts of one layer of a value that begins at an offset
 abbrev pub starts_of_layer : Layer → ℕ → List ℕ
 starts_of_layer (Content-F.Scalar s) at = at ∷ []
 starts_of_layer (Content-F.Array vs) at = flat_map starts_in vs

@@ -1,4 +1,4 @@
--- What follows for the parts of a value where no two of its scalars begin at one place.
+-- What follows for the parts of a value where no two of its scalars begin at one offset.
 use Rattle.std.proofs.Common.{◌≡◌, ◌≢◌, ℕ, zero, suc, ◌+◌, ◌<◌, ◌≤◌, true, false, cond, ◌==◌, List, [], ◌∷◌, ◌++◌}
 use Rattle.std.proofs.Common.{length, get_or, Option, Some, None, option_and_then, refl, sym, ap, ◌∙◌, inl, inr, arith}
 use Rattle.std.proofs.lemmas.Option.{none-some, same_Some}
@@ -20,13 +20,13 @@ use Rattle.deny_toml.specs.Apart.{starts_in, AreApart}
 use Rattle.deny_toml.proofs.ApartLaws.{times, times-append, apart_from_times, starts_of_entries, starts_of_layer}
 use Rattle.deny_toml.proofs.ApartLaws.{starts_by_layer}
 
--- ---- lists in which no place is twice
+-- ---- lists in which no offset is twice
 
--- No two of the places are one.
+-- No two of the offsets are one.
 abbrev pub AreDistinct : List ℕ → Type 0
 AreDistinct xs = AllPairs (λ one other. one ≢ other) xs
 
--- Each place is in the one list no more often than in the other.
+-- Each offset is in the one list no more often than in the other.
 abbrev pub IsPartOf : List ℕ → List ℕ → Type 0
 IsPartOf xs ys = (x : ℕ) → times x xs ≤ times x ys
 
@@ -65,7 +65,7 @@ present x (y ∷ xs) (suc k) within is = omega (arith, present x xs k (omega ari
 pub times_from_Contains : (x : ℕ) (xs : List ℕ) → Contains xs x → 1 ≤ times x xs
 times_from_Contains x xs (k, within, is) = present x xs k within is
 
--- at any two places of a list
+-- at any two indices of a list
 pub times_from_apart : (xs : List ℕ) → AreDistinct xs → (x : ℕ) → times x xs ≤ 1
 times_from_apart [] apart x = omega arith
 times_from_apart (y ∷ xs) apart x =
@@ -87,15 +87,15 @@ times_from_apart (y ∷ xs) apart x =
           | inr other ↦ omega (arith, more, ap (λ b. cond b 1 0 + times x xs) other)
         ]
 
--- a part of distinct places
+-- a part of distinct offsets
 pub apart_part : (xs ys : List ℕ) → AreDistinct ys → IsPartOf xs ys → AreDistinct xs
 apart_part xs ys apart part = apart_from_times xs (λ x. omega (arith, times_from_apart ys apart x, part x))
 
--- The lists have no place in common.
+-- The lists have no offset in common.
 abbrev pub AreDisjoint : List ℕ → List ℕ → Type 0
 AreDisjoint xs ys = (x : ℕ) → Contains xs x → Contains ys x → ⊥
 
--- two lists side by side in a part of distinct places
+-- two lists side by side in a part of distinct offsets
 pub apart_beside : (xs ys zs : List ℕ) → AreDistinct zs → IsPartOf (xs ++ ys) zs → AreDisjoint xs ys
 apart_beside xs ys zs apart part x here there =
     absurd (omega (
@@ -144,7 +144,7 @@ starts_of (Some v) = starts_in v
 abbrev pub starts_at : List (Key × Value) → List ℕ → List ℕ
 starts_at entries name = starts_of (value_at name entries)
 
--- how often a place is in what an entry holds, where the entry has one of the names
+-- how often an offset is in what an entry holds, where the entry has one of the names
 abbrev named_times : ℕ → Key × Value → List (List ℕ) → ℕ
 named_times x e [] = 0
 named_times x e (n ∷ ns) = cond (has_name n e) (times x (starts_in e.1)) 0 + named_times x e ns
@@ -234,7 +234,7 @@ apart_names m n entries v w other here there apart =
       ap (λ o. times x (starts_of o)) there,
     ))
 
--- at two places of an array
+-- at two indices of an array
 pub apart_elements : (vs : List Value) → AreDistinct (flat_map starts_in vs)
     → AllPairs (λ v w. AreDisjoint (starts_in v) (starts_in w)) vs
 apart_elements [] apart = λ i j d below within. absurd (omega arith)

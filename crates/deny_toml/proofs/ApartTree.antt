@@ -1,4 +1,4 @@
--- A place is in a tree no more often than in what its lines put.
+-- An offset is in a tree no more often than in what its lines put.
 use Rattle.std.proofs.Common.{◌≡◌, ℕ, zero, suc, ◌+◌, ◌≤◌, Bool, true, false, cond, List, [], ◌∷◌, ◌++◌, map, refl, sym}
 use Rattle.std.proofs.Common.{ap, subst, ◌∙◌, inl, inr, arith}
 use Rattle.std.proofs.lemmas.Bool.{cases_Bool}
@@ -32,7 +32,7 @@ equal_less : Equal ≡ Less → ⊥
 equal_less e = cc
 
 module _ (x : ℕ) where
-  -- how often the place is among the starts of a value, of several, and of what lines put
+  -- how often the offset is among the starts of a value, of several, and of what lines put
   abbrev pub weight : Value → ℕ
   weight v = times x (starts_in v)
 
@@ -215,7 +215,7 @@ module _ (x : ℕ) where
 
   module _ (make : List Line → Table) (no_more : IsNoMore make) where
     table_no_more : (ls : List Line) → weight (tree.table_value make ls) ≤ lines_weight ls
-    table_no_more ls = omega (arith, table_value_weight (tree.place_of ls) (make ls), no_more ls)
+    table_no_more ls = omega (arith, table_value_weight (tree.slot_span ls) (make ls), no_more ls)
 
     each_no_more : (parts : List (List Line)) → values_weight (map (tree.table_value make) parts) ≤ parts_weight parts
     each_no_more [] = omega arith
@@ -225,7 +225,7 @@ module _ (x : ℕ) where
     array_no_more ls =
         omega (
           arith,
-          array_weight (tree.place_of ls) (map (tree.table_value make) (tree.elements ls)),
+          array_weight (tree.slot_span ls) (map (tree.table_value make) (tree.elements ls)),
           each_no_more
               (tree.elements ls),
           elements_weight ls,

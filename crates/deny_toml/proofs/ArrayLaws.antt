@@ -7,18 +7,18 @@ use Rattle.deny_toml.specs.declared.value.Value.{Value}
 use Rattle.deny_toml.specs.Faults.{under}
 use Rattle.deny_toml.specs.Deserialize.{faults_from, ReadsEach, Adds}
 
-pub faults_from-push : (faults_of : Value → List ConfigFault) (vs : List Value) (v : Value) (place : ℕ)
-    → faults_from faults_of place (vs ++ v ∷ []) ≡ faults_from faults_of place vs ++ under (decimal (place + length vs))
+pub faults_from-push : (faults_of : Value → List ConfigFault) (vs : List Value) (v : Value) (index : ℕ)
+    → faults_from faults_of index (vs ++ v ∷ []) ≡ faults_from faults_of index vs ++ under (decimal (index + length vs))
     (faults_of v)
-faults_from-push faults_of [] v place =
-    let same : place ≡ place + 0 = omega arith in
-    append-nil (under (decimal place) (faults_of v)) ∙ ap (λ n. under (decimal n) (faults_of v)) same
-faults_from-push faults_of (w ∷ vs) v place =
-    let next : place + 1 + length vs ≡ place + suc (length vs) = omega arith in
-    ap (λ rest. under (decimal place) (faults_of w) ++ rest) (faults_from-push faults_of vs v (place + 1))
-    ∙ sym (append_assoc (under (decimal place) (faults_of w)) (faults_from faults_of (place + 1) vs)
-    (under (decimal (place + 1 + length vs)) (faults_of v)))
-    ∙ ap (λ n. (under (decimal place) (faults_of w) ++ faults_from faults_of (place + 1) vs) ++ under (decimal n)
+faults_from-push faults_of [] v index =
+    let same : index ≡ index + 0 = omega arith in
+    append-nil (under (decimal index) (faults_of v)) ∙ ap (λ n. under (decimal n) (faults_of v)) same
+faults_from-push faults_of (w ∷ vs) v index =
+    let next : index + 1 + length vs ≡ index + suc (length vs) = omega arith in
+    ap (λ rest. under (decimal index) (faults_of w) ++ rest) (faults_from-push faults_of vs v (index + 1))
+    ∙ sym (append_assoc (under (decimal index) (faults_of w)) (faults_from faults_of (index + 1) vs)
+    (under (decimal (index + 1 + length vs)) (faults_of v)))
+    ∙ ap (λ n. (under (decimal index) (faults_of w) ++ faults_from faults_of (index + 1) vs) ++ under (decimal n)
     (faults_of v)) next
 
 pub ReadsEach-push : {T : Type 0} (Reads : Value → T → Type 0) (vs : List Value) (xs : List T) (v : Value) (x : T)
@@ -42,23 +42,23 @@ under-none name (f ∷ fs) e = cc e
 
 -- the turn of the loop that reads one element
 pub read_more : {T : Type 0} (faults_of : Value → List ConfigFault) (Reads : Value → T → Type 0) (vs : List Value)
-    (place : ℕ) (v : Value)
-    (kept faults : List ConfigFault) (items more : List T) → faults ≡ kept ++ under (decimal place) (faults_of v)
+    (index : ℕ) (v : Value)
+    (kept faults : List ConfigFault) (items more : List T) → faults ≡ kept ++ under (decimal index) (faults_of v)
     → (kept ≡ [] → ReadsEach Reads vs items) → (faults_of v ≡ [] → Adds Reads v items more)
     → faults ≡ [] → ReadsEach Reads (vs ++ v ∷ []) more
-read_more faults_of Reads vs place v kept faults items more e each one none =
-    let joined : kept ++ under (decimal place) (faults_of v) ≡ [] = sym e ∙ none in
-    let (x, added, read) = one (under-none (decimal place) (faults_of v)
-    (empty_back kept (under (decimal place) (faults_of v)) joined)) in
+read_more faults_of Reads vs index v kept faults items more e each one none =
+    let joined : kept ++ under (decimal index) (faults_of v) ≡ [] = sym e ∙ none in
+    let (x, added, read) = one (under-none (decimal index) (faults_of v)
+    (empty_back kept (under (decimal index) (faults_of v)) joined)) in
     subst (λ xs. ReadsEach Reads (vs ++ v ∷ []) xs) (sym added)
-    (ReadsEach-push Reads vs items v x (each (empty_prefix kept (under (decimal place) (faults_of v)) joined)) read)
+    (ReadsEach-push Reads vs items v x (each (empty_prefix kept (under (decimal index) (faults_of v)) joined)) read)
 
-pub faults_more : (faults_of : Value → List ConfigFault) (vs : List Value) (place : ℕ) (v : Value)
+pub faults_more : (faults_of : Value → List ConfigFault) (vs : List Value) (index : ℕ) (v : Value)
     (kept faults : List ConfigFault)
-    → place ≡ length vs → faults ≡ kept ++ under (decimal place) (faults_of v) → kept ≡ faults_from faults_of 0 vs
+    → index ≡ length vs → faults ≡ kept ++ under (decimal index) (faults_of v) → kept ≡ faults_from faults_of 0 vs
     → faults ≡ faults_from faults_of 0 (vs ++ v ∷ [])
-faults_more faults_of vs place v kept faults count e so_far =
+faults_more faults_of vs index v kept faults count e so_far =
     let same : length vs ≡ 0 + length vs = omega arith in
-    e ∙ ap (λ fs. fs ++ under (decimal place) (faults_of v)) so_far
+    e ∙ ap (λ fs. fs ++ under (decimal index) (faults_of v)) so_far
     ∙ ap (λ n. faults_from faults_of 0 vs ++ under (decimal n) (faults_of v)) (count ∙ same)
     ∙ sym (faults_from-push faults_of vs v 0)

@@ -35,7 +35,7 @@ abbrev key : List Key → Expression
 key path = expression.Assignment (assignment_with path yes)
 
 abbrev at : ℕ → Option Span
-at place = Some (span_of place 1)
+at offset = Some (span_of offset 1)
 
 yes-none : clash_in yes ≡ None
 yes-none = clash_in-scalar (span_of 0 0) (Boolean true)

@@ -29,7 +29,7 @@ use Rattle.deny_toml_grammar.specs.declared.expression.WrittenContent.TheVariant
 use Rattle.deny_toml_grammar.specs.declared.expression.WrittenContent.TheVariants.{rolls-InlineTable}
 use Rattle.deny_toml_grammar.specs.declared.parts.Scalar.{Scalar}
 use Rattle.deny_toml_grammar.specs.Expression.{written_with, assigned_path, assigned_value}
-use Rattle.deny_toml.specs.Clash.{Segment, at_place, passes_header, passes, names_array, sets, may_stand, table_of}
+use Rattle.deny_toml.specs.Clash.{Segment, at_slot, passes_header, passes, names_array, sets, may_stand, table_of}
 use Rattle.deny_toml.specs.Clash.{stand, follow, walk, walk_header, walk_key, Line, header_line, is_empty, clash_after}
 use Rattle.deny_toml.specs.Clash.{first_of, clash_of_content, line_of_assignment, clash_in, member_line, line_of}
 
@@ -76,11 +76,11 @@ pub table_of-other : (first : Segment) (there : List Segment) (segment : Segment
     → table_of ((first ∷ there) ++ segment ∷ []) ≡ table_of (first ∷ there)
 table_of-other first there segment is = rw (reverse-append (first ∷ there) (segment ∷ []), is) refl
 
--- the segments at a place, with one more
-pub at_place-more : (table : ℕ) (name : List ℕ) (before : List Segment) (segment : Segment)
-    → at_place table name (before ++ segment ∷ []) ≡ at_place table name before ++
+-- the segments at a slot, with one more
+pub at_slot-more : (table : ℕ) (name : List ℕ) (before : List Segment) (segment : Segment)
+    → at_slot table name (before ++ segment ∷ []) ≡ at_slot table name before ++
     (if (segment.table == table) && bytes_eq segment.name name then segment ∷ [] else [])
-at_place-more table name before segment = filter-append (λ s. (s.table == table) && bytes_eq s.name name) before
+at_slot-more table name before segment = filter-append (λ s. (s.table == table) && bytes_eq s.name name) before
     (segment ∷ [])
 
 -- a path is walked segment by segment

@@ -1,4 +1,4 @@
--- The first entry of a name, by its place.
+-- The first entry of a name, by its index.
 use Rattle.std.proofs.Common.{◌≡◌, ℕ, zero, suc, ◌<◌, ◌≤◌, Option, Bool, true, false, List, [], ◌∷◌, length, get_or}
 use Rattle.std.proofs.Common.{position, Some, None, nat_lt, cond, refl, sym, ap, subst, arith, ◌∙◌}
 use Rattle.std.specs.List.{find, remove, position_or_len}
@@ -10,7 +10,7 @@ use Rattle.deny_toml.specs.declared.value.Value.{Value}
 use Rattle.deny_toml.specs.Calls.{has_name, entry_at, without}
 
 module _ {X : Type 0} (p : X → Bool) where
-  -- the first element that passes stands at the first place that does
+  -- the first element that passes stands at the first index that does
   find_at_first : (xs : List X) (i : ℕ) (d : X) → i < length xs → p (get_or xs i d) ≡ true
       → ((k : ℕ) → k < i → p (get_or xs k d) ≡ false)
       → find p xs ≡ Some (get_or xs i d)
@@ -41,7 +41,7 @@ module _ {X : Type 0} (p : X → Bool) where
   pub find-position_none : (xs : List X) → position p xs ≡ None → find p xs ≡ None
   find-position_none xs none = none_found xs (none_passes xs none)
 
--- the entries without that at the first place of a name
+-- the entries without that at the first index of a name
 without_at_first : (name : List ℕ) (es : List (Key × Value)) (i : ℕ) (d : Key × Value) → i < length es
     → has_name name (get_or es i d) ≡ true
     → ((k : ℕ) → k < i → has_name name (get_or es k d) ≡ false) → without name es ≡ remove es i
@@ -69,36 +69,36 @@ pub without-position_none : (name : List ℕ) (es : List (Key × Value)) → pos
     → without name es ≡ es
 without-position_none name es none = without_none name es (none_passes (has_name name) es none)
 
--- the entry at the place that was found in a slice, and none where none was
+-- the entry at the index that was found in a slice, and none where none was
 pub found_entry : (name : List ℕ) (es shown : List (Key × Value)) (r : Option ℕ) (i : ℕ) (e : Key × Value) → shown ≡ es
     → r ≡ position (has_name name) shown → r ≡ Some i → e ≡ get_or shown i e → Some e ≡ entry_at name es
-found_entry name es shown r i e same place found is =
-    let at : position (has_name name) shown ≡ Some i = sym place ∙ found in
+found_entry name es shown r i e same index found is =
+    let at : position (has_name name) shown ≡ Some i = sym index ∙ found in
     subst (λ xs. Some e ≡ find (has_name name) xs) same (ap Some is ∙ sym (find-position (has_name name) shown i e at))
 
 pub no_entry : (name : List ℕ) (es shown : List (Key × Value)) (r : Option ℕ) → shown ≡ es
     → r ≡ position (has_name name) shown → r ≡ None → None ≡ entry_at name es
-no_entry name es shown r same place none =
+no_entry name es shown r same index none =
     subst (λ xs. None ≡ find (has_name name) xs) same (sym (find-position_none (has_name name) shown
-    (sym place ∙ none)))
+    (sym index ∙ none)))
 
 -- the same where the entry is taken out of the list itself
 pub taken_entry : (name : List ℕ) (es shown inside : List (Key × Value)) (r : Option ℕ) (i : ℕ) (e : Key × Value)
     → shown ≡ es → inside ≡ es
     → r ≡ position (has_name name) shown → r ≡ Some i → e ≡ get_or inside i e → Some e ≡ entry_at name es
-taken_entry name es shown inside r i e same opened place found is =
-    found_entry name es es r i e refl (place ∙ ap (position (has_name name)) same) found
+taken_entry name es shown inside r i e same opened index found is =
+    found_entry name es es r i e refl (index ∙ ap (position (has_name name)) same) found
     (is ∙ ap (λ xs. get_or xs i e) opened)
 
 pub left_entries : (name : List ℕ) (es shown inside left : List (Key × Value)) (r : Option ℕ) (i : ℕ) (d : Key × Value)
     → shown ≡ es → inside ≡ es
     → r ≡ position (has_name name) shown → r ≡ Some i → left ≡ remove inside i → left ≡ without name es
-left_entries name es shown inside left r i d same opened place found rest =
-    let at : position (has_name name) es ≡ Some i = sym (ap (position (has_name name)) same) ∙ sym place ∙ found in
+left_entries name es shown inside left r i d same opened index found rest =
+    let at : position (has_name name) es ≡ Some i = sym (ap (position (has_name name)) same) ∙ sym index ∙ found in
     rest ∙ ap (λ xs. remove xs i) opened ∙ sym (without-position name es i d at)
 
 pub all_left : (name : List ℕ) (es shown : List (Key × Value)) (r : Option ℕ) → shown ≡ es
     → r ≡ position (has_name name) shown → r ≡ None → es ≡ without name es
-all_left name es shown r same place none =
-    let at : position (has_name name) es ≡ None = sym (ap (position (has_name name)) same) ∙ sym place ∙ none in
+all_left name es shown r same index none =
+    let at : position (has_name name) es ≡ None = sym (ap (position (has_name name)) same) ∙ sym index ∙ none in
     sym (without-position_none name es at)

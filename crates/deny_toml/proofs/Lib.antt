@@ -4,7 +4,7 @@ pub mod ArrayLaws
 pub mod PathLaws
 pub mod ClashRanges
 pub mod ClashLaws
-pub mod PlacesLaws
+pub mod SlotsLaws
 pub mod ClashExamples
 pub mod TreeLaws
 pub mod TreeValues

@@ -9,16 +9,16 @@ use Rattle.deny_toml.specs.Ranges.{IsRange, KeyStands, Stands, StandsIn}
 use Rattle.deny_toml.specs.Clash.{clash}
 use Rattle.deny_toml.specs.Tree.{tree}
 use Rattle.deny_toml.specs.Parser.{IsDocumentOf, whole, IsTreeOf}
-use Rattle.deny_toml_grammar.proofs.RangesLaws.{all_stand, keys_placed}
-use Rattle.deny_toml.proofs.ClashRanges.{clash_placed}
+use Rattle.deny_toml_grammar.proofs.RangesLaws.{all_stand, keys_lie}
+use Rattle.deny_toml.proofs.ClashRanges.{clash_lies}
 use Rattle.deny_toml.proofs.TreeRanges.{tree_ok}
 
 pub clash_range : (text : List ℕ) (es : List Expression) (found : Option Span) (span : Span) → IsUtf8 text
     → IsDocumentOf text es → found ≡ clash es → found ≡ Some span
     → IsRange text span
 clash_range text es found span utf8 of exact is =
-    subst (λ o. IfSome o (IsRange text)) (sym exact ∙ is) (clash_placed (IsRange text) (λ w. Unit {0}) es
-    (keys_placed text utf8 es of.written))
+    subst (λ o. IfSome o (IsRange text)) (sym exact ∙ is) (clash_lies (IsRange text) (λ w. Unit {0}) es
+    (keys_lie text utf8 es of.written))
 
 empty_range : (text : List ℕ) → IsUtf8 text → IsRange text (span_of 0 0)
 empty_range text utf8 = record {
@@ -42,9 +42,9 @@ pub tree_stands : (text : List ℕ) (es : List Expression) (span : Span) (v : Va
     → span ≡ whole text → v ≡ tree span es → StandsIn text v
 tree_stands text es span v utf8 of range exact =
     subst (StandsIn text) (sym (exact ∙ (λ i. tree (range i) es)))
-    (tree_ok (KeyStands text) (Stands text) (λ key here. record { placed = here.placed; written = tt })
-    (record { placed = empty_range text utf8; written = tt })
-    (whole text) (record { placed = whole_range text utf8; written = tt }) es (all_stand text utf8 es of.written))
+    (tree_ok (KeyStands text) (Stands text) (λ key here. record { lies = here.lies; written = tt })
+    (record { lies = empty_range text utf8; written = tt })
+    (whole text) (record { lies = whole_range text utf8; written = tt }) es (all_stand text utf8 es of.written))
 
 -- a text has one tree at most
 pub one_tree : (text : List ℕ) (v w : Value) → IsTreeOf text v → IsTreeOf text w → v ≡ w

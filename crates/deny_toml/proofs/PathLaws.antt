@@ -1,4 +1,4 @@
--- Places, and the parts of a path.
+-- Indices, and the parts of a path.
 use Rattle.std.proofs.Common.{◌≡◌, ℕ, suc, ◌+◌, ◌-◌, ◌*◌, ◌<◌, ◌≤◌, Bool, true, false, List, [], ◌∷◌, length}
 use Rattle.std.proofs.Common.{drop, take, length-drop, get_or, Some, None, nat_lt, cond, ◌==◌, position, refl, inl, inr}
 use Rattle.std.proofs.Common.{arith}
@@ -9,28 +9,28 @@ use Rattle.std.proofs.lemmas.List.Quantifiers.{position-Some}
 use Rattle.std.proofs.lemmas.List.Splits.{slice_split_first}
 use Rattle.deny_toml.proofs.EntryLaws.{none_passes}
 use Rattle.std.proofs.lemmas.Bool.{cases_Bool}
-use Rattle.deny_toml.specs.Calls.{IsPast, is_decimal_digit, place_after, parts_of}
+use Rattle.deny_toml.specs.Calls.{IsPast, is_decimal_digit, index_after, parts_of}
 
--- digits do not make a place smaller
-pub place_after-past : (count place : ℕ) (bytes : List ℕ) → count ≤ place → IsPast count (place_after place bytes)
-place_after-past count place [] past = past
-place_after-past count place (byte ∷ bytes) past =
+-- digits do not make an index smaller
+pub index_after-past : (count index : ℕ) (bytes : List ℕ) → count ≤ index → IsPast count (index_after index bytes)
+index_after-past count index [] past = past
+index_after-past count index (byte ∷ bytes) past =
     elim (cases_Bool (is_decimal_digit byte)) [
-      | inl digit ↦ rw digit (place_after-past count (place * 10 + (byte - 48)) bytes (omega arith))
+      | inl digit ↦ rw digit (index_after-past count (index * 10 + (byte - 48)) bytes (omega arith))
       | inr other ↦ rw other tt
     ]
 
-pub place_after-digit : (place next byte : ℕ) (bytes : List ℕ) → is_decimal_digit byte ≡ true
-    → next ≡ place * 10 + (byte - 48)
-    → place_after place (byte ∷ bytes) ≡ place_after next bytes
-place_after-digit place next byte bytes digit is = rw (digit, is)
+pub index_after-digit : (index next byte : ℕ) (bytes : List ℕ) → is_decimal_digit byte ≡ true
+    → next ≡ index * 10 + (byte - 48)
+    → index_after index (byte ∷ bytes) ≡ index_after next bytes
+index_after-digit index next byte bytes digit is = rw (digit, is)
 
-pub place_after-end : (count place byte : ℕ) (bytes : List ℕ)
-    → (is_decimal_digit byte ≡ true → count ≤ place * 10 + (byte - 48))
-    → IsPast count (place_after place (byte ∷ bytes))
-place_after-end count place byte bytes past =
+pub index_after-end : (count index byte : ℕ) (bytes : List ℕ)
+    → (is_decimal_digit byte ≡ true → count ≤ index * 10 + (byte - 48))
+    → IsPast count (index_after index (byte ∷ bytes))
+index_after-end count index byte bytes past =
     elim (cases_Bool (is_decimal_digit byte)) [
-      | inl digit ↦ rw digit (place_after-past count (place * 10 + (byte - 48)) bytes (past digit))
+      | inl digit ↦ rw digit (index_after-past count (index * 10 + (byte - 48)) bytes (past digit))
       | inr other ↦ rw other tt
     ]
 

@@ -141,7 +141,7 @@ elements_within n (l ∷ ls) all =
 
 module _ (n : ℕ) (f g : List Line → Table) (same : (ls : List Line) → AreWithin n ls → f ls ≡ g ls) where
   same_table : (ls : List Line) → AreWithin n ls → tree.table_value f ls ≡ tree.table_value g ls
-  same_table ls all = ap (λ t. value_with (tree.place_of ls) (content.Table t)) (same ls all)
+  same_table ls all = ap (λ t. value_with (tree.slot_span ls) (content.Table t)) (same ls all)
 
   same_each : (es : List (List Line)) → AllByRecursion (AreWithin n) es
       → map (tree.table_value f) es ≡ map (tree.table_value g) es
@@ -152,7 +152,7 @@ module _ (n : ℕ) (f g : List Line → Table) (same : (ls : List Line) → AreW
 
   same_container : (b : Bool) (ls : List Line) → AreWithin n ls
       → cond b (tree.array_value f ls) (tree.table_value f ls) ≡ cond b (tree.array_value g ls) (tree.table_value g ls)
-  same_container true ls all = ap (λ vs. value_with (tree.place_of ls) (content.Array vs))
+  same_container true ls all = ap (λ vs. value_with (tree.slot_span ls) (content.Array vs))
       (same_each (tree.elements ls) (elements_within n ls all))
   same_container false ls all = same_table ls all
 
@@ -169,7 +169,7 @@ module _ (n : ℕ) (f g : List Line → Table) (same : (ls : List Line) → AreW
       (map (λ m. (m, tree.lines_through m ss)) ns)
   same_entries ss [] all = refl
   same_entries ss (m ∷ ns) all =
-      ap (λ v. (record { name = m; span = tree.place_of (tree.lines_through m ss) }, v) ∷ map (tree.entry_of f)
+      ap (λ v. (record { name = m; span = tree.slot_span (tree.lines_through m ss) }, v) ∷ map (tree.entry_of f)
       (map (λ m. (m, tree.lines_through m ss)) ns))
       (same_value (tree.lines_through m ss) (through_within n m ss all))
       ∙ ap (λ es. tree.entry_of g (m, tree.lines_through m ss) ∷ es) (same_entries ss ns all)

@@ -154,13 +154,13 @@ module _ (below : List Line → Table) (orderly : (ls : List Line) → LinesAreO
       → AreOrderly (map (tree.table_value below) es)
   each_orderly [] all = none
   each_orderly (e ∷ es) all = more (tree.table_value below e) _
-      (table_value (tree.place_of e) (below e) (orderly e all.0)) (each_orderly es all.1)
+      (table_value (tree.slot_span e) (below e) (orderly e all.0)) (each_orderly es all.1)
 
   container_orderly : (b : Bool) (ls : List Line) → LinesAreOrderly ls
       → IsOrderly (cond b (tree.array_value below ls) (tree.table_value below ls))
-  container_orderly true ls all = array_value (tree.place_of ls) _
+  container_orderly true ls all = array_value (tree.slot_span ls) _
       (each_orderly (tree.elements ls) (elements_orderly ls all))
-  container_orderly false ls all = table_value (tree.place_of ls) (below ls) (orderly ls all)
+  container_orderly false ls all = table_value (tree.slot_span ls) (below ls) (orderly ls all)
 
   put_value_orderly : (p : PathEnd) (path : List Key) (ls : List Line) → PutIsOrderly p → LinesAreOrderly ls
       → IsOrderly (tree.value_or below (tree.end_value p path) ls)

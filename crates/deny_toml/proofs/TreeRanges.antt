@@ -41,7 +41,7 @@ use Rattle.deny_toml.specs.Ranges.{AllOfValue, AllOfContent, AllOfValues, AllOfE
 use Rattle.deny_toml_grammar.specs.Ranges as written_ranges
 use Rattle.deny_toml.specs.Ranges as ranges
 use Rattle.deny_toml.specs.Tree.{step, member_steps, end_steps, line_steps, steps, names, lines_through, groups}
-use Rattle.deny_toml.specs.Tree.{place_of, is_element, starts_array, assigned, end_as_table, until_element, elements}
+use Rattle.deny_toml.specs.Tree.{slot_span, is_element, starts_array, assigned, end_as_table, until_element, elements}
 use Rattle.deny_toml.specs.Tree.{table_value, array_value, value_or, value_of_lines, entry_of, table, depth, table_of}
 use Rattle.deny_toml.specs.Tree.{table_of_members, line_at, content_step, member_step, value_step, written_value}
 use Rattle.deny_toml.specs.Tree.{written_member, leading, header_end, header_lines, lines, tree}
@@ -109,7 +109,7 @@ module _ (K : Key → Type 0) (R : Span → Option Scalar → Type 0) where
 
   table_made : (span : Span) (t : Table) → R span None → AllOfEntries K Holds (entries_in t)
       → AllOk (value_with span (content.Table t))
-  table_made span t placed below = all_made span (content.Table t) (Content-F.Table t) (content.rolls-Table t) placed
+  table_made span t lies below = all_made span (content.Table t) (Content-F.Table t) (content.rolls-Table t) lies
       (ranges.table_content t below)
 
   entries_made : (es : List (Key × Value)) → AllOfEntries K Holds es → AllOfEntries K Holds (entries_in (table_with es))
@@ -133,7 +133,7 @@ module _ (K : Key → Type 0) (R : Span → Option Scalar → Type 0) where
   StepOk s = K (record { name = s.0; span = s.1.at }) × LineOk s.1
 
   abbrev GroupOk : List ℕ × List Line → Type 0
-  GroupOk g = K (record { name = g.0; span = place_of g.1 }) × AllByRecursion LineOk g.1
+  GroupOk g = K (record { name = g.0; span = slot_span g.1 }) × AllByRecursion LineOk g.1
 
   put_as_table_ok : (p : PathEnd) → PutOk p → PutOk (end_as_table p)
   put_as_table_ok (path_end.Value v) ok = ok
@@ -173,7 +173,7 @@ module _ (K : Key → Type 0) (R : Span → Option Scalar → Type 0) where
       ]
 
   first_through : (name : List ℕ) (seen : List (List ℕ × Line)) → AllByRecursion StepOk seen → IsLedTo seen name
-      → K (record { name = name; span = place_of (lines_through name seen) })
+      → K (record { name = name; span = slot_span (lines_through name seen) })
   unfolding lines_through
   first_through name [] ok led = absurd (false≢true led)
   first_through name (s ∷ seen) ok led =
@@ -192,10 +192,10 @@ module _ (K : Key → Type 0) (R : Span → Option Scalar → Type 0) where
       of_names [] led = tt
       of_names (name ∷ ns) led = ((first_through name seen ok led.0, through_ok name seen ok), of_names ns led.1)
 
-  module _ (placed : (key : Key) → K key → R key.span None) (start : R (span_of 0 0) None) where
+  module _ (lies : (key : Key) → K key → R key.span None) (start : R (span_of 0 0) None) where
     step_ok : (key : Key) (path : List Key) (p : PathEnd) → K key → AllByRecursion K path → PutOk p
         → StepOk (step key path p)
-    step_ok key path p here keys ok = (here, (placed key here, keys, ok))
+    step_ok key path p here keys ok = (here, (lies key here, keys, ok))
 
     member_steps_ok : (v : Value) (path : List Key) → AllByRecursion K path → AllOk v
         → AllByRecursion StepOk (member_steps v path)
@@ -226,9 +226,9 @@ module _ (K : Key → Type 0) (R : Span → Option Scalar → Type 0) where
         all_append StepOk (line_steps line.path_end line.path) (flat_map (λ x. line_steps x.path_end x.path) ls)
         (line_steps_ok line.path_end line.path ok.0.1 ok.0.2) (steps_ok ls ok.1)
 
-    place_ok : (ls : List Line) → AllByRecursion LineOk ls → R (place_of ls) None
-    place_ok [] ok = start
-    place_ok (line ∷ ls) ok = ok.0.0
+    slot_span_ok : (ls : List Line) → AllByRecursion LineOk ls → R (slot_span ls) None
+    slot_span_ok [] ok = start
+    slot_span_ok (line ∷ ls) ok = ok.0.0
 
     assigned_ok : (ls : List Line) → AllByRecursion LineOk ls → IfSome (assigned ls) AllOk
     assigned_ok [] ok = tt
@@ -246,7 +246,7 @@ module _ (K : Key → Type 0) (R : Span → Option Scalar → Type 0) where
 
     table_value_ok : (make : List Line → Table) → TablesOk make → (ls : List Line) → AllByRecursion LineOk ls
         → AllOk (table_value make ls)
-    table_value_ok make tables ls ok = table_made (place_of ls) (make ls) (place_ok ls ok) (tables ls ok)
+    table_value_ok make tables ls ok = table_made (slot_span ls) (make ls) (slot_span_ok ls ok) (tables ls ok)
 
     table_values_ok : (make : List Line → Table) → TablesOk make → (parts : List (List Line))
         → AllByRecursion (AllByRecursion LineOk) parts
@@ -260,7 +260,7 @@ module _ (K : Key → Type 0) (R : Span → Option Scalar → Type 0) where
         → AllOk (array_value make ls)
     array_value_ok make tables ls ok =
         let vs = map (table_value make) (elements ls) in
-        all_made (place_of ls) (content.Array vs) (Content-F.Array vs) (content.rolls-Array vs) (place_ok ls ok)
+        all_made (slot_span ls) (content.Array vs) (Content-F.Array vs) (content.rolls-Array vs) (slot_span_ok ls ok)
         (ranges.array_content vs (table_values_ok make tables (elements ls) (elements_ok ls ok)))
 
     value_of_ok : (make : List Line → Table) → TablesOk make → (ls : List Line) → AllByRecursion LineOk ls
@@ -280,7 +280,7 @@ module _ (K : Key → Type 0) (R : Span → Option Scalar → Type 0) where
         → AllByRecursion GroupOk gs → AllOfEntries K Holds (map (entry_of make) gs)
     entries_ok make tables [] ok = ranges.no_entries
     entries_ok make tables (g ∷ gs) ok =
-        ranges.entries (record { name = g.0; span = place_of g.1 }) (value_of_lines make g.1) (map (entry_of make) gs)
+        ranges.entries (record { name = g.0; span = slot_span g.1 }) (value_of_lines make g.1) (map (entry_of make) gs)
         ok.0.0 (value_of_ok make tables g.1 ok.0.1)
         (entries_ok make tables gs ok.1)
 

@@ -1,4 +1,4 @@
--- What stands at a place, case by case.
+-- What stands at a slot, case by case.
 use Rattle.std.proofs.Common.{◌≡◌, ◌≢◌, ℕ, zero, suc, ◌-◌, true, false, List, [], map, Some, None, arith, refl, sym, ap}
 use Rattle.std.proofs.Common.{◌∙◌, rules}
 use Rattle.std.proofs.lemmas.Bool.{cond-true, cond-false}

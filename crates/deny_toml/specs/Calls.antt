@@ -95,28 +95,28 @@ value_at name entries = option_map (λ e. e.1) (entry_at name entries)
 abbrev pub below_name : List ℕ → Value → Option Value
 below_name name v = option_and_then (λ t. value_at name (entries_in t)) (table_in v)
 
--- a decimal place: digits, and no zero before another digit
+-- a decimal index: digits, and no zero before another digit
 abbrev pub is_decimal_digit : ℕ → Bool
 is_decimal_digit byte = nat_le 48 byte && nat_le byte 57
 
-abbrev pub place_after : ℕ → List ℕ → Option ℕ
-place_after place [] = Some place
-place_after place (byte ∷ bytes) = if is_decimal_digit byte then place_after (place * 10 + (byte - 48)) bytes else None
+abbrev pub index_after : ℕ → List ℕ → Option ℕ
+index_after index [] = Some index
+index_after index (byte ∷ bytes) = if is_decimal_digit byte then index_after (index * 10 + (byte - 48)) bytes else None
 
-abbrev pub place_in : List ℕ → Option ℕ
-place_in [] = None
-place_in (byte ∷ bytes) = if (byte == 48) && not (length bytes == 0) then None else place_after 0 (byte ∷ bytes)
+abbrev pub index_in : List ℕ → Option ℕ
+index_in [] = None
+index_in (byte ∷ bytes) = if (byte == 48) && not (length bytes == 0) then None else index_after 0 (byte ∷ bytes)
 
--- there is no place, or one that is not below the count
+-- there is no index, or one that is not below the count
 abbrev pub IsPast : ℕ → Option ℕ → Type 0
 IsPast count None = ⊤
-IsPast count (Some place) = count ≤ place
+IsPast count (Some index) = count ≤ index
 
--- the element at a decimal place
+-- the element at a decimal index
 abbrev pub element_at : List ℕ → List Value → Option Value
-element_at part vs = option_and_then (slice_get vs) (place_in part)
+element_at part vs = option_and_then (slice_get vs) (index_in part)
 
--- what stands below a value at a part of a path: in a table at a name, in an array at a place
+-- what stands below a value at a part of a path: in a table at a name, in an array at an index
 abbrev pub below : List ℕ → Layer → Option Value
 below part (Content-F.Scalar s) = None
 below part (Content-F.Array vs) = element_at part vs

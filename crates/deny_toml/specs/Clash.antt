@@ -1,5 +1,5 @@
 -- Where a document clashes: the first segment of its headers and keys, in text order, that may not
--- stand at its place.
+-- stand at its slot.
 use Rattle.std.specs.Prelude.{ℕ, ◌+◌, ◌==◌, Bool, true, false, ◌&&◌, if◌then◌else◌, not, List, [], ◌∷◌, ◌++◌, length}
 use Rattle.std.specs.Prelude.{map, reverse, Option, Some, None, Result, Ok, Err}
 use Rattle.std.specs.List.{filter, find, list_all, list_any, slice_get}
@@ -25,9 +25,9 @@ pub record Segment : Type 0 where
   pub name : List ℕ
   pub role : Role
 
--- those of these segments that stand at a place, which is a name in a table
-abbrev pub at_place : ℕ → List ℕ → List Segment → List Segment
-at_place table name before = filter (λ s. (s.table == table) && bytes_eq s.name name) before
+-- those of these segments that stand at a slot, which is a name in a table
+abbrev pub at_slot : ℕ → List ℕ → List Segment → List Segment
+at_slot table name before = filter (λ s. (s.table == table) && bytes_eq s.name name) before
 
 abbrev pub roles_of : List Segment → List Role
 roles_of there = map (λ s. s.role) there
@@ -57,7 +57,7 @@ abbrev pub array_first : List Role → Bool
 array_first [] = true
 array_first (role ∷ _) = names_array role
 
--- Whether a segment may stand at a place, by the roles of those that stand there: at each place where
+-- Whether a segment may stand at a slot, by the roles of those that stand there: at each slot where
 -- none does, and else
 --     HeaderPasses     where no key is set: at a table, or an array of tables
 --     HeaderNames      at a table that headers go on from, that none names and no key enters
@@ -85,7 +85,7 @@ segment_after before table role name = record { number = length before + 1; tabl
 -- the segments up to this one, and the table that it leads to; or the span where it clashes
 unfoldable pub stand : List Segment → ℕ → Role → Key → Result (List Segment × ℕ) Span
 stand before table role key =
-    let there = at_place table key.name before in
+    let there = at_slot table key.name before in
     let segment = segment_after before table role key.name in
     if may_stand role (roles_of there) then Ok (before ++ segment ∷ [], table_of (there ++ segment ∷ [])) else Err
     key.span

@@ -25,10 +25,10 @@ abbrev pub faults_of_small : Value → Option ℤ → List ConfigFault
 faults_of_small v None = wrong_kind (span_in v)
 faults_of_small v (Some n) = faults_of_number v (small_number n)
 
--- the elements of an array from a place on: each one's faults are under its place
+-- the elements of an array from an index on: each one's faults are under its index
 abbrev pub faults_from : (Value → List ConfigFault) → ℕ → List Value → List ConfigFault
-faults_from faults_of place [] = []
-faults_from faults_of place (v ∷ vs) = under (decimal place) (faults_of v) ++ faults_from faults_of (place + 1) vs
+faults_from faults_of index [] = []
+faults_from faults_of index (v ∷ vs) = under (decimal index) (faults_of v) ++ faults_from faults_of (index + 1) vs
 
 abbrev pub faults_of_array : (Value → List ConfigFault) → Value → Option (List Value) → List ConfigFault
 faults_of_array faults_of v None = wrong_kind (span_in v)

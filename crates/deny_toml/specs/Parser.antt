@@ -43,6 +43,6 @@ IsCauseOf text (error.Fault kind span) = IsFaultOf text kind span
 IsCauseOf text error.Memory = ⊤
 
 -- The range of a fault is one of the text.
-abbrev pub IsPlaced : List ℕ → TomlError → Type 0
-IsPlaced text (error.Fault kind span) = IsRange text span
-IsPlaced text error.Memory = ⊤
+abbrev pub LiesIn : List ℕ → TomlError → Type 0
+LiesIn text (error.Fault kind span) = IsRange text span
+LiesIn text error.Memory = ⊤

@@ -1,10 +1,8 @@
 -- Which value the headers and assignments of a text write.
 --
--- Each header, with the assignments below it, is a line that leads along its path. Seen from a place, a line has the
--- part of
--- its path that stands at the place, the parts after it, and what it puts at their end. The lines that lead through a
--- place
--- say what stands there.
+-- Each header, with the assignments below it, is a line that leads along its path. Seen from a slot, a line has the
+-- part of its path that stands at the slot, the parts after it, and what it puts at their end. The lines that lead
+-- through a slot say what stands there.
 use Rattle.std.specs.Prelude.{ℕ, zero, suc, ◌+◌, max, Bool, true, false, List, [], ◌∷◌, map, filter, fold, length}
 use Rattle.std.specs.Prelude.{nat_eq, Option, Some, None, if◌then◌else◌}
 use Rattle.std.specs.List.{flat_map}
@@ -74,10 +72,10 @@ lines_through name seen = map (λ s. s.1) (filter (λ s. pointwise nat_eq s.0 na
 unfoldable pub groups : List (List ℕ × Line) → List (List ℕ × List Line)
 groups seen = map (λ name. (name, lines_through name seen)) (names seen)
 
--- the part that stands at a place in the first line that leads there
-abbrev pub place_of : List Line → Span
-place_of [] = span_of 0 0
-place_of (line ∷ lines) = line.at
+-- the part that stands at a slot in the first line that leads there
+abbrev pub slot_span : List Line → Span
+slot_span [] = span_of 0 0
+slot_span (line ∷ lines) = line.at
 
 -- whether a line is a header `[[path]]` that ends here
 abbrev pub ends_element : PathEnd → List Key → Bool
@@ -91,7 +89,7 @@ abbrev pub starts_array : List Line → Bool
 starts_array [] = false
 starts_array (line ∷ lines) = is_element line
 
--- the value that the first line assigns to this place
+-- the value that the first line assigns to this slot
 abbrev pub end_value : PathEnd → List Key → Option Value
 end_value (path_end.Value value) [] = Some value
 end_value _ _ = None
@@ -120,12 +118,12 @@ elements (line ∷ lines) = if is_element line then ((as_table line ∷ until_el
 
 module _ (table : List Line → Table) where
   abbrev pub table_value : List Line → Value
-  table_value lines = value_with (place_of lines) (content.Table (table lines))
+  table_value lines = value_with (slot_span lines) (content.Table (table lines))
 
   abbrev pub array_value : List Line → Value
-  array_value lines = value_with (place_of lines) (content.Array (map table_value (elements lines)))
+  array_value lines = value_with (slot_span lines) (content.Array (map table_value (elements lines)))
 
-  -- What stands at a place is for the first line that leads there to say: the value that it assigns; an array of
+  -- What stands at a slot is for the first line that leads there to say: the value that it assigns; an array of
   -- tables, where
   -- it is a header `[[path]]` that ends there; and else a table.
   abbrev pub value_or : Option Value → List Line → Value
@@ -136,7 +134,7 @@ module _ (table : List Line → Table) where
   value_of_lines lines = value_or (assigned lines) lines
 
   abbrev pub entry_of : List ℕ × List Line → Key × Value
-  entry_of group = (record { name = group.0; span = place_of group.1 }, value_of_lines group.1)
+  entry_of group = (record { name = group.0; span = slot_span group.1 }, value_of_lines group.1)
 
 -- the table that these lines lead into, of which each has at most n parts left
 unfoldable pub table : ℕ → List Line → Table

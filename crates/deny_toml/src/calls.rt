@@ -91,7 +91,7 @@ impl<'t> Value<'t> {
     }
 
     /// The value at a path below this one, each part of which stands after a `/`: in a table the
-    /// name of a key, in an array a decimal place from 0. The empty path is this value itself.
+    /// name of a key, in an array a decimal index from 0. The empty path is this value itself.
     pub fn pointer(&self, path: &str) -> Option<&Value<'t>>
         ensures { option_copied result ≡ value_at_path path.now self.now }
     {
@@ -170,8 +170,8 @@ fn is_so_long(span: Span, len: usize) -> bool
     u128::from(span.start) + len as u128 == u128::from(span.end)
 }
 
-/// The place of the first entry of that name.
-pub(crate) fn place_of(entries: &[(Key<'_>, Value<'_>)], name: &[u8]) -> Option<usize>
+/// The index of the first entry of that name.
+pub(crate) fn index_of(entries: &[(Key<'_>, Value<'_>)], name: &[u8]) -> Option<usize>
     ensures { result ≡ position (has_name name.now) entries.now }
 {
     entries.iter().position(|entry| is_named(&entry.0, name))
@@ -183,8 +183,8 @@ fn entry_at<'v, 't>(
 ) -> Option<&'v (Key<'t>, Value<'t>)>
     ensures { option_copied result ≡ spec.entry_at name.now entries.now }
 {
-    let place = place_of(entries, name)?;
-    Some(&entries[place])
+    let index = index_of(entries, name)?;
+    Some(&entries[index])
 }
 
 /// The part before the first `/`, and what follows it.
@@ -206,42 +206,42 @@ fn slash_in(path: &[u8]) -> Option<usize>
 fn element_at<'v, 't>(elements: &'v [Value<'t>], part: &[u8]) -> Option<&'v Value<'t>>
     ensures { option_copied result ≡ spec.element_at part.now elements.now }
 {
-    let place = place_in(part, elements.len())?;
-    elements.get(place)
+    let index = index_in(part, elements.len())?;
+    elements.get(index)
 }
 
-/// The place that the part writes, if it is below `count`.
-fn place_in(part: &[u8], count: usize) -> Option<usize>
-    ensures found { IfSome result (λ place. spec.place_in part.now ≡ Some place) }
-    ensures past { IfNone result (IsPast count (spec.place_in part.now)) }
+/// The index that the part writes, if it is below `count`.
+fn index_in(part: &[u8], count: usize) -> Option<usize>
+    ensures found { IfSome result (λ index. spec.index_in part.now ≡ Some index) }
+    ensures past { IfNone result (IsPast count (spec.index_in part.now)) }
 {
     match part {
         [] | [b'0', _, ..] => None,
-        _ => place_after(part, count),
+        _ => index_after(part, count),
     }
 }
 
-fn place_after(digits: &[u8], count: usize) -> Option<usize>
-    ensures found { IfSome result (λ place. spec.place_after 0 digits.now ≡ Some place) }
-    ensures past { IfNone result (IsPast count (spec.place_after 0 digits.now)) }
+fn index_after(digits: &[u8], count: usize) -> Option<usize>
+    ensures found { IfSome result (λ index. spec.index_after 0 digits.now ≡ Some index) }
+    ensures past { IfNone result (IsPast count (spec.index_after 0 digits.now)) }
 {
-    let mut place: usize = 0;
+    let mut index: usize = 0;
     'digits: for byte in digits {
-        place = next_place(place, *byte, count)?;
+        index = next_index(index, *byte, count)?;
     }
-    Some(place)
+    Some(index)
 }
 
-/// The place after one digit more, if it is below `count`.
-fn next_place(place: usize, byte: u8, count: usize) -> Option<usize>
+/// The index after one digit more, if it is below `count`.
+fn next_index(index: usize, byte: u8, count: usize) -> Option<usize>
     ensures digit { IfSome result (λ next. is_decimal_digit byte ≡ true) }
-    ensures next { IfSome result (λ next. next ≡ place * 10 + (byte - 48)) }
-    ensures past { IfNone result (is_decimal_digit byte ≡ true → count ≤ place * 10 + (byte - 48)) }
+    ensures next { IfSome result (λ next. next ≡ index * 10 + (byte - 48)) }
+    ensures past { IfNone result (is_decimal_digit byte ≡ true → count ≤ index * 10 + (byte - 48)) }
 {
     if !byte.is_ascii_digit() {
         return None;
     }
-    let next = place as u128 * 10 + u128::from(byte - b'0');
+    let next = index as u128 * 10 + u128::from(byte - b'0');
     if next < count as u128 {
         Some(next as usize)
     } else {

@@ -1,10 +1,10 @@
-//! The first clash of a document: a segment of a header or of a key that may not stand at its place.
+//! The first clash of a document: a segment of a header or of a key that may not stand at its slot.
 ghost use Rattle.std.specs.Prelude.{◌≡◌, ℕ, ◌+◌, ◌==◌, ◌&&◌, List, [], map, option_map};
 ghost use Rattle.std.specs.Prelude.{Option, Some, None, Result, OnOk, IfOk, if◌then◌else◌};
 ghost use Rattle.std.specs.Str.{bytes_eq};
 ghost use Rattle.deny_toml.specs.Clash.{Segment, stand, walk, walk_header, walk_key};
 ghost use Rattle.deny_toml.specs.Clash.{clash_in, first_of, member_line, clash_after, clash};
-ghost use Rattle.deny_toml.specs.private.Places.{Tells, Takes, TakesKey, Finds, standing_at, standing_after, admits};
+ghost use Rattle.deny_toml.specs.private.Slots.{Tells, Takes, TakesKey, Finds, occupant_at, occupant_after, admits};
 ghost use Rattle.deny_toml_grammar.specs.Expression.{assigned_path, assigned_value};
 
 use deny_base::Span;
@@ -13,7 +13,7 @@ use deny_toml_grammar::{Assignment, Expression, Header, Key, Written, WrittenCon
 use std::alloc::Global;
 use std::collections::BTreeMap;
 
-/// What a segment does at its place, which is a name in a table.
+/// What a segment does at its slot, which is a name in a table.
 #[derive(Clone, Copy)]
 enum Role {
     /// A header goes on from it.
@@ -29,14 +29,14 @@ enum Role {
 }
 
 impl Role {
-    /// Whether a segment with this role may stand at a place.
-    fn may_stand(self, there: Option<Standing>) -> bool
+    /// Whether a segment with this role may stand at a slot.
+    fn may_stand(self, there: Option<Occupant>) -> bool
         ensures { result ≡ admits self (option_map (λ s. s.role) there) }
     {
-        let Some(standing) = there else {
+        let Some(occupant) = there else {
             return true;
         };
-        match standing.role {
+        match occupant.role {
             Role::HeaderPasses => !matches!(self, Role::ArrayNames | Role::KeySets),
             Role::HeaderNames => matches!(self, Role::HeaderPasses),
             Role::ArrayNames => matches!(self, Role::HeaderPasses | Role::ArrayNames),
@@ -46,34 +46,34 @@ impl Role {
     }
 }
 
-/// What stands at a place.
+/// What stands at a slot.
 #[derive(Clone, Copy)]
-struct Standing {
+struct Occupant {
     /// The role that decides what it is: the last that is not `HeaderPasses`, if there is one.
     role: Role,
     /// The number of the segment that made the table, or the last table of the array.
     table: u64,
 }
 
-impl Standing {
-    /// What stands at a place where this stood, after a segment of this number more.
-    fn after(there: Option<Standing>, role: Role, number: u64) -> Standing
-        ensures { result ≡ standing_after there role number }
+impl Occupant {
+    /// What stands at a slot where this stood, after a segment of this number more.
+    fn after(there: Option<Occupant>, role: Role, number: u64) -> Occupant
+        ensures { result ≡ occupant_after there role number }
     {
         match there {
-            None => Standing {
+            None => Occupant {
                 role,
                 table: number,
             },
-            Some(standing) => match role {
-                Role::HeaderPasses => standing,
-                Role::ArrayNames => Standing {
+            Some(occupant) => match role {
+                Role::HeaderPasses => occupant,
+                Role::ArrayNames => Occupant {
                     role,
                     table: number,
                 },
-                Role::HeaderNames | Role::KeyPasses | Role::KeySets => Standing {
+                Role::HeaderNames | Role::KeyPasses | Role::KeySets => Occupant {
                     role,
-                    table: standing.table,
+                    table: occupant.table,
                 },
             },
         }
@@ -83,17 +83,17 @@ impl Standing {
 /// A name in a table, which is known by the number of the segment that made it, from 1 on. The
 /// root table has the number 0.
 #[derive(Clone, Copy, PartialEq, Eq, PartialOrd, Ord)]
-struct Place<'n> {
+struct Slot<'n> {
     table: u64,
     name: &'n str,
 }
 
 const ROOT: u64 = 0;
 
-/// What stands at each place, after so many segments.
+/// What stands at each slot, after so many segments.
 #[derive(Drop)]
-struct Places<'n> {
-    standing: BTreeMap<Place<'n>, Standing>,
+struct Slots<'n> {
+    occupants: BTreeMap<Slot<'n>, Occupant>,
     segments: u64,
 }
 
@@ -115,54 +115,54 @@ impl From<NoMemory> for Refusal {
     }
 }
 
-impl<'n> Places<'n> {
-    fn new(alloc: Global) -> Places<'n>
+impl<'n> Slots<'n> {
+    fn new(alloc: Global) -> Slots<'n>
         ensures { Tells result [] }
     {
-        Places {
-            standing: BTreeMap::new(alloc),
+        Slots {
+            occupants: BTreeMap::new(alloc),
             segments: 0,
         }
     }
 
-    fn at(&self, place: Place<'n>) -> Option<Standing>
-        ensures { result ≡ standing_at self.now place.entry.table place.entry.name.now }
+    fn at(&self, slot: Slot<'n>) -> Option<Occupant>
+        ensures { result ≡ occupant_at self.now slot.entry.table slot.entry.name.now }
     {
-        self.standing.get(&place).copied()
+        self.occupants.get(&slot).copied()
     }
 
-    fn put(&mut self, place: Place<'n>, standing: Standing) -> Result<(), NoMemory>
+    fn put(&mut self, slot: Slot<'n>, occupant: Occupant) -> Result<(), NoMemory>
         ensures count { OnOk result (self.new.segments ≡ self.old.segments) }
-        ensures each { OnOk result ((table : ℕ) (name : List ℕ) → standing_at self.new table name
-            ≡ (if (place.entry.table == table) && bytes_eq place.entry.name.now name then Some standing
-            else standing_at self.old table name)) }
+        ensures each { OnOk result ((table : ℕ) (name : List ℕ) → occupant_at self.new table name
+            ≡ (if (slot.entry.table == table) && bytes_eq slot.entry.name.now name then Some occupant
+            else occupant_at self.old table name)) }
     {
-        self.standing.insert(place, standing)?;
+        self.occupants.insert(slot, occupant)?;
         Ok(())
     }
 
-    /// Gives a segment its place in a table. The answer is the number of the table there.
+    /// Gives a segment its slot in a table. The answer is the number of the table there.
     fn take(&mut self, table: u64, key: &'n Key<'_>, role: Role) -> Result<u64, Refusal>
         ensures { (before : List Segment) → Tells self.old before
             → Takes result self.new (stand before table role key.now) }
     {
-        let place = Place {
+        let slot = Slot {
             table,
             name: key.name.as_str(),
         };
-        let there = self.at(place);
+        let there = self.at(slot);
         if !role.may_stand(there) {
             return Err(Refusal::Clash(key.span));
         }
         // More segments than a number counts are more than memory holds.
         let number = self.segments.checked_add(1).ok_or(NoMemory)?;
-        let standing = Standing::after(there, role, number);
-        self.put(place, standing)?;
+        let occupant = Occupant::after(there, role, number);
+        self.put(slot, occupant)?;
         self.segments = number;
-        Ok(standing.table)
+        Ok(occupant.table)
     }
 
-    /// Gives the segments of a path their places from a table on. The last one has a role of its
+    /// Gives the segments of a path their slots from a table on. The last one has a role of its
     /// own. The answer is the number of the table that the path leads to.
     fn take_path(
         &mut self,
@@ -186,7 +186,7 @@ impl<'n> Places<'n> {
         Ok(table)
     }
 
-    /// Gives the segments of a header their places. The answer is the number of its table.
+    /// Gives the segments of a header their slots. The answer is the number of its table.
     fn take_header(&mut self, header: &'n Header<'_>) -> Result<u64, Refusal>
         ensures { (before : List Segment) → Tells self.old before
             → Takes result self.new (walk_header before header.now) }
@@ -200,19 +200,19 @@ impl<'n> Places<'n> {
     }
 }
 
-/// Gives the segments of a key their places in a table, and looks for clashes in its value.
+/// Gives the segments of a key their slots in a table, and looks for clashes in its value.
 #[cycle(clashes)]
 fn take_key<'n>(
     alloc: Global,
-    places: &mut Places<'n>,
+    slots: &mut Slots<'n>,
     table: u64,
     key: &'n Assignment<'_>,
 ) -> Result<(), Refusal>
-    ensures { (before : List Segment) → Tells places.old before
-        → TakesKey result places.new (walk_key before table (assigned_path key.now))
+    ensures { (before : List Segment) → Tells slots.old before
+        → TakesKey result slots.new (walk_key before table (assigned_path key.now))
         (clash_in (assigned_value key.now)) }
 {
-    places.take_path(table, key.path.as_slice(), Role::KeyPasses, Role::KeySets)?;
+    slots.take_path(table, key.path.as_slice(), Role::KeyPasses, Role::KeySets)?;
     check_value(alloc, &key.value)
 }
 
@@ -243,9 +243,9 @@ fn check_elements(alloc: Global, elements: &[Written<'_>]) -> Result<(), Refusal
 fn check_members(alloc: Global, members: &[Assignment<'_>]) -> Result<(), Refusal>
     ensures { Finds result (clash_after [] 0 (map member_line members.now)) }
 {
-    let mut places = Places::new(alloc);
+    let mut slots = Slots::new(alloc);
     for member in members {
-        take_key(alloc, &mut places, ROOT, member)?;
+        take_key(alloc, &mut slots, ROOT, member)?;
     }
     Ok(())
 }
@@ -253,12 +253,12 @@ fn check_members(alloc: Global, members: &[Assignment<'_>]) -> Result<(), Refusa
 fn check_expressions(alloc: Global, expressions: &[Expression<'_>]) -> Result<(), Refusal>
     ensures { Finds result (clash expressions.now) }
 {
-    let mut places = Places::new(alloc);
+    let mut slots = Slots::new(alloc);
     let mut table = ROOT;
     for expression in expressions {
         match expression {
-            Expression::Header(header) => table = places.take_header(header)?,
-            Expression::Assignment(key) => take_key(alloc, &mut places, table, key)?,
+            Expression::Header(header) => table = slots.take_header(header)?,
+            Expression::Assignment(key) => take_key(alloc, &mut slots, table, key)?,
         }
     }
     Ok(())

@@ -96,7 +96,7 @@ fn small_number(number: i64) -> Option<u32>
     }
 }
 
-/// The value with its place.
+/// The value with its span.
 impl<T: Deserialize> Deserialize for Spanned<T> {
     ghost reads = { λ v spanned. (spanned.span ≡ span_in v) × T.reads v spanned.value };
 
@@ -111,7 +111,7 @@ impl<T: Deserialize> Deserialize for Spanned<T> {
     }
 }
 
-/// The elements of an array, in order. Their faults stand under their places, from 0.
+/// The elements of an array, in order. Their faults stand under their indices, from 0.
 impl<T: Deserialize + Drop> Deserialize for List<T> {
     ghost reads = { λ v items. ReadsArray T.reads (array_in v) items };
 
@@ -157,10 +157,10 @@ fn read_each<T: Deserialize + Drop>(
 {
     let mut items = List::new(alloc);
     let mut faults = List::new(alloc);
-    let mut place: usize = 0;
+    let mut index: usize = 0;
     'elements: for element in elements.vec {
-        read_element(alloc, place, element, &mut items, &mut faults)?;
-        place += 1;
+        read_element(alloc, index, element, &mut items, &mut faults)?;
+        index += 1;
     }
     Ok((items, faults))
 }
@@ -168,17 +168,17 @@ fn read_each<T: Deserialize + Drop>(
 /// Reads one element into `items`, or puts its faults to the others.
 fn read_element<T: Deserialize + Drop>(
     alloc: Global,
-    place: usize,
+    index: usize,
     element: Value<'_>,
     items: &mut List<T>,
     faults: &mut List<ConfigFault>,
 ) -> Result<(), NoMemory>
     ensures items { OnOk result (T.faults_of element.entry ≡ [] → Adds T.reads element.entry items.old items.new) }
-    ensures faults { OnOk result (faults.new ≡ faults.old ++ under (decimal place) (T.faults_of element.entry)) }
+    ensures faults { OnOk result (faults.new ≡ faults.old ++ under (decimal index) (T.faults_of element.entry)) }
 {
     match read_whole(alloc, element) {
         Ok(item) => items.push(item),
-        Err(DeserError::Faults(more)) => keep_under_place(alloc, place, more, faults),
+        Err(DeserError::Faults(more)) => keep_under_index(alloc, index, more, faults),
         Err(DeserError::Memory) => Err(NoMemory),
     }
 }
@@ -192,21 +192,21 @@ fn read_whole<T: Deserialize>(alloc: Global, element: Value<'_>) -> Result<T, De
     T::deserialize(alloc, &mut element)
 }
 
-/// Puts the faults of the element at a place to the others.
-fn keep_under_place(
+/// Puts the faults of the element at an index to the others.
+fn keep_under_index(
     alloc: Global,
-    place: usize,
+    index: usize,
     more: List<ConfigFault>,
     faults: &mut List<ConfigFault>,
 ) -> Result<(), NoMemory>
-    ensures { OnOk result (faults.new ≡ faults.old ++ under (decimal place) more) }
+    ensures { OnOk result (faults.new ≡ faults.old ++ under (decimal index) more) }
 {
-    let name = name_of_place(alloc, place)?;
+    let name = name_of_index(alloc, index)?;
     keep_faults(faults, put_under(alloc, name.as_str(), more)?)
 }
 
-fn name_of_place(alloc: Global, place: usize) -> Result<Text, NoMemory>
-    ensures { IfOk result (λ name. name ≡ decimal place) }
+fn name_of_index(alloc: Global, index: usize) -> Result<Text, NoMemory>
+    ensures { IfOk result (λ name. name ≡ decimal index) }
 {
-    Ok(Text::from_string(format!(in alloc; "{place}")?))
+    Ok(Text::from_string(format!(in alloc; "{index}")?))
 }

@@ -18,7 +18,7 @@ use std::alloc::Global;
 use std::cmp::Ordering;
 
 impl FaultKind {
-    /// The place of the kind in the order of declaration.
+    /// The index of the kind in the order of declaration.
     #[tactic(auto, unfolding(crate::specs::Faults::kind_number))]
     fn number(self) -> u32
         ensures { result ≡ kind_number self }

@@ -1,4 +1,4 @@
-//! TOML 1.0.0 with the place of every key and value: where the expressions of a text clash, the tree of the
+//! TOML 1.0.0 with the span of every key and value: where the expressions of a text clash, the tree of the
 //! others, and the calls that take values out of the tree and gather what is wrong with them.
 //!
 //! | Syntax | Meaning |

@@ -4,7 +4,7 @@ ghost use Rattle.std.specs.Str.{IsCharBoundary};
 ghost use Rattle.deny_toml.specs.Ranges.{IsRange, StandsIn};
 ghost use Rattle.deny_toml.specs.TreeOrder.{IsOrderly};
 ghost use Rattle.deny_toml.specs.Apart.{AreApart};
-ghost use Rattle.deny_toml.specs.Parser.{IsDocumentOf, IsTreeOf, IsCauseOf, IsPlaced};
+ghost use Rattle.deny_toml.specs.Parser.{IsDocumentOf, IsTreeOf, IsCauseOf, LiesIn};
 ghost use Rattle.deny_toml.specs.Parser as spec;
 
 use crate::clash::first_clash;
@@ -21,7 +21,7 @@ use std::alloc::Global;
 /// A text outside the grammar, or in which arrays, inline tables or keys go past their limits, is a
 /// `Grammar` fault where the reading stops. Else the first key that defines what stands already is
 /// a `Clash`. The tree borrows what stands in the text as it is, and no two scalars of it begin at one
-/// place.
+/// offset.
 pub fn parse<'t>(alloc: Global, text: &'t str) -> Result<Value<'t>, TomlError>
     requires small { length text.now < 2 ^ 28 }
     ensures tree { IfOk result (IsTreeOf text.now) }
@@ -29,7 +29,7 @@ pub fn parse<'t>(alloc: Global, text: &'t str) -> Result<Value<'t>, TomlError>
     ensures stands { IfOk result (StandsIn text.now) }
     ensures ordered { IfOk result IsOrderly }
     ensures apart { IfOk result AreApart }
-    ensures placed { IfErr result (IsPlaced text.now) }
+    ensures lies { IfErr result (LiesIn text.now) }
 {
     let expressions = expressions(alloc, text)?;
     if let Some(span) = first_clash(alloc, &expressions)? {
@@ -47,7 +47,7 @@ fn expressions<'t>(alloc: Global, text: &'t str) -> Result<List<Expression<'t>>,
     requires small { length text.now < 2 ^ 28 }
     ensures document { IfOk result (IsDocumentOf text.now) }
     ensures cause { IfErr result (IsCauseOf text.now) }
-    ensures placed { IfErr result (IsPlaced text.now) }
+    ensures lies { IfErr result (LiesIn text.now) }
 {
     match read_document(alloc, text) {
         Ok(expressions) => Ok(expressions),
@@ -59,24 +59,24 @@ fn expressions<'t>(alloc: Global, text: &'t str) -> Result<List<Expression<'t>>,
     }
 }
 
-/// The place before the last `left` bytes.
+/// The offset before the last `left` bytes.
 fn stop(text: &str, left: usize) -> Span
     requires small { length text.now < 2 ^ 28 }
     ensures { IsRange text.now result }
 {
-    let place = boundary(text, text.len().saturating_sub(left)) as u32;
+    let offset = boundary(text, text.len().saturating_sub(left)) as u32;
     Span {
-        start: place,
-        end: place,
+        start: offset,
+        end: offset,
     }
 }
 
-/// The place, or the start of the text where it is no place between characters.
-fn boundary(text: &str, place: usize) -> usize
+/// The offset, or the start of the text where it is no offset between characters.
+fn boundary(text: &str, offset: usize) -> usize
     ensures { IsCharBoundary text.now result }
 {
-    if text.is_char_boundary(place) {
-        place
+    if text.is_char_boundary(offset) {
+        offset
     } else {
         0
     }

@@ -6,7 +6,7 @@ ghost use Rattle.deny_toml.specs.Deserialize.{faults_of_kind};
 ghost use Rattle.deny_toml.specs.TableHelper.{required_faults, optional_faults, ReadsRequired};
 ghost use Rattle.deny_toml.specs.TableHelper.{ReadsOptional, table_faults, unknown};
 
-use crate::calls::place_of;
+use crate::calls::index_of;
 use crate::deserialize::Deserialize;
 use crate::error::{ConfigFault, DeserError, FaultKind};
 use crate::faults::{keep_faults, put_faults_in_order, put_under};
@@ -34,7 +34,7 @@ impl<'t> TableHelper<'t> {
     /// Takes the table out of `value`. A value of another kind stays as it is, and is the one fault.
     pub fn new(alloc: Global, value: &mut Value<'t>) -> Result<TableHelper<'t>, DeserError>
         ensures table { IfOk result (λ helper. table_in value.old ≡ Some (table_with helper.entries)) }
-        ensures place { IfOk result (λ helper. helper.span ≡ span_in value.old) }
+        ensures span { IfOk result (λ helper. helper.span ≡ span_in value.old) }
         ensures no_fault_yet { IfOk result (λ helper. helper.faults ≡ []) }
         ensures faults { IfErr result (Reports (faults_of_kind value.old (table_in value.old))) }
         ensures stays { table_in value.old ≡ None → value.new ≡ value.old }
@@ -73,7 +73,7 @@ impl<'t> TableHelper<'t> {
         }
     }
 
-    /// The same, with the place of the value.
+    /// The same, with the span of the value.
     pub fn required_s<T: Deserialize>(&mut self, name: &str) -> Result<Spanned<T>, DeserError>
         ensures ok { IfOk result (ReadsRequired T.faults_of
             (λ v x. (x.span ≡ span_in v) × T.reads v x.value) (value_at name.now self.old.entries)) }
@@ -106,7 +106,7 @@ impl<'t> TableHelper<'t> {
         }
     }
 
-    /// The same, with the place of the value.
+    /// The same, with the span of the value.
     pub fn optional_s<T: Deserialize>(&mut self, name: &str) -> Result<Option<Spanned<T>>, NoMemory>
         ensures ok { IfOk result (ReadsOptional T.faults_of
             (λ v x. (x.span ≡ span_in v) × T.reads v x.value) (value_at name.now self.old.entries)) }
@@ -149,8 +149,8 @@ fn take_entry<'t>(
     ensures taken { result ≡ entry_at name.now entries.old }
     ensures left { entries.new ≡ without name.now entries.old }
 {
-    let place = place_of(entries.as_slice(), name)?;
-    Some(entries.vec.remove(place))
+    let index = index_of(entries.as_slice(), name)?;
+    Some(entries.vec.remove(index))
 }
 
 /// Reads the value of an entry, and lets go of what is not moved out of it.

@@ -33,10 +33,10 @@ enum PathEnd<'t> {
     Element(List<Member<'t>>),
 }
 
-/// A key or a header, seen from a place on its path.
+/// A key or a header, seen from a slot on its path.
 #[derive(Drop)]
 struct Line<'t> {
-    /// The part that stands at the place.
+    /// The part that stands at the slot.
     at: Span,
     /// The parts after it.
     path: List<Key<'t>>,
@@ -322,12 +322,12 @@ fn add_entry<'t>(
     ensures { OnOk result (entries.new ≡ entries.old
         ++ spec.entry_of (spec.table depth) (name.entry, lines.entry) ∷ []) }
 {
-    let span = place_of(lines.as_slice());
+    let span = slot_span(lines.as_slice());
     let value = value_of_lines(alloc, depth, lines)?;
     entries.push((Key { name, span }, value))
 }
 
-/// What stands at a place, by the first line that leads there.
+/// What stands at a slot, by the first line that leads there.
 #[cycle(tables)]
 fn value_of_lines<'t>(
     alloc: Global,
@@ -351,7 +351,7 @@ fn value_of_lines<'t>(
 fn array_value<'t>(alloc: Global, depth: u128, lines: List<Line<'t>>) -> Result<Value<'t>, NoMemory>
     ensures { IfOk result (λ value. value ≡ spec.array_value (spec.table depth) lines.entry) }
 {
-    let span = place_of(lines.as_slice());
+    let span = slot_span(lines.as_slice());
     let values = array(alloc, depth, elements(alloc, lines)?)?;
     Ok(Value {
         span,
@@ -378,7 +378,7 @@ fn array<'t>(
 fn table_value<'t>(alloc: Global, depth: u128, lines: List<Line<'t>>) -> Result<Value<'t>, NoMemory>
     ensures { IfOk result (λ value. value ≡ spec.table_value (spec.table depth) lines.entry) }
 {
-    let span = place_of(lines.as_slice());
+    let span = slot_span(lines.as_slice());
     let table = table(alloc, depth, lines)?;
     Ok(Value {
         span,
@@ -386,9 +386,9 @@ fn table_value<'t>(alloc: Global, depth: u128, lines: List<Line<'t>>) -> Result<
     })
 }
 
-/// The part that stands at a place in the first line that leads there.
-fn place_of(leading: &[Line<'_>]) -> Span
-    ensures { result ≡ spec.place_of leading.now }
+/// The part that stands at a slot in the first line that leads there.
+fn slot_span(leading: &[Line<'_>]) -> Span
+    ensures { result ≡ spec.slot_span leading.now }
 {
     match leading.first() {
         Some(line) => line.at,
@@ -396,7 +396,7 @@ fn place_of(leading: &[Line<'_>]) -> Span
     }
 }
 
-/// Takes out the value that the first line assigns to the place where it is seen from.
+/// Takes out the value that the first line assigns to the slot where it is seen from.
 fn assigned<'t>(lines: &mut List<Line<'t>>) -> Option<Value<'t>>
     ensures value { result ≡ spec.assigned lines.old }
     ensures others { result ≡ None → lines.new ≡ lines.old }
@@ -439,7 +439,7 @@ fn starts_array(lines: &[Line<'_>]) -> bool
     }
 }
 
-/// Whether a line is a header `[[path]]` that ends at the place where it is seen from.
+/// Whether a line is a header `[[path]]` that ends at the slot where it is seen from.
 fn is_element(line: &Line<'_>) -> bool
     ensures { result ≡ spec.is_element line.now }
 {

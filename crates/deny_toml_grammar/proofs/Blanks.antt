@@ -64,7 +64,7 @@ unfolding skip_from
 skip_open true cs e = refl
 skip_open false cs e = absurd (false≢true e)
 
--- blanks at the front are skipped
+-- blanks at the start are skipped
 pub skip_from-blanks : (comments : Bool) (blanks rest : List ℕ) → IsBlank comments blanks
     → skip_from comments false (blanks ++ rest) ≡ skip_from comments false rest
 unfolding skip_from
@@ -336,7 +336,7 @@ stops_by (suc n) (c ∷ cs) less = stops_turn c cs (λ text within. stops_by n t
 pub skip_from_stops : (text : List ℕ) → IsInk (skip_from false false text)
 skip_from_stops text = stops_by (suc (length text)) text (omega arith)
 
--- spaces and a line end at the front are skipped
+-- spaces and a line end at the start are skipped
 pub skip_from-prefix : (spaces end more : List ℕ) → AreSpaces spaces → IsNewline end
     → skip_from false false (spaces ++ (end ++ more)) ≡ skip_from false false more
 unfolding skip_from

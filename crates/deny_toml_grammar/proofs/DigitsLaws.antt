@@ -130,7 +130,7 @@ decimal_first cs (grammar.several c cs' other (grammar.one _ here)) = here
 decimal_first cs (grammar.several c cs' other (grammar.more _ _ here is)) = here
 decimal_first cs (grammar.several c cs' other (grammar.spaced _ _ here is)) = here
 
--- the sign at the front
+-- the sign at the start
 pub data SignPrefix : List ℕ → List ℕ → Bool → Type 0 where
   sign_prefix : (sign rest : List ℕ) (negative : Bool) → IsSign sign negative → SignPrefix (sign ++ rest) rest negative
 

@@ -47,7 +47,7 @@ key_with name rest span = (record { name = name; span = span }, rest)
 bare_is : (total at : ℕ) (cs rest : List ℕ) → list_all is_bare cs ≡ true → is_bare (first rest) ≡ false
     → at + length (cs ++ rest) ≡ total
     → bare_key total (cs ++ rest) ≡ (record { name = cs; span = span_of at (length cs) }, rest)
-bare_is total at cs rest all stop place =
+bare_is total at cs rest all stop offset =
     let start : total - length (cs ++ rest) ≡ at = omega arith in
     let end : total - length rest ≡ at + length cs = omega (arith, length-append cs rest) in
     let span : record_of (total - length (cs ++ rest)) (total - length rest) ≡ span_of at (length cs) =
@@ -64,15 +64,15 @@ pub simple_key-complete : (at total : ℕ) (cs rest : List ℕ) (part : Key) →
     → is_bare (first rest) ≡ false → at + length (cs ++ rest) ≡ total
     → simple_key total (cs ++ rest) ≡ Some (part, rest)
 unfolding simple_key
-simple_key-complete at total cs rest part (grammar.bare c cs' all) stop place =
+simple_key-complete at total cs rest part (grammar.bare c cs' all) stop offset =
     let here : is_bare c ≡ true = (and_parts (is_bare c) (list_all is_bare cs') all).0 in
     let no_string : starts_string (c ∷ (cs' ++ rest)) ≡ false = grind (arith, nat_tests) in
-    simple_key_bare total (c ∷ (cs' ++ rest)) no_string here ∙ ap Some (bare_is total at (c ∷ cs') rest all stop place)
-simple_key-complete at total cs rest part (grammar.quoted _ name span (strings.quoted d inner _ is_d is)) stop place =
+    simple_key_bare total (c ∷ (cs' ++ rest)) no_string here ∙ ap Some (bare_is total at (c ∷ cs') rest all stop offset)
+simple_key-complete at total cs rest part (grammar.quoted _ name span (strings.quoted d inner _ is_d is)) stop offset =
     rw (
       is_d,
       one_line-complete at total (d ∷ (inner ++ d ∷ [])) name rest (span_of (at + 1) (length inner))
-          (strings.quoted d inner name is_d is) place,
+          (strings.quoted d inner name is_d is) offset,
     )
 
 -- what is read as a part of a key
@@ -160,16 +160,16 @@ pub key_after-complete : (left at total : ℕ) (found : List Key) (cs tail : Lis
     → IsKey left at cs path → is_bare (first tail) ≡ false
     → (first (skip_spaces tail) == 46) ≡ false → at + length (cs ++ tail) ≡ total
     → key_after left total found (cs ++ tail) ≡ Some (found ++ path, skip_spaces tail)
-key_after-complete left at total found cs tail path (grammar.last left' _ _ part is) stop no_dot place =
+key_after-complete left at total found cs tail path (grammar.last left' _ _ part is) stop no_dot offset =
     key_after_last (suc left') total found (cs ++ tail) tail part (omega arith)
-    (simple_key-complete at total cs tail part is stop place) no_dot
+    (simple_key-complete at total cs tail part is stop offset) no_dot
 key_after-complete left at total found cs tail path (grammar.dotted left' _ cs' spaces more rest part path' is
-    are_spaces are_more is_key) stop no_dot place =
+    are_spaces are_more is_key) stop no_dot offset =
     let after = spaces ++ (46 ∷ (more ++ (rest ++ tail))) in
     let same = joined cs' spaces more rest tail in
     let len : length (cs' ++ after) ≡ length cs' + (length spaces + (1 + (length more + length (rest ++ tail)))) =
     simp length-append (omega arith) in
-    let here : at + length (cs' ++ after) ≡ total = subst (λ t. at + length t ≡ total) same place in
+    let here : at + length (cs' ++ after) ≡ total = subst (λ t. at + length t ≡ total) same offset in
     let read = simple_key-complete at total cs' after part is
     (spaces_not_bare spaces (46 ∷ (more ++ (rest ++ tail))) are_spaces refl) here in
     let skipped : skip_spaces after ≡ 46 ∷ (more ++ (rest ++ tail)) =
@@ -188,7 +188,7 @@ key_after-complete left at total found cs tail path (grammar.dotted left' _ cs' 
     no_space : (c : ℕ) → (is_bare c || is_delimiter c) ≡ true → is_space c ≡ false
     no_space c e = grind (arith, nat_tests)
 
--- the key at the front of a text, after the parts found before, and the spaces after it
+-- the key at the start of a text, after the parts found before, and the spaces after it
 pub data KeyPrefix (left at : ℕ) (found : List Key) (rest : List ℕ) : List ℕ → List Key → Type 0 where
   key_prefix : (cs spaces : List ℕ) (path : List Key) → IsKey left at cs path → AreSpaces spaces
       → KeyPrefix left at found rest (cs ++ (spaces ++ rest)) (found ++ path)
@@ -204,7 +204,7 @@ dotted_prefix : (n at total : ℕ) (found : List Key) (cs spaces tail more text 
     → AreSpaces more → at + length (cs ++ (spaces ++ (46 ∷ (more ++ text)))) ≡ total
     → KeyPrefix n (total - length text) (found ++ part ∷ []) rest text path
     → KeyPrefix (suc n) at found rest (cs ++ (spaces ++ (46 ∷ (more ++ text)))) path
-dotted_prefix n at total found cs spaces tail more text part rest path is are_spaces are_more place
+dotted_prefix n at total found cs spaces tail more text part rest path is are_spaces are_more offset
     (key_prefix cs' spaces' path' is_key are_spaces') =
     let text_ = cs' ++ (spaces' ++ rest) in
     let len : length (cs ++ (spaces ++ (46 ∷ (more ++ text_)))) ≡ length cs +

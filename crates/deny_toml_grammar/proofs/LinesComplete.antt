@@ -39,7 +39,7 @@ path_read : (at total : ℕ) (spaces cs after rest : List ℕ) (path : List Key)
     → at + length (spaces ++ (cs ++ (after ++ (93 ∷ rest)))) ≡ total
     → header_path total (spaces ++ (cs ++ (after ++ (93 ∷ rest)))) ≡ Some (path, rest)
 unfolding header_path
-path_read at total spaces cs after rest path are_spaces is_key are_after place =
+path_read at total spaces cs after rest path are_spaces is_key are_after offset =
     let tail = after ++ (93 ∷ rest) in
     let starts = key_first depth_limit (at + length spaces) cs tail path is_key in
     let skipped : skip_spaces (spaces ++ (cs ++ tail)) ≡ cs ++ tail =
@@ -65,7 +65,7 @@ table_read : (at total : ℕ) (spaces cs after rest : List ℕ) (path : List Key
     → expression_at total (91 ∷ (spaces ++ (cs ++ (after ++ (93 ∷ rest))))) ≡ Some
     (expression.Header (header_with false path), rest)
 unfolding expression_at header
-table_read at total spaces cs after rest path are_spaces is_key are_after place =
+table_read at total spaces cs after rest path are_spaces is_key are_after offset =
     let starts = key_first depth_limit (at + 1 + length spaces) cs (after ++ (93 ∷ rest)) path is_key in
     rw (
       not_bracket spaces cs (after ++ (93 ∷ rest)) are_spaces starts,
@@ -79,7 +79,7 @@ array_read : (at total : ℕ) (spaces cs after rest : List ℕ) (path : List Key
     → expression_at total (91 ∷ (91 ∷ (spaces ++ (cs ++ (after ++ (93 ∷ (93 ∷ rest))))))) ≡ Some
     (expression.Header (header_with true path), rest)
 unfolding expression_at header array_header
-array_read at total spaces cs after rest path are_spaces is_key are_after place =
+array_read at total spaces cs after rest path are_spaces is_key are_after offset =
     rw (path_read (at + 2) total spaces cs after (93 ∷ rest) path are_spaces is_key are_after (omega arith))
 
 -- what begins an expression
@@ -114,18 +114,19 @@ assignment_read total text rest a other read = rw (other, read)
 pub expression-complete : (at total : ℕ) (cs rest : List ℕ) (e : Expression) → IsExpression at cs e → Follows rest
     → at + length (cs ++ rest) ≡ total
     → expression_at total (cs ++ rest) ≡ Some (e, rest)
-expression-complete at total cs rest e (grammar.table spaces cs' after path are_spaces is_key are_after) follows place =
+expression-complete at total cs rest e (grammar.table spaces cs' after path are_spaces is_key are_after) follows
+    offset =
     let same = joined spaces cs' after (93 ∷ []) rest in
-    rw same (table_read at total spaces cs' after rest path are_spaces is_key are_after (rw same at place))
+    rw same (table_read at total spaces cs' after rest path are_spaces is_key are_after (rw same at offset))
 expression-complete at total cs rest e (grammar.array_of_tables spaces cs' after path are_spaces is_key are_after)
-    follows place =
+    follows offset =
     let same = joined spaces cs' after (93 ∷ (93 ∷ [])) rest in
-    rw same (array_read at total spaces cs' after rest path are_spaces is_key are_after (rw same at place))
-expression-complete at total cs rest e (grammar.assignment _ a is) follows place =
+    rw same (array_read at total spaces cs' after rest path are_spaces is_key are_after (rw same at offset))
+expression-complete at total cs rest e (grammar.assignment _ a is) follows offset =
     let starts = assignment_first depth_limit at cs rest a is in
     let other : (first (cs ++ rest) == 91) ≡ false = not_bracket [] cs rest refl starts in
     assignment_read total (cs ++ rest) rest a other (assignment-complete depth_limit at total cs rest a is follows
-    place)
+    offset)
 
 -- lines are read alike where they are alike after their blanks
 lines_skipped : (n total : ℕ) (found : List Expression) (one other : List ℕ) → skip_blank one ≡ skip_blank other
@@ -138,7 +139,8 @@ line_read : (at total : ℕ) (cs rest : List ℕ) (e : Expression) → IsExpress
     → ends_line (skip_spaces rest) ≡ true → at + length (cs ++ rest) ≡ total
     → line total (cs ++ rest) ≡ Some (e, rest)
 unfolding line
-line_read at total cs rest e is follows ends place = rw (expression-complete at total cs rest e is follows place, ends)
+line_read at total cs rest e is follows ends offset =
+    rw (expression-complete at total cs rest e is follows offset, ends)
 
 expression_stops : (text : List ℕ) → begins_expression (first text) ≡ true → skip_from true false text ≡ text
 unfolding skip_from
@@ -151,7 +153,7 @@ line_goes_on : (at total n : ℕ) (found : List Expression) (spaces cs after tai
     → is_end (first tail) ≡ true → ends_line tail ≡ true → is_space (first tail) ≡ false
     → at + length (spaces ++ (cs ++ (after ++ tail))) ≡ total
     → lines (suc n) total found (spaces ++ (cs ++ (after ++ tail))) ≡ lines n total (found ++ e ∷ []) (after ++ tail)
-line_goes_on at total n found spaces cs after tail e are_spaces is are_after ends ends_it no_space place =
+line_goes_on at total n found spaces cs after tail e are_spaces is are_after ends ends_it no_space offset =
     let start = cs ++ (after ++ tail) in
     let starts = expression_first (at + length spaces) cs (after ++ tail) e is in
     let blank : IsBlank true (spaces ++ []) = IsBlank-spaces true spaces [] are_spaces strings.none in
@@ -223,13 +225,13 @@ lines_over n total found text some over = lines_end n total found text some (rw 
 pub lines-complete : (at total n : ℕ) (found : List Expression) (text : List ℕ) (es : List Expression)
     → AreLines at text es → length text < n → at + length text ≡ total
     → lines n total found text ≡ Some (found ++ es)
-lines-complete at total zero found text es is room place = absurd (omega arith)
+lines-complete at total zero found text es is room offset = absurd (omega arith)
 lines-complete at total (suc n) found text es (grammar.last _ _ _ (grammar.blank spaces comment are_spaces is_comment))
-    room place =
+    room offset =
     lines_over (suc n) total found (spaces ++ comment) (omega arith) (rest_skipped spaces comment are_spaces is_comment)
     ∙ ap Some (sym (append-nil found))
 lines-complete at total (suc n) found text es (grammar.last _ _ _
-    (grammar.says spaces cs after comment e are_spaces is are_after is_comment)) room place =
+    (grammar.says spaces cs after comment e are_spaces is are_after is_comment)) room offset =
     let (ends, ends_it, no_space) = comment_end comment is_comment in
     let some : 0 < n = omega (
       arith,
@@ -238,10 +240,10 @@ lines-complete at total (suc n) found text es (grammar.last _ _ _
           (after ++ comment),
       some_bytes (at + length spaces) cs e is,
     ) in
-    line_goes_on at total n found spaces cs after comment e are_spaces is are_after ends ends_it no_space place
+    line_goes_on at total n found spaces cs after comment e are_spaces is are_after ends ends_it no_space offset
     ∙ lines_over n total (found ++ e ∷ []) (after ++ comment) some (rest_skipped after comment are_after is_comment)
 lines-complete at total (suc n) found text es' (grammar.more _ _ end rest es fs
-    (grammar.blank spaces comment are_spaces is_comment) is_newline others) room place =
+    (grammar.blank spaces comment are_spaces is_comment) is_newline others) room offset =
     let same : (spaces ++ comment) ++ (end ++ rest) ≡ spaces ++ (comment ++ (end ++ rest)) =
     append_assoc spaces comment (end ++ rest) in
     let lens : length ((spaces ++ comment) ++ (end ++ rest)) ≡ length (spaces ++ comment) + (length end + length rest) =
@@ -252,7 +254,7 @@ lines-complete at total (suc n) found text es' (grammar.more _ _ end rest es fs
     ∙ lines-complete (at + length (spaces ++ comment) + length end) total (suc n) found rest fs others (omega arith)
     (omega arith)
 lines-complete at total (suc n) found text es' (grammar.more _ _ end rest es fs
-    (grammar.says spaces cs after comment e are_spaces is are_after is_comment) is_newline others) room place =
+    (grammar.says spaces cs after comment e are_spaces is are_after is_comment) is_newline others) room offset =
     let whole = spaces ++ (cs ++ (after ++ comment)) in
     let same : whole ++ (end ++ rest) ≡ spaces ++ (cs ++ (after ++ (comment ++ (end ++ rest)))) =
     joined spaces cs after comment (end ++ rest) in
@@ -263,7 +265,7 @@ lines-complete at total (suc n) found text es' (grammar.more _ _ end rest es fs
     let (ends, ends_it, no_space) = comment_newline comment end rest is_comment is_newline in
     let some = some_bytes (at + length spaces) cs e is in
     rw same (line_goes_on at total n found spaces cs after (comment ++ (end ++ rest)) e are_spaces is are_after ends
-    ends_it no_space (rw same at place)
+    ends_it no_space (rw same at offset)
     ∙ lines_skipped n total (found ++ e ∷ []) (after ++ (comment ++ (end ++ rest))) rest
     (line_skipped after comment end rest are_after is_comment is_newline)
     ∙ lines-complete (at + length whole + length end) total n (found ++ e ∷ []) rest fs others (omega arith)

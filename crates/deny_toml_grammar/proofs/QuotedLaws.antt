@@ -1,4 +1,4 @@
--- Whole strings with their places: what the grammar calls a string is read, and what is read is in the grammar.
+-- Whole strings with their spans: what the grammar calls a string is read, and what is read is in the grammar.
 use Rattle.std.proofs.Common.{◌≡◌, ℕ, suc, ◌+◌, ◌-◌, ◌<◌, ◌≤◌, true, false, ◌&&◌, ◌==◌, List, [], ◌∷◌, ◌++◌, length}
 use Rattle.std.proofs.Common.{Some, None, option_map, refl, sym, ap, subst, inl, inr, arith, append_assoc}
 use Rattle.std.proofs.Common.{length-append}
@@ -56,7 +56,7 @@ pub one_line-complete : (at total : ℕ) (cs vs rest : List ℕ) (span : Span) �
     → at + length (cs ++ rest) ≡ total
     → one_line total (cs ++ rest) ≡ Some (text_with vs span, rest)
 unfolding one_line
-one_line-complete at total cs vs rest span (grammar.quoted d inner _ is_d is) place =
+one_line-complete at total cs vs rest span (grammar.quoted d inner _ is_d is) offset =
     let len : length ((inner ++ d ∷ []) ++ rest) ≡ length inner + 1 + length rest = simp length-append (omega arith) in
     let read = content_of_one_line d inner vs rest (suc (length ((inner ++ d ∷ []) ++ rest))) is_d is (omega arith) in
     let start : total - length ((inner ++ d ∷ []) ++ rest) ≡ at + 1 = omega arith in
@@ -109,7 +109,7 @@ multi_line-complete : (at total d : ℕ) (opening cs vs rest : List ℕ) → is_
     → multi_line total (d ∷ (d ∷ (d ∷ (opening ++ (cs ++ (d ∷ (d ∷ (d ∷ rest)))))))) ≡ Some
     (text_with vs (span_of (at + 3) (length opening + length cs)), rest)
 unfolding multi_line
-multi_line-complete at total d opening cs vs rest is_d is_opening is stop place =
+multi_line-complete at total d opening cs vs rest is_d is_opening is stop offset =
     let tail = opening ++ (cs ++ (d ∷ (d ∷ (d ∷ rest)))) in
     let len : length tail ≡ length opening + length cs + 3 + length rest = simp length-append (omega arith) in
     let trimmed = opening_trimmed opening cs (d ∷ (d ∷ (d ∷ rest))) is_opening
@@ -125,19 +125,19 @@ pub quoted-complete : (at total : ℕ) (cs rest : List ℕ) (value : Scalar) (sp
     → is_delimiter (first rest) ≡ false
     → at + length (cs ++ rest) ≡ total → quoted total (cs ++ rest) ≡ Some (record { value = value; span = span }, rest)
 unfolding quoted
-quoted-complete at total cs rest value span (grammar.one_line _ vs _ (grammar.quoted d inner _ is_d is)) stop place =
+quoted-complete at total cs rest value span (grammar.one_line _ vs _ (grammar.quoted d inner _ is_d is)) stop offset =
     rw (one_line_looks d inner vs rest is_d is stop)
     (ap (read_map (string_of Text)) (one_line-complete at total cs vs rest span (grammar.quoted d inner vs is_d is)
-    place))
+    offset))
 quoted-complete at total cs rest value span (grammar.multi_line _ vs _
-    (grammar.framed d opening inner _ is_d is_opening is)) stop place =
+    (grammar.framed d opening inner _ is_d is_opening is)) stop offset =
     let same : (d == d) ≡ true = grind (arith, nat_tests) in
     let other : (first rest == d) ≡ false = grind (arith, nat_tests) in
     let joined : (opening ++ (inner ++ (d ∷ (d ∷ (d ∷ []))))) ++ rest ≡ opening ++ (inner ++ (d ∷ (d ∷ (d ∷ rest)))) =
     rw (append_assoc opening (inner ++ (d ∷ (d ∷ (d ∷ [])))) rest, append_assoc inner (d ∷ (d ∷ (d ∷ []))) rest) in
     let len : length (opening ++ (inner ++ (d ∷ (d ∷ (d ∷ rest))))) ≡ length opening + length inner + 3 + length rest =
     simp length-append (omega arith) in
-    let here = rw joined at place in
+    let here = rw joined at offset in
     rw (joined, same) (ap (read_map (string_of Multiline)) (multi_line-complete at total d opening inner vs rest is_d
     is_opening is other (omega arith)))
 

@@ -306,7 +306,7 @@ part_named text at cs part here (grammar.quoted _ name span (strings.quoted d in
 
 part_stands : (text : List ℕ) → IsUtf8 text → AtParts text (KeyStands text)
 part_stands text utf8 at cs part here is = record {
-  placed = part_range text utf8 at cs part here is;
+  lies = part_range text utf8 at cs part here is;
   named =
       part_named text at cs part here is;
 }
@@ -332,8 +332,8 @@ multi_line_same text at d opening cs vs here is_opening is none =
     content_same d true 0 cs vs is escapes ∙ sym (opening_trim opening cs is_opening)
     ∙ ap trim_newline (sym stands ∙ ap (bytes_in text) (sym range))
   where
-    same_range : (at place len size : ℕ) → at ≡ place → len ≡ size → span_of at len ≡ span_of place size
-    same_range at place len size e f = rw (e, f)
+    same_range : (at offset len size : ℕ) → at ≡ offset → len ≡ size → span_of at len ≡ span_of offset size
+    same_range at offset len size e f = rw (e, f)
 
     after_opening : (d : ℕ) (opening cs : List ℕ) → NoEscape d (opening ++ cs) → NoEscape d cs
     after_opening d [] cs none = none
@@ -377,11 +377,11 @@ word_stands text range cs v e (words.date _ is) = subst (λ bs. IsScalar bs (Dat
 made_stands : (text : List ℕ) (span : Span) (what : WrittenContent) (layer : WrittenLayer)
     → roll-WrittenContent layer ≡ what → IsRange text span
     → IfSome (written_scalar layer) (ScalarStands text span) → WrittenStands text (written_with span what)
-made_stands text span what layer same placed written =
+made_stands text span what layer same lies written =
     subst (λ s. Stands text s (written_scalar (written_layer (written_with span what))))
     (sym (written_span-is span what))
     (subst (λ l. Stands text span (written_scalar l)) (sym (written_layer-is span what layer same))
-    (record { placed = placed; written = written }))
+    (record { lies = lies; written = written }))
 
 value_stands : (text : List ℕ) → IsUtf8 text → AtValues text (WrittenStands text)
 value_stands text utf8 depth at cs w here (grammar.text _ _ _ v span is) =
@@ -416,7 +416,7 @@ pub all_stand : (text : List ℕ) → IsUtf8 text → (es : List Expression) →
 all_stand text utf8 es is = lines_parts text (KeyStands text) (WrittenStands text) (part_stands text utf8)
     (value_stands text utf8) 0 text es (stands_whole text) is
 
-pub keys_placed : (text : List ℕ) → IsUtf8 text → (es : List Expression) → IsDocument text es
+pub keys_lie : (text : List ℕ) → IsUtf8 text → (es : List Expression) → IsDocument text es
     → AllOf (λ key. IsRange text key.span) (λ w. Unit {0}) es
-keys_placed text utf8 es is = lines_parts text (λ key. IsRange text key.span) (λ w. Unit {0}) (part_range text utf8)
+keys_lie text utf8 es is = lines_parts text (λ key. IsRange text key.span) (λ w. Unit {0}) (part_range text utf8)
     (λ depth at cs w here is. tt) 0 text es (stands_whole text) is

@@ -25,11 +25,11 @@ use Rattle.deny_toml_grammar.proofs.FloatsLaws.{same_bytes, grouped_all, not_spe
 use Rattle.deny_toml_grammar.proofs.FloatsLaws.{float-complete}
 use Rattle.deny_toml_grammar.proofs.DatesLaws.{date_is-sound, date_is-complete}
 
--- what follows the digits at the front
+-- what follows the digits at the start
 abbrev after_digits : List ℕ → ℕ
 after_digits cs = first (drop (prefix_len is_ascii_digit cs) cs)
 
--- digits at the front, and after them a dash or a colon: so dates begin, and no number
+-- digits at the start, and after them a dash or a colon: so dates begin, and no number
 abbrev dated : List ℕ → Bool
 dated cs = is_ascii_digit (first cs) && (after_digits cs == 45 || after_digits cs == 58)
 

@@ -1,4 +1,4 @@
--- Bytes that stand in a text at a place.
+-- Bytes that stand in a text at an offset.
 use Rattle.std.proofs.Common.{◌≡◌, ℕ, ◌+◌, ◌-◌, ◌<◌, ◌≤◌, List, [], ◌∷◌, ◌++◌, length, get_or, IsUtf8, sym, ap, subst}
 use Rattle.std.proofs.Common.{◌∙◌, arith, append_assoc, append-nil, length-append}
 use Rattle.std.proofs.Math.Seq.{drop-append_seam, take-append_seam, get_or-append_seam}
@@ -7,7 +7,7 @@ use Rattle.std.specs.Str.{IsCharBoundary}
 use Rattle.deny_toml_grammar.specs.Expression.{span_of}
 use Rattle.deny_toml_grammar.specs.Ranges.{IsRange, bytes_in}
 
--- The text has these bytes at the place.
+-- The text has these bytes at the offset.
 pub data HasAt (text : List ℕ) : ℕ → List ℕ → Type 0 where
   stands : (prefix cs tail : List ℕ) → text ≡ prefix ++ (cs ++ tail) → HasAt text (length prefix) cs
 
@@ -44,9 +44,9 @@ boundary_before text at c cs here ascii =
     IsCharBoundary-before_ascii text at (omega (arith, stands_within text at (c ∷ cs) here))
     (omega (arith, stands_byte text at c cs here))
 
-pub boundary_after : (text : List ℕ) (at place c : ℕ) (cs : List ℕ) → IsUtf8 text → HasAt text at (c ∷ cs) → c < 128
-    → at + 1 ≡ place → IsCharBoundary text place
-boundary_after text at place c cs utf8 here ascii same =
+pub boundary_after : (text : List ℕ) (at offset c : ℕ) (cs : List ℕ) → IsUtf8 text → HasAt text at (c ∷ cs) → c < 128
+    → at + 1 ≡ offset → IsCharBoundary text offset
+boundary_after text at offset c cs utf8 here ascii same =
     subst (IsCharBoundary text) same (IsCharBoundary-after_ascii text at utf8
     (omega (arith, stands_within text at (c ∷ cs) here)) (omega (arith, stands_byte text at c cs here)))
 

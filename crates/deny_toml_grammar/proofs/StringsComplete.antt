@@ -19,7 +19,7 @@ use Rattle.deny_toml_grammar.proofs.StringsLaws.{content_plain, content_special}
 abbrev pub closing : Bool → ℕ → List ℕ
 closing multi d = if multi then d ∷ (d ∷ (d ∷ [])) else d ∷ []
 
--- how many delimiters stand at the front
+-- how many delimiters stand at the start
 abbrev pub run : ℕ → List ℕ → ℕ
 run d cs = prefix_len (λ c. c == d) cs
 

@@ -71,7 +71,7 @@ pub content_special : (delimiter : ℕ) (multi : Bool) (n : ℕ) (text : List �
 unfolding content
 content_special delimiter multi n text h = rw h
 
--- the plain bytes at the front are taken as they are
+-- the plain bytes at the start are taken as they are
 pub content_run : (delimiter : ℕ) (multi : Bool) (text : List ℕ) (n : ℕ) → length text < n
     → let parts = split_while (is_plain delimiter multi) text in
     (m : ℕ) × (length parts.1 ≤ m) × (content delimiter multi n text ≡ prepend parts.0

@@ -101,7 +101,7 @@ escape_char_found (b ∷ cs) rest c e =
       ]
     ]
 
--- a line end at the front
+-- a line end at the start
 pub data NewlinePrefix : List ℕ → Type 0 where
   newline_prefix : (end more : List ℕ) → IsNewline end → NewlinePrefix (end ++ more)
 
@@ -121,7 +121,7 @@ newline_found (b ∷ (d ∷ cs)) e =
           (subst (λ x. NewlinePrefix (13 ∷ (x ∷ cs))) is_feed (newline_prefix (13 ∷ (10 ∷ [])) cs grammar.both))
     ]
 
--- spaces at the front
+-- spaces at the start
 pub data SpacesPrefix (rest : List ℕ) : List ℕ → Type 0 where
   spaces_prefix : (spaces : List ℕ) → AreSpaces spaces → SpacesPrefix rest (spaces ++ rest)
 
@@ -300,7 +300,7 @@ special_found d multi (c ∷ cs) next piece is_d not_plain e =
       | inr not_d ↦ other_found d multi c cs next piece is_d not_plain not_d e
     ]
 
--- the content at the front, its closing delimiters, and the rest
+-- the content at the start, its closing delimiters, and the rest
 pub data ContentPrefix (d : ℕ) (multi : Bool) (before : ℕ) (rest : List ℕ) : List ℕ → List ℕ → Type 0 where
   content_prefix : (cs vs : List ℕ) → IsContent d multi before cs vs
       → ContentPrefix d multi before rest (cs ++ (closing multi d ++ rest)) vs
@@ -363,7 +363,7 @@ feed_prefix d multi before rest text vs is_d is_multi (content_prefix cs _
 feed_prefix d multi before rest text vs is_d is_multi (content_prefix cs _
     (grammar.cut _ spaces end blank cs' vs' _ is_quote are_spaces is_end is_blank ink is)) feed = absurd (omega arith)
 
--- what is known of the delimiters before a place: none, or few enough for the run that stands there
+-- what is known of the delimiters before an offset: none, or few enough for the run that stands there
 BeforeFits : ℕ → ℕ → Type 0
 BeforeFits before n = (before ≡ 0) ⊎ RunFits before n
 

@@ -160,7 +160,7 @@ key_read : (val : List ℕ → Read Written) (at total : ℕ) (cs spaces more st
     → begins (first start) ≡ true → val start ≡ Some (v, rest)
     → at + length (cs ++ (spaces ++ (61 ∷ (more ++ start)))) ≡ total
     → assignment val total (cs ++ (spaces ++ (61 ∷ (more ++ start)))) ≡ Some (assignment_with path v, rest)
-key_read val at total cs spaces more start rest path v is_key are_spaces are_more starts read place =
+key_read val at total cs spaces more start rest path v is_key are_spaces are_more starts read offset =
     let tail = spaces ++ (61 ∷ (more ++ start)) in
     let skipped : skip_spaces tail ≡ 61 ∷ (more ++ start) = skip_spaces-run spaces (61 ∷ (more ++ start)) are_spaces
     refl in
@@ -168,7 +168,7 @@ key_read val at total cs spaces more start rest path v is_key are_spaces are_mor
     (value_no_space start starts) in
     let stop : is_bare (first tail) ≡ false = spaces_equals spaces (more ++ start) are_spaces in
     let key_is : key total (cs ++ tail) ≡ Some (path, 61 ∷ (more ++ start)) =
-    key_after-complete depth_limit at total [] cs tail path is_key stop (rw skipped refl) place ∙ rw skipped in
+    key_after-complete depth_limit at total [] cs tail path is_key stop (rw skipped refl) offset ∙ rw skipped in
     laws.assignment_is val total (cs ++ tail) (61 ∷ (more ++ start)) path key_is
     ∙ laws.assigned_some val path (61 ∷ (more ++ start)) rest v refl (rw again read)
   where
@@ -202,7 +202,7 @@ member_more_read val n total found text spaces more start a some are_spaces are_
 -- the range of a prefix
 pub range_is : (at total : ℕ) (cs rest : List ℕ) → at + length (cs ++ rest) ≡ total
     → record_of (total - length (cs ++ rest)) (total - length rest) ≡ span_of at (length cs)
-range_is at total cs rest place =
+range_is at total cs rest offset =
     let lens = length-append cs rest in
     span_is _ _ at (length cs) (omega arith) (omega arith)
 
@@ -210,8 +210,8 @@ scalar_text : (at total : ℕ) (cs rest : List ℕ) (v : Scalar) (span : Span) �
     → at + length (cs ++ rest) ≡ total
     → scalar total (cs ++ rest) ≡ Some (written_with span (written.Scalar v), rest)
 unfolding scalar
-scalar_text at total cs rest v span is follows place =
-    rw (text_starts at cs rest v span is, quoted-complete at total cs rest v span is follows.no_quote place)
+scalar_text at total cs rest v span is follows offset =
+    rw (text_starts at cs rest v span is, quoted-complete at total cs rest v span is follows.no_quote offset)
   where
     text_starts : (at : ℕ) (cs rest : List ℕ) (v : Scalar) (span : Span) → IsText at cs v span
         → starts_string (cs ++ rest) ≡ true
@@ -223,9 +223,9 @@ scalar_word : (at total : ℕ) (cs rest : List ℕ) (v : Scalar) → IsScalar cs
     → is_delimiter (first (cs ++ rest)) ≡ false → at + length (cs ++ rest) ≡ total
     → scalar total (cs ++ rest) ≡ Some (written_with (span_of at (length cs)) (written.Scalar v), rest)
 unfolding scalar
-scalar_word at total cs rest v is follows no_string place =
+scalar_word at total cs rest v is follows no_string offset =
     rw (no_string, unquoted-complete cs rest v (word_of cs v is) follows.no_word follows.apart)
-    (ap (λ s. Some (written_with s (written.Scalar v), rest)) (range_is at total cs rest place))
+    (ap (λ s. Some (written_with s (written.Scalar v), rest)) (range_is at total cs rest offset))
 
 text_first : (at : ℕ) (cs rest : List ℕ) (v : Scalar) (span : Span) → IsText at cs v span
     → is_delimiter (first (cs ++ rest)) ≡ true
@@ -282,23 +282,23 @@ mutual
   pub value-complete : (depth at total : ℕ) (cs rest : List ℕ) (w : Written) → IsValue depth at cs w → Follows rest
       → at + length (cs ++ rest) ≡ total
       → value depth total (cs ++ rest) ≡ Some (w, rest)
-  value-complete depth at total cs rest w (grammar.text _ _ _ v span is) follows place =
+  value-complete depth at total cs rest w (grammar.text _ _ _ v span is) follows offset =
       let start = text_first at cs rest v span is in
       laws.value_scalar depth total (cs ++ rest) (grind (arith, nat_tests)) (grind (arith, nat_tests))
-      ∙ scalar_text at total cs rest v span is follows place
-  value-complete depth at total cs rest w (grammar.word _ _ _ v is) follows place =
+      ∙ scalar_text at total cs rest v span is follows offset
+  value-complete depth at total cs rest w (grammar.word _ _ _ v is) follows offset =
       let start = word_first cs rest v (word_of cs v is) in
       laws.value_scalar depth total (cs ++ rest) (grind (arith, nat_tests)) (grind (arith, nat_tests))
-      ∙ scalar_word at total cs rest v is follows (grind (arith, nat_tests)) place
-  value-complete depth at total cs rest w (grammar.array depth' _ cs' vs is) follows place =
+      ∙ scalar_word at total cs rest v is follows (grind (arith, nat_tests)) offset
+  value-complete depth at total cs rest w (grammar.array depth' _ cs' vs is) follows offset =
       let text = 91 ∷ (cs' ++ rest) in
       let less : suc depth' - 1 ≡ depth' = omega arith in
       let read : elements (value depth' total) (length text) [] (cs' ++ rest) ≡ Some (vs, rest) =
       elements-complete depth' (at + 1) total [] cs' rest vs is (length text) (omega arith) (omega arith) in
       laws.value_array (suc depth') total text (omega arith) refl
       ∙ rw (less, read) (ap (λ s. Some (written_with s (written.Array vs), rest))
-      (range_is at total (91 ∷ cs') rest place))
-  value-complete depth at total cs rest w (grammar.inline_table depth' _ spaces cs' ms are_spaces is) follows place =
+      (range_is at total (91 ∷ cs') rest offset))
+  value-complete depth at total cs rest w (grammar.inline_table depth' _ spaces cs' ms are_spaces is) follows offset =
       let text = 123 ∷ ((spaces ++ cs') ++ rest) in
       let less : suc depth' - 1 ≡ depth' = omega arith in
       let joined : (spaces ++ cs') ++ rest ≡ spaces ++ (cs' ++ rest) = append_assoc spaces cs' rest in
@@ -314,8 +314,8 @@ mutual
       (suc (length ((spaces ++ cs') ++ rest))) (omega arith) (omega arith)) in
       laws.value_table (suc depth') total text (omega arith) refl refl
       ∙ rw (less, inner) (ap (λ s. Some (written_with s (written.InlineTable ms), rest))
-      (range_is at total (123 ∷ (spaces ++ cs')) rest place))
-  value-complete depth at total cs rest w (grammar.empty_table depth' _ spaces are_spaces) follows place =
+      (range_is at total (123 ∷ (spaces ++ cs')) rest offset))
+  value-complete depth at total cs rest w (grammar.empty_table depth' _ spaces are_spaces) follows offset =
       let text = 123 ∷ ((spaces ++ 125 ∷ []) ++ rest) in
       let less : suc depth' - 1 ≡ depth' = omega arith in
       let joined : (spaces ++ 125 ∷ []) ++ rest ≡ spaces ++ (125 ∷ rest) = append_assoc spaces (125 ∷ []) rest in
@@ -326,16 +326,16 @@ mutual
       ∙ rw skipped in
       laws.value_table (suc depth') total text (omega arith) refl refl
       ∙ rw (less, inner) (ap (λ s. Some (written_with s (written.InlineTable []), rest))
-      (range_is at total (123 ∷ (spaces ++ 125 ∷ [])) rest place))
+      (range_is at total (123 ∷ (spaces ++ 125 ∷ [])) rest offset))
 
   elements-complete : (depth at total : ℕ) (found : List Written) (cs rest : List ℕ) (vs : List Written)
       → IsElements depth at cs vs → (n : ℕ) → length (cs ++ rest) < n
       → at + length (cs ++ rest) ≡ total → elements (value depth total) n found (cs ++ rest) ≡ Some (found ++ vs, rest)
-  elements-complete depth at total found cs rest vs (grammar.closed _ _ blank is) n room place =
+  elements-complete depth at total found cs rest vs (grammar.closed _ _ blank is) n room offset =
       rw (append_assoc blank (93 ∷ []) rest) (closing_read (value depth total) n found blank rest (omega arith) is
       ∙ rw (append-nil found))
   elements-complete depth at total found cs rest vs (grammar.last_element _ _ blank cs' more v is_blank is is_more) n
-      room place =
+      room offset =
       let joined = three_parts blank cs' more 93 [] rest in
       let start = cs' ++ (more ++ (93 ∷ rest)) in
       let lens : length (blank ++ start) ≡ length blank + length start = length-append blank start in
@@ -353,7 +353,7 @@ mutual
       is_blank starts read (after_element_closing more rest is_more)
       ∙ closing_read (value depth total) (n - 1) (found ++ v ∷ []) [] rest (omega arith) strings.none)
   elements-complete depth at total found cs rest vs (grammar.more_elements _ _ blank cs' after rest' v vs' is_blank is
-      is_after more) n room place =
+      is_after more) n room offset =
       let joined = three_parts blank cs' after 44 rest' rest in
       let start = cs' ++ (after ++ (44 ∷ (rest' ++ rest))) in
       let lens : length (blank ++ start) ≡ length blank + (length cs' + (length after + (1 + length (rest' ++ rest)))) =
@@ -374,19 +374,19 @@ mutual
       → IsMembers depth at cs ms → (n : ℕ) → length (cs ++ rest) < n
       → at + length (cs ++ rest) ≡ total → members (value depth total) n total found (cs ++ rest) ≡ Some
       (found ++ ms, rest)
-  members-complete depth at total found cs rest ms (grammar.last_member _ _ cs' spaces a is are_spaces) n room place =
+  members-complete depth at total found cs rest ms (grammar.last_member _ _ cs' spaces a is are_spaces) n room offset =
       let joined : (cs' ++ (spaces ++ 125 ∷ [])) ++ rest ≡ cs' ++ (spaces ++ (125 ∷ rest)) =
       rw (append_assoc cs' (spaces ++ 125 ∷ []) rest, append_assoc spaces (125 ∷ []) rest) in
-      let here : at + length (cs' ++ (spaces ++ (125 ∷ rest))) ≡ total = rw joined at place in
+      let here : at + length (cs' ++ (spaces ++ (125 ∷ rest))) ≡ total = rw joined at offset in
       let read = assignment-complete depth at total cs' (spaces ++ (125 ∷ rest)) a is
       (spaces_follows spaces (125 ∷ rest) are_spaces refl) here in
       rw joined (member_last_read (value depth total) n total found (cs' ++ (spaces ++ (125 ∷ rest))) spaces rest a
       (omega arith) are_spaces read)
   members-complete depth at total found cs rest ms (grammar.more_members _ _ cs' spaces after rest' a ms' is are_spaces
-      are_after more) n room place =
+      are_after more) n room offset =
       let joined = four_parts cs' spaces 44 after rest' rest in
       let tail = spaces ++ (44 ∷ (after ++ (rest' ++ rest))) in
-      let here : at + length (cs' ++ tail) ≡ total = rw joined at place in
+      let here : at + length (cs' ++ tail) ≡ total = rw joined at offset in
       let lens : length (cs' ++ tail) ≡ length cs' + (length spaces + (1 + (length after + length (rest' ++ rest)))) =
       simp length-append (omega arith) in
       let whole : length ((cs' ++ (spaces ++ 44 ∷ (after ++ rest'))) ++ rest) ≡ length (cs' ++ tail) =
@@ -404,9 +404,9 @@ mutual
       → Follows rest → at + length (cs ++ rest) ≡ total
       → assignment (value depth total) total (cs ++ rest) ≡ Some (a, rest)
   assignment-complete depth at total cs rest a (grammar.assigned _ _ key_ spaces more cs' path v is_key are_spaces
-      are_more is) follows place =
+      are_more is) follows offset =
       let joined = four_parts key_ spaces 61 more cs' rest in
-      let here : at + length (key_ ++ (spaces ++ (61 ∷ (more ++ (cs' ++ rest))))) ≡ total = rw joined at place in
+      let here : at + length (key_ ++ (spaces ++ (61 ∷ (more ++ (cs' ++ rest))))) ≡ total = rw joined at offset in
       let lens : length (key_ ++ (spaces ++ (61 ∷ (more ++ (cs' ++ rest))))) ≡ length key_ +
       (length spaces + (1 + (length more + length (cs' ++ rest)))) = simp length-append (omega arith) in
       let at' = at + length key_ + length spaces + 1 + length more in

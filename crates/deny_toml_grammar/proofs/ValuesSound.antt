@@ -51,9 +51,9 @@ word_prefix : (depth total : ℕ) (text rest : List ℕ) (v : Scalar) → length
     (written_with (record_of (total - length text) (total - length rest)) (written.Scalar v))
 word_prefix depth total text rest v within (prefix cs _ is) =
     let at = total - length (cs ++ rest) in
-    let place : at + length (cs ++ rest) ≡ total = omega arith in
+    let offset : at + length (cs ++ rest) ≡ total = omega arith in
     subst (λ s. Prefix (IsValue depth at) rest (cs ++ rest) (written_with s (written.Scalar v)))
-    (sym (range_is at total cs rest place))
+    (sym (range_is at total cs rest offset))
     (prefix cs (written_with (span_of at (length cs)) (written.Scalar v))
     (grammar.word depth at cs v (scalar_of cs v is)))
 
@@ -125,7 +125,7 @@ abbrev ValueSound : ℕ → ℕ → Type 0
 ValueSound depth total = (text rest : List ℕ) (w : Written) → length text ≤ total
     → value depth total text ≡ read_of w rest → Prefix (IsValue depth (total - length text)) rest text w
 
--- the rest of an array at the front, after the elements found before
+-- the rest of an array at the start, after the elements found before
 data ElementsPrefix (depth at : ℕ) (found : List Written) (rest : List ℕ) : List ℕ → List Written → Type 0 where
   elements_prefix : (cs : List ℕ) (vs : List Written) → IsElements depth at cs vs
       → ElementsPrefix depth at found rest (cs ++ rest) (found ++ vs)
@@ -405,7 +405,7 @@ assignment_of : (depth total : ℕ) (text rest : List ℕ) (a : Assignment) → 
 assignment_of depth total text rest a sound within e = assignment_by depth total text rest a (key total text) sound
     within refl e
 
--- the rest of an inline table at the front, after the keys found before
+-- the rest of an inline table at the start, after the keys found before
 data MembersPrefix (depth at : ℕ) (found : List Assignment) (rest : List ℕ) : List ℕ → List Assignment → Type 0 where
   members_prefix : (cs : List ℕ) (ms : List Assignment) → IsMembers depth at cs ms
       → MembersPrefix depth at found rest (cs ++ rest) (found ++ ms)
@@ -517,9 +517,9 @@ array_prefix : (depth total : ℕ) (tail rest : List ℕ) (vs : List Written) �
 array_prefix depth total tail rest vs within (elements_prefix cs vs' is) =
     let at = total - length (91 ∷ (cs ++ rest)) in
     let inner : total - length (cs ++ rest) ≡ at + 1 = omega arith in
-    let place : at + length ((91 ∷ cs) ++ rest) ≡ total = omega arith in
+    let offset : at + length ((91 ∷ cs) ++ rest) ≡ total = omega arith in
     subst (λ s. Prefix (IsValue (suc depth) at) rest (91 ∷ (cs ++ rest)) (written_with s (written.Array vs')))
-    (sym (range_is at total (91 ∷ cs) rest place))
+    (sym (range_is at total (91 ∷ cs) rest offset))
     (prefix (91 ∷ cs) (written_with (span_of at (length (91 ∷ cs))) (written.Array vs'))
     (grammar.array depth at cs vs' (subst (λ a. IsElements depth a cs vs') inner is)))
 
@@ -553,8 +553,8 @@ empty_prefix depth total tail (c ∷ rest) within e (spaces_prefix spaces are_sp
     closed within =
         let joined : (spaces ++ 125 ∷ []) ++ rest ≡ spaces ++ (125 ∷ rest) = append_assoc spaces (125 ∷ []) rest in
         let at = total - length (123 ∷ (spaces ++ (125 ∷ rest))) in
-        let place : at + length ((123 ∷ (spaces ++ 125 ∷ [])) ++ rest) ≡ total = rw joined (omega arith) in
-        let span = range_is at total (123 ∷ (spaces ++ 125 ∷ [])) rest place in
+        let offset : at + length ((123 ∷ (spaces ++ 125 ∷ [])) ++ rest) ≡ total = rw joined (omega arith) in
+        let span = range_is at total (123 ∷ (spaces ++ 125 ∷ [])) rest offset in
         let span' : record_of at (total - length rest) ≡ span_of at (length (123 ∷ (spaces ++ 125 ∷ []))) =
         rw joined at span in
         let here : Prefix (IsValue (suc depth) at) rest (123 ∷ (spaces ++ (125 ∷ rest)))
@@ -574,9 +574,9 @@ table_prefix depth total spaces inner rest ms within are_spaces (members_prefix 
     let lens : length (spaces ++ (cs ++ rest)) ≡ length spaces + length (cs ++ rest) =
     length-append spaces (cs ++ rest) in
     let at_is : total - length (cs ++ rest) ≡ at + 1 + length spaces = omega arith in
-    let place : at + length ((123 ∷ (spaces ++ cs)) ++ rest) ≡ total = rw joined (omega arith) in
+    let offset : at + length ((123 ∷ (spaces ++ cs)) ++ rest) ≡ total = rw joined (omega arith) in
     let span' : record_of at (total - length rest) ≡ span_of at (length (123 ∷ (spaces ++ cs))) =
-    rw joined at (range_is at total (123 ∷ (spaces ++ cs)) rest place) in
+    rw joined at (range_is at total (123 ∷ (spaces ++ cs)) rest offset) in
     let here : Prefix (IsValue (suc depth) at) rest (123 ∷ (spaces ++ (cs ++ rest)))
     (written_with (span_of at (length (123 ∷ (spaces ++ cs)))) (written.InlineTable ms')) =
     subst (λ t. Prefix (IsValue (suc depth) at) rest (123 ∷ t)

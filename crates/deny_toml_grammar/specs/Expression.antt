@@ -7,7 +7,7 @@ use Rattle.deny_toml_grammar.specs.declared.expression.Written.{Written, out-Wri
 use Rattle.deny_toml_grammar.specs.declared.expression.WrittenContent.{WrittenContent}
 use Rattle.deny_toml_grammar.specs.declared.expression.Assignment.{Assignment, out-Assignment, roll-Assignment}
 
--- the range that begins at a place and is so long
+-- the range that begins at an offset and is so long
 abbrev pub span_of : ℕ → ℕ → Span
 span_of at len = record { start = at; end = at + len }
 

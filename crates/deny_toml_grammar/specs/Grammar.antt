@@ -1,4 +1,4 @@
--- The grammar of TOML: which bytes write which expressions, with the place of each key and value.
+-- The grammar of TOML: which bytes write which expressions, with the span of each key and value.
 use Rattle.std.specs.Prelude.{ℕ, suc, ◌+◌, ◌≡◌, true, false, List, [], ◌∷◌, ◌++◌, length}
 use Rattle.std.specs.List.{list_all}
 use Rattle.deny_base.specs.declared.span.Span.{Span}
@@ -31,7 +31,7 @@ pub data IsKey : ℕ → ℕ → List ℕ → List Key → Type 0 where
       → IsKey (suc left) at (cs ++ (spaces ++ 46 ∷ (more ++ rest))) (part ∷ path)
 
 mutual
-  -- a value at a place, with arrays and inline tables at most so deep
+  -- a value at an offset, with arrays and inline tables at most so deep
   pub data IsValue : ℕ → ℕ → List ℕ → Written → Type 0 where
     text : (depth at : ℕ) (cs : List ℕ) (value : Scalar) (span : Span) → IsText at cs value span
         → IsValue depth at cs (written_with span (written.Scalar value))

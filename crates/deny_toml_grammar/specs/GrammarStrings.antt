@@ -66,7 +66,7 @@ pub data IsContent (delimiter : ℕ) (multi : Bool) : ℕ → List ℕ → List 
 abbrev pub is_delimiter : ℕ → Bool
 is_delimiter c = c == 34 || c == 39
 
--- a string on one line at a place, the bytes that it stands for, and the range between its delimiters
+-- a string on one line at an offset, the bytes that it stands for, and the range between its delimiters
 pub data IsOneLine (at : ℕ) : List ℕ → List ℕ → Span → Type 0 where
   quoted : (delimiter : ℕ) (cs vs : List ℕ) → is_delimiter delimiter ≡ true → IsContent delimiter false 0 cs vs
       → IsOneLine at (delimiter ∷ (cs ++ delimiter ∷ [])) vs (span_of (at + 1) (length cs))
@@ -76,7 +76,7 @@ pub data IsOpening : List ℕ → List ℕ → Type 0 where
   same_line : (cs : List ℕ) → starts_newline cs ≡ false → IsOpening [] cs
   next_line : (end cs : List ℕ) → IsNewline end → IsOpening end cs
 
--- a string on several lines at a place, the bytes that it stands for, and the range between its delimiters
+-- a string on several lines at an offset, the bytes that it stands for, and the range between its delimiters
 pub data IsMultiLine (at : ℕ) : List ℕ → List ℕ → Span → Type 0 where
   framed : (delimiter : ℕ) (opening cs vs : List ℕ) → is_delimiter delimiter ≡ true → IsOpening opening cs
       → IsContent delimiter true 0 cs vs
@@ -84,7 +84,7 @@ pub data IsMultiLine (at : ℕ) : List ℕ → List ℕ → Span → Type 0 wher
       (opening ++ (cs ++ delimiter ∷ (delimiter ∷ (delimiter ∷ []))))))) vs
       (span_of (at + 3) (length opening + length cs))
 
--- a string at a place, of one of the two kinds
+-- a string at an offset, of one of the two kinds
 pub data IsText (at : ℕ) : List ℕ → Scalar → Span → Type 0 where
   one_line : (cs vs : List ℕ) (span : Span) → IsOneLine at cs vs span → IsText at cs (Text vs) span
   multi_line : (cs vs : List ℕ) (span : Span) → IsMultiLine at cs vs span → IsText at cs (Multiline vs) span

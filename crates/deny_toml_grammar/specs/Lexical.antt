@@ -151,6 +151,6 @@ skip_blank text = skip_from true false text
 abbrev pub skip_lines : List ℕ → List ℕ
 skip_lines text = skip_from false false text
 
--- the range from the place of `from` to that of `rest`, both ends of a text of so many bytes
+-- the range from the offset of `from` to that of `rest`, both ends of a text of so many bytes
 abbrev pub between : ℕ → List ℕ → List ℕ → Span
 between total from rest = record { start = total - length from; end = total - length rest }

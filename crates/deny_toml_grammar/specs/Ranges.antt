@@ -39,7 +39,7 @@ IsWithoutEscapes text range = (list_all no_backslash (bytes_in text range) ≡ t
 
 -- The range of a key is one of the text, and the key without escapes is the bytes there.
 pub record KeyStands (text : List ℕ) (key : Key) : Type 0 where
-  pub placed : IsRange text key.span
+  pub lies : IsRange text key.span
   pub named : IsWithoutEscapes text key.span → key.name ≡ bytes_in text key.span
 
 -- A string on one line without escapes is the bytes of its range, and one with escapes is not as long as its range.
@@ -47,7 +47,7 @@ pub record OneLineStands (text : List ℕ) (range : Span) (bytes : List ℕ) : T
   pub same : IsWithoutEscapes text range → bytes ≡ bytes_in text range
   pub without_escapes : range.start + length bytes ≡ range.end → IsWithoutEscapes text range
 
--- A string on several lines without escapes is the bytes of its range, but for a line end right at their front. The
+-- A string on several lines without escapes is the bytes of its range, but for a line end right at their prefix. The
 -- bytes of any
 -- other scalar write it.
 abbrev pub ScalarStands : List ℕ → Span → Scalar → Type 0
@@ -58,7 +58,7 @@ ScalarStands text range s = IsScalar (bytes_in text range) s
 
 -- The range of a value is one of the text, and a scalar stands there.
 pub record Stands (text : List ℕ) (range : Span) (found : Option Scalar) : Type 0 where
-  pub placed : IsRange text range
+  pub lies : IsRange text range
   pub written : IfSome found (ScalarStands text range)
 
 -- one level of what is written

@@ -33,9 +33,9 @@ pub(crate) fn skip(text: &str, count: usize) -> &str
     &text[count..]
 }
 
-/// The place at which `rest` begins in a text of so many bytes that ends with it.
+/// The offset at which `rest` begins in a text of so many bytes that ends with it.
 #[inline]
-pub(crate) fn place(total: usize, rest: &str) -> u32
+pub(crate) fn offset(total: usize, rest: &str) -> u32
     requires within { length rest.now ≤ total }
     requires small { total < 2 ^ 28 }
     ensures { result ≡ total - length rest.now }
@@ -43,7 +43,7 @@ pub(crate) fn place(total: usize, rest: &str) -> u32
     (total - rest.len()) as u32
 }
 
-/// The range from the place at which `from` begins to the one at which `rest` begins.
+/// The range from the offset at which `from` begins to the one at which `rest` begins.
 #[inline]
 pub(crate) fn between(total: usize, from: &str, rest: &str) -> Span
     requires within { length from.now ≤ total }
@@ -52,8 +52,8 @@ pub(crate) fn between(total: usize, from: &str, rest: &str) -> Span
     ensures { result ≡ spec.between total from.now rest.now }
 {
     Span {
-        start: place(total, from),
-        end: place(total, rest),
+        start: offset(total, from),
+        end: offset(total, rest),
     }
 }
 
@@ -163,7 +163,7 @@ fn is_in(class: Class, byte: u8) -> bool
     }
 }
 
-/// How many bytes at the front are of the class.
+/// How many bytes at the start are of the class.
 #[inline(always)]
 pub(crate) fn run_len(bytes: &[u8], class: Class) -> usize
     ensures len { result ≡ prefix_len (spec.class_test class) bytes.now }
@@ -172,7 +172,7 @@ pub(crate) fn run_len(bytes: &[u8], class: Class) -> usize
     bytes.iter().take_while(|byte| is_in(class, **byte)).count()
 }
 
-/// The run of the class at the front, and what follows it.
+/// The run of the class at the start, and what follows it.
 #[inline(always)]
 pub(crate) fn split_run(text: &str, class: Class) -> (&str, &str)
     requires { spec.EndsAtBoundary class }

@@ -1,5 +1,5 @@
 //! The grammar of TOML 1.0.0: from a text to the headers and assignments that it writes, with the
-//! place of every key and value.
+//! span of every key and value.
 #![tactic(auto)]
 
 mod cow_str;

@@ -5,7 +5,7 @@ use thiserror::Error;
 /// Why a text was not read.
 #[derive(Debug, Drop, Error)]
 pub enum ReadError {
-    /// The text does not go on as the grammar says; so many bytes are left from the place on.
+    /// The text does not go on as the grammar says; so many bytes are left from the offset on.
     #[error("the text leaves the grammar of TOML {0} bytes before its end")]
     Grammar(usize),
     #[error("the memory did not suffice")]

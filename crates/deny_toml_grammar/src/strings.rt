@@ -9,7 +9,8 @@ ghost use Rattle.deny_toml_grammar.specs.private.Reading.{Reads, Shortens, Reads
 
 use crate::cow_str::CowStr;
 use crate::lexical::{
-    Class, byte_at, first, place, run_len, skip, skip_blank, skip_spaces, split_run, starts_newline,
+    Class, byte_at, first, offset, run_len, skip, skip_blank, skip_spaces, split_run,
+    starts_newline,
 };
 use crate::parts::Scalar;
 use crate::read_error::ReadError;
@@ -66,8 +67,8 @@ pub(crate) fn one_line<'t>(
     let from = skip(text, 1);
     let (value, rest) = content(alloc, from, first(text), false)?;
     let span = Span {
-        start: place(total, from),
-        end: place(total, rest) - 1,
+        start: offset(total, from),
+        end: offset(total, rest) - 1,
     };
     Ok((Spanned { value, span }, rest))
 }
@@ -89,8 +90,8 @@ fn multi_line<'t>(
     let from = skip(text, 3);
     let (value, rest) = content(alloc, trim_newline(from), first(text), true)?;
     let span = Span {
-        start: place(total, from),
-        end: place(total, rest) - 3,
+        start: offset(total, from),
+        end: offset(total, rest) - 3,
     };
     Ok((Spanned { value, span }, rest))
 }

@@ -5,7 +5,7 @@ use Rattle.std.specs.Prelude.{option_map}
 use Rattle.std.specs.FinMap as finite
 use Rattle.std.specs.List.{starts_with}
 use Rattle.std.specs.Str.{bytes_eq}
-use Rattle.deny_outside.specs.Children.{children, front_of}
+use Rattle.deny_outside.specs.Children.{children, prefix_of}
 use Rattle.deny_outside.specs.Count.{counted}
 use Rattle.deny_outside.specs.Disk.{Disk, Files, bytes_at}
 use Rattle.deny_base.specs.declared.span.Kid.{Kid}
@@ -20,7 +20,7 @@ Folders = Option Kid → List ℕ
 
 -- a folder itself, or what lies below it
 abbrev pub is_in : List ℕ → List ℕ → Bool
-is_in folder path = bytes_eq path folder || starts_with nat_eq path (front_of folder)
+is_in folder path = bytes_eq path folder || starts_with nat_eq path (prefix_of folder)
 
 -- how many entries this folder and those below it list together
 unfoldable pub entries_in : Files → List ℕ → ℕ

@@ -28,7 +28,7 @@ call_for purpose.List = call.List
 call_for purpose.Header = call.Read
 call_for purpose.Sum = call.Read
 
--- how many bytes are too many, or how many entries of all folders of a package; a header is a file's front
+-- how many bytes are too many, or how many entries of all folders of a package; a header is a file's prefix
 abbrev pub limit_for : Purpose → Option ℕ
 limit_for purpose.Manifest = Some (2 ^ 28)
 limit_for purpose.Script = Some (2 ^ 40)

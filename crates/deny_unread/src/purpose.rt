@@ -22,7 +22,7 @@ pub enum Purpose {
 }
 
 impl Purpose {
-    /// The place of the purpose in the order of declaration.
+    /// The number of the purpose in the order of declaration.
     #[tactic(auto, unfolding(crate::specs::Purpose::purpose_number))]
     fn number(self) -> u32
         ensures { result ≡ purpose_number self }

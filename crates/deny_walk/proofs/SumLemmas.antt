@@ -12,7 +12,7 @@ use Rattle.std.proofs.lemmas.List.Sums.{sum_by-append}
 use Rattle.deny_lists.proofs.Members.{Contains-by_cases, Contains-filter, Contains-first, Contains-rest, any_passes}
 use Rattle.deny_lists.proofs.Members.{no_member}
 use Rattle.deny_lists.proofs.Orders.{text_cmp-exact}
-use Rattle.deny_outside.specs.Children.{children, entry_behind, front_of}
+use Rattle.deny_outside.specs.Children.{children, entry_behind, prefix_of}
 use Rattle.deny_outside.specs.Disk.{Files, is_folder}
 use Rattle.deny_outside.specs.declared.disk.Place.{Place}
 use Rattle.deny_unread.specs.Bound.{entries_in, is_in}
@@ -27,24 +27,24 @@ sum_first weight x xs =
     omega (arith, both)
 
 record IsSplit (xs : List (List ℕ)) (x : List ℕ) : Type 0 where
-  front : List (List ℕ)
+  prefix : List (List ℕ)
   rest : List (List ℕ)
-  is : xs ≡ front ++ x ∷ rest
+  is : xs ≡ prefix ++ x ∷ rest
 
 split_at : (xs : List (List ℕ)) (x : List ℕ) → Contains xs x → IsSplit xs x
 split_at [] x is = absurd (no_member x is)
 split_at (y ∷ ys) x is = Contains-by_cases y ys x is
-    (λ here. record { front = []; rest = ys; is = ap (λ (z : List ℕ). z ∷ ys) here })
+    (λ here. record { prefix = []; rest = ys; is = ap (λ (z : List ℕ). z ∷ ys) here })
     (λ later. let at = split_at ys x later in
-    record { front = y ∷ at.front; rest = at.rest; is = ap (λ zs. y ∷ zs) at.is })
+    record { prefix = y ∷ at.prefix; rest = at.rest; is = ap (λ zs. y ∷ zs) at.is })
 
 -- another member stands before or behind it
-beside : (front rest : List (List ℕ)) (x z : List ℕ) → (x ≡ z → ⊥) → Contains (front ++ x ∷ rest) z
-    → Contains (front ++ rest) z
-beside front rest x z other is = elim (Contains-append_cases front (x ∷ rest) z is) [
-  | inl before ↦ Contains-append_left front rest z before
+beside : (prefix rest : List (List ℕ)) (x z : List ℕ) → (x ≡ z → ⊥) → Contains (prefix ++ x ∷ rest) z
+    → Contains (prefix ++ rest) z
+beside prefix rest x z other is = elim (Contains-append_cases prefix (x ∷ rest) z is) [
+  | inl before ↦ Contains-append_left prefix rest z before
   | inr from ↦ Contains-by_cases x rest z from (λ same. absurd (other same))
-      (λ behind. Contains-append_right front rest z behind)
+      (λ behind. Contains-append_right prefix rest z behind)
 ]
 
 -- members of both, or that count nothing
@@ -62,21 +62,21 @@ sum_of_part weight (x ∷ xs) ys apart part = elim (part x (Contains-first x xs)
           omega (arith, nothing, others, sum_first weight x xs)
       | inr there ↦
           let at = split_at ys x there in
-          let left : IsPart weight xs (at.front ++ at.rest) =
+          let left : IsPart weight xs (at.prefix ++ at.rest) =
           λ z within. elim (part z (Contains-rest x xs z within))
-          as (λ _. (weight z ≡ 0) ⊎ Contains (at.front ++ at.rest) z) [
+          as (λ _. (weight z ≡ 0) ⊎ Contains (at.prefix ++ at.rest) z) [
             | inl nothing ↦ inl nothing
-            | inr member ↦ inr (beside at.front at.rest x z
+            | inr member ↦ inr (beside at.prefix at.rest x z
                 (λ same. apart.0 (subst (λ (y : List ℕ). Contains xs y) (sym same) within))
                 (subst (λ (zs : List (List ℕ)). Contains zs z) at.is member))
           ] in
-          let others : sum_by weight xs ≤ sum_by weight (at.front ++ at.rest) =
-          sum_of_part weight xs (at.front ++ at.rest) apart.1 left in
-          let split : sum_by weight (at.front ++ at.rest) ≡ sum_by weight at.front + sum_by weight at.rest =
-          sum_by-append weight at.front at.rest in
-          let whole : sum_by weight ys ≡ sum_by weight at.front + (weight x + sum_by weight at.rest) =
-          ap (sum_by weight) at.is ∙ (sum_by-append weight at.front (x ∷ at.rest)
-          ∙ ap (λ (n : ℕ). sum_by weight at.front + n) (sum_first weight x at.rest)) in
+          let others : sum_by weight xs ≤ sum_by weight (at.prefix ++ at.rest) =
+          sum_of_part weight xs (at.prefix ++ at.rest) apart.1 left in
+          let split : sum_by weight (at.prefix ++ at.rest) ≡ sum_by weight at.prefix + sum_by weight at.rest =
+          sum_by-append weight at.prefix at.rest in
+          let whole : sum_by weight ys ≡ sum_by weight at.prefix + (weight x + sum_by weight at.rest) =
+          ap (sum_by weight) at.is ∙ (sum_by-append weight at.prefix (x ∷ at.rest)
+          ∙ ap (λ (n : ℕ). sum_by weight at.prefix + n) (sum_first weight x at.rest)) in
           omega (arith, others, split, whole, sum_first weight x xs)
     ]
 
@@ -100,7 +100,7 @@ lists_or_none : (files : Files) (root path : List ℕ) → is_in root path ≡ t
 unfolding children
 lists_or_none files root path within = elim (is_folder (finite.get files path))
     as (λ b. is_folder (finite.get files path) ≡ b
-    → (length (cond b (filter_map (entry_behind (front_of path)) (finite.entries files)) []) ≡ 0)
+    → (length (cond b (filter_map (entry_behind (prefix_of path)) (finite.entries files)) []) ≡ 0)
     ⊎ Contains (filter (is_in root) (finite.keys files)) path) [
       | true ↦ λ is. inr (Contains-filter (is_in root) (finite.keys files) path (key_there files path is) within)
       | false ↦ λ is. inl refl

@@ -8,7 +8,7 @@ use Rattle.std.specs.Ordering.{nat_cmp}
 use Rattle.std.specs.Str.{bytes_eq}
 use Rattle.std.proofs.lemmas.Bool.{false≢true}
 use Rattle.std.proofs.lemmas.Option.{none-some}
-use Rattle.deny_outside.specs.Children.{child, front_of}
+use Rattle.deny_outside.specs.Children.{child, prefix_of}
 use Rattle.deny_outside.specs.declared.disk.Entry.{Entry}
 use Rattle.deny_walk.specs.Walk.{Holds, IsFile, IsFolder, Listing, is_left_out}
 use Rattle.deny_walk.specs.Walk.IsFolderBy.{inside, itself}
@@ -53,11 +53,11 @@ unfolding is_left_out
 root_holds_src = record { entries = in_root; seen = refl; member = (2, omega arith, refl); kept = refl }
 
 src_is_a_folder : IsFolder true (codes "/p") list (codes "/p/src")
-unfolding front_of
+unfolding prefix_of
 src_is_a_folder = inside (codes "/p") (codes "src") itself root_holds_src
 
 a_file_of_the_root : IsFile true (codes "/p") list (codes "/p/a.rs")
-unfolding front_of is_left_out
+unfolding prefix_of is_left_out
 a_file_of_the_root = record {
   folder = codes "/p";
   name = codes "a.rs";
@@ -67,7 +67,7 @@ a_file_of_the_root = record {
 }
 
 a_file_below : IsFile true (codes "/p") list (codes "/p/src/lib.rs")
-unfolding front_of is_left_out
+unfolding prefix_of is_left_out
 a_file_below = record {
   folder = codes "/p/src";
   name = codes "lib.rs";
@@ -82,13 +82,13 @@ unfolding is_left_out
 git_not_held holds = false≢true (sym holds.kept)
 
 git_held_of_a_registry : IsFolder false (codes "/p") list (codes "/p/.git")
-unfolding front_of is_left_out
+unfolding prefix_of is_left_out
 git_held_of_a_registry = inside (codes "/p") (codes ".git") itself
     record { entries = in_root; seen = refl; member = (0, omega arith, refl); kept = refl }
 
 -- below, it is one of the folders in any case
 git_held_below : IsFolder true (codes "/p") list (codes "/p/src/.git")
-unfolding front_of is_left_out
+unfolding prefix_of is_left_out
 git_held_below = inside (codes "/p/src") (codes ".git") src_is_a_folder
     record { entries = in_src; seen = refl; member = (0, omega arith, refl); kept = refl }
 
@@ -99,21 +99,21 @@ unlisted_holds_nothing name holds = none-some holds.entries holds.seen
 -- ---- what is taken of a list
 
 folders_taken : filter_map (path_taken true (codes "/p") (codes "/p") true) in_root ≡ codes "/p/src" ∷ []
-unfolding is_taken is_left_out front_of
+unfolding is_taken is_left_out prefix_of
 folders_taken = refl
 
 files_taken : filter_map (path_taken true (codes "/p") (codes "/p") false) in_root ≡ codes "/p/a.rs" ∷ []
-unfolding is_taken is_left_out front_of
+unfolding is_taken is_left_out prefix_of
 files_taken = refl
 
 folders_taken_below : filter_map (path_taken true (codes "/p") (codes "/p/src") true) in_src
     ≡ codes "/p/src/.git" ∷ []
-unfolding is_taken is_left_out front_of
+unfolding is_taken is_left_out prefix_of
 folders_taken_below = refl
 
 -- a path that ends with a slash gets no other
 behind_a_slash : child (codes "/") (codes "a") ≡ codes "/a"
-unfolding front_of
+unfolding prefix_of
 behind_a_slash = refl
 
 -- folders wait in the order of their paths, by bytes: what lies below `a` comes behind `a-b`

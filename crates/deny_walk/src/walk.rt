@@ -173,20 +173,20 @@ fn visit<D: PackageFiles>(
     }
 }
 
-/// Moves the files from a place on to where the first of them belongs among those before it. What one folder holds
+/// Moves the files from an index on to where the first of them belongs among those before it. What one folder holds
 /// ascends, and no other file belongs between it: so files stay ascending as they come, and the order that they are put
 /// in at the end is the one that they have.
 fn move_behind(files: &mut List<Text>, start: usize)
     ensures { IsPermutation files.old files.new }
 {
     if start < files.len() {
-        let place = place_of(files.as_slice(), start);
-        rotate(files.vec.as_mut_slice(), place, start);
+        let index = index_of(files.as_slice(), start);
+        rotate(files.vec.as_mut_slice(), index, start);
     }
 }
 
-/// How many of the files before a place come before the one at that place, if they ascend.
-fn place_of(files: &[Text], start: usize) -> usize
+/// How many of the files before an index come before the one at that index, if they ascend.
+fn index_of(files: &[Text], start: usize) -> usize
     requires { start < length files.now }
     ensures { result ≤ start }
 {
@@ -194,13 +194,13 @@ fn place_of(files: &[Text], start: usize) -> usize
     files[..start].partition_point(|other| other < file)
 }
 
-/// Moves the files from `start` on before those from `place` on.
-fn rotate(files: &mut [Text], place: usize, start: usize)
-    requires before { place ≤ start }
+/// Moves the files from `start` on before those from `index` on.
+fn rotate(files: &mut [Text], index: usize, start: usize)
+    requires before { index ≤ start }
     requires within { start ≤ length files.old }
     ensures { IsPermutation files.old files.new }
 {
-    files[place..].rotate_left(start - place);
+    files[index..].rotate_left(start - index);
 }
 
 fn note(

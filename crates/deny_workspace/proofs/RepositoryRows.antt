@@ -6,7 +6,8 @@ use Rattle.deny_krates.specs.source.GitSpec.{GitSpec}
 use Rattle.deny_krates.specs.source.GitSpec.TheVariants as spec
 use Rattle.deny_model.specs.Graph as model
 use Rattle.deny_workspace.specs.Origin.{address_of}
-use Rattle.deny_workspace.specs.Repositories.{is_at_address, is_same_place, refers_alike, without_git, without_suffixes}
+use Rattle.deny_workspace.specs.Repositories.{is_at_address, is_same_address, refers_alike}
+use Rattle.deny_workspace.specs.Repositories.{without_git, without_suffixes}
 use Rattle.deny_workspace.specs.declared.origin.Reference.{Reference}
 
 -- ---- paths
@@ -33,28 +34,28 @@ abbrev are_one : List ℕ → List ℕ → Bool
 are_one a b = option_map_or (λ url. is_at_address url b) (address_of a) false
 
 by_suffix : are_one (codes "https://h.org/x") (codes "https://h.org/x.git.git") ≡ true
-unfolding url_on_literals without_suffixes is_same_place
+unfolding url_on_literals without_suffixes is_same_address
 by_suffix = refl
 
 -- scheme, user, port and query do not count
 by_scheme : are_one (codes "https://h.org/x") (codes "ssh://git@h.org:22/x?tag=1") ≡ true
-unfolding url_on_literals without_suffixes is_same_place
+unfolding url_on_literals without_suffixes is_same_address
 by_scheme = refl
 
 other_host : are_one (codes "https://h.org/x") (codes "https://g.org/x") ≡ false
-unfolding url_on_literals without_suffixes is_same_place
+unfolding url_on_literals without_suffixes is_same_address
 other_host = refl
 
 other_path : are_one (codes "https://h.org/x") (codes "https://h.org/X") ≡ false
-unfolding url_on_literals without_suffixes is_same_place
+unfolding url_on_literals without_suffixes is_same_address
 other_path = refl
 
 no_hosts : are_one (codes "file:///x") (codes "file:///x.git") ≡ true
-unfolding url_on_literals without_suffixes is_same_place
+unfolding url_on_literals without_suffixes is_same_address
 no_hosts = refl
 
 no_address : are_one (codes "https://h.org/x") (codes "h.org/x") ≡ false
-unfolding url_on_literals without_suffixes is_same_place
+unfolding url_on_literals without_suffixes is_same_address
 no_address = refl
 
 -- ---- references

@@ -21,7 +21,7 @@ use Rattle.deny_workspace.specs.EntryKey.{name_of}
 use Rattle.deny_workspace.specs.Origin.{address_of, origin_in}
 use Rattle.deny_workspace.specs.Paths.{above, further, joined, resolved}
 use Rattle.deny_workspace.specs.Registries.{source_of_registry}
-use Rattle.deny_workspace.specs.Repositories.{is_repository, is_same_place, refers_alike, without_suffixes}
+use Rattle.deny_workspace.specs.Repositories.{is_repository, is_same_address, refers_alike, without_suffixes}
 use Rattle.deny_workspace.specs.Wanted.{wanted_in}
 use Rattle.deny_workspace.specs.Workspace.{entries_in, span_of, unused_in}
 use Rattle.deny_workspace.specs.declared.origin.Origin.{Origin}
@@ -94,7 +94,7 @@ not_handed_in = refl
 
 of_master : option_and_then (λ url. led (codes "x") (Git url (record { spec = spec.Any; value = None })) no_version)
     (address_of (codes "https://h.org/x.git")) ≡ Some 4
-unfolding place_of fits comes_from home_of has_name url_on_literals is_repository is_same_place refers_alike
+unfolding place_of fits comes_from home_of has_name url_on_literals is_repository is_same_address refers_alike
     without_suffixes
 of_master = refl
 

@@ -34,8 +34,8 @@ abbrev pub without_git : List ℕ → List ℕ
 without_git path = without_suffixes (length path) path
 
 -- the hosts are equal, and the paths but for each `.git` at their ends
-unfoldable pub is_same_place : Parts → Parts → Bool
-is_same_place a b =
+unfoldable pub is_same_address : Parts → Parts → Bool
+is_same_address a b =
     option_eq same_text (host_of a) (host_of b) && same_text (without_git a.path) (without_git b.path)
 
 abbrev pub is_any : model.GitSpec → Bool
@@ -81,7 +81,7 @@ refers_alike r kind value =
 
 -- a repository at this place with this reference, where the text of the crate's address reads
 abbrev pub is_at_address : Parts → List ℕ → Bool
-is_at_address url address = option_map_or (is_same_place url) (address_of address) false
+is_at_address url address = option_map_or (is_same_address url) (address_of address) false
 
 unfoldable pub is_repository : Parts → Reference → model.Source → Bool
 is_repository url r (model.CratesIo sparse) = false

@@ -4,7 +4,7 @@ ghost use Rattle.std.specs.Option.{option_eq};
 ghost use Rattle.deny_model.specs.Text.{same_text};
 ghost use Rattle.deny_krates.specs.Crates.{git_spec_view, source_view};
 ghost use Rattle.deny_workspace.specs.Repositories.{host_of, is_at_address, is_master, is_repository};
-ghost use Rattle.deny_workspace.specs.Repositories.{is_same_kind, is_same_place, refers_alike, without_git};
+ghost use Rattle.deny_workspace.specs.Repositories.{is_same_kind, is_same_address, refers_alike, without_git};
 
 use crate::origin::{Reference, address_in};
 use deny_krates::{GitSpec, Source};
@@ -24,9 +24,9 @@ fn without_git(path: &[u8]) -> &[u8]
 }
 
 // Whether the hosts are equal, and the paths but for each `.git` at their ends.
-#[tactic(auto, unfolding(crate::specs::Repositories::is_same_place))]
-fn is_same_place(a: &Url, b: &Url) -> bool
-    ensures { result ≡ is_same_place a.now b.now }
+#[tactic(auto, unfolding(crate::specs::Repositories::is_same_address))]
+fn is_same_address(a: &Url, b: &Url) -> bool
+    ensures { result ≡ is_same_address a.now b.now }
 {
     is_same_host(a.host_str(), b.host_str())
         && without_git(a.path().as_bytes()) == without_git(b.path().as_bytes())
@@ -86,7 +86,7 @@ fn is_at_address(alloc: Global, url: &Url, address: &str) -> Result<bool, NoMemo
     ensures { IfOk result (λ is. is ≡ is_at_address url.now address.now) }
 {
     match address_in(alloc, address)? {
-        Some(other) => Ok(is_same_place(url, &other)),
+        Some(other) => Ok(is_same_address(url, &other)),
         None => Ok(false),
     }
 }

@@ -6,15 +6,15 @@ use Rattle.deny_manifests.specs.declared.declarations.ManifestDep.{ManifestDep}
 use Rattle.deny_model.specs.Policy.{Sharing}
 use Rattle.deny_model.specs.View.{Declared}
 use Rattle.deny_manifest_rules.specs.Uses.{row_at, use_view}
-use Rattle.deny_manifest_rules.specs.declared.uses.Use.{Use as Kept}
+use Rattle.deny_manifest_rules.specs.declared.uses.Use.{Use as UseValue}
 
 -- each of some declarations stands in the row of the crate that it resolves to, in their order
-pub record AreRowsOf (crates : ℕ) (uses : List Use) (rows : List (List Kept)) : Type 0 where
+pub record AreRowsOf (crates : ℕ) (uses : List Use) (rows : List (List UseValue)) : Type 0 where
   pub long : length rows ≡ crates
   pub at : (place : ℕ) → map use_view (row_at rows place) ≡ filter (is_use_of place) uses
 
 -- the same, of all but the last ones
-pub record AreRowsBut (crates : ℕ) (rest all : List Use) (rows : List (List Kept)) : Type 0 where
+pub record AreRowsBut (crates : ℕ) (rest all : List Use) (rows : List (List UseValue)) : Type 0 where
   pub done : List Use
   pub split : done ++ rest ≡ all
   pub are : AreRowsOf crates done rows

@@ -9,9 +9,9 @@ use Rattle.deny_model.specs.Graph.{Graph}
 use Rattle.deny_model.specs.Keys.{key_of, no_span}
 use Rattle.deny_model.specs.Policy.{Sharing}
 use Rattle.deny_manifest_rules.specs.Uses.{row_at, use_view}
-use Rattle.deny_manifest_rules.specs.declared.uses.Use.{Use as Kept}
+use Rattle.deny_manifest_rules.specs.declared.uses.Use.{Use as UseValue}
 
-unfoldable pub duplicated_keys_at : List (List Kept) → ℕ → List Key
+unfoldable pub duplicated_keys_at : List (List UseValue) → ℕ → List Key
 duplicated_keys_at rows place = if is_duplicated (map use_view (row_at rows place))
     then key_of section.Workspace code.WorkspaceDuplicate place no_span 0 ∷ [] else []
 

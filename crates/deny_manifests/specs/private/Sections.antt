@@ -12,44 +12,44 @@ use Rattle.deny_lists.specs.First.{FindsFirst}
 use Rattle.deny_manifests.specs.Agreement.{TellsAgreement}
 use Rattle.deny_manifests.specs.Written.{entries_at, kinds, section_name}
 use Rattle.deny_manifests.specs.declared.firsts.Firsts.{Firsts}
-use Rattle.deny_manifests.specs.declared.sections.Place.{Place}
+use Rattle.deny_manifests.specs.declared.sections.SectionKey.{SectionKey}
 use Rattle.deny_manifests.specs.declared.sections.Sections.{Sections}
 use Rattle.deny_manifests.specs.private.Firsts.{first_at}
 use Rattle.deny_manifests.specs.private.Targets.{NumbersTargets, number_of}
 use Rattle.deny_toml.specs.Key.{Key}
 use Rattle.deny_toml.specs.declared.value.Value.{Value}
 
--- an entry at its place
-abbrev pub Placed : Type 0
-Placed = Place × (Key × Value)
+-- an entry with where it stands
+abbrev pub KeyedEntry : Type 0
+KeyedEntry = SectionKey × (Key × Value)
 
-abbrev pub place_cmp : Place → Place → Ordering
-place_cmp = then_cmp (on (λ p. p.target) (option_cmp nat_cmp))
+abbrev pub section_key_cmp : SectionKey → SectionKey → Ordering
+section_key_cmp = then_cmp (on (λ p. p.target) (option_cmp nat_cmp))
     (then_cmp (on (λ p. p.kind) kind_cmp) (on (λ p. p.name) (slice_cmp nat_cmp)))
 
--- the entry that is found at a place
-abbrev pub entry_found : Firsts Place (Bor (Key × Value)) → Place → Option (Key × Value)
-entry_found entries place = option_copied (first_at place_cmp entries place)
+-- the entry that is found at a section's key
+abbrev pub entry_found : Firsts SectionKey (Bor (Key × Value)) → SectionKey → Option (Key × Value)
+entry_found entries section_key = option_copied (first_at section_key_cmp entries section_key)
 
-abbrev pub FindsPlaced : List Placed → Firsts Place (Bor (Key × Value)) → Type 0
-FindsPlaced placed entries = FindsFirst (eq_by_cmp place_cmp) placed (entry_found entries)
+abbrev pub FindsKeyed : List KeyedEntry → Firsts SectionKey (Bor (Key × Value)) → Type 0
+FindsKeyed keyed entries = FindsFirst (eq_by_cmp section_key_cmp) keyed (entry_found entries)
 
-abbrev pub placed_at : Option ℕ → DepKind → Key × Value → Placed
-placed_at target kind entry = (record { target = target; kind = kind; name = entry.0.name }, entry)
+abbrev pub keyed_at : Option ℕ → DepKind → Key × Value → KeyedEntry
+keyed_at target kind entry = (record { target = target; kind = kind; name = entry.0.name }, entry)
 
-abbrev pub kind_placed : Option ℕ → Value → DepKind → List Placed
-kind_placed target v kind = map (placed_at target kind) (entries_at (section_name kind) v)
+abbrev pub kind_keyed : Option ℕ → Value → DepKind → List KeyedEntry
+kind_keyed target v kind = map (keyed_at target kind) (entries_at (section_name kind) v)
 
 -- the entries for all targets, or for those of a number
-unfoldable pub sections_placed : Option ℕ → Value → List Placed
-sections_placed target v = flat_map (kind_placed target v) kinds
+unfoldable pub sections_keyed : Option ℕ → Value → List KeyedEntry
+sections_keyed target v = flat_map (kind_keyed target v) kinds
 
 -- the entries under keys of targets, which have these numbers
-abbrev pub target_placed : (List ℕ → ℕ) → Key × Value → List Placed
-target_placed number entry = sections_placed (Some (number entry.0.name)) entry.1
+abbrev pub target_keyed : (List ℕ → ℕ) → Key × Value → List KeyedEntry
+target_keyed number entry = sections_keyed (Some (number entry.0.name)) entry.1
 
-unfoldable pub targets_placed : (List ℕ → ℕ) → List (Key × Value) → List Placed
-targets_placed number entries = flat_map (target_placed number) entries
+unfoldable pub targets_keyed : (List ℕ → ℕ) → List (Key × Value) → List KeyedEntry
+targets_keyed number entries = flat_map (target_keyed number) entries
 
 abbrev pub target_entries : Value → List (Key × Value)
 target_entries tree = entries_at (codes "target") tree
@@ -57,9 +57,9 @@ target_entries tree = entries_at (codes "target") tree
 abbrev pub target_keys : Value → List (List ℕ)
 target_keys tree = map (λ e. e.0.name) (target_entries tree)
 
--- the targets are numbered, and of the entries of a tree the first at each place is found
+-- the targets are numbered, and of the entries of a tree the first at each section's key is found
 pub record IsIndexOf (tree : Value) (sections : Sections) : Type 0 where
   pub targets : NumbersTargets (target_keys tree) sections.targets
   pub entries : (agrees : List ℕ → List ℕ → Bool) → TellsAgreement agrees
-      → FindsPlaced (sections_placed None tree
-      ++ targets_placed (number_of agrees (target_keys tree)) (target_entries tree)) sections.entries
+      → FindsKeyed (sections_keyed None tree
+      ++ targets_keyed (number_of agrees (target_keys tree)) (target_entries tree)) sections.entries

@@ -12,7 +12,7 @@ use Rattle.deny_spans.specs.Look.{AreNumbered, IsLook, Look, ReadsAs, Reading, k
 use Rattle.deny_spans.specs.Seen.{manifest_by, manifest_in, manifest_read}
 use Rattle.deny_spans.specs.SpansView.{IsManifestAt, manifest_view}
 use Rattle.deny_spans.specs.declared.gathered.Gathered.{Gathered}
-use Rattle.deny_spans.specs.declared.gathered.Kept.{Kept}
+use Rattle.deny_spans.specs.declared.gathered.ReadManifest.{ReadManifest}
 use Rattle.deny_toml.specs.declared.value.Value.{Value}
 use Rattle.deny_unread.specs.Unread.{asked, if_unread}
 use Rattle.deny_unread.specs.declared.purpose.Purpose.TheVariants as purpose
@@ -62,7 +62,8 @@ pub record IsManifestRead (g : Graph) (c : Crate) (text : List ℕ) (number : �
   pub own : IfSome manifest (IsManifestAt g c.place)
 
 -- a text was kept as a file, where it is UTF-8, and as a manifest, where it has a tree
-pub record IsKept (g : Graph) (c : Crate) (text : Option (List ℕ)) (old new : List File) (kept : Kept) : Type 0 where
+pub record IsKept (g : Graph) (c : Crate) (text : Option (List ℕ)) (old new : List File)
+    (kept : ReadManifest) : Type 0 where
   pub read : Option Reading
   pub texts : option_map (λ r. r.text) read ≡ text
   pub reads : IfSome read (λ r. ReadsAs r.text r.tree)

@@ -5,7 +5,7 @@ use Rattle.std.specs.List.{prefix_len}
 use Rattle.std.specs.Char.{is_ascii_digit}
 use Rattle.deny_toml_grammar.specs.Lexical.{plus, dash, dot, colon, space, first}
 
--- two digits stand at this place, and the number that they write is in the range
+-- two digits stand at this index, and the number that they write is in the range
 abbrev pub has_number : List ℕ → ℕ → ℕ → ℕ → Bool
 has_number cs at low high =
     (is_ascii_digit (slice_index cs at) && is_ascii_digit (slice_index cs (at + 1)))

@@ -12,7 +12,7 @@ use Rattle.deny_toml_grammar.specs.Expression.{depth_limit, header_with}
 use Rattle.deny_toml_grammar.specs.private.Keys.{key}
 use Rattle.deny_toml_grammar.specs.private.Values.{assignment, value}
 
--- what follows this byte at the front
+-- what follows this byte at the start
 abbrev pub after_byte : ℕ → List ℕ → Option (List ℕ)
 after_byte byte text = if first text == byte then Some (drop 1 text) else None
 

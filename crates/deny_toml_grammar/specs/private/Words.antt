@@ -19,14 +19,14 @@ word_value word =
     else if is_float word then Some (Float word)
     else option_map Integer (integer word)
 
--- how long the word at the front is: a space before a digit joins a date and a time
+-- how long the word at the start is: a space before a digit joins a date and a time
 unfoldable pub word_len : List ℕ → ℕ
 word_len text =
     let len = prefix_len is_word text in
     if nat_lt 0 len && (slice_index text len == space && is_ascii_digit (slice_index text (len + 1)))
     then len + 1 + prefix_len is_word (drop (len + 1) text) else len
 
--- the value at the front
+-- the value at the start
 unfoldable pub unquoted : List ℕ → Read Scalar
 unquoted text =
     if word_len text == 0 then None

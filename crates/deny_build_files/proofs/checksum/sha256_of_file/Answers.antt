@@ -1,7 +1,7 @@
 use Rattle.std.proofs.Common.{[], Err, arith, refl, rules}
 use Rattle.deny_outside.proofs.PieceLemmas.{failed_then, later_same, later_then}
 use Rattle.deny_build_files.proofs.EndLemmas.{end_handed, memory_no_fault, memory_not_long, no_value, rose_by_less}
-use Rattle.deny_build_files.proofs.FrontLemmas.{nothing_read}
+use Rattle.deny_build_files.proofs.PrefixLemmas.{nothing_read}
 use Rattle.deny_build_files.proofs.HashingLemmas.{long_told, short_told}
 use Rattle.deny_build_files.proofs.checksum.sha256_of_file.Goals as goal
 

@@ -1,11 +1,11 @@
 use Rattle.std.proofs.Common.{Err, take}
 use Rattle.deny_build_files.proofs.EndLemmas.{end_handed, memory_no_fault, memory_not_long}
-use Rattle.deny_build_files.proofs.FrontLemmas.{kind_told}
+use Rattle.deny_build_files.proofs.PrefixLemmas.{kind_told}
 use Rattle.deny_build_files.proofs.executable.check_is_executable.Goals as goal
 
--- the front was not read
+-- the prefix was not read
 pub returns-in_err-n-clause-later : goal.returns-in_err-n-clause-later
-returns-in_err-n-clause-later g c = c.front_of.ensures.later
+returns-in_err-n-clause-later g c = c.prefix_of.ensures.later
 
 pub returns-in_err-n-clause-fault : goal.returns-in_err-n-clause-fault
 returns-in_err-n-clause-fault g c = λ is.
@@ -19,7 +19,7 @@ returns-in_err-n-clause-never_long g c = λ is.
 
 -- memory was wanting
 pub returns-in_err-executable_in-clause-later : goal.returns-in_err-executable_in-clause-later
-returns-in_err-executable_in-clause-later g c = c.front_of.ensures.later
+returns-in_err-executable_in-clause-later g c = c.prefix_of.ensures.later
 
 pub returns-in_err-executable_in-clause-fault : goal.returns-in_err-executable_in-clause-fault
 returns-in_err-executable_in-clause-fault g c = λ is.
@@ -29,14 +29,14 @@ pub returns-in_err-executable_in-clause-never_long : goal.returns-in_err-executa
 returns-in_err-executable_in-clause-never_long g c =
     memory_not_long _ c.from_residual-in_err-executable_in.ensures.1
 
--- the front tells
+-- the prefix tells
 pub returns-clause-kind : goal.returns-clause-kind
 returns-clause-kind g c = kind_told (g.D.PackageFiles.seen c.args.disk.now).files c.args.exclude_archives
-    c.args.path.now (take c.in_ok-n.n c.front_of.new.buffer) c.in_ok-executable_in.field-0
-    c.in_ok-executable_in.ensures c.in_ok-n.ensures.front
+    c.args.path.now (take c.in_ok-n.n c.prefix_of.new.buffer) c.in_ok-executable_in.field-0
+    c.in_ok-executable_in.ensures c.in_ok-n.ensures.prefix
 
 pub returns-clause-few : goal.returns-clause-few
 returns-clause-few g c = c.in_ok-n.ensures.few
 
 pub returns-clause-later : goal.returns-clause-later
-returns-clause-later g c = c.front_of.ensures.later
+returns-clause-later g c = c.prefix_of.ensures.later

@@ -5,7 +5,7 @@ use Rattle.deny_build_files.proofs.home.parts_below.Given as goal
 
 abbrev pub invariant-loop-name : goal.invariant-loop-name
 invariant-loop-name l = record {
-  within : l.place ≤ length l.own;
+  within : l.index ≤ length l.own;
   same : parts_below (texts l.names) (texts l.own)
-      ≡ parts_below (texts (drop l.name-index l.names)) (texts (drop l.place l.own));
+      ≡ parts_below (texts (drop l.name-index l.names)) (texts (drop l.index l.own));
 }

@@ -5,7 +5,7 @@ use Rattle.deny_cfg.specs.declared.clash.ClashKind.TheVariants as clash
 use Rattle.deny_entries.specs.declared.reason.Reason.{Reason}
 use Rattle.deny_entries.specs.declared.spec_or_extended.PackageSpecOrExtended.{PackageSpecOrExtended}
 use Rattle.deny_cfg.proofs.ClashLaws.{gathers_all, gathers_next}
-use Rattle.deny_cfg.proofs.FirstPlacesLaws.{clash_found}
+use Rattle.deny_cfg.proofs.FirstSpansLaws.{clash_found}
 use Rattle.deny_cfg.proofs.clashes.put_allow_clashes.Goals as goal
 
 pub loop-entry-preserved : goal.loop-entry-preserved

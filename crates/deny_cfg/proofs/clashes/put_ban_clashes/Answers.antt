@@ -4,7 +4,7 @@ use Rattle.deny_cfg.specs.Clashes.{clash_with, is_ban, specs_of}
 use Rattle.deny_tables.specs.declared.bans.cfg.ban.CrateBanExtended.{CrateBanExtended}
 use Rattle.deny_entries.specs.declared.spec_or_extended.PackageSpecOrExtended.{PackageSpecOrExtended}
 use Rattle.deny_cfg.proofs.ClashLaws.{gathers_all, gathers_next, given_where}
-use Rattle.deny_cfg.proofs.FirstPlacesLaws.{clash_found}
+use Rattle.deny_cfg.proofs.FirstSpansLaws.{clash_found}
 use Rattle.deny_cfg.proofs.clashes.put_ban_clashes.Goals as goal
 
 pub loop-entry-preserved : goal.loop-entry-preserved

@@ -125,7 +125,7 @@ returns-else-len-warnings-clause-cause c =
           ∙ (ap length (told.is ∙ ap (λ (clashes : List Diagnostic). clashes ++ warnings) (sym same ∙ none))
           ∙ sym (c.warnings_len-warnings.ensures file)));
       are = are;
-      placed =
+      located =
           told_lie c.args.text.now config file c.first_told.result c.utf8.text c.in_ok-tables.ensures.labels
           c.in_ok-tables.ensures.lists are;
     }

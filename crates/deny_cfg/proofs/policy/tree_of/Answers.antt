@@ -1,6 +1,6 @@
 use Rattle.std.proofs.Common.{[], ◌∷◌, ap, subst, ◌∙◌}
 use Rattle.deny_toml.specs.Faults.{fault_at}
-use Rattle.deny_toml.specs.Parser.{IsCauseOf, IsPlaced}
+use Rattle.deny_toml.specs.Parser.{IsCauseOf, LiesIn}
 use Rattle.deny_cfg.specs.PolicyText.{ListsFaults}
 use Rattle.deny_cfg.proofs.PolicyLaws.{config_weaker, toml_listed}
 use Rattle.deny_cfg.proofs.policy.tree_of.Goals as goal
@@ -12,6 +12,6 @@ returns-in-Err-Fault-clause-faults c =
     config_weaker _ (ListsFaults text) c.of_text.result
     (λ faults is. toml_listed text c.in-Err-Fault.kind span faults c.utf8.text
     (subst (IsCauseOf text) c.in-Err-Fault.field-0-is c.in-Err-Fault.ensures.cause)
-    (subst (IsPlaced text) c.in-Err-Fault.field-0-is c.in-Err-Fault.ensures.placed)
+    (subst (LiesIn text) c.in-Err-Fault.field-0-is c.in-Err-Fault.ensures.lies)
     (is ∙ ap (λ k. fault_at k [] span ∷ []) c.fault_kind.ensures))
     c.of_text.ensures

@@ -3,5 +3,5 @@ use Rattle.deny_cli.specs.Words.{texts}
 use Rattle.deny_cli.proofs.WordsLemmas.{asks_for_few}
 use Rattle.deny_cli.proofs.program.answer_to.Goals as goal
 
-pub report_at-requires : goal.report_at-requires
-report_at-requires g c = asks_for_few (texts c.args.words.now) (command_view c.in-Ok.command) c.in-Ok.ensures
+pub report_for_command-requires : goal.report_for_command-requires
+report_for_command-requires g c = asks_for_few (texts c.args.words.now) (command_view c.in-Ok.command) c.in-Ok.ensures

@@ -1,6 +1,6 @@
 use Rattle.std.proofs.Common.{◌≡◌, ◌<◌, ◌∙◌, ℕ, List, [], length, sym, subst, arith}
 use Rattle.std.specs.List.{AllZip}
-use Rattle.deny_lists.proofs.Places.{slice_get-read}
+use Rattle.deny_lists.proofs.Indices.{slice_get-read}
 use Rattle.deny_crate_graph.specs.private.Graph.{IsKrateAs, IsKrateOf, features_at, listed}
 use Rattle.deny_metadata.specs.declared.document.Package.{Package}
 use Rattle.deny_crate_graph.specs.declared.graph.KeptPackage.{KeptPackage}

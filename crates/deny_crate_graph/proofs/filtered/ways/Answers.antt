@@ -1,7 +1,7 @@
 use Rattle.std.proofs.Common.{◌<◌, ◌+◌, ◌∙◌, ap, sym, subst, ℕ, List, Vec, Global, take}
 use Rattle.std.specs.Prelude.{◌++◌, ◌∷◌, [], slice_index_or}
 use Rattle.std.proofs.lemmas.Option.{slice_get-get_or}
-use Rattle.deny_lists.proofs.Places.{slice_get-read}
+use Rattle.deny_lists.proofs.Indices.{slice_get-read}
 use Rattle.deny_base.specs.declared.edge.DepKind.TheVariants.{Normal}
 use Rattle.deny_crate_graph.specs.private.OtherLinks.{AreWays, link_of}
 use Rattle.deny_resolve.specs.declared.checked.Link.{Link}

@@ -1,6 +1,6 @@
 use Rattle.std.proofs.Common.{◌≡◌, ◌<◌, ◌++◌, ◌∙◌, sym, ap, subst, List, length, map, append_assoc}
 use Rattle.std.specs.Prelude.{All}
-use Rattle.deny_lists.proofs.Places.{slice_get-read}
+use Rattle.deny_lists.proofs.Indices.{slice_get-read}
 use Rattle.deny_crate_graph.specs.private.Graph.{edge_to}
 use Rattle.deny_crate_graph.specs.private.Reach.{links_at}
 use Rattle.deny_resolve.specs.declared.checked.Link.{Link}

@@ -1,6 +1,6 @@
 use Rattle.std.proofs.Common.{◌≡◌, ◌<◌, ◌+◌, ◌∙◌, List, Some, length, refl, sym, subst, ap}
 use Rattle.std.specs.Prelude.{slice_get}
-use Rattle.deny_lists.proofs.Places.{slice_get-read}
+use Rattle.deny_lists.proofs.Indices.{slice_get-read}
 use Rattle.deny_crate_graph.specs.private.Graph.{IsKeptNode, listed}
 use Rattle.deny_crate_graph.specs.Packages.{rank_of}
 use Rattle.deny_resolve.specs.declared.checked.ResolvedNode.{ResolvedNode}

@@ -20,7 +20,7 @@ returns-in_err-finalize-clause-faults g c =
     ∙ sym (after_all-append fs g.T.Extension.fields start) in
     let same =
     all_faults (entry_fields g.T.Extension.fields) c.args.value.now start (state_of c.read_keys.new.helper) apart
-    h.table h.place h.no_fault_yet chain in
+    h.table h.span h.no_fault_yet chain in
     let reported =
     reports_same (table_faults c.read_keys.new.helper.faults c.read_keys.new.helper.entries)
     (faults_of_table (entry_fields g.T.Extension.fields) c.args.value.now) c.in_err-finalize.field-0.0 same
@@ -40,12 +40,12 @@ unreachable-requires g c =
     ∙ sym (after_all-append fs g.T.Extension.fields start) in
     let same =
     all_faults (entry_fields g.T.Extension.fields) c.args.value.now start (state_of c.read_keys.new.helper) apart
-    h.table h.place h.no_fault_yet chain in
+    h.table h.span h.no_fault_yet chain in
     let none =
     no_field_faults (entry_fields g.T.Extension.fields) c.args.value.now c.in_ok-helper.helper.entries
-    c.in_ok-helper.helper.span h.table h.place (sym same ∙ c.in_ok-finalize.ensures.ok) in
+    c.in_ok-helper.helper.span h.table h.span (sym same ∙ c.in_ok-finalize.ensures.ok) in
     subst (Gives (ReadsSpecKeys c.in_ok-helper.helper.entries)) c.in-None.is
-    (c.in_ok-spec.ensures.read (none_before fs g.T.Extension.fields start.place start.entries none))
+    (c.in_ok-spec.ensures.read (none_before fs g.T.Extension.fields start.span start.entries none))
 
 pub returns-clause-ok : goal.returns-clause-ok
 returns-clause-ok g c =
@@ -60,14 +60,14 @@ returns-clause-ok g c =
     ∙ sym (after_all-append fs g.T.Extension.fields start) in
     let same =
     all_faults (entry_fields g.T.Extension.fields) c.args.value.now start (state_of c.read_keys.new.helper) apart
-    h.table h.place h.no_fault_yet chain in
+    h.table h.span h.no_fault_yet chain in
     let clean = sym same ∙ c.in_ok-finalize.ensures.ok in
     let none =
     no_field_faults (entry_fields g.T.Extension.fields) c.args.value.now c.in_ok-helper.helper.entries
-    c.in_ok-helper.helper.span h.table h.place clean in
+    c.in_ok-helper.helper.span h.table h.span clean in
     let spec =
     subst (Gives (ReadsSpecKeys c.in_ok-helper.helper.entries)) c.in-Some.is
-    (c.in_ok-spec.ensures.read (none_before fs g.T.Extension.fields start.place start.entries none)) in
+    (c.in_ok-spec.ensures.read (none_before fs g.T.Extension.fields start.span start.entries none)) in
     let said =
     c.in_ok-said.ensures.read
     (none_left fs g.T.Extension.fields start between apart c.in_ok-spec.ensures.next none) in

@@ -9,7 +9,7 @@ returns-in_err-finalize-clause-faults g c =
     let h = c.in_ok-helper.ensures in
     let same =
     all_faults (λ entries. g.T.Keyed.fields) c.args.value.now (state_of c.in_ok-helper.helper)
-    (state_of c.read_keys.new.helper) g.met.T.Keyed.apart h.table h.place h.no_fault_yet
+    (state_of c.read_keys.new.helper) g.met.T.Keyed.apart h.table h.span h.no_fault_yet
     c.in_ok-read.ensures.next in
     let reported =
     reports_same (table_faults c.read_keys.new.helper.faults c.read_keys.new.helper.entries)
@@ -22,11 +22,11 @@ unreachable-requires g c =
     let h = c.in_ok-helper.ensures in
     let same =
     all_faults (λ entries. g.T.Keyed.fields) c.args.value.now (state_of c.in_ok-helper.helper)
-    (state_of c.read_keys.new.helper) g.met.T.Keyed.apart h.table h.place h.no_fault_yet
+    (state_of c.read_keys.new.helper) g.met.T.Keyed.apart h.table h.span h.no_fault_yet
     c.in_ok-read.ensures.next in
     let none =
     no_field_faults (λ entries. g.T.Keyed.fields) c.args.value.now c.in_ok-helper.helper.entries
-    c.in_ok-helper.helper.span h.table h.place (sym same ∙ c.in_ok-finalize.ensures.ok) in
+    c.in_ok-helper.helper.span h.table h.span (sym same ∙ c.in_ok-finalize.ensures.ok) in
     subst (Gives (g.T.Keyed.reads_in c.in_ok-helper.helper.entries)) c.in-None.is (c.in_ok-read.ensures.read none)
 
 pub returns-clause-ok : goal.returns-clause-ok
@@ -34,11 +34,11 @@ returns-clause-ok g c =
     let h = c.in_ok-helper.ensures in
     let same =
     all_faults (λ entries. g.T.Keyed.fields) c.args.value.now (state_of c.in_ok-helper.helper)
-    (state_of c.read_keys.new.helper) g.met.T.Keyed.apart h.table h.place h.no_fault_yet
+    (state_of c.read_keys.new.helper) g.met.T.Keyed.apart h.table h.span h.no_fault_yet
     c.in_ok-read.ensures.next in
     let clean = sym same ∙ c.in_ok-finalize.ensures.ok in
     let none = no_field_faults (λ entries. g.T.Keyed.fields) c.args.value.now c.in_ok-helper.helper.entries
-    c.in_ok-helper.helper.span h.table h.place clean in (
+    c.in_ok-helper.helper.span h.table h.span clean in (
       clean,
       read_in g.T.Keyed.reads_in c.args.value.now c.in_ok-helper.helper.entries c.in-Some.read h.table
           (subst (Gives (g.T.Keyed.reads_in c.in_ok-helper.helper.entries)) c.in-Some.is

@@ -11,7 +11,7 @@ returns-in_err-finalize-clause-faults c =
     let h = c.in_ok-helper.ensures in
     let same =
     all_faults spec_fields c.args.value.now (state_of c.in_ok-helper.helper) (state_of c.read_spec.new.helper)
-    (spec-apart c.in_ok-helper.helper.entries) h.table h.place h.no_fault_yet c.in_ok-spec.ensures.next in
+    (spec-apart c.in_ok-helper.helper.entries) h.table h.span h.no_fault_yet c.in_ok-spec.ensures.next in
     let reported =
     reports_same (table_faults c.read_spec.new.helper.faults c.read_spec.new.helper.entries)
     (faults_of_table spec_fields c.args.value.now) c.in_err-finalize.field-0.0 same
@@ -23,10 +23,10 @@ unreachable-requires c =
     let h = c.in_ok-helper.ensures in
     let same =
     all_faults spec_fields c.args.value.now (state_of c.in_ok-helper.helper) (state_of c.read_spec.new.helper)
-    (spec-apart c.in_ok-helper.helper.entries) h.table h.place h.no_fault_yet c.in_ok-spec.ensures.next in
+    (spec-apart c.in_ok-helper.helper.entries) h.table h.span h.no_fault_yet c.in_ok-spec.ensures.next in
     let none =
     no_field_faults spec_fields c.args.value.now c.in_ok-helper.helper.entries c.in_ok-helper.helper.span h.table
-    h.place (sym same ∙ c.in_ok-finalize.ensures.ok) in
+    h.span (sym same ∙ c.in_ok-finalize.ensures.ok) in
     subst (Gives (ReadsSpecKeys c.in_ok-helper.helper.entries)) c.in-None.is (c.in_ok-spec.ensures.read none)
 
 pub returns-clause-ok : goal.returns-clause-ok
@@ -34,10 +34,10 @@ returns-clause-ok c =
     let h = c.in_ok-helper.ensures in
     let same =
     all_faults spec_fields c.args.value.now (state_of c.in_ok-helper.helper) (state_of c.read_spec.new.helper)
-    (spec-apart c.in_ok-helper.helper.entries) h.table h.place h.no_fault_yet c.in_ok-spec.ensures.next in
+    (spec-apart c.in_ok-helper.helper.entries) h.table h.span h.no_fault_yet c.in_ok-spec.ensures.next in
     let clean = sym same ∙ c.in_ok-finalize.ensures.ok in
     let none = no_field_faults spec_fields c.args.value.now c.in_ok-helper.helper.entries c.in_ok-helper.helper.span
-    h.table h.place clean in (
+    h.table h.span clean in (
       clean,
       read_in ReadsSpecKeys c.args.value.now c.in_ok-helper.helper.entries c.in-Some.spec h.table
           (subst (Gives (ReadsSpecKeys c.in_ok-helper.helper.entries)) c.in-Some.is (c.in_ok-spec.ensures.read none)),

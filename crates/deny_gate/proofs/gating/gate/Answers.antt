@@ -8,33 +8,35 @@ use Rattle.deny_gate.proofs.gating.gate.Goals as goal
 pub returns-clause-cause : goal.returns-clause-cause
 returns-clause-cause g c =
     cause_then (texts_in c.args.inputs.now) c.in_ok-policy.policy _ c.as_slice.ensures.value
-    c.in_ok-policy.ensures.ok c.report_of.result c.report_of.ensures.cause
+    c.in_ok-policy.ensures.ok c.report_on_metadata.result c.report_on_metadata.ensures.cause
 
 pub returns-clause-report : goal.returns-clause-report
 returns-clause-report g c =
     report_then (texts_in c.args.inputs.now) c.in_ok-policy.policy _ c.as_slice.ensures.value
-    c.in_ok-policy.ensures.ok _ _ c.report_of.result c.report_of.ensures.report
+    c.in_ok-policy.ensures.ok _ _ c.report_on_metadata.result c.report_on_metadata.ensures.report
 
 pub returns-clause-caused : goal.returns-clause-caused
 returns-clause-caused g c =
     caused_then (texts_in c.args.inputs.now) c.in_ok-policy.policy _ c.as_slice.ensures.value
-    c.in_ok-policy.ensures.ok _ _ c.report_of.result c.report_of.ensures.report c.report_of.ensures.caused
+    c.in_ok-policy.ensures.ok _ _ c.report_on_metadata.result c.report_on_metadata.ensures.report
+    c.report_on_metadata.ensures.caused
 
 pub returns-clause-headline : goal.returns-clause-headline
 returns-clause-headline g c =
     headline_then (texts_in c.args.inputs.now) c.in_ok-policy.policy _ c.as_slice.ensures.value
-    c.in_ok-policy.ensures.ok _ _ c.report_of.result c.report_of.ensures.report
+    c.in_ok-policy.ensures.ok _ _ c.report_on_metadata.result c.report_on_metadata.ensures.report
 
 pub returns-clause-exit_code : goal.returns-clause-exit_code
 returns-clause-exit_code g c =
     code_then (texts_in c.args.inputs.now) c.in_ok-policy.policy _ c.as_slice.ensures.value
-    c.in_ok-policy.ensures.ok _ _ c.report_of.result c.report_of.ensures.report
+    c.in_ok-policy.ensures.ok _ _ c.report_on_metadata.result c.report_on_metadata.ensures.report
 
 pub returns-clause-labels : goal.returns-clause-labels
 returns-clause-labels g c =
-    labels_then _ _ (texts_in c.args.inputs.now) c.in_ok-policy.policy _ c.report_of.result c.as_slice.ensures.value
+    labels_then _ _ (texts_in c.args.inputs.now) c.in_ok-policy.policy _ c.report_on_metadata.result
+    c.as_slice.ensures.value
     c.in_ok-policy.ensures.ok c.in_ok-policy.ensures.labels c.in_ok-policy.ensures.licence_labels
-    c.in_ok-policy.ensures.older_key c.report_of.ensures.report
+    c.in_ok-policy.ensures.older_key c.report_on_metadata.ensures.report
 
 pub returns-in_err-policy-clause-clash_labels : goal.returns-in_err-policy-clause-clash_labels
 returns-in_err-policy-clause-clash_labels g c =
@@ -43,10 +45,10 @@ returns-in_err-policy-clause-clash_labels g c =
 
 pub returns-clause-clash_labels : goal.returns-clause-clash_labels
 returns-clause-clash_labels g c = cause_behind_labelled _ (policy_view c.in_ok-policy.policy.bans)
-    (texts_in c.args.inputs.now) c.report_of.result c.report_of.ensures.cause
+    (texts_in c.args.inputs.now) c.report_on_metadata.result c.report_on_metadata.ensures.cause
 
 pub returns-clause-dead_can_go : goal.returns-clause-dead_can_go
 returns-clause-dead_can_go g c =
     dead_then (texts_in c.args.inputs.now) c.in_ok-policy.policy _ c.as_slice.ensures.value
-    c.in_ok-policy.ensures.ok _ _ c.dead_can_go.ensures c.packages_stay.ensures c.report_of.result
-    c.report_of.ensures.report
+    c.in_ok-policy.ensures.ok _ _ c.dead_can_go.ensures c.packages_stay.ensures c.report_on_metadata.result
+    c.report_on_metadata.ensures.report

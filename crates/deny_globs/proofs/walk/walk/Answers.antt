@@ -4,7 +4,7 @@ use Rattle.std.specs.Prelude.{Contains}
 use Rattle.std.proofs.lemmas.Result.{on_ok_weaker}
 use Rattle.deny_globs.specs.Walk.{HasEnd, Notes}
 use Rattle.deny_globs.proofs.MarkedLemmas.{take_all}
-use Rattle.deny_globs.proofs.WalkLemmas.{IsAtPlace, at_next_place, at_last_place, rest_at_end, notes_back, notes_none}
+use Rattle.deny_globs.proofs.WalkLemmas.{IsAtIndex, at_next_index, at_last_index, rest_at_end, notes_back, notes_none}
 use Rattle.deny_globs.proofs.WalkLemmas.{no_more, nothing_starts, times}
 use Rattle.deny_globs.proofs.walk.walk.Goals as goal
 
@@ -30,16 +30,16 @@ returns-in_err-mark_starts-clause-steps g c =
 pub returns-then-is_empty-2-clause-steps : goal.returns-then-is_empty-2-clause-steps
 returns-then-is_empty-2-clause-steps g c =
     let n = length c.args.states.now in
-    let old = c.loop-place.invariant in
-    let before : c.loop-place.place ≤ length c.args.path.now = omega arith in
+    let old = c.loop-index.invariant in
+    let before : c.loop-index.index ≤ length c.args.path.now = omega arith in
     omega (arith, old.steps, old.bound, old.now, mul-le-mul_right n before, times (length c.args.path.now) n)
 
 pub returns-in_err-pass-clause-steps : goal.returns-in_err-pass-clause-steps
 returns-in_err-pass-clause-steps g c =
     let n = length c.args.states.now in
     let p = c.in_err-pass.ensures in
-    let old = c.loop-place.invariant in
-    let before : c.loop-place.place + 1 ≤ length c.args.path.now = omega arith in
+    let old = c.loop-index.invariant in
+    let before : c.loop-index.index + 1 ≤ length c.args.path.now = omega arith in
     omega (
       arith,
       p.steps,
@@ -51,20 +51,20 @@ returns-in_err-pass-clause-steps g c =
       old.next,
       old.steps,
       mul-le-mul_right n before,
-      times c.loop-place.place n,
+      times c.loop-index.index n,
       times (length c.args.path.now) n,
     )
 
-pub loop-place-preserved : goal.loop-place-preserved
-loop-place-preserved g c =
+pub loop-index-preserved : goal.loop-index-preserved
+loop-index-preserved g c =
     let p = c.in_ok-pass.ensures in
-    let old = c.loop-place.invariant in
+    let old = c.loop-index.invariant in
     record {
-      at = subst (λ v. IsAtPlace c.args.states.now c.args.starts.now c.args.path.now (c.loop-place.place + 1) v.0)
+      at = subst (λ v. IsAtIndex c.args.states.now c.args.starts.now c.args.path.now (c.loop-index.index + 1) v.0)
           (sym c.swap.ensures.x_after)
-          (at_next_place c.loop-place.place (omega arith)
-          (take_all (drop c.loop-place.place c.args.path.now) (length c.args.path.now - c.loop-place.place)
-          (omega (arith, length-drop c.loop-place.place c.args.path.now))) old.at p.ok);
+          (at_next_index c.loop-index.index (omega arith)
+          (take_all (drop c.loop-index.index c.args.path.now) (length c.args.path.now - c.loop-index.index)
+          (omega (arith, length-drop c.loop-index.index c.args.path.now))) old.at p.ok);
       none = ap (λ v. v.0) c.swap.ensures.y_after ∙ c.clear.ensures.empty;
       now = omega (arith, ap (λ v. v.1) c.swap.ensures.x_after, p.next, old.next);
       next = omega (arith, ap (λ v. v.1) c.swap.ensures.y_after, c.clear.ensures.room, p.now, old.now);
@@ -82,7 +82,7 @@ loop-place-preserved g c =
         p.now,
         old.now,
         ap (λ v. length v.0) c.swap.ensures.x_after,
-        times c.loop-place.place (length c.args.states.now),
+        times c.loop-index.index (length c.args.states.now),
       );
     }
 
@@ -94,14 +94,14 @@ returns-in_err-pass-2-clause-steps g c =
     let rest_is = take_all (drop size c.args.path.now) (size - size) (omega (arith, length-drop size c.args.path.now))
     in
     let none = p.none (rest_at_end c.args.path.now rest_is) in
-    let last : c.loop-place.place ≡ size = omega arith in
+    let last : c.loop-index.index ≡ size = omega arith in
     omega (
       arith,
       p.steps,
       p.now_bound,
       p.now,
-      c.loop-place.invariant.now,
-      c.loop-place.invariant.steps,
+      c.loop-index.invariant.now,
+      c.loop-index.invariant.steps,
       ap length none,
       ap (λ k. k * n) last,
       times size n,
@@ -115,14 +115,14 @@ returns-clause-steps g c =
     let rest_is = take_all (drop size c.args.path.now) (size - size) (omega (arith, length-drop size c.args.path.now))
     in
     let none = p.none (rest_at_end c.args.path.now rest_is) in
-    let last : c.loop-place.place ≡ size = omega arith in
+    let last : c.loop-index.index ≡ size = omega arith in
     omega (
       arith,
       p.steps,
       p.now_bound,
       p.now,
-      c.loop-place.invariant.now,
-      c.loop-place.invariant.steps,
+      c.loop-index.invariant.now,
+      c.loop-index.invariant.steps,
       ap length none,
       ap (λ k. k * n) last,
       times size n,
@@ -131,7 +131,7 @@ returns-clause-steps g c =
 pub returns-then-is_empty-2-clause-notes : goal.returns-then-is_empty-2-clause-notes
 returns-then-is_empty-2-clause-notes g c =
     notes_none refl
-    (λ glob s. no_more (c.is_empty-in-loop-place.ensures c.if-is_empty-2.true) c.loop-place.invariant.at s)
+    (λ glob s. no_more (c.is_empty-in-loop-index.ensures c.if-is_empty-2.true) c.loop-index.invariant.at s)
 
 pub note_ends-requires : goal.note_ends-requires
 note_ends-requires g c n h =
@@ -139,15 +139,15 @@ note_ends-requires g c n h =
       arith,
       c.as_slice.ensures.inside n (subst (λ l. Contains l n) c.as_slice.ensures.value h),
       c.in_ok-pass-2.ensures.now,
-      c.loop-place.invariant.now,
+      c.loop-index.invariant.now,
     )
 
 pub returns-clause-notes : goal.returns-clause-notes
 returns-clause-notes g c =
     on_ok_weaker c.note_ends.result
-    (λ n. notes_back (at_last_place c.loop-place.place (omega arith)
+    (λ n. notes_back (at_last_index c.loop-index.index (omega arith)
     (take_all (drop (length c.args.path.now) c.args.path.now) (length c.args.path.now - length c.args.path.now)
-    (omega (arith, length-drop (length c.args.path.now) c.args.path.now))) c.loop-place.invariant.at
+    (omega (arith, length-drop (length c.args.path.now) c.args.path.now))) c.loop-index.invariant.at
     c.in_ok-pass-2.ensures.ok)
     (subst (λ l. Notes (HasEnd c.args.states.now l) c.args.fitting.now c.note_ends.new.fitting)
     c.as_slice.ensures.value n))

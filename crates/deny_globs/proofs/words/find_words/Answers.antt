@@ -13,25 +13,25 @@ loop-node-init c = record {
 pub loop-node-preserved : goal.loop-node-preserved
 loop-node-preserved c =
     let path = c.args.path.now in
-    let place = c.loop-node.place in
+    let index = c.loop-node.index in
     let step =
-    reading_step c.args.nodes.now path place c.index-nodes-node.result c.index-nodes-node-in-loop-node.result
+    reading_step c.args.nodes.now path index c.index-nodes-node.result c.index-nodes-node-in-loop-node.result
     (omega (arith, c.loop-node-test.true)) c.index-nodes-node.is c.index-nodes-node-in-loop-node.is
     (c.as_slice.ensures ∙ ap (λ (n : Node). n.numbers) (sym c.index-nodes-node.is))
     c.in_ok-extend_from_slice.ensures.items
-    (take_all (drop place path) (length path - place) (omega (arith, length-drop place path)))
+    (take_all (drop index path) (length path - index) (omega (arith, length-drop index path)))
     (sym c.next_of.ensures ∙ c.in-Some.is) c.loop-node.invariant.inside c.loop-node.invariant.reading in
     record { reading = step.0; inside = step.1 }
 
 pub returns-in-None : goal.returns-in-None
 returns-in-None c =
     let path = c.args.path.now in
-    let place = c.loop-node.place in
-    reading_end c.args.nodes.now path place c.index-nodes-node.result c.index-nodes-node-in-loop-node.result
+    let index = c.loop-node.index in
+    reading_end c.args.nodes.now path index c.index-nodes-node.result c.index-nodes-node-in-loop-node.result
     (omega (arith, c.loop-node-test.true)) c.index-nodes-node.is c.index-nodes-node-in-loop-node.is
     (c.as_slice.ensures ∙ ap (λ (n : Node). n.numbers) (sym c.index-nodes-node.is))
     c.in_ok-extend_from_slice.ensures.items
-    (take_all (drop place path) (length path - place) (omega (arith, length-drop place path)))
+    (take_all (drop index path) (length path - index) (omega (arith, length-drop index path)))
     (sym c.next_of.ensures ∙ c.in-None.is) c.loop-node.invariant.reading
 
 pub returns : goal.returns

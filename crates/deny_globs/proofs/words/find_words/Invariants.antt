@@ -4,9 +4,9 @@ use Rattle.deny_globs.proofs.words.find_words.Given as goal
 
 abbrev pub invariant-loop-node : goal.invariant-loop-node
 invariant-loop-node l = record {
-  reading : IsReading l.nodes l.path l.fn.found.items l.found.items l.node (drop l.place l.path);
-  inside : l.place ≤ length l.path;
+  reading : IsReading l.nodes l.path l.fn.found.items l.found.items l.node (drop l.index l.path);
+  inside : l.index ≤ length l.path;
 }
 
 abbrev pub decreases-loop-node : goal.decreases-loop-node
-decreases-loop-node l = length l.path - l.place
+decreases-loop-node l = length l.path - l.index

@@ -5,7 +5,7 @@ use Rattle.deny_lock.proofs.line.put_line.Goals as goal
 
 pub returns-clause-span : goal.returns-clause-span
 returns-clause-span c =
-    span-is (crate_view 0 c.args.krate.now) c.args.text.now c.put_front.new.text c.push_str.new.self
-    c.len_of-start.result c.len_of-source.result c.len_of-end.result c.in_ok-put_front.ensures
-    (c.in_ok-push_str.ensures.ok ∙ ap (λ part. c.put_front.new.text ++ part) c.source_shown.ensures)
+    span-is (crate_view 0 c.args.krate.now) c.args.text.now c.put_start.new.text c.push_str.new.self
+    c.len_of-start.result c.len_of-source.result c.len_of-end.result c.in_ok-put_start.ensures
+    (c.in_ok-push_str.ensures.ok ∙ ap (λ part. c.put_start.new.text ++ part) c.source_shown.ensures)
     c.len_of-start.ensures c.len_of-source.ensures c.len_of-end.ensures

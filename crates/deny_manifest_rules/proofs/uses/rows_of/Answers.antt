@@ -6,7 +6,7 @@ use Rattle.deny_cfg.specs.PolicyView.{sharing_view}
 use Rattle.deny_codes.specs.Sharing.{Use, all_uses, uses_at}
 use Rattle.deny_krates.proofs.PlaceLemmas.{length_of}
 use Rattle.deny_spans.specs.SpansView.{spans_view}
-use Rattle.deny_manifest_rules.specs.declared.uses.Use.{Use as Kept}
+use Rattle.deny_manifest_rules.specs.declared.uses.Use.{Use as UseValue}
 use Rattle.deny_manifest_rules.specs.private.Rows.{AreRowsOf}
 use Rattle.deny_manifest_rules.proofs.FlatLemmas.{flat-take_more}
 use Rattle.deny_manifest_rules.proofs.RowLemmas.{none_put}
@@ -16,7 +16,7 @@ pub loop-member-init : goal.loop-member-init
 loop-member-init c =
     let crates = c.args.krates.now.crates in
     let long = length_of c.krates.result.now crates c.krates.ensures.crates in
-    subst (λ (rows : List (List Kept)). AreRowsOf (length crates) [] rows)
+    subst (λ (rows : List (List UseValue)). AreRowsOf (length crates) [] rows)
     (sym (c.in_ok-rows.ensures ∙ ap (λ (n : ℕ). replicate n []) (sym long))) (none_put (length crates))
 
 pub loop-member-preserved : goal.loop-member-preserved
@@ -35,7 +35,7 @@ returns c =
     let g = c.args.krates.now in
     let f = uses_at (sharing_view c.args.sharing.now) g (spans_view c.args.spans.now) in
     let members = c.workspace_members-members.result.now in
-    subst (λ (rows : List (List Kept)). AreRowsOf (length g.crates) (flat_map f g.members) rows)
+    subst (λ (rows : List (List UseValue)). AreRowsOf (length g.crates) (flat_map f g.members) rows)
     (sym c.from_vec.ensures)
     (subst (λ (us : List Use). AreRowsOf (length g.crates) us c.loop-member.rows.items)
     (ap (flat_map f) (take_all c.loop-member.member-index members c.loop-member-test.false

@@ -7,9 +7,9 @@ use Rattle.deny_bypasses.specs.Marks.{reached_by}
 use Rattle.deny_krates.specs.Crates.{crate_view}
 use Rattle.deny_krates.proofs.PlaceLemmas.{krate_at}
 use Rattle.deny_lists.proofs.Members.{from_there}
-use Rattle.deny_lists.proofs.Places.{take-next}
+use Rattle.deny_lists.proofs.Indices.{take-next}
 use Rattle.deny_model.specs.Graph.{Crate}
-use Rattle.deny_packages.proofs.GraphLemmas.{all_long, front_apart, front_long, front_places}
+use Rattle.deny_packages.proofs.GraphLemmas.{all_long, prefix_apart, prefix_long, prefix_places}
 use Rattle.deny_packages.proofs.PackagesLemmas.{AreSoFar, all_because, all_seen, all_wanted, caused_next}
 use Rattle.deny_packages.proofs.PackagesLemmas.{so_far_more, so_far_none}
 use Rattle.deny_outside.specs.Disk.{Files}
@@ -74,8 +74,8 @@ loop-place-preserved g c =
     (added l.unread c.see_package.new.unread) here p) before.later.files (step.seen folder right))
     (subst (λ (told : Option Files). AreWantedOf told b reached graph (added l.unread c.see_package.new.unread) here p)
     before.later.files step.wanted)
-    (front_apart graph ks same l.place inside c.krates-krate-items.ensures.orderly.ids here at)
-    (front_places graph ks same l.place inside) (sym (front_long graph ks same l.place inside)) in
+    (prefix_apart graph ks same l.place inside c.krates-krate-items.ensures.orderly.ids here at)
+    (prefix_places graph ks same l.place inside) (sym (prefix_long graph ks same l.place inside)) in
     record {
       so_far = subst (λ (us : List Unread). AreSoFar start.files b reached home graph start end us
           (take (l.place + 1) graph.crates) c.push.new.self)

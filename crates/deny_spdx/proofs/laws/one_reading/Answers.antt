@@ -6,4 +6,4 @@ pub returns-clause-read : goal.returns-clause-read
 returns-clause-read c = λ text e is. right_as text (Read e) is
 
 pub returns-clause-bad : goal.returns-clause-bad
-returns-clause-bad c = λ text place is. right_as text (BadAt place) is
+returns-clause-bad c = λ text offset is. right_as text (BadAt offset) is

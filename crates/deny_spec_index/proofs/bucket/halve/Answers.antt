@@ -1,5 +1,5 @@
 use Rattle.std.proofs.Common.{arith, sym, ◌∙◌, ◌+◌, ◌-◌, ◌/◌, ◌<◌, length}
-use Rattle.deny_spec_index.proofs.FindLemmas.{at_place, above_middle, below_middle, named_equal}
+use Rattle.deny_spec_index.proofs.FindLemmas.{at_index, above_middle, below_middle, named_equal}
 use Rattle.deny_spec_index.proofs.bucket.halve.Goals as goal
 
 pub returns-in-Less-clause-ok : goal.returns-in-Less-clause-ok
@@ -8,7 +8,7 @@ returns-in-Less-clause-ok g c =
     let inside : middle < length c.args.bucket.now = omega (arith, c.requires.some, c.requires.between.inside) in
     record {
       between = above_middle c.requires.ascend (omega (arith, c.requires.some))
-          (at_place c.args.bucket.now inside c.index-bucket-middle.is)
+          (at_index c.args.bucket.now inside c.index-bucket-middle.is)
           (sym c.compare.ensures ∙ c.in-Less.is) c.requires.between;
       half = omega (arith, c.requires.some);
       fewer = omega (arith, c.requires.some);
@@ -20,7 +20,7 @@ returns-in-Greater-clause-ok g c =
     let inside : middle < length c.args.bucket.now = omega (arith, c.requires.some, c.requires.between.inside) in
     record {
       between = below_middle c.requires.ascend (omega (arith, c.requires.some)) (omega (arith, c.requires.some))
-          (at_place c.args.bucket.now inside c.index-bucket-middle.is)
+          (at_index c.args.bucket.now inside c.index-bucket-middle.is)
           (sym c.compare.ensures ∙ c.in-Greater.is) c.requires.between;
       half = omega (arith, c.requires.some);
       fewer = omega (arith, c.requires.some);
@@ -30,5 +30,5 @@ pub returns-in-Equal-clause-ok : goal.returns-in-Equal-clause-ok
 returns-in-Equal-clause-ok g c =
     let middle = c.args.low + (c.args.high - c.args.low) / 2 in
     let inside : middle < length c.args.bucket.now = omega (arith, c.requires.some, c.requires.between.inside) in
-    named_equal (at_place c.args.bucket.now inside c.index-bucket-middle.is) (sym c.compare.ensures
+    named_equal (at_index c.args.bucket.now inside c.index-bucket-middle.is) (sym c.compare.ensures
     ∙ c.in-Equal.is)

@@ -1,7 +1,7 @@
 use Rattle.std.proofs.Common.{rules, ◌∙◌, ◌+◌, ◌-◌, arith, sym, ap}
 use Rattle.deny_std_table.specs.Width.{width_of}
 use Rattle.deny_std_table.proofs.TableLemmas.{entries-more, entries-break, entries-none, name_of-region}
-use Rattle.deny_std_table.proofs.TableLemmas.{place_in-region}
+use Rattle.deny_std_table.proofs.TableLemmas.{span_in-region}
 use Rattle.deny_std_table.proofs.entries.check_entries.Goals as goal
 
 pub returns-in_err-check_entry : goal.returns-in_err-check_entry
@@ -23,7 +23,7 @@ loop-i-preserved c =
       same = sym (entries-more (width_of c.args.width) c.args.bytes.now c.args.count c.loop-i.before c.loop-i.i
           (c.args.count - (c.loop-i.i + 1))
           (c.args.count - c.loop-i.i) _ (omega arith) holds) ∙ c.loop-i.invariant.same;
-      inside = λ x is. place_in-region c.args.bytes.now _ _ x c.region_of-region.ensures.bytes
+      inside = λ x is. span_in-region c.args.bytes.now _ _ x c.region_of-region.ensures.bytes
           c.in_ok-check_entry.ensures.inside is;
     }
 

@@ -8,53 +8,53 @@ use Rattle.deny_std_table.proofs.CopyLemmas.{progress-written, broken-nothing, w
 use Rattle.deny_std_table.proofs.CursorSteps.{api-read-in}
 use Rattle.deny_std_table.proofs.upgrade.copy_apis.Goals as goal
 
-pub loop-place-init : goal.loop-place-init
-loop-place-init c =
+pub loop-index-init : goal.loop-index-init
+loop-index-init c =
     let b = bounds (width_of c.args.region.now.width) c.args.region.now.bytes.now c.args.region.now.stop in
     progress-start (api b) (api_text b.bytes) api_bytes c.args.count c.args.at _ _ (omega arith)
 
 pub returns-in_err-read-clause-value : goal.returns-in_err-read-clause-value
 returns-in_err-read-clause-value c =
     let b = bounds (width_of c.args.region.now.width) c.args.region.now.bytes.now c.args.region.now.stop in
-    let left = c.args.count - c.loop-place._place in
+    let left = c.args.count - c.loop-index._index in
     let stops = progress-break (api b) (api_text b.bytes) api_bytes c.args.count c.args.at left (left - 1)
-    c.loop-place.next _ _ _ (omega arith) (ap next_of (sym c.in_err-read.ensures)) c.loop-place.invariant in
+    c.loop-index.next _ _ _ (omega arith) (ap next_of (sym c.in_err-read.ensures)) c.loop-index.invariant in
     rw stops (search rules)
 
 pub returns-in_err-read-clause-written : goal.returns-in_err-read-clause-written
 returns-in_err-read-clause-written c = λ r is.
     let b = bounds (width_of c.args.region.now.width) c.args.region.now.bytes.now c.args.region.now.stop in
-    let left = c.args.count - c.loop-place._place in
+    let left = c.args.count - c.loop-index._index in
     let stops = progress-break (api b) (api_text b.bytes) api_bytes c.args.count c.args.at left (left - 1)
-    c.loop-place.next _ _ _ (omega arith) (ap next_of (sym c.in_err-read.ensures)) c.loop-place.invariant in
+    c.loop-index.next _ _ _ (omega arith) (ap next_of (sym c.in_err-read.ensures)) c.loop-index.invariant in
     absurd (broken-nothing _ _ r stops is)
 
 pub put_api-requires : goal.put_api-requires
 put_api-requires c =
     let b = bounds (width_of c.args.region.now.width) c.args.region.now.bytes.now c.args.region.now.stop in
-    api-read-in b c.loop-place.next c.in_ok-read.read c.args.region.now.within (sym c.in_ok-read.ensures)
+    api-read-in b c.loop-index.next c.in_ok-read.read c.args.region.now.within (sym c.in_ok-read.ensures)
 
-pub loop-place-preserved : goal.loop-place-preserved
-loop-place-preserved c =
+pub loop-index-preserved : goal.loop-index-preserved
+loop-index-preserved c =
     let b = bounds (width_of c.args.region.now.width) c.args.region.now.bytes.now c.args.region.now.stop in
-    let left = c.args.count - c.loop-place._place in
+    let left = c.args.count - c.loop-index._index in
     progress-more (api b) (api_text b.bytes) api_bytes c.args.count c.args.at left
-    (c.args.count - (c.loop-place._place + 1)) c.loop-place.next c.in_ok-read.read.next _ _ _ (omega arith)
+    (c.args.count - (c.loop-index._index + 1)) c.loop-index.next c.in_ok-read.read.next _ _ _ (omega arith)
     (ap next_of (sym c.in_ok-read.ensures))
     (λ r is. writes-read (api b) (api_text b.bytes) api_bytes _ _ _ _ r (sym c.in_ok-read.ensures) is
     c.put_api.ensures)
-    c.loop-place.invariant
+    c.loop-index.invariant
 
 pub returns-clause-value : goal.returns-clause-value
 returns-clause-value c =
     let b = bounds (width_of c.args.region.now.width) c.args.region.now.bytes.now c.args.region.now.stop in
-    let left = c.args.count - c.loop-place._place in
+    let left = c.args.count - c.loop-index._index in
     progress-value (api b) (api_text b.bytes) api_bytes c.args.count c.args.at left
-    c.loop-place.next _ _ (omega arith) c.loop-place.invariant
+    c.loop-index.next _ _ (omega arith) c.loop-index.invariant
 
 pub returns-clause-written : goal.returns-clause-written
 returns-clause-written c =
     let b = bounds (width_of c.args.region.now.width) c.args.region.now.bytes.now c.args.region.now.stop in
-    let left = c.args.count - c.loop-place._place in
+    let left = c.args.count - c.loop-index._index in
     progress-written (api b) (api_text b.bytes) api_bytes c.args.count c.args.at left
-    c.loop-place.next _ _ (omega arith) c.loop-place.invariant
+    c.loop-index.next _ _ (omega arith) c.loop-index.invariant

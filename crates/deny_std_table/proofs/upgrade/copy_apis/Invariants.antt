@@ -6,7 +6,7 @@ use Rattle.deny_std_table.proofs.CopyLemmas.{Progress}
 use Rattle.deny_std_table.proofs.upgrade.copy_apis.Given as goal
 
 -- what is left is still to be written
-abbrev pub invariant-loop-place : goal.invariant-loop-place
-invariant-loop-place l =
+abbrev pub invariant-loop-index : goal.invariant-loop-index
+invariant-loop-index l =
     Progress (api (bounds (width_of l.region.width) l.region.bytes.now l.region.stop))
-    (api_text l.region.bytes.now) api_bytes l.count l.at (l.count - l._place) l.next l.fn.draft l.draft
+    (api_text l.region.bytes.now) api_bytes l.count l.at (l.count - l._index) l.next l.fn.draft l.draft

@@ -49,7 +49,7 @@ pub struct Config {
     /// Whether such a dependency may stand where it comes from no registry, in a private crate or as
     /// a dev dependency; default false.
     pub allow_wildcard_paths: bool,
-    /// The older place of the list of this name in `build`, beside which it says nothing.
+    /// The older key of the list of this name in `build`, beside which it says nothing.
     pub allow_build_scripts: Option<Spanned<List<PackageSpec>>>,
     /// How build scripts and the files of packages are minded; without it, not at all.
     pub build: Option<BuildConfig>,

@@ -1,7 +1,7 @@
 use Rattle.std.proofs.Common.{◌≡◌, ◌++◌, ◌∷◌, ◌∙◌, ◌+◌, [], List, ap, append_assoc, map, rules, subst, sym, take}
 use Rattle.deny_base.specs.declared.finding.Pack.{Pack}
 use Rattle.deny_base.specs.declared.key.Key.{Key}
-use Rattle.deny_lists.proofs.Places.{map-take_next}
+use Rattle.deny_lists.proofs.Indices.{map-take_next}
 use Rattle.deny_codes.specs.Told.{pack_told}
 use Rattle.deny_telling.specs.Telling.{IsStanding}
 use Rattle.deny_telling.specs.private.Teller.{told_from}

@@ -1,7 +1,7 @@
 use Rattle.std.proofs.Common.{ap, ◌∙◌, arith}
 use Rattle.deny_toml.specs.Clash.{member_line, clash_after}
 use Rattle.deny_toml.proofs.ClashLaws.{map_next, map_end, key_goes, lines_end}
-use Rattle.deny_toml.proofs.PlacesLaws.{finds_err, key_refused}
+use Rattle.deny_toml.proofs.SlotsLaws.{finds_err, key_refused}
 use Rattle.deny_toml.proofs.clash.+clashes.Goals as goal
 
 pub check_members-returns-in_err-take_key : goal.check_members-returns-in_err-take_key
@@ -13,7 +13,7 @@ check_members-returns-in_err-take_key t c =
     let next = map_next member_line members l.member-index member (omega (arith, c.loop-member-test.true))
     c.member-item.is in
     finds_err c.from_residual.result _ c.in_err-take_key.field-0.0 _ c.from_residual.ensures.1 (λ y p. p)
-    (key_refused c.in_err-take_key.field-0.0 c.take_key.new.places _ now 0 member _
+    (key_refused c.in_err-take_key.field-0.0 c.take_key.new.slots _ now 0 member _
     (lines ∙ ap (clash_after now 0) next) (c.in_err-take_key.ensures now told))
 
 pub check_members-loop-member-preserved : goal.check_members-loop-member-preserved

@@ -2,7 +2,7 @@ use Rattle.std.proofs.Common.{◌<◌, length, ap, ◌∙◌, arith}
 use Rattle.deny_toml_grammar.specs.declared.expression.Expression.TheVariants.{Header, Assignment}
 use Rattle.deny_toml.specs.Clash.{line_of, clash_after}
 use Rattle.deny_toml.proofs.ClashLaws.{lines_next, map_end, header_goes, key_goes, lines_end}
-use Rattle.deny_toml.proofs.PlacesLaws.{finds_err, key_refused, header_refused}
+use Rattle.deny_toml.proofs.SlotsLaws.{finds_err, key_refused, header_refused}
 use Rattle.deny_toml.proofs.clash.check_expressions.Goals as goal
 use Rattle.deny_toml.proofs.clash.check_expressions.Goals.{in-Header+in_ok-table-in-Header}
 use Rattle.deny_toml.proofs.clash.check_expressions.Goals.{in-Assignment+in_ok-take_key-in-Assignment}
@@ -29,7 +29,7 @@ returns-in_err-take_key-in-Assignment c =
     (omega (arith, c.loop-expression-test.true)) c.expression-item.is c.in-Assignment.is in
     finds_err c.from_residual-in_err-take_key-in-Assignment.result _ c.in_err-take_key-in-Assignment.field-0.0 _
     c.from_residual-in_err-take_key-in-Assignment.ensures.1 (λ y p. p)
-    (key_refused c.in_err-take_key-in-Assignment.field-0.0 c.take_key.new.places _ now l.table key _
+    (key_refused c.in_err-take_key-in-Assignment.field-0.0 c.take_key.new.slots _ now l.table key _
     (lines ∙ ap (clash_after now l.table) next) (c.in_err-take_key-in-Assignment.ensures now told))
 
 pub loop-expression-preserved : goal.loop-expression-preserved
@@ -45,7 +45,7 @@ loop-expression-preserved c =
           let next = lines_next expressions i c.expression-item.result (Header header) inside c.expression-item.is
           w.in-Header.is in
           let (after, walked, more) = w.in_ok-table-in-Header.ensures now told in
-          rw (w.places-is, w.table-is) (
+          rw (w.slots-is, w.table-is) (
             after,
             lines ∙ (ap (clash_after now l.table) next
                 ∙ header_goes now after l.table w.in_ok-table-in-Header.table header _ walked),
@@ -56,7 +56,7 @@ loop-expression-preserved c =
           let next = lines_next expressions i c.expression-item.result (Assignment key) inside c.expression-item.is
           w.in-Assignment.is in
           let (after, entered, walked, none, more) = w.in_ok-take_key-in-Assignment.ensures now told in
-          rw (w.places-is, w.table-is) (
+          rw (w.slots-is, w.table-is) (
             after,
             lines ∙ (ap (clash_after now l.table) next
                 ∙ key_goes now after l.table entered key _ walked none),

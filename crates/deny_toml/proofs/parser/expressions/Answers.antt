@@ -4,5 +4,5 @@ pub returns-in-Ok : goal.returns-in-Ok
 returns-in-Ok c = record {
   document = record { written = c.in-Ok.ensures.found; only = c.in-Ok.ensures.only };
   cause = tt;
-  placed = tt;
+  lies = tt;
 }

@@ -2,8 +2,8 @@ use Rattle.deny_toml.proofs.ParserLaws.{clash_range, tree_stands}
 use Rattle.deny_toml.proofs.ApartGrammar.{tree_apart}
 use Rattle.deny_toml.proofs.parser.parse.Goals as goal
 
-pub returns-in-Some-clause-placed : goal.returns-in-Some-clause-placed
-returns-in-Some-clause-placed c =
+pub returns-in-Some-clause-lies : goal.returns-in-Some-clause-lies
+returns-in-Some-clause-lies c =
     clash_range c.args.text.now _ _ c.in-Some.span c.utf8.text c.in_ok-expressions.ensures.document
     c.in_ok-span.ensures.exact c.in-Some.is
 

@@ -1,6 +1,6 @@
 use Rattle.std.proofs.Common.{◌∙◌, subst}
 use Rattle.deny_globs.specs.Faults.{FirstFault, IsBadAt}
-use Rattle.deny_globs.proofs.Place.{bad_once, bad_byte}
+use Rattle.deny_globs.proofs.FaultIndex.{bad_once, bad_byte}
 use Rattle.deny_globs.specs.Tree.{IsGlob}
 use Rattle.deny_globs.proofs.Once.{glob_once, no_fault}
 use Rattle.deny_globs.proofs.glob.Glob.parse.Goals as goal
@@ -23,6 +23,6 @@ returns-in-Err-Fault-clause-first c byte e other b =
       character = c.in-Err-Fault.character;
       fault = subst (λ l. FirstFault l c.in-Err-Fault.character) (c.deref.ensures.value ∙ c.in_ok-characters.ensures)
           stop;
-      place = bad_byte e ∙ c.byte_of.ensures;
+      offset = bad_byte e ∙ c.byte_of.ensures;
     } in
     bad_once c.args.text.now byte other here b

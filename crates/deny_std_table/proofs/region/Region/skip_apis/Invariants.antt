@@ -5,7 +5,7 @@ use Rattle.deny_std_table.specs.Region.{bounds, api}
 use Rattle.deny_std_table.proofs.region.Region.skip_apis.Given as goal
 
 -- what is left to read ends where the whole ends
-abbrev pub invariant-loop-place : goal.invariant-loop-place
-invariant-loop-place l =
-    next_of (many (api (bounds (width_of l.self.width) l.self.bytes.now l.self.stop)) (l.count - l._place) l.next)
+abbrev pub invariant-loop-index : goal.invariant-loop-index
+invariant-loop-index l =
+    next_of (many (api (bounds (width_of l.self.width) l.self.bytes.now l.self.stop)) (l.count - l._index) l.next)
     ≡ next_of (many (api (bounds (width_of l.self.width) l.self.bytes.now l.self.stop)) l.count l.at)

@@ -7,26 +7,26 @@ use Rattle.deny_std_table.proofs.region.Region.skip_replacements.Goals as goal
 
 pub returns-in_err-next : goal.returns-in_err-next
 returns-in_err-next c =
-    let left = c.args.count - c.loop-place._place in
+    let left = c.args.count - c.loop-index._index in
     let stops = next_of-many_break
     (replacement (bounds (width_of c.args.self.now.width) c.args.self.now.bytes.now c.args.self.now.stop)) left
     (left - 1)
-    c.loop-place.next _ (omega arith) (ap next_of (sym c.in_err-next.ensures)) in
-    rw (sym c.loop-place.invariant ∙ stops) (search rules)
+    c.loop-index.next _ (omega arith) (ap next_of (sym c.in_err-next.ensures)) in
+    rw (sym c.loop-index.invariant ∙ stops) (search rules)
 
-pub loop-place-preserved : goal.loop-place-preserved
-loop-place-preserved c =
-    let left = c.args.count - c.loop-place._place in
+pub loop-index-preserved : goal.loop-index-preserved
+loop-index-preserved c =
+    let left = c.args.count - c.loop-index._index in
     sym (next_of-many_more
     (replacement (bounds (width_of c.args.self.now.width) c.args.self.now.bytes.now c.args.self.now.stop)) left
-    (c.args.count - (c.loop-place._place + 1))
-    c.loop-place.next c.in_ok-next.field-0.next (omega arith) (ap next_of (sym c.in_ok-next.ensures)))
-    ∙ c.loop-place.invariant
+    (c.args.count - (c.loop-index._index + 1))
+    c.loop-index.next c.in_ok-next.field-0.next (omega arith) (ap next_of (sym c.in_ok-next.ensures)))
+    ∙ c.loop-index.invariant
 
 pub returns : goal.returns
 returns c =
     sym (next_of-many_none
     (replacement (bounds (width_of c.args.self.now.width) c.args.self.now.bytes.now c.args.self.now.stop))
-    (c.args.count - c.loop-place._place)
-    c.loop-place.next (omega arith))
-    ∙ c.loop-place.invariant
+    (c.args.count - c.loop-index._index)
+    c.loop-index.next (omega arith))
+    ∙ c.loop-index.invariant

@@ -1,9 +1,9 @@
 use Rattle.std.proofs.Common.{subst}
 use Rattle.deny_entries.specs.Table.{ReadAt, ReadsOr, ReadsTable, optional, state_of}
 use Rattle.deny_entries.specs.declared.policy_key.PolicyKey.TheVariants as key
-use Rattle.deny_entries.proofs.RowLaws.{◌▷◌, all_read, read_rows}
+use Rattle.deny_entries.proofs.KeyLaws.{◌▷◌, all_read, read_table_keys}
 use Rattle.deny_tables.specs.Apart.{licenses-apart}
-use Rattle.deny_tables.specs.Licenses.{ReadsPrivate, faults_of_private, licenses_fields, licenses_rows}
+use Rattle.deny_tables.specs.Licenses.{ReadsPrivate, faults_of_private, licenses_fields, licenses_keys}
 use Rattle.deny_tables.specs.declared.licenses.private.Private.{Private}
 use Rattle.deny_tables.proofs.Chain.{◌▸◌, ended, ends}
 use Rattle.deny_tables.proofs.licenses.config.ConfigKeyed.read_keys.Goals as goal
@@ -12,7 +12,7 @@ pub returns-clause-read : goal.returns-clause-read
 returns-clause-read c =
     let P : Private → Type 0 = λ default. ReadAt (optional key.Private faults_of_private)
     (state_of c.optional_list.new.helper) (λ v. ReadsOr default (ReadsTable ReadsPrivate) v c.in_ok-private.private) in
-    read_rows licenses_rows licenses-apart (state_of c.args.helper.now) (
+    read_table_keys licenses_keys licenses-apart (state_of c.args.helper.now) (
     (c.pass_unread.ensures, record { says = λ none. tt })
     ▷ (c.pass_unread-2.ensures, record { says = λ none. tt })
     ▷ (c.in_ok-allow.ensures.next, c.in_ok-allow.ensures.read)

@@ -1,12 +1,12 @@
 use Rattle.deny_entries.specs.Table.{state_of}
-use Rattle.deny_entries.proofs.RowLaws.{◌▷◌, all_read, read_rows}
+use Rattle.deny_entries.proofs.KeyLaws.{◌▷◌, all_read, read_table_keys}
 use Rattle.deny_tables.specs.Apart.{build-apart}
-use Rattle.deny_tables.specs.Build.{build_fields, build_rows}
+use Rattle.deny_tables.specs.Build.{build_fields, build_keys}
 use Rattle.deny_tables.proofs.Chain.{◌▸◌, ended, ends}
 use Rattle.deny_tables.proofs.bans.cfg.build.BuildConfigKeyed.read_keys.Goals as goal
 
 pub returns-clause-read : goal.returns-clause-read
-returns-clause-read c = read_rows build_rows build-apart (state_of c.args.helper.now) (
+returns-clause-read c = read_table_keys build_keys build-apart (state_of c.args.helper.now) (
     (c.in_ok-allow_build_scripts.ensures.next, c.in_ok-allow_build_scripts.ensures.read)
     ▷ (c.in_ok-executables.ensures.next, c.in_ok-executables.ensures.read)
     ▷ (c.in_ok-interpreted.ensures.next, c.in_ok-interpreted.ensures.read)

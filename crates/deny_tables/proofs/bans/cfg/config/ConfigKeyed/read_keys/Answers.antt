@@ -1,12 +1,12 @@
 use Rattle.deny_entries.specs.Table.{state_of}
-use Rattle.deny_entries.proofs.RowLaws.{◌▷◌, all_read, read_rows}
+use Rattle.deny_entries.proofs.KeyLaws.{◌▷◌, all_read, read_table_keys}
 use Rattle.deny_tables.specs.Apart.{bans-apart}
-use Rattle.deny_tables.specs.Config.{bans_fields, bans_rows}
+use Rattle.deny_tables.specs.Config.{bans_fields, bans_keys}
 use Rattle.deny_tables.proofs.Chain.{◌▸◌, ended, ends}
 use Rattle.deny_tables.proofs.bans.cfg.config.ConfigKeyed.read_keys.Goals as goal
 
 pub returns-clause-read : goal.returns-clause-read
-returns-clause-read c = read_rows bans_rows bans-apart (state_of c.args.helper.now) (
+returns-clause-read c = read_table_keys bans_keys bans-apart (state_of c.args.helper.now) (
     (c.in_ok-multiple_versions.ensures.next, c.in_ok-multiple_versions.ensures.read)
     ▷ (c.in_ok-multiple_versions_include_dev.ensures.next, c.in_ok-multiple_versions_include_dev.ensures.read)
     ▷ (c.in_ok-highlight.ensures.next, c.in_ok-highlight.ensures.read)

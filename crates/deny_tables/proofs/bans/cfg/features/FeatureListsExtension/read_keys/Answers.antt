@@ -1,11 +1,11 @@
 use Rattle.deny_entries.specs.Table.{state_of}
-use Rattle.deny_entries.proofs.RowLaws.{◌▷◌, all_read, read_rows}
+use Rattle.deny_entries.proofs.KeyLaws.{◌▷◌, all_read, read_table_keys}
 use Rattle.deny_tables.specs.Apart.{feature-apart}
-use Rattle.deny_tables.specs.Features.{feature_rows}
+use Rattle.deny_tables.specs.Features.{feature_keys}
 use Rattle.deny_tables.proofs.bans.cfg.features.FeatureListsExtension.read_keys.Goals as goal
 
 pub returns-clause-read : goal.returns-clause-read
-returns-clause-read c = read_rows feature_rows feature-apart (state_of c.args.helper.now) (
+returns-clause-read c = read_table_keys feature_keys feature-apart (state_of c.args.helper.now) (
     (c.in_ok-allow.ensures.next, c.in_ok-allow.ensures.read)
     ▷ (c.in_ok-deny.ensures.next, c.in_ok-deny.ensures.read)
     ▷ (c.in_ok-exact.ensures.next, c.in_ok-exact.ensures.read)

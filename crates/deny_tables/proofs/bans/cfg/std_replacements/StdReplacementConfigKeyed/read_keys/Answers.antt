@@ -1,12 +1,12 @@
 use Rattle.deny_entries.specs.Table.{state_of}
-use Rattle.deny_entries.proofs.RowLaws.{◌▷◌, all_read, read_rows}
+use Rattle.deny_entries.proofs.KeyLaws.{◌▷◌, all_read, read_table_keys}
 use Rattle.deny_tables.specs.Apart.{std-apart}
-use Rattle.deny_tables.specs.StdReplacements.{std_fields, std_rows}
+use Rattle.deny_tables.specs.StdReplacements.{std_fields, std_keys}
 use Rattle.deny_tables.proofs.Chain.{◌▸◌, ended, ends}
 use Rattle.deny_tables.proofs.bans.cfg.std_replacements.StdReplacementConfigKeyed.read_keys.Goals as goal
 
 pub returns-clause-read : goal.returns-clause-read
-returns-clause-read c = read_rows std_rows std-apart (state_of c.args.helper.now) (
+returns-clause-read c = read_table_keys std_keys std-apart (state_of c.args.helper.now) (
     (c.in_ok-scope.ensures.next, c.in_ok-scope.ensures.read)
     ▷ (c.in_ok-level.ensures.next, c.in_ok-level.ensures.read)
     ▷ (c.in_ok-rust_version.ensures.next, c.in_ok-rust_version.ensures.read)

@@ -1,0 +1,79 @@
+//! Where the texts of a table stand in its bytes.
+
+ghost use Rattle.std.specs.Prelude.{◌≡◌, ◌+◌, ◌≤◌, length};
+ghost use Rattle.deny_std_table.specs.Spans.{contents, IsTextIn};
+
+use std::str;
+
+/// A text's span: its first byte's offset, and how many bytes it has.
+#[derive(Clone, Copy)]
+pub(crate) struct TextSpan {
+    pub at: usize,
+    pub size: usize,
+}
+
+#[derive(Clone, Copy)]
+pub(crate) struct ApiSpans {
+    pub name: TextSpan,
+    pub url: TextSpan,
+}
+
+#[derive(Clone, Copy)]
+pub(crate) struct ReplacementSpans {
+    pub krate: ApiSpans,
+    pub std: ApiSpans,
+    pub note: Option<TextSpan>,
+}
+
+/// An item of an entry, by the spans of its texts.
+#[derive(Clone, Copy)]
+pub(crate) enum ItemSpans {
+    Stable {
+        replacement: ReplacementSpans,
+        minor: u8,
+    },
+    Unstable {
+        replacement: ReplacementSpans,
+    },
+    Unavailable {
+        api: ApiSpans,
+    },
+}
+
+/// The numbers at the head of an entry's items.
+#[derive(Clone, Copy)]
+pub(crate) struct Counts {
+    pub groups: u8,
+    pub unstable: u8,
+    pub unavailable: u8,
+}
+
+/// The head of a group: its minor version, and how many replacements are stable since then.
+#[derive(Clone, Copy)]
+pub(crate) struct GroupHead {
+    pub minor: u8,
+    pub count: u8,
+}
+
+/// What was read, and the offset right after it.
+#[derive(Clone, Copy)]
+pub(crate) struct Read<T> {
+    pub value: T,
+    pub next: usize,
+}
+
+/// The bytes of a span.
+pub(crate) fn slice_at(bytes: &[u8], span: TextSpan) -> &[u8]
+    requires { span.at + span.size ≤ length bytes.now }
+    ensures { result.now ≡ contents bytes.now span }
+{
+    &bytes[span.at..span.at + span.size]
+}
+
+/// The text of a span.
+pub(crate) fn text_at(bytes: &[u8], span: TextSpan) -> &str
+    requires { IsTextIn bytes.now span }
+    ensures { result.now ≡ contents bytes.now span }
+{
+    str::from_utf8(slice_at(bytes, span)).unwrap()
+}
