@@ -5,7 +5,7 @@ ghost use Rattle.std.specs.Option.{option_copied};
 ghost use Rattle.deny_build_cfg.specs.BuildingView.{bypass_view, path_view};
 ghost use Rattle.deny_build_model.specs.Paths.{components, is_component, parts};
 ghost use Rattle.deny_codes.specs.PackageFiles.{path_of_used};
-ghost use Rattle.deny_bypasses.specs.Paths.{files_of, spelled, spelling_of};
+ghost use Rattle.deny_bypasses.specs.private.Paths.{files_of, spelled, spelling_of};
 ghost use Rattle.deny_bypasses.specs.private.Components.{has_components, has_components_at};
 
 use deny_build_cfg::ValidBypass;
@@ -68,7 +68,7 @@ fn spellings_of(alloc: Global, files: &[BypassPath]) -> Result<SpecIndex, NoMemo
     Ok(spellings)
 }
 
-#[tactic(auto, unfolding(crate::specs::Paths::spelling))]
+#[tactic(auto, unfolding(crate::specs::private::Paths::spelling))]
 fn spelling_of(alloc: Global, file: &BypassPath) -> Result<Text, NoMemory>
     ensures { IfOk result (λ text. text ≡ spelling_of file.now) }
 {

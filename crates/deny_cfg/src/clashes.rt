@@ -7,7 +7,7 @@ ghost use Rattle.deny_cfg.specs.Clashes.{IsBuildClash, IsClash, build_clash, cla
 ghost use Rattle.deny_cfg.specs.Clashes.{clash_with, clashes_in, feature_clashes};
 ghost use Rattle.deny_cfg.specs.Clashes.{is_ban, specs_of, two_spans, wrappers_clash, wrappers_clash_by};
 ghost use Rattle.deny_cfg.specs.Clashes as spec;
-ghost use Rattle.deny_cfg.specs.FirstSpans.{first_span, plain_wording, spec_wording};
+ghost use Rattle.deny_cfg.specs.private.FirstSpans.{first_span, plain_wording, spec_wording};
 
 use crate::clash::{Clash, ClashKind, clash_order};
 use crate::first_spans::{FirstSpans, Wording};
@@ -253,7 +253,11 @@ fn add_build_clashes(
 }
 
 /// What clashes in a configuration that is read from the text, in order, each once.
-pub fn clashes_of(alloc: Global, source: &str, config: &Config) -> Result<List<Clash>, NoMemory>
+pub fn ordered_clashes(
+    alloc: Global,
+    source: &str,
+    config: &Config,
+) -> Result<List<Clash>, NoMemory>
     ensures { IfOk result (Lists clash_cmp (IsClash source.now config.now)) }
 {
     let mut clashes = clashes_in(alloc, config)?;

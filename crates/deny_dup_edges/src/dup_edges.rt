@@ -7,7 +7,8 @@ ghost use Rattle.deny_base.specs.Edge.{edge_cmp};
 ghost use Rattle.deny_cfg.specs.PolicyView.{policy_view};
 ghost use Rattle.deny_lists.specs.Walk.{AreUnset};
 ghost use Rattle.deny_dup_edges.specs.DupEdges.{AreEdgesOf, IsAboveOne, IsSetOf, IsSimplest};
-ghost use Rattle.deny_dup_edges.specs.DupEdges.{ShowsEach, Simplest, edge_count, is_of_duplicate};
+ghost use Rattle.deny_dup_edges.specs.DupEdges.{ShowsEach, Simplest, is_of_duplicate};
+ghost use Rattle.deny_dup_edges.specs.private.DupEdges.{edge_count};
 ghost use Rattle.deny_dup_edges.specs.private.EdgeLists.{IsBetween, IsEdge, IsReachedNumber, IsTo, IsToOne};
 
 use crate::above::{reach_above, unset_distances};
@@ -58,7 +59,7 @@ pub fn dup_edges_of(
     let mut distances = unset_distances(alloc, krates)?;
     for key in keys {
         if is_of_duplicate(key) {
-            shown.push(edges_of(alloc, cfg, krates, key, &mut distances)?)?;
+            shown.push(edges_of_duplicate(alloc, cfg, krates, key, &mut distances)?)?;
         }
     }
     Ok(shown)
@@ -73,7 +74,7 @@ fn is_of_duplicate(key: &Key) -> bool
 
 // What is shown of a duplicate. The distances are lent from one duplicate to the next, since to make
 // them takes a step for each crate of the graph.
-fn edges_of(
+fn edges_of_duplicate(
     alloc: Global,
     cfg: &ValidConfig,
     krates: &Krates,
@@ -267,10 +268,10 @@ fn simplest_of(sets: &[DupSet]) -> Result<Option<u32>, NoMemory>
     if sets.is_empty() {
         return Ok(None);
     }
-    Ok(Some(in_32_bits(simplest_at(sets))?))
+    Ok(Some(in_32_bits(simplest_index(sets))?))
 }
 
-fn simplest_at(sets: &[DupSet]) -> usize
+fn simplest_index(sets: &[DupSet]) -> usize
     requires { 0 < length sets.now }
     ensures { IsSimplest sets.now result }
 {

@@ -1,5 +1,6 @@
 -- Licences that are read with their spans.
 use Rattle.std.proofs.Common.{◌≡◌, List, [], ◌∷◌, Option, None, Some, map, sym, ap, subst}
+use Rattle.std.specs.Prelude.{IsSomeAnd}
 use Rattle.deny_base.specs.declared.span.Spanned.{Spanned}
 use Rattle.deny_spdx.specs.Meaning.{requirement_in}
 use Rattle.deny_spdx.specs.declared.requirement.Requirement.{Requirement}
@@ -7,7 +8,7 @@ use Rattle.deny_toml.specs.Calls.{array_in}
 use Rattle.deny_toml.specs.Deserialize.{ReadsArray, ReadsEach}
 use Rattle.deny_toml.specs.declared.value.Value.{Value}
 use Rattle.deny_entries.specs.Licence.{ReadsLicences, requirement_of}
-use Rattle.deny_entries.specs.Table.{Field, Gives, ReadAt, ReadsOr, ReadsThere, State}
+use Rattle.deny_entries.specs.Table.{Field, ReadAt, ReadsOr, ReadsThere, State}
 use Rattle.deny_entries.specs.Words.{ReadsAs, ReadsList, ReadsSpanned}
 use Rattle.deny_entries.specs.declared.licence.Licence.{Licence}
 
@@ -50,9 +51,9 @@ read_if_there f s xs ys is read = record {
 
 pub read_there : (f : Field) (s : State) (found : Option (List (Spanned Licence))) (xs : List (Spanned Licence))
     (ys : List (Spanned Requirement)) → found ≡ Some xs → ys ≡ map requirement_of xs
-    → ReadAt f s (λ v. Gives (ReadsThere ReadsWrapped v) found)
-    → ReadAt f s (λ v. Gives (ReadsThere ReadsLicences v) (Some ys))
+    → ReadAt f s (λ v. IsSomeAnd found (ReadsThere ReadsWrapped v))
+    → ReadAt f s (λ v. IsSomeAnd (Some ys) (ReadsThere ReadsLicences v))
 read_there f s found xs ys there is read = record {
   says = λ none. subst (ReadsThere ReadsLicences _) (sym is)
-      (unwrapped_there _ xs (subst (Gives (ReadsThere ReadsWrapped _)) there (read.says none)));
+      (unwrapped_there _ xs (subst (λ o. IsSomeAnd o (ReadsThere ReadsWrapped _)) there (read.says none)));
 }

@@ -140,11 +140,6 @@ a_table keys = record { faults_of = faults_of_table (λ entries. fields_of keys)
 
 -- ---- how a table is read
 
--- something was read
-abbrev pub Gives : {T : Type 0} → (T → Type 0) → Option T → Type 0
-Gives Reads None = ⊥
-Gives Reads (Some x) = Reads x
-
 -- whether no two of these keys have one name
 abbrev pub are_apart : List Field → Bool
 are_apart [] = true

@@ -1,8 +1,8 @@
 //! Licences that a policy names.
-ghost use Rattle.std.specs.Prelude.{◌≡◌, [], map, IfOk, OnOk};
+ghost use Rattle.std.specs.Prelude.{◌≡◌, [], map, IfOk, OnOk, IsSomeAnd};
 ghost use Rattle.deny_spdx.specs.Meaning.{requirement_in};
 ghost use Rattle.deny_entries.specs.Licence.{ReadsLicences, faults_of_licences, requirement_of};
-ghost use Rattle.deny_entries.specs.Table.{Gives, ReadAt, ReadsOr, ReadsThere, after, state_of};
+ghost use Rattle.deny_entries.specs.Table.{ReadAt, ReadsOr, ReadsThere, after, state_of};
 ghost use Rattle.deny_entries.specs.Table as spec;
 ghost use Rattle.deny_entries.specs.Words.{faults_as, ReadsAs};
 
@@ -84,7 +84,7 @@ pub fn licences(
     ensures next { OnOk result (state_of helper.new
         ≡ after (spec.required key faults_of_licences) (state_of helper.old)) }
     ensures read { IfOk result (λ x. ReadAt (spec.required key faults_of_licences) (state_of helper.old)
-        (λ v. Gives (ReadsThere ReadsLicences v) x)) }
+        (λ v. IsSomeAnd x (ReadsThere ReadsLicences v))) }
 {
     let Some(licences) = table::required(helper, key)? else {
         return Ok(None);

@@ -32,12 +32,12 @@ pub fn add_not_allowed_keys(
     ensures { OnOk result (Adds (IsFeatureNotAllowed (policy_view cfg.now) krates.now) keys.old keys.new) }
 {
     for entry in found {
-        add_not_allowed_of(alloc, cfg, krates, entry, keys)?;
+        add_not_allowed_of_entry(alloc, cfg, krates, entry, keys)?;
     }
     Ok(())
 }
 
-fn add_not_allowed_of(
+fn add_not_allowed_of_entry(
     alloc: Global,
     cfg: &ValidConfig,
     krates: &Krates,

@@ -43,11 +43,11 @@ fn reached(
     if names.len() >= MANY {
         return Err(NoMemory);
     }
-    reached_by(alloc, features, names.as_slice(), words)
+    reached_by_names(alloc, features, names.as_slice(), words)
 }
 
 /// The same by the names of the table.
-fn reached_by(
+fn reached_by_names(
     alloc: Global,
     features: &TextMap<List<Text>>,
     names: &[Text],

@@ -28,12 +28,12 @@ pub fn add_unknown_keys(
     ensures { OnOk result (keys.new ≡ keys.old ++ unknown_feature_keys (policy_view cfg.now) krates.now) }
 {
     for entry in found {
-        add_unknown_of(alloc, cfg, krates, entry, keys)?;
+        add_unknown_of_entry(alloc, cfg, krates, entry, keys)?;
     }
     Ok(())
 }
 
-fn add_unknown_of(
+fn add_unknown_of_entry(
     alloc: Global,
     cfg: &ValidConfig,
     krates: &Krates,

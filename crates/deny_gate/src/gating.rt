@@ -13,10 +13,14 @@ ghost use Rattle.deny_spans.specs.Wanted.{AreWanted};
 ghost use Rattle.deny_toml.specs.Ranges.{IsRange};
 ghost use Rattle.deny_unread.specs.Bound.{Folders};
 ghost use Rattle.deny_unread.specs.Causes.{AreCaused};
-ghost use Rattle.deny_gate.specs.Gating.{AreEntriesApart, AreShort, IsCause, IsCauseBehind, IsCausedReport};
-ghost use Rattle.deny_gate.specs.Gating.{IsJudged, IsMetadataCause, IsPolicyCause, IsReportOf, IsPolicyReport};
-ghost use Rattle.deny_gate.specs.Gating.{IsTableCause, IsTableCauseFor, IsTableFor, IsToldOn};
-ghost use Rattle.deny_gate.specs.Gating.{extras_in, extras_of, report_with, texts_in};
+ghost use Rattle.deny_gate.specs.Gating.{AreShort, IsCause, IsCausedReport};
+ghost use Rattle.deny_gate.specs.private.Gating.{AreEntriesApart, IsCauseBehind};
+ghost use Rattle.deny_gate.specs.Gating.{IsReportOf};
+ghost use Rattle.deny_gate.specs.private.Gating.{IsJudged, IsMetadataCause, IsPolicyCause, IsPolicyReport};
+ghost use Rattle.deny_gate.specs.Gating.{IsTableFor};
+ghost use Rattle.deny_gate.specs.private.Gating.{IsTableCause, IsTableCauseFor, IsToldOn};
+ghost use Rattle.deny_gate.specs.Gating.{texts_in};
+ghost use Rattle.deny_gate.specs.private.Gating.{extras_in, extras_of, report_with};
 ghost use Rattle.deny_gate.specs.Dead.{CanDoWithoutDead};
 ghost use Rattle.deny_gate.specs.Headline.{IsHeadlineOf};
 ghost use Rattle.deny_gate.specs.Labels.{AreLabelled, IsLabelledCause};
@@ -174,7 +178,7 @@ fn extras_of(inputs: &Inputs) -> Extras<'_>
 
 /// What a policy comes to on a graph with what is handed in, where the table is there that it asks for.
 #[tactic(auto, using(crate::proofs::CauseLaws::no_table_cause))]
-fn judged_for<D: PackageFiles>(
+fn judged_with_inputs<D: PackageFiles>(
     alloc: Global,
     policy: &Policy,
     krates: &Krates,
@@ -260,7 +264,7 @@ fn report_on_graph<D: PackageFiles>(
     ensures later { IsLater (D.seen disk.old) (D.seen disk.new) }
 {
     let mut files = files;
-    let judged = judged_for(alloc, policy, &krates, inputs, disk, &mut files)?;
+    let judged = judged_with_inputs(alloc, policy, &krates, inputs, disk, &mut files)?;
     Ok(report_with(files, krates, judged))
 }
 

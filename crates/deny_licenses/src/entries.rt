@@ -106,13 +106,13 @@ pub fn unused_of(
     ensures { IfOk result (Lists granter_cmp (Contains (flat_map (unused_at witnesses.now) granters.now))) }
 {
     granters_differ();
-    let mut unused = unused_in(alloc, granters, witnesses)?;
+    let mut unused = unused_unordered(alloc, granters, witnesses)?;
     put_in_order(&mut unused)?;
     Ok(unused)
 }
 
 /// The same as they come.
-fn unused_in(
+fn unused_unordered(
     alloc: Global,
     granters: &[Granter],
     witnesses: &Witnesses,

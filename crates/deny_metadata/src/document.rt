@@ -1,12 +1,12 @@
-ghost use Rattle.std.specs.Prelude.{◌≡◌, ◌++◌, [], ◌∷◌, IfOk, MatchResult, Ok, true};
+ghost use Rattle.std.specs.Prelude.{◌≡◌, ◌++◌, [], ◌∷◌, IfOk, Ok, true};
 ghost use Rattle.std.specs.Str.{is_utf8};
+ghost use Rattle.deny_lists.specs.Reader.{Answers, Gives, IsFault};
 ghost use Rattle.deny_metadata.specs.private.Borrowed.{items_view, members_view, sorted_view, view};
 ghost use Rattle.deny_metadata.specs.private.Parts.{contents_at, document_of_packages, document_with, identity_at};
 ghost use Rattle.deny_metadata.specs.private.Parts.{requested_at, terms_at, usage_at};
 ghost use Rattle.deny_metadata.specs.Document.{document_at, target_at, declaration_at, feature_at, features_from};
 ghost use Rattle.deny_metadata.specs.Document.{features_member, package_at, kind_named, kind_member, needed_as_at};
 ghost use Rattle.deny_metadata.specs.Document.{kinds_of, node_dependency_at, node_at, resolve_given, document_of};
-ghost use Rattle.deny_metadata.specs.Reading.{Fails, Gives};
 ghost use Rattle.deny_metadata.specs.declared.document.Feature.{Feature};
 
 use crate::borrowed::{items_in, members_in, text_in};
@@ -98,7 +98,7 @@ struct Requested {
 // What the dependency that a value declares is.
 #[tactic(auto, unfolding(crate::specs::private::Parts::requested_at))]
 fn requested_in(alloc: Global, path: &str, value: &Value<'_>) -> Result<Requested, MetadataFault>
-    ensures { Gives result (requested_at path.now (view value.now)) }
+    ensures { Answers MetadataFault.Memory (requested_at path.now (view value.now)) result }
 {
     object(alloc, path, value)?;
     let name = text_of(alloc, path, value, Member::Name)?;
@@ -125,7 +125,7 @@ struct Usage {
 // How the dependency that a value declares is used.
 #[tactic(auto, unfolding(crate::specs::private::Parts::usage_at))]
 fn usage_in(alloc: Global, path: &str, value: &Value<'_>) -> Result<Usage, MetadataFault>
-    ensures { Gives result (usage_at path.now (view value.now)) }
+    ensures { Answers MetadataFault.Memory (usage_at path.now (view value.now)) result }
 {
     let target = optional_text_in(alloc, path, value, Member::Target)?;
     let folder = optional_text_in(alloc, path, value, Member::Path)?;
@@ -191,7 +191,7 @@ struct Identity {
 // The identity of the package that a value is.
 #[tactic(auto, unfolding(crate::specs::private::Parts::identity_at))]
 fn identity_in(alloc: Global, path: &str, value: &Value<'_>) -> Result<Identity, MetadataFault>
-    ensures { Gives result (identity_at path.now (view value.now)) }
+    ensures { Answers MetadataFault.Memory (identity_at path.now (view value.now)) result }
 {
     object(alloc, path, value)?;
     let name = text_of(alloc, path, value, Member::Name)?;
@@ -218,7 +218,7 @@ struct Terms {
 // The terms of the package that a value is.
 #[tactic(auto, unfolding(crate::specs::private::Parts::terms_at))]
 fn terms_in(alloc: Global, path: &str, value: &Value<'_>) -> Result<Terms, MetadataFault>
-    ensures { Gives result (terms_at path.now (view value.now)) }
+    ensures { Answers MetadataFault.Memory (terms_at path.now (view value.now)) result }
 {
     let source = optional_text_in(alloc, path, value, Member::Source)?;
     let license = optional_text_in(alloc, path, value, Member::License)?;
@@ -243,7 +243,7 @@ struct Contents {
 // What the package that a value is is made of.
 #[tactic(auto, unfolding(crate::specs::private::Parts::contents_at))]
 fn contents_in(alloc: Global, path: &str, value: &Value<'_>) -> Result<Contents, MetadataFault>
-    ensures { Gives result (contents_at path.now (view value.now)) }
+    ensures { Answers MetadataFault.Memory (contents_at path.now (view value.now)) result }
 {
     let features = features_in(alloc, path, value)?;
     let targets = each_given(alloc, path, value, Member::Targets)?;
@@ -258,7 +258,7 @@ fn contents_in(alloc: Global, path: &str, value: &Value<'_>) -> Result<Contents,
 // The features of a package that may write none.
 #[tactic(auto, unfolding(crate::specs::Document::features_member, crate::specs::Document::features_given, crate::specs::Document::features_at, crate::specs::Elements::required))]
 fn features_in(alloc: Global, path: &str, value: &Value<'_>) -> Result<List<Feature>, MetadataFault>
-    ensures { Gives result (features_member path.now (view value.now)) }
+    ensures { Answers MetadataFault.Memory (features_member path.now (view value.now)) result }
 {
     match given_member(value, Member::Features) {
         None => Ok(List::new(alloc)),
@@ -278,7 +278,7 @@ fn features_of<'t>(
     path: &str,
     members: &[(&'t str, Value<'t>)],
 ) -> Result<List<Feature>, MetadataFault>
-    ensures { Gives result (features_from path.now (members_view members.now)) }
+    ensures { Answers MetadataFault.Memory (features_from path.now (members_view members.now)) result }
 {
     let sorted = by_name(alloc, members)?;
     features_by(alloc, path, &sorted)
@@ -304,7 +304,7 @@ fn features_by<'v, 't>(
     path: &str,
     sorted: &BTreeMap<&'t str, &'v Value<'t>>,
 ) -> Result<List<Feature>, MetadataFault>
-    ensures { Gives result (features_from path.now (sorted_view sorted.now.entries)) }
+    ensures { Answers MetadataFault.Memory (features_from path.now (sorted_view sorted.now.entries)) result }
 {
     let mut features = List::new(alloc);
     for (name, value) in sorted.iter() {
@@ -321,10 +321,10 @@ fn push_feature(
     value: &Value<'_>,
     features: &mut List<Feature>,
 ) -> Result<(), MetadataFault>
-    ensures { MatchResult result
+    ensures { Gives MetadataFault.Memory
         (λ _. (f : Feature) × (feature_at path.now name.now (view value.now) ≡ Ok f)
         × (features.new ≡ features.old ++ f ∷ []))
-        (λ e. Fails e (feature_at path.now name.now (view value.now))) }
+        (IsFault (feature_at path.now name.now (view value.now))) result }
 {
     features.push(feature_of(alloc, path, name, value)?)?;
     Ok(())
@@ -338,7 +338,7 @@ fn feature_of(
     name: &str,
     value: &Value<'_>,
 ) -> Result<Feature, MetadataFault>
-    ensures { Gives result (feature_at path.now name.now (view value.now)) }
+    ensures { Answers MetadataFault.Memory (feature_at path.now name.now (view value.now)) result }
 {
     let enables = texts(alloc, path, name, value)?;
     let name = Text::from_str(alloc, name)?;
@@ -364,7 +364,7 @@ fn kind_of(name: &str) -> Option<DepKind>
 // The kind of a dependency, normal where it writes none.
 #[tactic(auto, unfolding(crate::specs::Document::kind_member, crate::specs::Document::kind_given, crate::specs::Elements::required))]
 fn kind_in(alloc: Global, path: &str, dependency: &Value<'_>) -> Result<DepKind, MetadataFault>
-    ensures { Gives result (kind_member path.now (view dependency.now)) }
+    ensures { Answers MetadataFault.Memory (kind_member path.now (view dependency.now)) result }
 {
     match given_member(dependency, Member::Kind) {
         None => Ok(DepKind::Normal),
@@ -465,7 +465,7 @@ pub struct Document {
 
 #[tactic(auto, unfolding(crate::specs::Document::resolve_given))]
 fn resolve_stands(root: &Value<'_>) -> Result<(), MetadataFault>
-    ensures { Gives result (resolve_given (view root.now)) }
+    ensures { Answers MetadataFault.Memory (resolve_given (view root.now)) result }
 {
     if given_member(root, Member::Resolve).is_none() {
         return Err(MetadataFault::NoResolve);
@@ -476,7 +476,7 @@ fn resolve_stands(root: &Value<'_>) -> Result<(), MetadataFault>
 // The metadata that a value is, or its first fault.
 #[tactic(auto, unfolding(crate::specs::Document::document_of, crate::specs::private::Parts::document_of_packages, crate::specs::private::Parts::document_with, crate::specs::Elements::array_member, crate::specs::Elements::required))]
 fn document_in(alloc: Global, root: &Value<'_>) -> Result<Document, MetadataFault>
-    ensures { Gives result (document_of (view root.now)) }
+    ensures { Answers MetadataFault.Memory (document_of (view root.now)) result }
 {
     object(alloc, "", root)?;
     resolve_stands(root)?;
@@ -493,7 +493,7 @@ fn document_of_packages(
     root: &Value<'_>,
     packages: &[Value<'_>],
 ) -> Result<Document, MetadataFault>
-    ensures { Gives result (document_of_packages (view root.now) (items_view packages.now)) }
+    ensures { Answers MetadataFault.Memory (document_of_packages (view root.now) (items_view packages.now)) result }
 {
     let members = each_text_of(alloc, "", root, Member::WorkspaceMembers)?;
     let workspace_root = text_of(alloc, "", root, Member::WorkspaceRoot)?;
@@ -513,7 +513,8 @@ fn document_with(
     packages: &[Value<'_>],
     resolve: &Value<'_>,
 ) -> Result<Document, MetadataFault>
-    ensures { Gives result (document_with members workspace_root (items_view packages.now) (view resolve.now)) }
+    ensures { Answers MetadataFault.Memory
+        (document_with members workspace_root (items_view packages.now) (view resolve.now)) result }
 {
     let packages = elements(alloc, Member::Packages.name(), packages)?;
     let nodes = each_of(alloc, Member::Resolve.name(), resolve, Member::Nodes)?;
@@ -527,7 +528,7 @@ fn document_with(
 
 /// The metadata that a text in UTF-8 is, or its first fault.
 pub fn document_at(alloc: Global, bytes: &[u8]) -> Result<Document, MetadataFault>
-    ensures { Gives result (document_at bytes.now) }
+    ensures { Answers MetadataFault.Memory (document_at bytes.now) result }
 {
     match simdutf8::compat::from_utf8(bytes) {
         Ok(text) => document_of_text(alloc, bytes, text),
@@ -540,7 +541,7 @@ pub fn document_at(alloc: Global, bytes: &[u8]) -> Result<Document, MetadataFaul
 fn document_of_text(alloc: Global, bytes: &[u8], text: &str) -> Result<Document, MetadataFault>
     requires text { is_utf8 bytes.now ≡ true }
     requires same { text.now ≡ bytes.now }
-    ensures { Gives result (document_at bytes.now) }
+    ensures { Answers MetadataFault.Memory (document_at bytes.now) result }
 {
     let mut scratch = Scratch::new(alloc);
     match pruned_in(alloc, text, &mut scratch) {
@@ -554,7 +555,7 @@ fn document_of_text(alloc: Global, bytes: &[u8], text: &str) -> Result<Document,
 fn document_of_all(alloc: Global, bytes: &[u8], text: &str) -> Result<Document, MetadataFault>
     requires text { is_utf8 bytes.now ≡ true }
     requires same { text.now ≡ bytes.now }
-    ensures { Gives result (document_at bytes.now) }
+    ensures { Answers MetadataFault.Memory (document_at bytes.now) result }
 {
     let mut scratch = Scratch::new(alloc);
     let value = value_in(alloc, bytes, text, &mut scratch)?;

@@ -3,7 +3,8 @@ ghost use Rattle.std.specs.Result.{result_ok};
 ghost use Rattle.form_urlencoded.specs.Form.{split};
 ghost use Rattle.semver.specs.Parse.{memory_error, req_of, version_parts};
 ghost use Rattle.semver.specs.Identifiers.{comparator_view, parts_of};
-ghost use Rattle.deny_resolve.specs.Versions.{number_of, pieces_of, rust_version_of, whole_release};
+ghost use Rattle.deny_resolve.specs.Versions.{number_of, rust_version_of, whole_release};
+ghost use Rattle.deny_resolve.specs.private.Versions.{pieces_of};
 
 use deny_lists::NoMemory;
 use semver::{Error, Version, VersionReq};

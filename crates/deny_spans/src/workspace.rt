@@ -212,7 +212,7 @@ fn keep_alone<'k>(
 }
 
 /// What a workspace's dependencies resolve to; where there are none, nothing stands for any crate.
-pub fn shared_of<'k>(
+pub fn shared_or_none<'k>(
     alloc: Global,
     krates: &'k Krates,
     deps: Option<WorkspaceDeps<'k>>,

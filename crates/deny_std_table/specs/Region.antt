@@ -12,7 +12,8 @@ use Rattle.deny_std_table.specs.declared.spans.Counts.{Counts}
 use Rattle.deny_std_table.specs.declared.spans.GroupHead.{GroupHead}
 use Rattle.deny_std_table.specs.declared.spans.Read.{Read}
 use Rattle.deny_std_table.specs.Spans.{contents}
-use Rattle.deny_std_table.specs.Reading.{◌>>=◌, ◌>>◌, unless_bad, read, number, many}
+use Rattle.deny_lists.specs.Reader.{◌>>=◌}
+use Rattle.deny_std_table.specs.Reading.{◌>>◌, unless_bad, read, number, many}
 
 -- The bytes of a table, the offset where the entry at hand ends, and how many bytes a text's length has.
 pub record Bounds : Type 0 where

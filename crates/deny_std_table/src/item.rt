@@ -2,7 +2,8 @@
 
 ghost use Rattle.std.specs.Prelude.{◌≡◌, option_map, option_copied, Some};
 ghost use Rattle.deny_std_table.specs.declared.spans.TextSpan.{TextSpan};
-ghost use Rattle.deny_std_table.specs.Spans.{contents, IsTextIn, IsApiIn, IsReplacementIn, IsItemIn};
+ghost use Rattle.deny_std_table.specs.Spans.{contents};
+ghost use Rattle.deny_std_table.specs.private.Spans.{IsTextIn, IsApiIn, IsReplacementIn, IsItemIn};
 ghost use Rattle.deny_std_table.specs.Item.{IsApiAt, IsReplacementAt, IsItemAt};
 
 use crate::spans::{ApiSpans, ItemSpans, ReplacementSpans, TextSpan, text_at};

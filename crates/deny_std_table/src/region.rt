@@ -3,7 +3,8 @@
 ghost use Rattle.std.specs.Prelude.{◌≡◌, ◌+◌, ◌≤◌, length, IfOk};
 ghost use Rattle.std.specs.Str.{is_utf8};
 ghost use Rattle.deny_std_table.specs.Spans.{contents};
-ghost use Rattle.deny_std_table.specs.Reading.{next_of, many};
+ghost use Rattle.deny_std_table.specs.Reading.{many};
+ghost use Rattle.deny_std_table.specs.private.Reading.{next_of};
 ghost use Rattle.deny_std_table.specs.Width.{width_of};
 ghost use Rattle.deny_std_table.specs.Region.{bounds, byte, text, api, replacement, note_of};
 ghost use Rattle.deny_std_table.specs.Region.{group_head, group, counts, counted_items, items};

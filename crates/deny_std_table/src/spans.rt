@@ -1,7 +1,8 @@
 //! Where the texts of a table stand in its bytes.
 
 ghost use Rattle.std.specs.Prelude.{◌≡◌, ◌+◌, ◌≤◌, length};
-ghost use Rattle.deny_std_table.specs.Spans.{contents, IsTextIn};
+ghost use Rattle.deny_std_table.specs.Spans.{contents};
+ghost use Rattle.deny_std_table.specs.private.Spans.{IsTextIn};
 
 use std::str;
 

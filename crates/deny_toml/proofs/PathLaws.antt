@@ -9,7 +9,8 @@ use Rattle.std.proofs.lemmas.List.Quantifiers.{position-Some}
 use Rattle.std.proofs.lemmas.List.Splits.{slice_split_first}
 use Rattle.deny_toml.proofs.EntryLaws.{none_passes}
 use Rattle.std.proofs.lemmas.Bool.{cases_Bool}
-use Rattle.deny_toml.specs.Calls.{IsPast, is_decimal_digit, index_after, parts_of}
+use Rattle.deny_toml.specs.Calls.{is_decimal_digit, index_after, parts_of}
+use Rattle.deny_toml.specs.private.Calls.{IsPast}
 
 -- digits do not make an index smaller
 pub index_after-past : (count index : ℕ) (bytes : List ℕ) → count ≤ index → IsPast count (index_after index bytes)

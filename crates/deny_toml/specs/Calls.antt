@@ -1,6 +1,6 @@
 -- What a value is, and what stands below it.
 use Rattle.std.specs.Prelude.{ℕ, ◌+◌, ◌*◌, ◌-◌, ℤ, Bool, ◌&&◌, ◌==◌, false, not, List, [], ◌∷◌, Option, None, Some}
-use Rattle.std.specs.Prelude.{nat_le, ◌≤◌, ⊤, option_map, option_and_then, find, length, slice_get, if◌then◌else◌}
+use Rattle.std.specs.Prelude.{nat_le, option_map, option_and_then, find, length, slice_get, if◌then◌else◌}
 use Rattle.std.specs.List.{slice_split}
 use Rattle.std.specs.Option.{option_map_or}
 use Rattle.std.specs.Cmp.Lexicographic.{pointwise}
@@ -106,11 +106,6 @@ index_after index (byte ∷ bytes) = if is_decimal_digit byte then index_after (
 abbrev pub index_in : List ℕ → Option ℕ
 index_in [] = None
 index_in (byte ∷ bytes) = if (byte == 48) && not (length bytes == 0) then None else index_after 0 (byte ∷ bytes)
-
--- there is no index, or one that is not below the count
-abbrev pub IsPast : ℕ → Option ℕ → Type 0
-IsPast count None = ⊤
-IsPast count (Some index) = count ≤ index
 
 -- the element at a decimal index
 abbrev pub element_at : List ℕ → List Value → Option Value

@@ -1,5 +1,6 @@
 -- What a text is to the reader of TOML.
-use Rattle.std.specs.Prelude.{ℕ, ◌≡◌, List, length, None, Some, ⊤}
+use Rattle.std.specs.Prelude.{ℕ, ◌≡◌, List, length, None, Some}
+use Rattle.deny_lists.specs.Reader.{Fails}
 use Rattle.deny_base.specs.declared.span.Span.{Span}
 use Rattle.deny_toml.specs.declared.value.Value.{Value}
 use Rattle.deny_toml.specs.declared.error.TomlKind.{TomlKind}
@@ -37,12 +38,15 @@ abbrev pub IsFaultOf : List ℕ → TomlKind → Span → Type 0
 IsFaultOf text kind.Grammar span = IsOutside text
 IsFaultOf text kind.Clash span = ClashesAt text span
 
+-- A fault of the text, whose kind and range are so.
+abbrev pub IsFaultWith : (TomlKind → Span → Type 0) → TomlError → Type 0
+IsFaultWith Is (error.Fault kind span) = Is kind span
+IsFaultWith Is error.Memory = ⊥
+
 -- Why a text has no tree. Want of memory says nothing of the text.
 abbrev pub IsCauseOf : List ℕ → TomlError → Type 0
-IsCauseOf text (error.Fault kind span) = IsFaultOf text kind span
-IsCauseOf text error.Memory = ⊤
+IsCauseOf text e = Fails error.Memory (IsFaultWith (IsFaultOf text)) e
 
 -- The range of a fault is one of the text.
 abbrev pub LiesIn : List ℕ → TomlError → Type 0
-LiesIn text (error.Fault kind span) = IsRange text span
-LiesIn text error.Memory = ⊤
+LiesIn text e = Fails error.Memory (IsFaultWith (λ _. IsRange text)) e

@@ -1,2 +1,4 @@
+pub mod Calls
+pub mod Deserialize
 pub mod Gathered
 pub mod Slots

@@ -4,7 +4,8 @@ ghost use Rattle.std.specs.Prelude.{IfNone, IfOk, IfErr, Some, None, is_some, na
 ghost use Rattle.std.specs.Cmp.Lexicographic.{pointwise};
 ghost use Rattle.std.specs.Option.{option_copied, option_map};
 ghost use Rattle.deny_toml.specs.Value.{entries_in};
-ghost use Rattle.deny_toml.specs.Calls.{IsPast, table_in, array_in, text_in, bool_in, integer_in, below_name, has_name};
+ghost use Rattle.deny_toml.specs.Calls.{table_in, array_in, text_in, bool_in, integer_in, below_name, has_name};
+ghost use Rattle.deny_toml.specs.private.Calls.{IsPast};
 ghost use Rattle.deny_toml.specs.Calls.{below, layer_in, value_below, value_at_path, parts_of, is_decimal_digit};
 ghost use Rattle.deny_toml.specs.Calls as spec;
 ghost use Rattle.deny_toml.specs.Faults.{Reports};

@@ -7,7 +7,8 @@ ghost use Rattle.deny_toml.specs.Calls.{array_in, text_in, bool_in, integer_in};
 ghost use Rattle.deny_toml.specs.Faults.{Reports, under, in_order};
 ghost use Rattle.std.specs.Fmt.{decimal};
 ghost use Rattle.deny_toml.specs.Deserialize.{faults_of_kind, faults_of_small, faults_of_array};
-ghost use Rattle.deny_toml.specs.Deserialize.{small_number, ReadsArray, ReadsEach, Adds, faults_from};
+ghost use Rattle.deny_toml.specs.Deserialize.{small_number, ReadsArray, ReadsEach, faults_from};
+ghost use Rattle.deny_toml.specs.private.Deserialize.{Adds};
 
 use crate::error::{ConfigFault, DeserError};
 use crate::faults::{keep_faults, put_faults_in_order, put_under};

@@ -1,7 +1,7 @@
 -- Readers of strings.
-use Rattle.std.specs.Prelude.{ℕ, ◌+◌, ◌-◌, ◌^◌, ◌≤◌, ◌≡◌, string_bytes, String, Result, IfOk, zero, suc, Bool, true}
+use Rattle.std.specs.Prelude.{ℕ, ◌+◌, ◌-◌, ◌^◌, ◌≤◌, string_bytes, String, Result, IfOk, zero, suc, Bool, true}
 use Rattle.std.specs.Prelude.{false, ◌&&◌, ◌||◌, ◌==◌, nat_lt, nat_le, if◌then◌else◌, List, [], ◌∷◌, ◌++◌, length, take}
-use Rattle.std.specs.Prelude.{drop, slice_index, encode_utf8, Option, Some, None, Ok, Err, option_map}
+use Rattle.std.specs.Prelude.{drop, slice_index, encode_utf8, Option, Some, None, option_map}
 use Rattle.std.specs.List.{prefix_len, list_all}
 use Rattle.std.specs.Char.{is_digit}
 use Rattle.std.specs.Str.Parse.{digits_value}
@@ -13,7 +13,7 @@ use Rattle.deny_toml_grammar.specs.Lexical.{is_plain, starts_newline, skip_space
 use Rattle.std.specs.Borrow.{Bor}
 use Rattle.std.specs.declared.alloc.Global.{Global}
 use Rattle.deny_toml_grammar.specs.declared.read_error.ReadError.{ReadError}
-use Rattle.deny_toml_grammar.specs.private.Reading.{◌>>=◌, read_map, Fails}
+use Rattle.deny_toml_grammar.specs.private.Reading.{◌>>=◌, read_map, GivesAs}
 
 -- the character that a letter stands for after a backslash
 abbrev pub letter_escape : ℕ → Option ℕ
@@ -141,7 +141,6 @@ starts_string text = first text == quote || first text == apostrophe
 abbrev pub Closes : {A : Type 0} → Bool → List ℕ → Result (A × Bor (List ℕ)) ReadError → Type 0
 Closes multi text r = IfOk r (λ p. length p.1.now + (if multi then 3 else 1) ≤ length text)
 
--- the same for the bytes of a string
+-- the bytes of a string, and the rest, are those that are expected
 abbrev pub ReadsBytes : Result (String Global × Bor (List ℕ)) ReadError → Read (List ℕ) → Type 0
-ReadsBytes (Ok p) expected = expected ≡ Some (string_bytes p.0, p.1.now)
-ReadsBytes (Err e) expected = Fails e expected
+ReadsBytes r expected = GivesAs (λ p. (string_bytes p.0, p.1.now)) r expected

@@ -23,7 +23,8 @@ use Rattle.deny_toml.specs.TreeOrder.{AreOrderly, IsOrderly, IsOrderlyLayer, Nam
 use Rattle.deny_toml.specs.Value.{entries_in}
 use Rattle.deny_toml.specs.declared.value.Table.{Table}
 use Rattle.deny_toml.specs.declared.value.Value.{Value}
-use Rattle.deny_workspace.specs.Entries.{Ascends, Entry, may_be_patched, patch_of, patched_entry, replaced_by}
+use Rattle.deny_workspace.specs.Entries.{Entry, may_be_patched, patch_of, patched_entry, replaced_by}
+use Rattle.deny_workspace.specs.private.Entries.{Ascends}
 use Rattle.deny_workspace.specs.Entries.{table_below}
 use Rattle.deny_workspace.specs.EntryKey.{name_of}
 use Rattle.deny_workspace.specs.Origin.{value_at_key}

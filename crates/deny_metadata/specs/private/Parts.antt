@@ -4,7 +4,7 @@ use Rattle.serde_json.specs.Data.{Data, Items}
 use Rattle.deny_metadata.specs.Document.{declaration_at, features_member, kind_member, node_at, package_at, target_at}
 use Rattle.deny_metadata.specs.Elements.{path_to, object_at, text_at, text_member, optional_text, optional_texts}
 use Rattle.deny_metadata.specs.Elements.{flag_member, object_member, elements_from, each_member, each_optional}
-use Rattle.deny_metadata.specs.Reading.{◌>>=◌}
+use Rattle.deny_lists.specs.Reader.{◌>>=◌}
 use Rattle.deny_metadata.specs.declared.document.Contents.{Contents}
 use Rattle.deny_metadata.specs.declared.document.Document.{Document}
 use Rattle.deny_metadata.specs.declared.document.Identity.{Identity}

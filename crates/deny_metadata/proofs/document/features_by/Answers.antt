@@ -2,7 +2,8 @@ use Rattle.std.proofs.Common.{ap, ◌∙◌}
 use Rattle.deny_metadata.specs.Document.{feature_at, features_from}
 use Rattle.deny_metadata.specs.private.Borrowed.{sorted_view, view}
 use Rattle.deny_metadata.proofs.FeaturesLemmas.{next_feature, no_more_features}
-use Rattle.deny_metadata.proofs.ReadingLemmas.{goes_on, fails_here, handed_on, all_read}
+use Rattle.deny_metadata.specs.declared.fault.MetadataFault.TheVariants.{Memory}
+use Rattle.deny_lists.proofs.ReaderLemmas.{goes_on, fails_here, handed_on, all_read}
 use Rattle.deny_metadata.proofs.document.features_by.Goals as goal
 
 pub returns-in_err-push_feature : goal.returns-in_err-push_feature
@@ -13,9 +14,9 @@ returns-in_err-push_feature c =
     let step = ap (λ es. features_from path (sorted_view es)) c.in-Some.ensures.steps ∙ next_feature path (name, value)
     c.next.new.self in
     let fault = c.in_err-push_feature.field-0.0 in
-    handed_on _ fault _ c.from_residual.ensures.1
-    (fails_here _ _ _ (feature_at path name.now (view value.now)) c.loop-name.features fault c.loop-name.invariant
-    step c.in_err-push_feature.ensures)
+    handed_on Memory _ _ _ fault c.from_residual.ensures.1
+    (fails_here Memory _ _ _ (feature_at path name.now (view value.now)) c.loop-name.features fault
+    c.loop-name.invariant step c.in_err-push_feature.ensures)
 
 pub loop-name-preserved : goal.loop-name-preserved
 loop-name-preserved c =

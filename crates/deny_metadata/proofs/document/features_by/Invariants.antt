@@ -1,7 +1,7 @@
 use Rattle.std.proofs.Common.{◌≡◌}
 use Rattle.deny_metadata.specs.Document.{features_from}
 use Rattle.deny_metadata.specs.private.Borrowed.{sorted_view}
-use Rattle.deny_metadata.proofs.ReadingLemmas.{with_prefix}
+use Rattle.deny_lists.proofs.ReaderLemmas.{with_prefix}
 use Rattle.deny_metadata.proofs.document.features_by.Given as goal
 
 abbrev pub invariant-loop-name : goal.invariant-loop-name

@@ -1,6 +1,7 @@
 use Rattle.std.proofs.Common.{drop, ◌+◌, ◌∙◌, ap, sym, subst}
 use Rattle.std.proofs.lemmas.List.{drop_more}
-use Rattle.deny_toml.specs.Calls.{IsPast, index_after}
+use Rattle.deny_toml.specs.Calls.{index_after}
+use Rattle.deny_toml.specs.private.Calls.{IsPast}
 use Rattle.deny_toml.proofs.PathLaws.{index_after-end}
 use Rattle.deny_toml.proofs.calls.index_after.Goals as goal
 
