@@ -13,7 +13,7 @@ use Rattle.std.proofs.lemmas.Str.{IsUtf8-take, encodes-chars}
 use Rattle.std.proofs.Math.ListN.{drop_of_length-le}
 use lib.Utf8.{encode, encodes}
 use Rattle.deny_base.specs.Files.{is_newline, begins_character, is_boundary, location_at, location_of}
-use Rattle.deny_base.specs.Marks.{location_after, past, AreMarks}
+use Rattle.deny_base.specs.private.Marks.{location_after, past, AreMarks}
 use Rattle.deny_base.specs.declared.files.Location.{Location}
 
 cut_push : {X : Type 0} (last : Bool) (xs : List X) (x : X) (k : ℕ) → k ≤ length xs

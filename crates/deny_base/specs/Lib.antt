@@ -5,5 +5,5 @@ pub mod Files
 pub mod KeyOrder
 pub mod Level
 pub mod LicenseCode
-pub mod Marks
 pub mod Rule
+pub mod private

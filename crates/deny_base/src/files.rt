@@ -3,7 +3,7 @@ ghost use Rattle.std.specs.Prelude.{length, take, slice_get, option_map, IfOk, O
 ghost use Rattle.std.specs.List.{position};
 ghost use Rattle.std.specs.Str.{bytes_eq};
 ghost use Rattle.deny_base.specs.Files.{begins_character, is_boundary, location_of, location_in};
-ghost use Rattle.deny_base.specs.Marks.{AreMarks, location_after, past};
+ghost use Rattle.deny_base.specs.private.Marks.{AreMarks, location_after, past};
 
 use crate::label::FileId;
 use deny_lists::{List, NoMemory, Text};
@@ -94,7 +94,7 @@ impl Model for Source {
 
     ghost coded = { coded_list coded_ℕ };
 
-    ghost use Rattle.deny_base.specs.Marks.{IsMarked};
+    ghost use Rattle.deny_base.specs.private.Marks.{IsMarked};
 
     ghost view = { λ s. s.text };
 

@@ -20,7 +20,7 @@ use Rattle.deny_model.specs.Hits.{hit_of}
 use Rattle.deny_model.specs.Policy.{Words}
 use Rattle.deny_build.specs.private.Hits.{glob_hit_in, path_hit_in}
 use Rattle.deny_build.specs.private.Met.{MetFile, all_met, meets_glob, meets_path, met_by}
-use Rattle.deny_build.specs.private.Users.{is_user, met_at, met_in}
+use Rattle.deny_build.specs.private.Users.{is_user, met_of_user, met_of_users}
 use Rattle.deny_build.proofs.MetLemmas.{meets_glob_as, meets_path_as}
 use Rattle.deny_build.proofs.SetLemmas.{any-map}
 
@@ -51,8 +51,8 @@ mapped_then f g (Some x) = refl
 
 module _ (l : Looking) (y : Bypass) (test : PackageFile → Bool) (p : MetFile → Bool) (hit : List ℕ → Kid → Hit)
     (agree : (kid : Kid) (file : PackageFile) → p (met_by (Some y) kid file) ≡ test file) where
-  any_at : (c : Crate) → list_any p (met_at y (l, c)) ≡ meets_file l y test c
-  unfolding met_at meets_file
+  any_at : (c : Crate) → list_any p (met_of_user y (l, c)) ≡ meets_file l y test c
+  unfolding met_of_user meets_file
   any_at c = by_test (walks l c && is_user y (l, c)) (sym (walks_and_uses l y c))
     where
       by_test : (b : Bool) → (walks l c && uses l.building y c) ≡ b
@@ -64,10 +64,10 @@ module _ (l : Looking) (y : Bypass) (test : PackageFile → Bool) (p : MetFile �
           ∙ ap (λ b. b && list_any test (package_of l c).files) (sym is))
       by_test false is = ap (λ b. b && list_any test (package_of l c).files) (sym is)
 
-  hit_at_crate : (c : Crate) → list_any p (met_at y (l, c)) ≡ true
-      → option_map (λ (m : MetFile). hit m.file.path m.kid) (find p (met_at y (l, c)))
+  hit_at_crate : (c : Crate) → list_any p (met_of_user y (l, c)) ≡ true
+      → option_map (λ (m : MetFile). hit m.file.path m.kid) (find p (met_of_user y (l, c)))
       ≡ file_hit_at l test (λ path d. hit path (kid_of d)) c
-  unfolding met_at file_hit_at met_by
+  unfolding met_of_user file_hit_at met_by
   hit_at_crate c some = by_test (walks l c && is_user y (l, c)) some
     where
       by_test : (b : Bool) → list_any p (cond b (all_met (Some y) (kid_of c) (package_of l c).files) []) ≡ true
@@ -88,55 +88,57 @@ module _ (l : Looking) (y : Bypass) (test : PackageFile → Bool) (p : MetFile �
           made (Some file) = refl
       by_test false some = absurd (cc)
 
-  pub file_hit_as : option_map (λ (m : MetFile). hit m.file.path m.kid) (find p (met_in l y))
+  pub file_hit_as : option_map (λ (m : MetFile). hit m.file.path m.kid) (find p (met_of_users l y))
       ≡ file_hit l y test (λ path d. hit path (kid_of d))
-  unfolding met_in file_hit
+  unfolding met_of_users file_hit
   file_hit_as =
-      ap (option_map (λ (m : MetFile). hit m.file.path m.kid)) (find-flat_map p (λ c. met_at y (l, c)) l.graph.crates)
-      ∙ (mapped_then (λ (m : MetFile). hit m.file.path m.kid) (λ c. find p (met_at y (l, c)))
-      (find (λ c. list_any p (met_at y (l, c))) l.graph.crates)
-      ∙ (found_on (λ c. option_map (λ (m : MetFile). hit m.file.path m.kid) (find p (met_at y (l, c))))
-      (file_hit_at l test (λ path d. hit path (kid_of d))) (λ c. list_any p (met_at y (l, c))) l.graph.crates
+      ap (option_map (λ (m : MetFile). hit m.file.path m.kid))
+      (find-flat_map p (λ c. met_of_user y (l, c)) l.graph.crates)
+      ∙ (mapped_then (λ (m : MetFile). hit m.file.path m.kid) (λ c. find p (met_of_user y (l, c)))
+      (find (λ c. list_any p (met_of_user y (l, c))) l.graph.crates)
+      ∙ (found_on (λ c. option_map (λ (m : MetFile). hit m.file.path m.kid) (find p (met_of_user y (l, c))))
+      (file_hit_at l test (λ path d. hit path (kid_of d))) (λ c. list_any p (met_of_user y (l, c))) l.graph.crates
       (λ c _ some. hit_at_crate c some)
       ∙ ap (option_and_then (file_hit_at l test (λ path d. hit path (kid_of d))))
-      (find_on (λ c. list_any p (met_at y (l, c))) (meets_file l y test) l.graph.crates (λ c _. any_at c))))
+      (find_on (λ c. list_any p (met_of_user y (l, c))) (meets_file l y test) l.graph.crates (λ c _. any_at c))))
 
-pub path_hit_as : (l : Looking) (y : Bypass) (a : AllowedPath) → path_hit_in (met_in l y) a ≡ path_hit l y a
+pub path_hit_as : (l : Looking) (y : Bypass) (a : AllowedPath) → path_hit_in (met_of_users l y) a ≡ path_hit l y a
 unfolding path_hit_in path_hit
 path_hit_as l y a = file_hit_as l y (hits_path y a) (meets_path (path_range a))
     (λ path kid. hit_of kind.BypassPath (path_range a) (File kid path)) (λ kid file. meets_path_as y kid a file)
 
-pub glob_hit_as : (l : Looking) (y : Bypass) (w : Words) → glob_hit_in (met_in l y) w ≡ glob_hit l y w
+pub glob_hit_as : (l : Looking) (y : Bypass) (w : Words) → glob_hit_in (met_of_users l y) w ≡ glob_hit l y w
 unfolding glob_hit_in glob_hit
 glob_hit_as l y w = file_hit_as l y (hits_glob y w) (meets_glob w.value)
     (λ path kid. hit_of kind.BypassGlob w.span (File kid path)) (λ kid file. meets_glob_as y kid w file)
 
 path_hits_as : (l : Looking) (y : Bypass) (paths : List AllowedPath)
-    → flat_map (λ a. if_hit (path_hit_in (met_in l y) a)) paths ≡ filter_map (path_hit l y) paths
+    → flat_map (λ a. if_hit (path_hit_in (met_of_users l y) a)) paths ≡ filter_map (path_hit l y) paths
 path_hits_as l y [] = refl
 path_hits_as l y (a ∷ paths) =
-    ap (λ hit. if_hit hit ++ flat_map (λ b. if_hit (path_hit_in (met_in l y) b)) paths) (path_hit_as l y a)
+    ap (λ hit. if_hit hit ++ flat_map (λ b. if_hit (path_hit_in (met_of_users l y) b)) paths) (path_hit_as l y a)
     ∙ (ap (λ hits. if_hit (path_hit l y a) ++ hits)
     (path_hits_as l y paths ∙ sym (filter_map-flat (path_hit l y) paths))
     ∙ filter_map-flat (path_hit l y) (a ∷ paths))
 
 glob_hits_as : (l : Looking) (y : Bypass) (globs : List Words)
-    → flat_map (λ w. if_hit (glob_hit_in (met_in l y) w)) globs ≡ filter_map (glob_hit l y) globs
+    → flat_map (λ w. if_hit (glob_hit_in (met_of_users l y) w)) globs ≡ filter_map (glob_hit l y) globs
 glob_hits_as l y [] = refl
 glob_hits_as l y (w ∷ globs) =
-    ap (λ hit. if_hit hit ++ flat_map (λ v. if_hit (glob_hit_in (met_in l y) v)) globs) (glob_hit_as l y w)
+    ap (λ hit. if_hit hit ++ flat_map (λ v. if_hit (glob_hit_in (met_of_users l y) v)) globs) (glob_hit_as l y w)
     ∙ (ap (λ hits. if_hit (glob_hit l y w) ++ hits)
     (glob_hits_as l y globs ∙ sym (filter_map-flat (glob_hit l y) globs))
     ∙ filter_map-flat (glob_hit l y) (w ∷ globs))
 
 -- the hits of a bypass, and those of its paths and its globs by the files that they meet
-pub hits_are : (l : Looking) (y : Bypass) (met : List MetFile) → met ≡ met_in l y
+pub hits_are : (l : Looking) (y : Bypass) (met : List MetFile) → met ≡ met_of_users l y
     → if_hit (bypass_hit l y) ++ (flat_map (λ a. if_hit (path_hit_in met a)) y.allow
     ++ flat_map (λ w. if_hit (glob_hit_in met w)) y.globs) ≡ bypass_hits_of l y
 unfolding bypass_hits_of
 hits_are l y met is =
     ap (λ (m : List MetFile). if_hit (bypass_hit l y) ++ (flat_map (λ a. if_hit (path_hit_in m a)) y.allow
     ++ flat_map (λ w. if_hit (glob_hit_in m w)) y.globs)) is
-    ∙ (ap (λ hits. if_hit (bypass_hit l y) ++ (hits ++ flat_map (λ w. if_hit (glob_hit_in (met_in l y) w)) y.globs))
+    ∙ (ap (λ hits. if_hit (bypass_hit l y)
+    ++ (hits ++ flat_map (λ w. if_hit (glob_hit_in (met_of_users l y) w)) y.globs))
     (path_hits_as l y y.allow)
     ∙ ap (λ hits. if_hit (bypass_hit l y) ++ (filter_map (path_hit l y) y.allow ++ hits)) (glob_hits_as l y y.globs))

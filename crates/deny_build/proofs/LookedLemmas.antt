@@ -23,7 +23,7 @@ use Rattle.deny_build.specs.declared.looked.Looked.{Looked}
 use Rattle.deny_build.specs.declared.users.Users.{Users}
 use Rattle.deny_build.specs.private.Looked.{AreLooked, krate_of, looked_view, looking_at}
 use Rattle.deny_build.specs.private.Met.{MetFile, all_met}
-use Rattle.deny_build.specs.private.Users.{is_user, met_at, met_in, met_walked}
+use Rattle.deny_build.specs.private.Users.{is_user, met_of_user, met_of_users, met_walked}
 use Rattle.deny_build.specs.private.UsersOf.{AreUsers, uses_range, users_at}
 
 -- the first bypass that speaks of a crate has the range of another
@@ -81,8 +81,8 @@ both_tests false true files = refl
 both_tests false false files = refl
 
 walked_users : (l : Looking) (y : Bypass) (c : Crate)
-    → met_at y (l, c) ≡ cond (is_user y (l, c)) (met_walked y (l, c)) []
-unfolding met_at met_walked
+    → met_of_user y (l, c) ≡ cond (is_user y (l, c)) (met_walked y (l, c)) []
+unfolding met_of_user met_walked
 walked_users l y c = both_tests (walks l c) (is_user y (l, c)) (all_met (Some y) (kid_of c) (package_of l c).files)
 
 first_paired : (l : Looking) (cs : List Crate)
@@ -113,13 +113,13 @@ module _ (l : Looking) (users : Users) (are : AreUsers l users) (y : Bypass) whe
   pub met_users : (group : Option (List (Bor Looked)))
       → option_map_or (λ own. map (λ (u : Bor Looked). u.now) own) group [] ≡ users_at users.groups (bypass_range y)
       → option_map_or (λ own. flat_map (met_walked y) (map (λ (u : Bor Looked). looked_view u.now) own)) group []
-      ≡ met_in l y
-  unfolding met_in
+      ≡ met_of_users l y
+  unfolding met_of_users
   met_users group same = by_group group
       ∙ (ap (λ (own : List Looked). flat_map (met_walked y) (map looked_view own)) same
       ∙ (ap (flat_map (met_walked y)) (are y)
       ∙ (flat_map-map (met_walked y) (λ c. (l, c)) (filter (λ c. is_user y (l, c)) l.graph.crates)
-      ∙ flat_filter (λ c. is_user y (l, c)) (λ c. met_walked y (l, c)) (λ c. met_at y (l, c)) l.graph.crates
+      ∙ flat_filter (λ c. is_user y (l, c)) (λ c. met_walked y (l, c)) (λ c. met_of_user y (l, c)) l.graph.crates
       (walked_users l y))))
     where
       by_group : (o : Option (List (Bor Looked)))

@@ -14,7 +14,7 @@ ghost use Rattle.deny_build.specs.LookingOf.{looking_of};
 ghost use Rattle.deny_build.specs.private.Hits.{glob_hit_in, hit_by, path_hit_in};
 ghost use Rattle.deny_build.specs.private.Looked.{krate_of, looked_view};
 ghost use Rattle.deny_build.specs.private.Met.{IsFirstAt, meets_glob, meets_path, met_view, number_at};
-ghost use Rattle.deny_build.specs.private.Users.{met_in, met_walked};
+ghost use Rattle.deny_build.specs.private.Users.{met_of_users, met_walked};
 ghost use Rattle.deny_build.specs.private.UsersOf.{AreUsers};
 
 use crate::ctx::{BuildCtx, unseen_package};
@@ -92,7 +92,7 @@ fn meet_walked<'a>(
 }
 
 /// The files of those of some crates that are walked, as a bypass speaks of them.
-fn met_of<'a>(
+fn met_of_group<'a>(
     alloc: Global,
     group: &[&Looked<'a>],
     bypass: &'a ValidBypass,
@@ -108,22 +108,22 @@ fn met_of<'a>(
 }
 
 /// The files of all crates that are walked and use a bypass, in the order of the crates.
-fn met_in<'a>(
+fn met_of_users<'a>(
     alloc: Global,
     _ctx: &BuildCtx<'_>,
     users: &Users<'_, 'a>,
     bypass: &'a ValidBypass,
 ) -> Result<Vec<Met<'a>>, NoMemory>
     requires { AreUsers (looking_of _ctx.now) users.now }
-    ensures { IfOk result (λ met. map met_view met.items ≡ met_in (looking_of _ctx.now) (bypass_view bypass.now)) }
+    ensures { IfOk result (λ met. map met_view met.items ≡ met_of_users (looking_of _ctx.now) (bypass_view bypass.now)) }
 {
     match users.of(bypass) {
-        Some(group) => met_of(alloc, group.as_slice(), bypass),
+        Some(group) => met_of_group(alloc, group.as_slice(), bypass),
         None => Ok(Vec::new(alloc)),
     }
 }
 
-fn met_at<'m, 'a>(met: &'m [Met<'a>], number: usize) -> Option<&'m Met<'a>>
+fn nth_met<'m, 'a>(met: &'m [Met<'a>], number: usize) -> Option<&'m Met<'a>>
     ensures { option_copied result ≡ slice_get met.now number }
 {
     met.get(number)
@@ -139,7 +139,7 @@ fn first_by_path<'m, 'a>(
     ensures { option_map met_view (option_copied result) ≡ find (meets_path range) (map met_view met.now) }
 {
     match firsts.get(&range) {
-        Some(number) => met_at(met, *number),
+        Some(number) => nth_met(met, *number),
         None => None,
     }
 }
@@ -188,7 +188,7 @@ fn first_by_glob<'m, 'a>(
     ensures { option_map met_view (option_copied result) ≡ find (meets_glob glob.now) (map met_view met.now) }
 {
     match firsts.get(glob.as_str()) {
-        Some(number) => met_at(met, *number),
+        Some(number) => nth_met(met, *number),
         None => None,
     }
 }
@@ -238,7 +238,7 @@ fn add_hits_of<'a>(
     ensures { OnOk result (hits.new ≡ hits.old ++ bypass_hits_of (looking_of ctx.now) (bypass_view bypass.now)) }
 {
     add_bypass_hit(ctx, users, bypass, hits)?;
-    let met = met_in(alloc, ctx, users, bypass)?;
+    let met = met_of_users(alloc, ctx, users, bypass)?;
     add_path_hits(alloc, bypass.allow.as_slice(), met.as_slice(), hits)?;
     add_glob_hits(alloc, globs_of(bypass), met.as_slice(), hits)
 }

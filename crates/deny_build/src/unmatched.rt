@@ -62,7 +62,7 @@ fn add_missed_paths(
 }
 
 /// Adds the keys of the globs at which no file stands.
-fn add_missed_among(
+fn add_unmatched_globs(
     alloc: Global,
     place: u32,
     globs: &[GlobPattern],
@@ -93,7 +93,7 @@ fn add_missed_globs(
         ≡ keys.old ++ missed_glob_keys place (map met_view all.now) (map words_of globs.now)) }
 {
     let firsts = firsts_by_glob(alloc, all)?;
-    add_missed_among(alloc, place, globs, &firsts, keys)
+    add_unmatched_globs(alloc, place, globs, &firsts, keys)
 }
 
 fn add_missed(

@@ -103,12 +103,12 @@ fn add<'l, 'a>(
         ≡ users_at groups.old range ++ filter (uses_range range) (at.now ∷ [])) }
 {
     match range_used(at) {
-        Some(range) => add_to(alloc, range, at, groups),
+        Some(range) => add_ranged(alloc, range, at, groups),
         None => Ok(()),
     }
 }
 
-fn add_to<'l, 'a>(
+fn add_ranged<'l, 'a>(
     alloc: Global,
     range: Span,
     at: &'l Looked<'a>,

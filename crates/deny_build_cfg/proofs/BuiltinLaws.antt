@@ -25,7 +25,8 @@ use Rattle.deny_globs.specs.declared.token.Token.TheVariants.{AnyText, Character
 use Rattle.deny_model.specs.Policy.{Words}
 use Rattle.deny_tables.specs.declared.bans.cfg.build.BuildConfig.{BuildConfig}
 use Rattle.deny_build_cfg.specs.Build.{IsBuildOf, builtin_if, listed, number_of}
-use Rattle.deny_build_cfg.specs.BuildingView.{builtin_file_in, file_of, globs_file}
+use Rattle.deny_build_cfg.specs.BuildingView.{builtin_file_in, globs_file}
+use Rattle.deny_build_cfg.specs.private.BuildingView.{file_of}
 use Rattle.deny_build_cfg.specs.Builtin.{builtin_texts, builtin_words}
 use Rattle.deny_build_cfg.specs.Globs.{AreGlobsOf, extension_text}
 use Rattle.deny_build_cfg.specs.Globs.AreGlobsOf.{none, one_more, left_out}

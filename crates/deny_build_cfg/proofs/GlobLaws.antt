@@ -4,9 +4,10 @@ use Rattle.std.proofs.Common.{subst, take, ◌∙◌}
 use Rattle.std.proofs.lemmas.List.{map-append, take_all, take_more}
 use Rattle.deny_globs.specs.Faults.{IsBadAt}
 use Rattle.deny_globs.specs.Patterns.{Pattern}
-use Rattle.deny_build_cfg.specs.Globs.{AreGlobsOf, Gathers, GathersMore, IsGlobOf}
+use Rattle.deny_build_cfg.specs.Globs.{AreGlobsOf, IsGlobOf}
+use Rattle.deny_build_cfg.specs.private.Globs.{Gathers, GathersMore}
 use Rattle.deny_build_cfg.specs.Globs.AreGlobsOf.{none, one_more, left_out}
-use Rattle.deny_build_cfg.specs.Globs.Gathers.{gathered, left_out as none_gathers}
+use Rattle.deny_build_cfg.specs.private.Globs.Gathers.{gathered, left_out as none_gathers}
 use Rattle.deny_build_cfg.specs.declared.pattern.GlobPattern.{GlobPattern}
 
 pub one_gathered : (text : List ℕ) (pattern : GlobPattern) (glob : Pattern) (patterns : List GlobPattern)

@@ -64,11 +64,6 @@ building_view valid = record {
   older_key = valid.older_key;
 }
 
--- the file of a pattern that is built in
-abbrev pub file_of : GlobPattern → Option ℕ
-file_of (Builtin glob) = Some glob.1
-file_of (User glob) = None
-
 abbrev pub builtin_file_in : List GlobPattern → Option ℕ
 builtin_file_in [] = None
 builtin_file_in (Builtin glob ∷ patterns) = Some glob.1

@@ -2,7 +2,6 @@
 use Rattle.std.specs.Prelude.{◌+◌, ◌++◌, ℕ, List, [], ◌∷◌, codes, length, map}
 use Rattle.deny_base.specs.declared.files.File.{File}
 use Rattle.deny_model.specs.Policy.{Words}
-use Rattle.deny_build_cfg.specs.declared.builtin.BuiltinGlob.{BuiltinGlob}
 use Rattle.deny_build_cfg.specs.declared.pattern.GlobPattern.{GlobPattern}
 use Rattle.deny_build_cfg.specs.declared.pattern.GlobPattern.TheVariants.{Builtin}
 
@@ -32,7 +31,3 @@ builtin_words = spanned_from 10 builtin_texts
 -- the built-in globs, as patterns of the file of this number
 abbrev pub builtin_patterns : ℕ → List GlobPattern
 builtin_patterns file = map (λ word. Builtin (word, file)) builtin_words
-
--- a glob of the table that is built in, as such a pattern
-abbrev pub builtin_of : ℕ → BuiltinGlob → GlobPattern
-builtin_of file glob = Builtin (record { value = glob.text.now; span = glob.span }, file)

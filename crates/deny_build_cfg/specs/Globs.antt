@@ -25,13 +25,6 @@ pub record IsGlobOf (text : List ℕ) (glob : Pattern) : Type 0 where
   pub tokens : IsGlob (chars text) (tokens_of glob)
   pub only : (other : List Token) → IsGlob (chars text) other → other ≡ tokens_of glob
 
--- one more pattern and its glob were gathered; or the text is bad, and nothing was
-pub data Gathers (text : List ℕ) (pattern : GlobPattern) (patterns : List GlobPattern) (globs : List Pattern)
-    : List GlobPattern → List Pattern → Type 0 where
-  gathered : (glob : Pattern) → IsGlobOf text glob
-      → Gathers text pattern patterns globs (patterns ++ pattern ∷ []) (globs ++ glob ∷ [])
-  left_out : (byte : ℕ) → IsBadAt text byte → Gathers text pattern patterns globs patterns globs
-
 -- These are the patterns of some that are globs by their texts, in order, and their globs; those that are none are left
 -- out.
 pub data AreGlobsOf (text_of : GlobPattern → List ℕ) : List GlobPattern → List GlobPattern → List Pattern → Type 0 where
@@ -53,12 +46,6 @@ OfBoth Is None None = Unit {0}
 OfBoth Is None (Some y) = ⊥
 OfBoth Is (Some x) None = ⊥
 OfBoth Is (Some x) (Some y) = Is x y
-
--- the globs of more patterns were gathered, behind those that were
-abbrev pub GathersMore : (GlobPattern → List ℕ) → List GlobPattern → List GlobPattern → List Pattern
-    → List GlobPattern → List Pattern → Type 0
-GathersMore text_of more patterns globs new set = (wanted : List GlobPattern) → AreGlobsOf text_of wanted patterns globs
-    → AreGlobsOf text_of (wanted ++ more) new set
 
 -- the patterns of these numbers; none where there are no numbers
 abbrev pub patterns_at : List GlobPattern → List ℕ → Option (List GlobPattern)

@@ -4,3 +4,4 @@ pub mod BuildingView
 pub mod Builtin
 pub mod Globs
 pub mod Wrong
+pub mod private

@@ -1,8 +1,10 @@
 //! The built-in globs, and the file in which they stand.
 ghost use Rattle.std.specs.Prelude.{◌≡◌, ◌≤◌, ◌<◌, ◌^◌, ◌++◌, ◌∷◌, [], IfOk, OnErr, OnOk, length, map};
 ghost use Rattle.deny_model.specs.Policy.{Words};
-ghost use Rattle.deny_build_cfg.specs.Builtin.{builtin_file, builtin_of, builtin_patterns};
-ghost use Rattle.deny_build_cfg.specs.Globs.{GathersMore, extension_text};
+ghost use Rattle.deny_build_cfg.specs.Builtin.{builtin_file, builtin_patterns};
+ghost use Rattle.deny_build_cfg.specs.private.Builtin.{builtin_of};
+ghost use Rattle.deny_build_cfg.specs.Globs.{extension_text};
+ghost use Rattle.deny_build_cfg.specs.private.Globs.{GathersMore};
 
 use crate::gathered::Gathered;
 use crate::pattern::GlobPattern;

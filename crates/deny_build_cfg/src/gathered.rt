@@ -1,7 +1,8 @@
 //! Globs as they are gathered.
 ghost use Rattle.std.specs.Prelude.{◌≡◌, [], OnOk, IfOk, map};
 ghost use Rattle.std.specs.Prelude.{◌++◌};
-ghost use Rattle.deny_build_cfg.specs.Globs.{AreGlobsOf, Gathers, extension_text, own_text};
+ghost use Rattle.deny_build_cfg.specs.Globs.{AreGlobsOf, extension_text, own_text};
+ghost use Rattle.deny_build_cfg.specs.private.Globs.{Gathers};
 ghost use Rattle.deny_build_cfg.specs.declared.pattern.GlobPattern.TheVariants.{User};
 
 use crate::pattern::GlobPattern;

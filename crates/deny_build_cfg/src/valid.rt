@@ -3,7 +3,8 @@ ghost use Rattle.std.specs.Prelude.{◌≡◌, ◌<◌, ◌^◌, ◌++◌, IfOk,
 ghost use Rattle.std.specs.List.{AllZip};
 ghost use Rattle.deny_build_cfg.specs.Build.{HasFiles, IsBuildOf, IsBypassOf, IsMadeOf, build_by};
 ghost use Rattle.deny_build_cfg.specs.Build.{builtin_if, files_of, number_of, of_scripts, older_key_by};
-ghost use Rattle.deny_build_cfg.specs.Globs.{GathersMore, IsSetOf, OfBoth, extension_text, own_text};
+ghost use Rattle.deny_build_cfg.specs.Globs.{IsSetOf, OfBoth, extension_text, own_text};
+ghost use Rattle.deny_build_cfg.specs.private.Globs.{GathersMore};
 ghost use Rattle.deny_build_cfg.specs.declared.pattern.GlobPattern.TheVariants.{User};
 
 use crate::builtin::{add_builtin_file, gather_builtin};
@@ -137,7 +138,7 @@ fn extension_set(
 }
 
 /// A table whose built-in globs, if it asks for them, stand in the file of this number.
-fn build_with(
+fn build_with_file(
     alloc: Global,
     build: BuildConfig,
     file: Option<FileId>,
@@ -190,7 +191,7 @@ pub fn valid_build(
     ensures files_too { OnErr result (HasFiles (files_of build.enable_builtin_globs) files.old files.new) }
 {
     let file = add_file_if(build.enable_builtin_globs, files)?;
-    build_with(alloc, build, file, older_key)
+    build_with_file(alloc, build, file, older_key)
 }
 
 /// The table `build`; without it the one that a list of crates that may have build scripts stands for.

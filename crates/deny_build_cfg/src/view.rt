@@ -1,6 +1,7 @@
 //! What is seen of a table by its patterns.
 ghost use Rattle.std.specs.Prelude.{◌≡◌};
-ghost use Rattle.deny_build_cfg.specs.BuildingView.{builtin_file_in, file_of, globs_file};
+ghost use Rattle.deny_build_cfg.specs.BuildingView.{builtin_file_in, globs_file};
+ghost use Rattle.deny_build_cfg.specs.private.BuildingView.{file_of};
 
 use crate::pattern::GlobPattern;
 use crate::valid::ValidBuildConfig;

@@ -1,7 +1,7 @@
 -- Worked cases: what files are by their first bytes, by computing.
 use Rattle.std.proofs.Common.{◌≡◌, ℕ, true, false, List, [], ◌∷◌, ◌++◌, replicate, codes, Option, None, Some, refl}
 use Rattle.deny_build_files.specs.Header.{executable_in, native_kind, is_mach, elf, archive}
-use Rattle.deny_build_files.specs.Script.{interpreter_in, interpreter_of_text, first_line, named_by, named_in}
+use Rattle.deny_build_files.specs.Script.{interpreter_in, interpreter_of_text, first_line, named_by, named_past_env}
 use Rattle.deny_build_files.specs.Script.{last_part, is_rust_path}
 use Rattle.deny_build_model.specs.declared.package.ExecutableKind.{ExecutableKind}
 use Rattle.deny_build_model.specs.declared.package.ExecutableKind.TheVariants.{Native}
@@ -56,32 +56,32 @@ unfolding executable_in native_kind is_mach
 an_archive = refl
 
 an_interpreter : interpreter_of_text (codes "/p/run") (codes "#!/bin/sh") ≡ Some (codes "sh")
-unfolding named_by named_in last_part
+unfolding named_by named_past_env last_part
 an_interpreter = refl
 
 by_env : interpreter_of_text (codes "/p/run") (codes "#!/usr/bin/env python3 -u") ≡ Some (codes "python3")
-unfolding named_by named_in last_part
+unfolding named_by named_past_env last_part
 by_env = refl
 
 by_env_without_name : interpreter_of_text (codes "/p/run") (codes "#!/usr/bin/env") ≡ None
-unfolding named_by named_in last_part
+unfolding named_by named_past_env last_part
 by_env_without_name = refl
 
 behind_a_space : interpreter_of_text (codes "/p/run") (codes "#! /bin/bash -e") ≡ Some (codes "bash")
-unfolding named_by named_in last_part
+unfolding named_by named_past_env last_part
 behind_a_space = refl
 
 -- each space ends a part, so that the part behind two of them is empty
 behind_two_spaces : interpreter_of_text (codes "/p/run") (codes "#!  /bin/bash") ≡ Some []
-unfolding named_by named_in last_part
+unfolding named_by named_past_env last_part
 behind_two_spaces = refl
 
 no_interpreter : interpreter_of_text (codes "/p/run") (codes "#!") ≡ None
-unfolding named_by named_in last_part
+unfolding named_by named_past_env last_part
 no_interpreter = refl
 
 without_a_folder : interpreter_of_text (codes "/p/run") (codes "#! sh") ≡ Some (codes "sh")
-unfolding named_by named_in last_part
+unfolding named_by named_past_env last_part
 without_a_folder = refl
 
 attribute_of_a_source : interpreter_of_text (codes "/p/a.rs") (codes "#![no_std]") ≡ None
@@ -90,11 +90,11 @@ attribute_of_a_source = refl
 
 -- a name that is `.rs` alone is that of no source
 attribute_elsewhere : interpreter_of_text (codes "/p/.rs") (codes "#![no_std]") ≡ Some (codes "#![no_std]")
-unfolding is_rust_path named_by named_in last_part
+unfolding is_rust_path named_by named_past_env last_part
 attribute_elsewhere = refl
 
 script_of_a_source : interpreter_of_text (codes "/p/a.rs") (codes "#!/bin/run") ≡ Some (codes "run")
-unfolding named_by named_in last_part
+unfolding named_by named_past_env last_part
 script_of_a_source = refl
 
 no_newline : run (codes "#!/bin/sh -e -x -v") ≡ None

@@ -43,14 +43,14 @@ first_of (part ∷ parts) = Some part
 
 -- the first of these parts is the interpreter's: behind `/env` the next one is the name, else it is named without its
 -- folder
-unfoldable pub named_in : List (List ℕ) → Option (List ℕ)
-named_in [] = None
-named_in (part ∷ parts) = if ends part (codes "/env") then first_of parts else Some (last_part part)
+unfoldable pub named_past_env : List (List ℕ) → Option (List ℕ)
+named_past_env [] = None
+named_past_env (part ∷ parts) = if ends part (codes "/env") then first_of parts else Some (last_part part)
 
 -- the interpreter's part is the first part of a line, or the second where the first ends with `#!`
 unfoldable pub named_by : List (List ℕ) → Option (List ℕ)
 named_by [] = None
-named_by (part ∷ parts) = if ends part (codes "#!") then named_in parts else named_in (part ∷ parts)
+named_by (part ∷ parts) = if ends part (codes "#!") then named_past_env parts else named_past_env (part ∷ parts)
 
 -- an attribute at the head of a source of Rust names none
 abbrev pub interpreter_of_text : List ℕ → List ℕ → Option (List ℕ)

@@ -8,7 +8,7 @@ ghost use Rattle.deny_build_files.specs.Home.{below_home, home_path, is_absolute
 ghost use Rattle.deny_build_files.specs.Home.{parts_behind, rest_below, same_name, same_start};
 ghost use Rattle.deny_build_files.specs.private.Home.{begins_plainly, parts_after, parts_below, parts_past};
 
-use crate::parts::parts_of;
+use crate::parts::split_parts;
 use deny_lists::{NoMemory, Text};
 use deny_outside::path_behind;
 use std::alloc::Global;
@@ -108,8 +108,8 @@ fn rest_below(alloc: Global, folder: &str, path: &str) -> Result<Option<Text>, N
     if !same_start(folder, path) {
         return Ok(None);
     }
-    let names = parts_of(alloc, folder, '/')?;
-    let own = parts_of(alloc, path, '/')?;
+    let names = split_parts(alloc, folder, '/')?;
+    let own = split_parts(alloc, path, '/')?;
     match parts_below(names.as_slice(), own.as_slice()) {
         Some(rest) => {
             let text = text_of(alloc, rest)?;
@@ -143,29 +143,29 @@ fn parts_below<'o, 'p>(names: &[&str], own: &'o [&'p str]) -> Option<&'o [&'p st
 {
     let mut index = 0;
     for name in names {
-        index = index_past(name, own, index)?;
+        index = skip_part(name, own, index)?;
     }
-    let start = component_from(own, index);
+    let start = next_component(own, index);
     Some(&own[start..])
 }
 
 // The index behind a part of a folder: behind the first component from an index on, if that is this
 // name, and the index itself where the part of the folder is no component.
-fn index_past(name: &str, own: &[&str], index: usize) -> Option<usize>
+fn skip_part(name: &str, own: &[&str], index: usize) -> Option<usize>
     requires { index ≤ length own.now }
     ensures within { IfSome result (λ next. next ≤ length own.now) }
     ensures past { option_map (λ next. map (λ part. part.now) (drop next own.now)) result
         ≡ parts_past name.now (map (λ part. part.now) (drop index own.now)) }
 {
     if is_component(name) {
-        index_after(name, own, component_from(own, index))
+        skip_name(name, own, next_component(own, index))
     } else {
         Some(index)
     }
 }
 
 // The index behind the part at an index, if that is this name.
-fn index_after(name: &str, own: &[&str], index: usize) -> Option<usize>
+fn skip_name(name: &str, own: &[&str], index: usize) -> Option<usize>
     requires { index ≤ length own.now }
     ensures within { IfSome result (λ next. next ≤ length own.now) }
     ensures after { option_map (λ next. map (λ part. part.now) (drop next own.now)) result
@@ -185,7 +185,7 @@ fn is_same(name: &str, part: &str) -> bool
 }
 
 // Where the first component from an index on stands, or else the end.
-fn component_from(own: &[&str], index: usize) -> usize
+fn next_component(own: &[&str], index: usize) -> usize
     requires { index ≤ length own.now }
     ensures within { result ≤ length own.now }
     ensures from { map (λ part. part.now) (drop result own.now)

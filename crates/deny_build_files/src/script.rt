@@ -2,9 +2,9 @@
 ghost use Rattle.std.specs.Prelude.{◌≡◌, ◌==◌, ◌<◌, ◌≤◌, length, map, option_map, option_copied, take, IfOk, IfSome};
 ghost use Rattle.std.specs.List.{position, slice_split};
 ghost use Rattle.deny_build_files.specs.Script.{interpreter_in, interpreter_by, first_line, is_newline};
-ghost use Rattle.deny_build_files.specs.Script.{is_rust_path, last_part, named_by, named_in, interpreter_of_text};
+ghost use Rattle.deny_build_files.specs.Script.{is_rust_path, last_part, named_by, named_past_env, interpreter_of_text};
 
-use crate::parts::parts_of;
+use crate::parts::split_parts;
 use deny_lists::{NoMemory, Text};
 use std::alloc::Global;
 
@@ -67,7 +67,7 @@ fn interpreter_of_text(alloc: Global, path: &str, line: &str) -> Result<Option<T
     if line.as_bytes().starts_with(b"#![") && is_rust_path(path) {
         return Ok(None);
     }
-    let parts = parts_of(alloc, line, ' ')?;
+    let parts = split_parts(alloc, line, ' ')?;
     match named_by(parts.as_slice()) {
         Some(name) => Ok(Some(Text::from_str(alloc, name)?)),
         None => Ok(None),
@@ -91,18 +91,18 @@ fn named_by<'t>(parts: &[&'t str]) -> Option<&'t str>
     match parts {
         [first, rest @ ..] => {
             if first.as_bytes().ends_with(b"#!") {
-                named_in(rest)
+                named_past_env(rest)
             } else {
-                named_in(parts)
+                named_past_env(parts)
             }
         }
         [] => None,
     }
 }
 
-#[tactic(auto, unfolding(crate::specs::Script::named_in))]
-fn named_in<'t>(parts: &[&'t str]) -> Option<&'t str>
-    ensures { option_copied result ≡ named_in (map (λ part. part.now) parts.now) }
+#[tactic(auto, unfolding(crate::specs::Script::named_past_env))]
+fn named_past_env<'t>(parts: &[&'t str]) -> Option<&'t str>
+    ensures { option_copied result ≡ named_past_env (map (λ part. part.now) parts.now) }
 {
     match parts {
         [] => None,

@@ -1,5 +1,5 @@
 -- Items found by texts.
-use Rattle.std.specs.Prelude.{◌≡◌, ◌++◌, ℕ, List, Option, find, option_map}
+use Rattle.std.specs.Prelude.{◌≡◌, ℕ, List, Option, find, option_map}
 use Rattle.std.specs.BTreeMap.{get_by}
 use Rattle.std.specs.Cmp.Lexicographic.{slice_cmp}
 use Rattle.std.specs.Ordering.{nat_cmp}
@@ -17,8 +17,3 @@ found_at found text = option_map (λ item. item.now) (get_by (λ k. slice_cmp na
 -- at each text its first item is found
 pub record IsByText {T : Type 0} (text_of : T → List ℕ) (items : List T) (found : ByText T) : Type 0 where
   pub at : (text : List ℕ) → found_at found text ≡ first_of text_of text items
-
--- these items are found, and behind them what was found before
-abbrev pub PutsBefore : {T : Type 0} → (T → List ℕ) → List T → ByText T → ByText T → Type 0
-PutsBefore text_of items old new = (others : List _) → IsByText text_of others old
-    → IsByText text_of (items ++ others) new

@@ -1,2 +1,3 @@
+pub mod ByText
 pub mod Found
 pub mod Globs

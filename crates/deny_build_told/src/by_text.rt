@@ -1,6 +1,7 @@
 //! Files and folders by how they are shown, and globs by their texts.
 ghost use Rattle.std.specs.Prelude.{◌≡◌, ℕ, List, [], IfOk, OnOk, option_map, if◌then◌else◌};
-ghost use Rattle.deny_build_told.specs.ByText.{IsByText, PutsBefore, found_at};
+ghost use Rattle.deny_build_told.specs.ByText.{IsByText, found_at};
+ghost use Rattle.deny_build_told.specs.private.ByText.{PutsBefore};
 ghost use Rattle.deny_model.specs.Text.{same_text};
 
 use deny_build_model::{PackageFile, Seen};

@@ -14,7 +14,7 @@ use Rattle.deny_codes.specs.FirstMatch.{first_of}
 use Rattle.deny_codes.specs.PackageFiles.{allows, path_of, path_of_used}
 use Rattle.deny_model.specs.Text.{same_text}
 use Rattle.deny_tables.specs.declared.bans.cfg.bypass.BypassPath.{BypassPath}
-use Rattle.deny_bypasses.specs.Paths.{files_of, spelled, spelling, spelling_of}
+use Rattle.deny_bypasses.specs.private.Paths.{files_of, spelled, spelling, spelling_of}
 use Rattle.deny_bypasses.specs.private.Components.{has_components, has_components_at}
 use Rattle.deny_lists.proofs.Finding.{first-numbered}
 use Rattle.deny_bypasses.proofs.ViewLemmas.{found_viewed}

@@ -1,4 +1,3 @@
 -- What the contracts of this crate cite.
 pub mod Marks
-pub mod Paths
 pub mod private

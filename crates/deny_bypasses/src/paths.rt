@@ -5,7 +5,7 @@ ghost use Rattle.std.specs.Option.{option_copied};
 ghost use Rattle.deny_build_cfg.specs.BuildingView.{bypass_view, path_view};
 ghost use Rattle.deny_build_model.specs.Paths.{components, is_component, parts};
 ghost use Rattle.deny_codes.specs.PackageFiles.{path_of_used};
-ghost use Rattle.deny_bypasses.specs.Paths.{files_of, spelled, spelling_of};
+ghost use Rattle.deny_bypasses.specs.private.Paths.{files_of, spelled, spelling_of};
 ghost use Rattle.deny_bypasses.specs.private.Components.{has_components, has_components_at};
 
 use deny_build_cfg::ValidBypass;
@@ -68,7 +68,7 @@ fn spellings_of(alloc: Global, files: &[BypassPath]) -> Result<SpecIndex, NoMemo
     Ok(spellings)
 }
 
-#[tactic(auto, unfolding(crate::specs::Paths::spelling))]
+#[tactic(auto, unfolding(crate::specs::private::Paths::spelling))]
 fn spelling_of(alloc: Global, file: &BypassPath) -> Result<Text, NoMemory>
     ensures { IfOk result (λ text. text ≡ spelling_of file.now) }
 {
@@ -106,7 +106,7 @@ fn parts_of(alloc: Global, path: &str) -> Result<Vec<&str>, AllocError>
     path.split('/').collect(alloc)
 }
 
-fn components_among<'p>(alloc: Global, parts: &[&'p str]) -> Result<Vec<&'p str>, NoMemory>
+fn select_components<'p>(alloc: Global, parts: &[&'p str]) -> Result<Vec<&'p str>, NoMemory>
     ensures { IfOk result (λ names. map (λ name. name.now) names.items
         ≡ filter is_component (map (λ part. part.now) parts.now)) }
 {
@@ -124,7 +124,7 @@ fn components(alloc: Global, path: &str) -> Result<Vec<&str>, NoMemory>
     ensures { IfOk result (λ names. map (λ name. name.now) names.items ≡ components path.now) }
 {
     let parts = parts_of(alloc, path)?;
-    components_among(alloc, parts.as_slice())
+    select_components(alloc, parts.as_slice())
 }
 
 fn has_components(alloc: Global, path: &str, names: &[&str]) -> Result<bool, NoMemory>

@@ -62,12 +62,12 @@ fn number(case: &Value, name: &str, default: usize) -> usize {
 /// The texts of a list of strings; a list that is missing is empty.
 fn strings(alloc: Global, list: Option<&Value>) -> Result<Vec<String>, CaseError> {
     match list.and_then(Value::as_array) {
-        Some(items) => strings_of(alloc, items.as_slice()),
+        Some(items) => element_strings(alloc, items.as_slice()),
         None => Ok(Vec::new(alloc)),
     }
 }
 
-fn strings_of(alloc: Global, items: &[Value]) -> Result<Vec<String>, CaseError> {
+fn element_strings(alloc: Global, items: &[Value]) -> Result<Vec<String>, CaseError> {
     let mut strings = Vec::new(alloc);
     for item in items {
         push_string(alloc, item, &mut strings)?;

@@ -6,7 +6,8 @@ use Rattle.deny_base.specs.declared.files.File.{File}
 use Rattle.deny_build_cfg.specs.Build.{HasFiles}
 use Rattle.deny_tables.specs.declared.bans.cfg.config.Config.{Config}
 use Rattle.deny_tables.specs.declared.licenses.config.Config as licenses
-use Rattle.deny_cfg.specs.PolicyText.{AddsOnError, Says}
+use Rattle.deny_cfg.specs.PolicyText.{Says}
+use Rattle.deny_cfg.specs.private.PolicyText.{AddsOnError}
 use Rattle.deny_cfg.specs.Valid.{files_asked}
 use Rattle.deny_cfg.specs.declared.policy.PolicyError.{PolicyError}
 use Rattle.deny_cfg.specs.declared.policy.PolicyError.TheVariants as error

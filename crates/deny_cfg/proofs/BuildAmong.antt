@@ -20,8 +20,9 @@ use Rattle.deny_tables.specs.declared.bans.cfg.bypass.Bypass.{Bypass}
 use Rattle.deny_cfg.proofs.Among.{Among, among_both, among_itself, among_joined, among_rest, among_same, among_then}
 use Rattle.deny_cfg.proofs.BuildLabels.{besides}
 use Rattle.deny_cfg.specs.LabelRanges.{build_ranges, bypass_ranges, joined, of_some, own_range, path_ranges}
-use Rattle.deny_cfg.specs.LabelRanges.{pattern_range, pattern_ranges, spec_range, word_ranges, written_build_ranges}
-use Rattle.deny_cfg.specs.LabelRanges.{written_bypass_ranges}
+use Rattle.deny_cfg.specs.LabelRanges.{pattern_range, pattern_ranges, spec_range, word_ranges}
+use Rattle.deny_cfg.specs.private.LabelRanges.{written_build_ranges}
+use Rattle.deny_cfg.specs.private.LabelRanges.{written_bypass_ranges}
 
 users_same : (words : List Words) → flat_map pattern_range (map User words) ≡ word_ranges words
 users_same [] = refl

@@ -18,12 +18,13 @@ use Rattle.deny_tables.specs.declared.bans.cfg.build.BuildConfig.{BuildConfig}
 use Rattle.deny_tables.specs.declared.bans.cfg.bypass.Bypass.{Bypass}
 use Rattle.deny_tables.specs.declared.bans.cfg.bypass.BypassPath.{BypassPath}
 use Rattle.deny_tables.specs.declared.bans.cfg.checksum.Checksum.{Checksum}
-use Rattle.deny_toml.specs.declared.value.Value.{Value}
+use Rattle.deny_toml.specs.value.Value.{Value}
 use Rattle.deny_cfg.proofs.LabelLaws.{◌▸◌, Within, WithinKey, WithinKeys, key_at, keys_within, list_within, no_more}
 use Rattle.deny_cfg.proofs.LabelLaws.{optional_within, or_within, table_within}
 use Rattle.deny_cfg.proofs.LabelReads.{entry_keys_within, meaning_within, word_within, words_within}
-use Rattle.deny_cfg.specs.LabelRanges.{joined, of_some, own_range, path_ranges, word_ranges, written_build_ranges}
-use Rattle.deny_cfg.specs.LabelRanges.{written_bypass_ranges}
+use Rattle.deny_cfg.specs.LabelRanges.{joined, of_some, own_range, path_ranges, word_ranges}
+use Rattle.deny_cfg.specs.private.LabelRanges.{written_build_ranges}
+use Rattle.deny_cfg.specs.private.LabelRanges.{written_bypass_ranges}
 
 checksum_within : (text : List ℕ) (v : Value) (sum : Spanned Checksum) → ReadsSpanned ReadsChecksum v sum
     → Within text v (own_range sum)

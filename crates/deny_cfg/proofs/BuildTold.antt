@@ -26,8 +26,9 @@ use Rattle.deny_tables.specs.declared.bans.cfg.bypass.BypassPath.{BypassPath}
 use Rattle.deny_toml.specs.Ranges.{IsRange}
 use Rattle.deny_cfg.proofs.LabelLaws.{Lie}
 use Rattle.deny_cfg.proofs.Among.{lie_prefix, lie_rest}
-use Rattle.deny_cfg.specs.LabelRanges.{of_some, own_range, path_ranges, spec_range, word_ranges, written_build_ranges}
-use Rattle.deny_cfg.specs.LabelRanges.{written_bypass_ranges}
+use Rattle.deny_cfg.specs.LabelRanges.{of_some, own_range, path_ranges, spec_range, word_ranges}
+use Rattle.deny_cfg.specs.private.LabelRanges.{written_build_ranges}
+use Rattle.deny_cfg.specs.private.LabelRanges.{written_bypass_ranges}
 
 -- ---- the byte of an extension that may not be there
 

@@ -27,7 +27,8 @@ use Rattle.deny_tables.specs.declared.bans.cfg.config.Config.{Config}
 use Rattle.deny_toml.specs.Ranges.{IsRange}
 use Rattle.deny_cfg.proofs.Among.{lie_rest}
 use Rattle.deny_cfg.proofs.LabelLaws.{Lie}
-use Rattle.deny_cfg.specs.LabelRanges.{list_ranges, older_range, of_some, own_range, wrapper_list}
+use Rattle.deny_cfg.specs.LabelRanges.{older_range, of_some, own_range}
+use Rattle.deny_cfg.specs.private.LabelRanges.{list_ranges, wrapper_list}
 use Rattle.deny_cfg.specs.PolicyText.{IsPolicyOf, globs_files}
 use Rattle.deny_cfg.specs.PolicyView.{AreGlobsRead, builtin_file_of}
 use Rattle.deny_cfg.specs.Valid.{IsValidOf, build_of, files_asked, older_key_of}

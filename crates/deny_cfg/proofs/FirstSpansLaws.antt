@@ -19,8 +19,9 @@ use Rattle.deny_cfg.specs.Clashes.{clash_with, feature_at, feature_clash, specs_
 use Rattle.deny_lists.specs.First.{FindsFirst, GainsEntry}
 use Rattle.deny_lists.proofs.FirstLemmas.{finds_more}
 use Rattle.deny_lists.proofs.Indices.{map-take_next}
-use Rattle.deny_cfg.specs.FirstSpans.{entry_span, first_span, plain_wording, same_wording, spec_wording, word_span}
-use Rattle.deny_cfg.specs.FirstSpans.{wording_cmp}
+use Rattle.deny_cfg.specs.private.FirstSpans.{entry_span, first_span, plain_wording, same_wording, spec_wording}
+use Rattle.deny_cfg.specs.private.FirstSpans.{word_span}
+use Rattle.deny_cfg.specs.private.FirstSpans.{wording_cmp}
 use Rattle.deny_entries.specs.SpecView.{same_spec}
 use Rattle.deny_tables.specs.declared.bans.cfg.features.CrateFeatures.{CrateFeatures}
 use Rattle.deny_cfg.specs.declared.clash.ClashKind.{ClashKind}

@@ -14,8 +14,8 @@ use Rattle.deny_toml.specs.Apart.{AreApart, starts_in}
 use Rattle.deny_toml.specs.Calls.{below_name, table_in, value_at}
 use Rattle.deny_toml.specs.Ranges.{IsRange, StandsIn}
 use Rattle.deny_toml.specs.Value.{entries_in}
-use Rattle.deny_toml.specs.declared.value.Table.{Table}
-use Rattle.deny_toml.specs.declared.value.Value.{Value}
+use Rattle.deny_toml.specs.value.Table.{Table}
+use Rattle.deny_toml.specs.value.Value.{Value}
 use Rattle.deny_entries.specs.Apart.{reason_entry-apart}
 use Rattle.deny_tables.specs.Apart.{ban_entry-apart, feature_entry-apart, tree_skip_entry-apart}
 use Rattle.deny_entries.specs.Reasons.{ReadsReason, ReadsReasonKey, ReadsReasoned, reason_fields}
@@ -27,9 +27,11 @@ use Rattle.deny_entries.specs.Depends.{reason-depends}
 use Rattle.deny_tables.specs.Depends.{ban-depends, features-depend, tree_skip-depends}
 use Rattle.deny_entries.specs.Entry.{ReadsEntryKeys, ReadsSome}
 use Rattle.deny_tables.specs.Features.{ReadsCrateFeatures, ReadsFeatures, feature_fields, lists_in, nowhere}
-use Rattle.deny_cfg.specs.LabelRanges.{AreLabels, config_labels, crate_ban_ranges, crate_feature_ranges, joined}
+use Rattle.deny_cfg.specs.LabelRanges.{AreLabels, joined}
+use Rattle.deny_cfg.specs.private.LabelRanges.{config_labels, crate_ban_ranges, crate_feature_ranges}
 use Rattle.deny_cfg.specs.LabelRanges.{of_some, own_range, reason_range, root_ranges, std_ranges, with_spec}
-use Rattle.deny_cfg.specs.LabelRanges.{word_ranges, written_build_ranges}
+use Rattle.deny_cfg.specs.LabelRanges.{word_ranges}
+use Rattle.deny_cfg.specs.private.LabelRanges.{written_build_ranges}
 use Rattle.deny_entries.proofs.KeyLaws.{says_of}
 use Rattle.deny_entries.specs.PolicyKey.{name_of}
 use Rattle.deny_cfg.specs.PolicyText.{ReadsBans, bans_name}

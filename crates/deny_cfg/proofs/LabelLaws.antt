@@ -19,8 +19,8 @@ use Rattle.deny_toml.specs.Ranges as ranges
 use Rattle.deny_toml.specs.Ranges.{AllOfContent, AllOfEntries, AllOfValues, IsRange, KeyStands, StandsIn}
 use Rattle.deny_toml.specs.Ranges.{ValueStands}
 use Rattle.deny_toml.specs.Value.{entries_in}
-use Rattle.deny_toml.specs.declared.value.Table.{Table}
-use Rattle.deny_toml.specs.declared.value.Value.{Value}
+use Rattle.deny_toml.specs.value.Table.{Table}
+use Rattle.deny_toml.specs.value.Value.{Value}
 use Rattle.deny_cfg.specs.LabelRanges.{joined, of_some}
 use Rattle.deny_entries.specs.Table.{Entries, ReadsIn, ReadsIfThere, ReadsOr, ReadsTable}
 use Rattle.deny_entries.specs.Words.{ReadsList}

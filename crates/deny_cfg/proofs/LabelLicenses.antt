@@ -7,7 +7,7 @@ use Rattle.deny_spdx.specs.declared.requirement.Requirement.{Requirement}
 use Rattle.deny_toml.specs.Apart.{AreApart}
 use Rattle.deny_toml.specs.Calls.{below_name}
 use Rattle.deny_toml.specs.Ranges.{StandsIn}
-use Rattle.deny_toml.specs.declared.value.Value.{Value}
+use Rattle.deny_toml.specs.value.Value.{Value}
 use Rattle.deny_entries.specs.Depends.{keys-depend}
 use Rattle.deny_entries.specs.Entry.{ReadsEntryKeys}
 use Rattle.deny_entries.specs.Licence.{ReadsLicences}

@@ -22,10 +22,10 @@ use Rattle.deny_toml.specs.Calls.{Layer, bool_of, is_verbatim, layer_in, one_lin
 use Rattle.deny_toml.specs.Calls.{without}
 use Rattle.deny_toml.specs.Ranges.{IsRange, ScalarStands, ValueStands, bytes_in}
 use Rattle.deny_toml.specs.Value.{span_in, span_of}
-use Rattle.deny_toml.specs.declared.value.Content.TheOpen.{Content-F}
+use Rattle.deny_toml.specs.value.Content.TheOpen.{Content-F}
 use Rattle.deny_toml.specs.Scalar.{Scalar}
 use Rattle.deny_toml.specs.Scalar.TheVariants as scalar
-use Rattle.deny_toml.specs.declared.value.Value.{Value}
+use Rattle.deny_toml.specs.value.Value.{Value}
 use Rattle.deny_entries.specs.Reasons.{ReadsReason}
 use Rattle.deny_entries.specs.Entry.{ReadsEntry, ReadsEntryBy, ReadsEntryKeys, ReadsPair, entry_fields}
 use Rattle.deny_cfg.specs.LabelRanges.{of_some, own_range, reason_range, spec_range, word_ranges}

@@ -11,10 +11,13 @@ use Rattle.deny_model.specs.Policy.{Words}
 use Rattle.deny_toml.proofs.ApartParts.{AreDistinct}
 use Rattle.deny_toml.specs.Ranges.{IsRange}
 use Rattle.deny_cfg.specs.Clashes.{is_ban}
-use Rattle.deny_cfg.specs.LabelRanges.{AreLabels, ban_ranges, build_ranges, config_labels, crate_ban_ranges}
-use Rattle.deny_cfg.specs.LabelRanges.{crate_feature_ranges, feature_ranges, of_some, own_range, reason_range}
+use Rattle.deny_cfg.specs.LabelRanges.{AreLabels, ban_ranges, build_ranges}
+use Rattle.deny_cfg.specs.private.LabelRanges.{config_labels, crate_ban_ranges}
+use Rattle.deny_cfg.specs.LabelRanges.{of_some, own_range, reason_range}
+use Rattle.deny_cfg.specs.private.LabelRanges.{crate_feature_ranges}
+use Rattle.deny_cfg.specs.LabelRanges.{feature_ranges}
 use Rattle.deny_cfg.specs.LabelRanges.{root_ranges, spec_range, std_ranges, with_spec, word_labels, word_ranges}
-use Rattle.deny_cfg.specs.LabelRanges.{written_build_ranges}
+use Rattle.deny_cfg.specs.private.LabelRanges.{written_build_ranges}
 use Rattle.deny_cfg.specs.Valid.{IsValidOf, ban_of, features_of, is_multiple, krate_ban, older_key_of}
 use Rattle.deny_tables.specs.declared.bans.cfg.ban.CrateBanExtended.{CrateBanExtended}
 use Rattle.deny_tables.specs.declared.bans.cfg.config.Config.{Config}

@@ -7,7 +7,8 @@ use Rattle.deny_base.specs.declared.span.Spanned.{Spanned}
 use Rattle.deny_spdx.specs.declared.requirement.Requirement.{Requirement}
 use Rattle.deny_tables.specs.declared.licenses.config.Config.{Config}
 use Rattle.deny_tables.specs.declared.licenses.exception.Exception.{Exception}
-use Rattle.deny_cfg.specs.LabelRanges.{AreLabels, ban_ranges, build_ranges, exception_range, feature_ranges}
+use Rattle.deny_cfg.specs.LabelRanges.{AreLabels, ban_ranges, build_ranges, exception_range}
+use Rattle.deny_cfg.specs.LabelRanges.{feature_ranges}
 use Rattle.deny_cfg.specs.LabelRanges.{feature_ranges_by, licence_labels, licence_ranges, of_some, own_range}
 use Rattle.deny_cfg.specs.LabelRanges.{reason_range, root_ranges, spec_range, std_ranges, std_ranges_by, with_spec}
 use Rattle.deny_cfg.specs.LabelRanges.{word_labels, word_ranges}

@@ -3,7 +3,7 @@ use Rattle.std.proofs.Common.{◌≡◌, false, [], Option, None, Some, sym, ap,
 use Rattle.std.specs.List.{each_same}
 use Rattle.deny_base.specs.declared.level.LintLevel.TheVariants as level
 use Rattle.deny_spdx.specs.Meaning.{requirement_in}
-use Rattle.deny_toml.specs.declared.value.Value.{Value}
+use Rattle.deny_toml.specs.value.Value.{Value}
 use Rattle.deny_lists.proofs.Alike.{same_map}
 use Rattle.deny_entries.specs.Entry.{ReadsEntryKeys}
 use Rattle.deny_entries.specs.Licence.{ReadsLicences}

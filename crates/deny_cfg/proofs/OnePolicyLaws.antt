@@ -18,7 +18,7 @@ use Rattle.deny_toml.specs.declared.error.FaultKind.TheVariants.{Grammar}
 use Rattle.deny_toml.specs.declared.error.TomlKind.{TomlKind}
 use Rattle.deny_toml.specs.declared.error.TomlKind.TheVariants as toml
 use Rattle.deny_toml.specs.Expression.{Expression}
-use Rattle.deny_toml.specs.declared.value.Value.{Value}
+use Rattle.deny_toml.specs.value.Value.{Value}
 use Rattle.deny_toml.proofs.ParserLaws.{one_tree}
 use Rattle.deny_cfg.specs.Clashes.{clash_cmp, clash_told, kind_number}
 use Rattle.deny_cfg.specs.Deprecated.{warnings_by}

@@ -11,7 +11,7 @@ use Rattle.deny_base.specs.declared.files.File.{File}
 use Rattle.deny_base.specs.declared.finding.Diagnostic.{Diagnostic}
 use Rattle.deny_base.specs.declared.span.Span.{Span}
 use Rattle.deny_model.specs.Keys.{no_span}
-use Rattle.deny_toml.proofs.FaultLaws.{single_ascends}
+use Rattle.deny_toml.proofs.FaultLaws.{reports_these, single_ascends}
 use Rattle.deny_toml.specs.Faults.{Reports, fault_at}
 use Rattle.deny_toml.specs.Parser.{IsFaultOf, IsTreeOf}
 use Rattle.deny_toml.specs.Ranges.{IsRange}
@@ -19,14 +19,16 @@ use Rattle.deny_toml.specs.declared.error.ConfigFault.{ConfigFault}
 use Rattle.deny_toml.specs.declared.error.DeserError.TheVariants as deser
 use Rattle.deny_toml.specs.declared.error.FaultKind.TheVariants as kind
 use Rattle.deny_toml.specs.declared.error.TomlKind.{TomlKind}
-use Rattle.deny_toml.specs.declared.value.Value.{Value}
+use Rattle.deny_toml.specs.value.Value.{Value}
 use Rattle.deny_cfg.specs.Clashes.{AreClashes, IsClash, clash_cmp, clash_told}
-use Rattle.deny_cfg.specs.PolicyText.{AddsFiles, AddsOnError, AreFaults, IsConfig, IsNoPolicy, Keeps, KeepsOnError}
+use Rattle.deny_cfg.specs.PolicyText.{AddsFiles, AreFaults, IsNoPolicy, Keeps, KeepsOnError}
+use Rattle.deny_cfg.specs.private.PolicyText.{AddsOnError, IsConfig}
 use Rattle.deny_cfg.specs.PolicyText.{ListsFaults, faults_of_tree, globs_files, kind_of, policy_file, policy_files}
 use Rattle.deny_cfg.specs.PolicyText.AreFaults.{not_utf8, no_toml, of_tree}
 use Rattle.deny_lists.specs.Ascending.{Lists}
 use Rattle.deny_lists.specs.Prefix.{Gains, GainsPrefix, GainsPrefixOf}
-use Rattle.deny_cfg.specs.Deprecated.{AreTold, warnings_of}
+use Rattle.deny_cfg.specs.Deprecated.{warnings_of}
+use Rattle.deny_cfg.specs.private.Deprecated.{AreTold}
 use Rattle.deny_tables.specs.declared.bans.cfg.config.Config.{Config}
 use Rattle.deny_cfg.specs.declared.clash.Clash.{Clash}
 use Rattle.deny_cfg.specs.PolicyView.{builtin_file_of}
@@ -60,8 +62,9 @@ pub tree_listed : (text : List ℕ) (v : Value) (faults : List ConfigFault) → 
     → Reports (faults_of_tree v) (deser.Faults faults)
     → ListsFaults text faults
 tree_listed text v faults utf8 tree reported =
-    subst (ListsFaults text) (sym reported.0) record
-    { are = of_tree v utf8 tree; some = reported.1; ascending = reported.2 }
+    let these = reports_these (faults_of_tree v) faults reported in
+    subst (ListsFaults text) (sym these.0) record
+    { are = of_tree v utf8 tree; some = these.1; ascending = these.2 }
 
 nothing_mapped : {A B : Type 0} (f : A → B) (xs : List A) → map f xs ≡ [] → xs ≡ []
 nothing_mapped f [] e = refl

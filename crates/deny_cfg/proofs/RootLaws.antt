@@ -9,8 +9,8 @@ use Rattle.deny_toml.specs.TableHelper.{optional_faults}
 use Rattle.deny_toml.specs.TableHelper as helper
 use Rattle.deny_toml.specs.Value.{entries_in, table_with}
 use Rattle.deny_toml.specs.declared.error.ConfigFault.{ConfigFault}
-use Rattle.deny_toml.specs.declared.value.Table.{Table}
-use Rattle.deny_toml.specs.declared.value.Value.{Value}
+use Rattle.deny_toml.specs.value.Table.{Table}
+use Rattle.deny_toml.specs.value.Value.{Value}
 use Rattle.deny_entries.proofs.TableLaws.{none_first, none_rest, optional_read, read_in, value_at-without}
 use Rattle.deny_entries.specs.Table.{Entries, ReadsIn, ReadsIfThere, ReadsTable}
 use Rattle.deny_tables.specs.Config.{ReadsConfig, faults_of_config}

@@ -19,8 +19,8 @@ use Rattle.deny_toml.specs.Calls.{array_in, below_name, table_in, text_in}
 use Rattle.deny_toml.specs.Deserialize.{ReadsArray, ReadsEach}
 use Rattle.deny_toml.specs.Ranges.{IsRange, StandsIn}
 use Rattle.deny_toml.specs.Value.{entries_in}
-use Rattle.deny_toml.specs.declared.value.Table.{Table}
-use Rattle.deny_toml.specs.declared.value.Value.{Value}
+use Rattle.deny_toml.specs.value.Table.{Table}
+use Rattle.deny_toml.specs.value.Value.{Value}
 use Rattle.deny_build_cfg.specs.declared.wrong.BuildFault.{BuildFault}
 use Rattle.deny_build_cfg.specs.declared.wrong.BuildFault.TheVariants as fault
 use Rattle.deny_tables.specs.declared.bans.cfg.build.BuildConfig.{BuildConfig}
@@ -30,9 +30,11 @@ use Rattle.deny_cfg.specs.Clashes.{clash_told, clash_with, clashes_in, feature_a
 use Rattle.deny_cfg.specs.Clashes.{is_ban, label_of, one_label, specs_of, two_spans, wrappers_clash, wrappers_clash_by}
 use Rattle.deny_tables.specs.Config.{ReadsConfig}
 use Rattle.deny_entries.specs.Entry.{ReadsEntryBy, ReadsPair, ReadsSome}
-use Rattle.deny_cfg.specs.LabelRanges.{AreLabels, config_labels, crate_ban_ranges, crate_feature_ranges, list_ranges}
+use Rattle.deny_cfg.specs.LabelRanges.{AreLabels}
+use Rattle.deny_cfg.specs.private.LabelRanges.{config_labels, crate_ban_ranges, crate_feature_ranges, list_ranges}
 use Rattle.deny_cfg.specs.LabelRanges.{of_some, own_range, reason_range, root_ranges, std_ranges, told_ranges}
-use Rattle.deny_cfg.specs.LabelRanges.{with_spec, word_ranges, wrapper_list, written_build_ranges}
+use Rattle.deny_cfg.specs.LabelRanges.{with_spec, word_ranges}
+use Rattle.deny_cfg.specs.private.LabelRanges.{wrapper_list, written_build_ranges}
 use Rattle.deny_cfg.specs.PolicyText.{ReadsBans, bans_name}
 use Rattle.deny_entries.proofs.KeyLaws.{says_of}
 use Rattle.deny_entries.specs.PolicyKey.{name_of}

@@ -1,5 +1,5 @@
 -- What is told of the older key that stands for the table `build`.
-use Rattle.std.specs.Prelude.{◌≡◌, ◌++◌, ℕ, List, [], ◌∷◌, Option, Some, codes}
+use Rattle.std.specs.Prelude.{◌++◌, ℕ, List, [], ◌∷◌, Option, Some, codes}
 use Rattle.std.specs.Option.{option_map_or}
 use Rattle.deny_base.specs.declared.code.DiagnosticCode.TheVariants as code
 use Rattle.deny_base.specs.declared.finding.Diagnostic.{Diagnostic}
@@ -7,7 +7,7 @@ use Rattle.deny_base.specs.declared.label.LabelStyle.TheVariants.{Primary}
 use Rattle.deny_base.specs.declared.level.Severity.TheVariants.{Warning}
 use Rattle.deny_base.specs.declared.span.Span.{Span}
 use Rattle.deny_tables.specs.declared.bans.cfg.config.Config.{Config}
-use Rattle.deny_cfg.specs.Clashes.{AreClashes, label_of}
+use Rattle.deny_cfg.specs.Clashes.{label_of}
 use Rattle.deny_cfg.specs.Valid.{older_key_of}
 
 unfoldable pub deprecated_told : ℕ → Span → Diagnostic
@@ -26,9 +26,3 @@ warnings_by file older_key = option_map_or (λ range. deprecated_told file range
 
 abbrev pub warnings_of : ℕ → Config → List Diagnostic
 warnings_of file config = warnings_by file (older_key_of config)
-
--- what is told of a configuration that is read from the text: its clashes, and behind them its warnings
-pub record AreTold (source : List ℕ) (config : Config) (file : ℕ) (told : List Diagnostic) : Type 0 where
-  pub clashes : List Diagnostic
-  pub are : AreClashes source config file clashes
-  pub is : told ≡ clashes ++ warnings_of file config

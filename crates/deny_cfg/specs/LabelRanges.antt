@@ -10,12 +10,8 @@ use Rattle.deny_build_cfg.specs.declared.pattern.GlobPattern.{GlobPattern}
 use Rattle.deny_build_cfg.specs.declared.pattern.GlobPattern.TheVariants.{Builtin, User}
 use Rattle.deny_build_cfg.specs.declared.valid.ValidBuildConfig.{ValidBuildConfig}
 use Rattle.deny_build_cfg.specs.declared.valid.ValidBypass.{ValidBypass}
-use Rattle.deny_tables.specs.declared.bans.cfg.ban.CrateBanExtended.{CrateBanExtended}
-use Rattle.deny_tables.specs.declared.bans.cfg.build.BuildConfig.{BuildConfig}
-use Rattle.deny_tables.specs.declared.bans.cfg.bypass.Bypass.{Bypass}
 use Rattle.deny_tables.specs.declared.bans.cfg.bypass.BypassPath.{BypassPath}
 use Rattle.deny_tables.specs.declared.bans.cfg.config.Config.{Config}
-use Rattle.deny_tables.specs.declared.bans.cfg.features.CrateFeatures.{CrateFeatures}
 use Rattle.deny_tables.specs.declared.bans.cfg.std_replacements.StdReplacementConfig.{StdReplacementConfig}
 use Rattle.deny_tables.specs.declared.bans.cfg.tree_skip.TreeSkipExtended.{TreeSkipExtended}
 use Rattle.deny_tables.specs.declared.licenses.config.Config as licenses
@@ -122,53 +118,6 @@ ranges_by bans reasons trees cfg = joined (
 unfoldable pub word_labels : ValidConfig → List Span
 word_labels cfg = ranges_by ban_ranges reason_range root_ranges cfg
 
--- the same of a configuration as it is written, where an entry of `deny` may have a flag
-abbrev pub crate_ban_ranges : CrateBanExtended → List Span
-crate_ban_ranges said = joined (
-    of_some (λ wrappers. word_ranges wrappers.value) said.wrappers
-    ∷ of_some own_range said.deny_multiple_versions
-    ∷ of_some reason_range said.reason
-    ∷ of_some own_range said.use_instead
-    ∷ []
-    )
-
-abbrev pub crate_feature_ranges : CrateFeatures → List Span
-crate_feature_ranges f =
-    spec_range f.spec ++ joined (word_ranges f.allow.value ∷ word_ranges f.deny ∷ of_some reason_range f.reason ∷ [])
-
-abbrev pub written_bypass_ranges : Bypass → List Span
-written_bypass_ranges bypass =
-    spec_range bypass.spec
-    ++ joined (
-    of_some own_range bypass.build_script
-    ∷ word_ranges bypass.required_features
-    ∷ of_some word_ranges bypass.allow_globs
-    ∷ flat_map path_ranges bypass.allow
-    ∷ []
-    )
-
-abbrev pub written_build_ranges : BuildConfig → List Span
-written_build_ranges build =
-    joined (
-    of_some word_ranges build.script_extensions
-    ∷ of_some (flat_map written_bypass_ranges) build.bypass
-    ∷ []
-    )
-
-unfoldable pub config_labels : Config → List Span
-config_labels config = joined (
-    flat_map (with_spec crate_ban_ranges) config.deny
-    ∷ flat_map (with_spec reason_range) config.allow
-    ∷ of_some own_range config.external_default_features
-    ∷ of_some own_range config.workspace_default_features
-    ∷ flat_map crate_feature_ranges config.features
-    ∷ flat_map (with_spec reason_range) config.skip
-    ∷ flat_map (with_spec root_ranges) config.skip_tree
-    ∷ of_some std_ranges config.std_replacements
-    ∷ of_some written_build_ranges config.build
-    ∷ []
-    )
-
 abbrev pub exception_range : Exception → List Span
 exception_range e = spec_range e.spec
 
@@ -183,14 +132,6 @@ licence_ranges licensing = of_some licence_labels licensing
 pub record AreLabels (text : List ℕ) (spans : List Span) : Type 0 where
   pub located : All (IsRange text) spans
   pub apart : AllPairs (λ one other. one.start ≢ other.start) spans
-
--- of the list of wrappers of an entry of `deny`
-abbrev pub wrapper_list : PackageSpecOrExtended CrateBanExtended → List Span
-wrapper_list e = of_some (λ said. of_some own_range said.wrappers) e.inner
-
--- and of the list that may stand for the table `build`
-unfoldable pub list_ranges : Config → List Span
-list_ranges config = flat_map wrapper_list config.deny ++ of_some own_range config.allow_build_scripts
 
 -- of the older key that stands for the table `build`
 abbrev pub older_range : ValidConfig → List Span

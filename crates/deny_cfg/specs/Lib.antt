@@ -1,6 +1,5 @@
 pub mod Clashes
 pub mod Deprecated
-pub mod FirstSpans
 pub mod LabelRanges
 pub mod Lawful
 pub mod LicensingView
@@ -8,6 +7,7 @@ pub mod PolicyText
 pub mod PolicyView
 pub mod Valid
 pub mod Validating
+pub mod private
 pub use Rattle.deny_build_cfg.specs.BuildingView
 pub use Rattle.deny_entries.specs.Entry
 pub use Rattle.deny_entries.specs.PolicyKey

@@ -15,7 +15,7 @@ use Rattle.deny_toml.specs.declared.error.FaultKind.{FaultKind}
 use Rattle.deny_toml.specs.declared.error.FaultKind.TheVariants as kind
 use Rattle.deny_toml.specs.declared.error.TomlKind.{TomlKind}
 use Rattle.deny_toml.specs.declared.error.TomlKind.TheVariants as toml
-use Rattle.deny_toml.specs.declared.value.Value.{Value}
+use Rattle.deny_toml.specs.value.Value.{Value}
 use Rattle.deny_cfg.specs.Clashes.{AreClashes, IsClash}
 use Rattle.deny_cfg.specs.Deprecated.{warnings_of}
 use Rattle.deny_tables.specs.Config.{ReadsConfig, faults_of_config}
@@ -105,12 +105,6 @@ IsNoPolicy text file (error.Config faults) = ListsFaults text faults
 IsNoPolicy text file (error.Invalid told) = TellsClashes text file told
 IsNoPolicy text file error.Memory = ⊤
 
--- faults like these, or want of memory
-abbrev pub IsConfig : (List ConfigFault → Type 0) → PolicyError → Type 0
-IsConfig P (error.Config faults) = P faults
-IsConfig P (error.Invalid told) = ⊥
-IsConfig P error.Memory = ⊤
-
 -- the policy's text is a file of this name
 abbrev pub policy_file : List ℕ → File
 policy_file text = record { path = codes "deny.toml"; source = text }
@@ -139,12 +133,6 @@ pub record AddsFiles (text : List ℕ) (old new : List File) : Type 0 where
 -- both: the text is put behind the other files, and then what it asks for
 abbrev pub KeepsAll : List ℕ → List File → List File → Type 0
 KeepsAll text old new = AddsFiles text (old ++ policy_file text ∷ []) new
-
--- where the text has no policy: with faults it adds nothing; where memory is wanting, it may have added nothing
-abbrev pub AddsOnError : PolicyError → List ℕ → List File → List File → Type 0
-AddsOnError (error.Config faults) text old new = new ≡ old
-AddsOnError (error.Invalid told) text old new = AddsFiles text old new
-AddsOnError error.Memory text old new = (new ≡ old) ⊎ AddsFiles text old new
 
 -- also where the text then has no policy; where memory is wanting, the files may be as they were
 abbrev pub KeepsOnError : PolicyError → List ℕ → List File → List File → Type 0

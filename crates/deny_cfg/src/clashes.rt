@@ -7,7 +7,7 @@ ghost use Rattle.deny_cfg.specs.Clashes.{IsBuildClash, IsClash, build_clash, cla
 ghost use Rattle.deny_cfg.specs.Clashes.{clash_with, clashes_in, feature_clashes};
 ghost use Rattle.deny_cfg.specs.Clashes.{is_ban, specs_of, two_spans, wrappers_clash, wrappers_clash_by};
 ghost use Rattle.deny_cfg.specs.Clashes as spec;
-ghost use Rattle.deny_cfg.specs.FirstSpans.{first_span, plain_wording, spec_wording};
+ghost use Rattle.deny_cfg.specs.private.FirstSpans.{first_span, plain_wording, spec_wording};
 
 use crate::clash::{Clash, ClashKind, clash_order};
 use crate::first_spans::{FirstSpans, Wording};
@@ -48,7 +48,7 @@ fn flag_clash(flag: &Spanned<bool>, wrappers: &Spanned<List<Spanned<Text>>>) -> 
     })
 }
 
-fn clash_within(said: &CrateBanExtended) -> Option<Clash>
+fn extended_clash(said: &CrateBanExtended) -> Option<Clash>
     ensures { result ≡ wrappers_clash_by said.now.deny_multiple_versions said.now.wrappers }
 {
     match &said.deny_multiple_versions {
@@ -66,7 +66,7 @@ fn wrappers_clash(entry: &CrateBan) -> Option<Clash>
     ensures { result ≡ wrappers_clash entry.now }
 {
     match &entry.inner {
-        Some(said) => clash_within(said),
+        Some(said) => extended_clash(said),
         None => None,
     }
 }
@@ -253,7 +253,11 @@ fn add_build_clashes(
 }
 
 /// What clashes in a configuration that is read from the text, in order, each once.
-pub fn clashes_of(alloc: Global, source: &str, config: &Config) -> Result<List<Clash>, NoMemory>
+pub fn ordered_clashes(
+    alloc: Global,
+    source: &str,
+    config: &Config,
+) -> Result<List<Clash>, NoMemory>
     ensures { IfOk result (Lists clash_cmp (IsClash source.now config.now)) }
 {
     let mut clashes = clashes_in(alloc, config)?;

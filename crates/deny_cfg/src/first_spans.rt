@@ -1,8 +1,8 @@
 //! Spans by what stands there, of equal things the first.
 ghost use Rattle.std.specs.Prelude.{◌≡◌, [], IfOk, OnOk, is_some, map, not};
 ghost use Rattle.deny_lists.specs.First.{FindsFirst, GainsEntry};
-ghost use Rattle.deny_cfg.specs.FirstSpans.{entry_span, first_span, plain_wording};
-ghost use Rattle.deny_cfg.specs.FirstSpans.{same_wording, spec_wording, word_span};
+ghost use Rattle.deny_cfg.specs.private.FirstSpans.{entry_span, first_span, plain_wording};
+ghost use Rattle.deny_cfg.specs.private.FirstSpans.{same_wording, spec_wording, word_span};
 
 use deny_base::{Span, Spanned};
 use deny_entries::PackageSpec;

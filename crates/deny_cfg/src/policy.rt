@@ -10,10 +10,13 @@ ghost use Rattle.deny_toml.specs.TableHelper.{optional_faults};
 ghost use Rattle.deny_tables.specs.Config.{faults_of_config};
 ghost use Rattle.deny_tables.specs.Licenses.{faults_of_licenses};
 ghost use Rattle.deny_cfg.specs.Deprecated.{warnings_of};
-ghost use Rattle.deny_cfg.specs.LabelRanges.{AreLabels, config_labels, licence_ranges};
-ghost use Rattle.deny_cfg.specs.LabelRanges.{list_ranges, older_range, word_labels};
+ghost use Rattle.deny_cfg.specs.LabelRanges.{AreLabels, licence_ranges};
+ghost use Rattle.deny_cfg.specs.private.LabelRanges.{config_labels};
+ghost use Rattle.deny_cfg.specs.LabelRanges.{older_range, word_labels};
+ghost use Rattle.deny_cfg.specs.private.LabelRanges.{list_ranges};
 ghost use Rattle.deny_cfg.specs.Lawful.{IsLawful, IsLawfulLicensing};
-ghost use Rattle.deny_cfg.specs.PolicyText.{AddsOnError, IsConfig, IsNoPolicy, IsPolicyOf, KeepsOnError, ListsFaults};
+ghost use Rattle.deny_cfg.specs.PolicyText.{IsNoPolicy, IsPolicyOf, KeepsOnError, ListsFaults};
+ghost use Rattle.deny_cfg.specs.private.PolicyText.{AddsOnError, IsConfig};
 ghost use Rattle.deny_cfg.specs.PolicyText.{ReadsBans, ReadsLicensing, Says, bans_name, faults_of_tree, globs_files};
 ghost use Rattle.deny_cfg.specs.PolicyText.{kind_of, licenses_name, policy_files};
 ghost use Rattle.deny_cfg.specs.PolicyView.{builtin_file_of};
@@ -144,12 +147,12 @@ fn read_tables(alloc: Global, tree: &mut Value<'_>) -> Result<Tables, DeserError
         return Ok(Tables::none(alloc));
     }
     let mut root = TableHelper::new(alloc, tree)?;
-    let tables = tables_in(alloc, &mut root)?;
+    let tables = tables_in_root(alloc, &mut root)?;
     tables_or_faults(tables, root.faults)
 }
 
 /// What the tables of a root say, whose faults it keeps.
-fn tables_in(alloc: Global, root: &mut TableHelper<'_>) -> Result<Tables, NoMemory>
+fn tables_in_root(alloc: Global, root: &mut TableHelper<'_>) -> Result<Tables, NoMemory>
     ensures bans { IfOk result (λ tables.
         optional_faults faults_of_config bans_name (value_at bans_name root.old.entries) ≡ []
         → ReadsBans (value_at bans_name root.old.entries) tables.bans) }

@@ -28,13 +28,16 @@ use Rattle.deny_gate.specs.declared.report.Report.{Report}
 use Rattle.deny_cli.specs.Causes.{known_files, known_texts, made_texts, texts_at, IsShort, IsFirstLong, IsLongThere}
 use Rattle.deny_cli.specs.Causes.{IsReadIfNamed, IsPolicyAt, AreTextsOf, AreTold, IsReportOfWords, IsStopOn, IsLongOn}
 use Rattle.deny_cli.specs.Causes.{IsReadFault, IsRefusedRun, IsValidRun, IsHeadlineOn, CanDoWithoutDeadOn, IsReadable}
-use Rattle.deny_cli.specs.Causes.{IsTextOfClashes, ComesBy, StopsCommand}
+use Rattle.deny_cli.specs.Causes.{IsTextOfClashes, ComesBy}
+use Rattle.deny_cli.specs.private.Causes.{StopsCommand}
 use Rattle.deny_cli.specs.Outcome.{AreOneStop, IfDone, IfReported, IsUsage, IsDoneOrMemory, IsStopOrMemory, bits_of}
 use Rattle.deny_cli.specs.Outcome.{failing_bits, status_of}
-use Rattle.deny_cli.specs.Outputs.{FailsWriting, LeavesOut, WritesReport}
-use Rattle.deny_cli.specs.Stops.{IsTextOf}
+use Rattle.deny_cli.specs.Outputs.{FailsWriting, LeavesOut}
+use Rattle.deny_cli.specs.private.Outputs.{WritesReport}
+use Rattle.deny_cli.specs.private.Stops.{IsTextOf}
 use Rattle.deny_cli.specs.Summary.{answer_lines, lines_for}
-use Rattle.deny_cli.specs.Words.{Command, check, generate, Asks, AsksForFew, IsAccepted, most_crates}
+use Rattle.deny_cli.specs.Words.{Command, check, generate, Asks, IsAccepted, most_crates}
+use Rattle.deny_cli.specs.private.Words.{AsksForFew}
 use Rattle.deny_cli.proofs.WordsLemmas.{asks_for_few, one_command}
 use Rattle.deny_cli.specs.declared.outcome.Outcome.{Outcome}
 use Rattle.deny_cli.specs.declared.outcome.Outcome.TheVariants.{Done, Usage, Read, Long, Gate, Write, Memory}

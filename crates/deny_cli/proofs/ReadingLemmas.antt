@@ -8,7 +8,8 @@ use Rattle.deny_base.specs.declared.check.Which.TheVariants.{Policy, Metadata, R
 use Rattle.deny_outside.specs.declared.disk.Call.TheVariants as call
 use Rattle.deny_gate.specs.Gating.{Texts}
 use Rattle.deny_cli.specs.Causes.{AreShortBefore, IsAskedFor, IsFaultAt, IsFirstLong, IsLong, IsLongAt, IsLongThere}
-use Rattle.deny_cli.specs.Causes.{IsReadAt, IsReadIfNamed, IsReadStop, IsShort, StopsCommand, known_texts, texts_at}
+use Rattle.deny_cli.specs.Causes.{IsReadAt, IsReadIfNamed, IsShort, known_texts, texts_at}
+use Rattle.deny_cli.specs.private.Causes.{IsReadStop, StopsCommand}
 use Rattle.deny_cli.specs.Words.{Asked, check, path_of}
 use Rattle.deny_cli.specs.declared.outcome.Outcome.{Outcome}
 use Rattle.deny_cli.specs.declared.outcome.Outcome.TheVariants.{Done, Usage, Read, Long, Gate, Write, Memory}

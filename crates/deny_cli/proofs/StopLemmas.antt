@@ -10,7 +10,8 @@ use Rattle.deny_json.specs.Reading.{AreJsonLines, AreShort, IsPlain, MembersAreP
 use Rattle.deny_json.proofs.PlainLemmas.{diagnostic_plain, each_told}
 use Rattle.deny_toml.specs.declared.error.ConfigFault.{ConfigFault}
 use Rattle.deny_gate.specs.declared.report.GateError.TheVariants as gate
-use Rattle.deny_cli.specs.Stops.{HasSpan, HasStopNumbers, IsTextOf, fault_value, stop_fields, stop_line, stop_told}
+use Rattle.deny_cli.specs.Stops.{fault_value, stop_fields, stop_line, stop_told}
+use Rattle.deny_cli.specs.private.Stops.{HasSpan, HasStopNumbers, IsTextOf}
 use Rattle.deny_cli.specs.declared.outcome.Outcome.{Outcome}
 use Rattle.deny_cli.specs.declared.outcome.Outcome.TheVariants.{Done, Usage, Read, Long, Gate, Write, Memory}
 use Rattle.deny_cli.proofs.ToldLemmas.{json_line}

@@ -13,7 +13,7 @@ use Rattle.deny_base.specs.declared.span.Kid.{Kid}
 use Rattle.deny_krates.specs.Ids.{crate_of}
 use Rattle.deny_model.specs.Graph.{Crate, Graph}
 use Rattle.deny_trees.specs.Shown.{graphs_shown}
-use Rattle.deny_json.specs.Lines.{diag_line, line, line_with}
+use Rattle.deny_json.specs.Lines.{diag_line, line, line_with_graphs}
 use Rattle.deny_json.specs.Reading.{AreJsonLines, AreShort, IsPlain}
 use Rattle.deny_json.proofs.NewlineLemmas.{json_lines}
 use Rattle.deny_json.proofs.PlainLemmas.{labels_counted}
@@ -27,7 +27,8 @@ use Rattle.deny_cli.specs.Lines.{dead_line, finding_line, lines, malformed_line,
 use Rattle.deny_cli.specs.Lines.{verdict_value}
 use Rattle.deny_cli.specs.Outcome.{IfReported, bits_of}
 use Rattle.deny_cli.specs.Summary.{lines_for, report_summary, summary_line, summary_value}
-use Rattle.deny_cli.specs.Told.{AreNumbers, HasNumbers, IsCounted, answer_told, finding_told, told, told_for}
+use Rattle.deny_cli.specs.Told.{AreNumbers, HasNumbers, answer_told, finding_told, told, told_for}
+use Rattle.deny_cli.specs.private.Told.{IsCounted}
 use Rattle.deny_cli.specs.Unread.{malformed_value, named_crate, unread_value, wanted_for}
 use Rattle.deny_cli.specs.Words.{Command, check, generate}
 use Rattle.deny_cli.specs.declared.outcome.Outcome.{Outcome}
@@ -48,7 +49,7 @@ lines_and f xs others text is =
     flat_map-append line (map f xs) others ∙ ap₂ (λ (a b : List ℕ). a ++ b) (lines_of f xs) is
 
 told_by : (report : Report) → lines report ≡ flat_map line (told report)
-unfolding lines finding_line dead_line unread_line malformed_line verdict_line diag_line line_with
+unfolding lines finding_line dead_line unread_line malformed_line verdict_line diag_line line_with_graphs
 told_by report =
     sym (lines_and (finding_told report.files report.krates) report.findings _ _
     (lines_and dead_value report.dead _ _

@@ -13,7 +13,8 @@ use Rattle.std.proofs.lemmas.Bool.{leb-true}
 use Rattle.std.proofs.lemmas.Option.{none-some}
 use Rattle.deny_workspace.specs.declared.registries.Registry.{Registry}
 use Rattle.deny_cli.specs.Registries.{registries_in}
-use Rattle.deny_cli.specs.Words.{AskedSoFar, AsksForFew, Command, Form, begun, nothing, checking, check_of, generate}
+use Rattle.deny_cli.specs.Words.{AskedSoFar, Command, Form, begun, nothing, checking, check_of, generate}
+use Rattle.deny_cli.specs.private.Words.{AsksForFew}
 use Rattle.deny_cli.specs.Words.{generating, generating_some, count_of, is_plain, leads_with_zero, most_crates}
 use Rattle.deny_cli.specs.Words.{names_file, path_added, step, filled, command_of, asked_by, Asks, IsAccepted, GoesOn}
 use Rattle.deny_cli.specs.Words.{IsUsageAt, option_added, texts}

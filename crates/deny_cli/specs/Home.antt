@@ -3,9 +3,9 @@ use Rattle.std.specs.Prelude.{ℕ, ◌==◌, List, Option, Some, None, codes, le
 use Rattle.deny_cli.specs.Options.{behind}
 
 -- it is not empty
-abbrev pub home_by : List ℕ → Option (List ℕ)
-home_by path = if length path == 0 then None else Some path
+abbrev pub nonempty_home : List ℕ → Option (List ℕ)
+nonempty_home path = if length path == 0 then None else Some path
 
 -- the home of `--home=PATH`
 unfoldable pub home_of : List ℕ → Option (List ℕ)
-home_of word = option_and_then home_by (behind (codes "--home=") word)
+home_of word = option_and_then nonempty_home (behind (codes "--home=") word)

@@ -1,5 +1,4 @@
 pub mod Causes
-pub mod Commands
 pub mod Dead
 pub mod Home
 pub mod Lines
@@ -12,3 +11,4 @@ pub mod Summary
 pub mod Told
 pub mod Unread
 pub mod Words
+pub mod private

@@ -3,10 +3,9 @@
 use Rattle.std.specs.Prelude.{◌≡◌, ◌⊎◌, ℕ, List, [], ◌∷◌, Option}
 use Rattle.deny_outside.specs.Count.{Rose}
 use Rattle.deny_outside.specs.Out.{Appends, AppendsPrefix}
-use Rattle.deny_gate.specs.declared.report.Report.{Report}
 use Rattle.deny_json.specs.Reading.{AreJsonLines}
 use Rattle.deny_cli.specs.Stops.{stop_line, stop_told, memory_line}
-use Rattle.deny_cli.specs.Summary.{answer_lines, lines_for}
+use Rattle.deny_cli.specs.Summary.{lines_for}
 use Rattle.deny_cli.specs.Words.{Command}
 use Rattle.deny_cli.specs.declared.outcome.Outcome.{Outcome}
 use Rattle.deny_cli.specs.declared.outcome.Outcome.TheVariants.{Done, Usage, Read, Long, Gate, Write, Memory}
@@ -50,17 +49,3 @@ LeavesErr written faults old new (Long which) policy = TellsStop written faults 
 LeavesErr written faults old new (Gate error) policy = TellsStop written faults old new (Gate error) policy
 LeavesErr written faults old new (Write report) policy = TellsStop written faults old new (Write report) policy
 LeavesErr written faults old new Memory policy = TellsStop written faults old new Memory policy
-
--- ---- for a private clause
-
--- writing what the command tells of the report comes to this
-abbrev pub WritesReport : {W : Type 0} → (W → Option (List ℕ)) → (W → ℕ) → W → W → Command → Report → Outcome → Type 0
-WritesReport written faults old new command report (Done told) = (told ≡ report)
-    × Appends (written old) (written new) (answer_lines command report)
-WritesReport written faults old new command report (Usage at) = ⊥
-WritesReport written faults old new command report (Read which) = ⊥
-WritesReport written faults old new command report (Long which) = ⊥
-WritesReport written faults old new command report (Gate error) = ⊥
-WritesReport written faults old new command report (Write told) = (told ≡ report)
-    × FailsWriting written faults old new (answer_lines command report)
-WritesReport written faults old new command report Memory = new ≡ old

@@ -10,13 +10,13 @@ abbrev pub is_equals_sign : ℕ → Bool
 is_equals_sign byte = byte == 61
 
 -- neither the name nor the address is empty
-abbrev pub registry_by : List ℕ → List ℕ → Option Registry
-registry_by name address =
+abbrev pub nonempty_registry : List ℕ → List ℕ → Option Registry
+nonempty_registry name address =
     if length name == 0 || length address == 0 then None else Some (record { name = name; address = address })
 
 -- `NAME=ADDRESS`: the first `=` divides them, so that a name has none
 abbrev pub named_by : List ℕ → Option Registry
-named_by text = registry_by (before_first is_equals_sign text) (after_first is_equals_sign text)
+named_by text = nonempty_registry (before_first is_equals_sign text) (after_first is_equals_sign text)
 
 -- the registry that an option names: `--registry=NAME=ADDRESS`
 unfoldable pub registry_of : List ℕ → Option Registry

@@ -1,5 +1,5 @@
 -- The line that tells why a run stopped.
-use Rattle.std.specs.Prelude.{ℕ, ◌<◌, ◌^◌, List, [], ◌∷◌, All, IsUtf8, codes, length, map, ⊤}
+use Rattle.std.specs.Prelude.{ℕ, List, [], ◌∷◌, codes, map}
 use Rattle.serde_json.specs.Data.{Data, array, string, number, unsigned, object, Members, member, no_members}
 use Rattle.serde_json.specs.View.{items_of}
 use Rattle.deny_base.specs.declared.check.Which.{Which}
@@ -123,37 +123,3 @@ stop_line policy outcome = line (stop_told policy outcome)
 -- the line that tells that memory ran out
 unfoldable pub memory_line : List ℕ
 memory_line = line (tells (codes "stop") (stop_word (codes "memory")))
-
--- ---- for private clauses
-
--- where entries of the policy clash, these bytes are a text, and not long
-abbrev pub IsTextOf : Outcome → List ℕ → Type 0
-IsTextOf (Done report) policy = ⊤
-IsTextOf (Usage at) policy = ⊤
-IsTextOf (Read which) policy = ⊤
-IsTextOf (Long which) policy = ⊤
-IsTextOf (Gate (gate.Config faults)) policy = ⊤
-IsTextOf (Gate (gate.Invalid told)) policy = IsUtf8 policy × length policy < 2 ^ 28
-IsTextOf (Gate (gate.Metadata fault)) policy = ⊤
-IsTextOf (Gate (gate.Replacement at)) policy = ⊤
-IsTextOf (Gate gate.Memory) policy = ⊤
-IsTextOf (Write report) policy = ⊤
-IsTextOf Memory policy = ⊤
-
--- the range of a fault is told by numbers of 64 bits
-abbrev pub HasSpan : ConfigFault → Type 0
-HasSpan fault = (fault.span.start < 2 ^ 64) × (fault.span.end < 2 ^ 64)
-
--- the numbers that tell why a run stopped have 64 bits; those of labels are lines and columns of the policy
-abbrev pub HasStopNumbers : Outcome → Type 0
-HasStopNumbers (Done report) = ⊤
-HasStopNumbers (Usage at) = at < 2 ^ 64
-HasStopNumbers (Read which) = ⊤
-HasStopNumbers (Long which) = ⊤
-HasStopNumbers (Gate (gate.Config faults)) = All HasSpan faults
-HasStopNumbers (Gate (gate.Invalid told)) = ⊤
-HasStopNumbers (Gate (gate.Metadata fault)) = ⊤
-HasStopNumbers (Gate (gate.Replacement at)) = at < 2 ^ 64
-HasStopNumbers (Gate gate.Memory) = ⊤
-HasStopNumbers (Write report) = ⊤
-HasStopNumbers Memory = ⊤

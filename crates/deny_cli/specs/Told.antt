@@ -6,7 +6,7 @@ use Rattle.deny_base.specs.declared.files.File.{File}
 use Rattle.deny_model.specs.Graph.{Graph}
 use Rattle.deny_trees.specs.Shown.{graphs_shown}
 use Rattle.deny_json.specs.Findings.{finding_value}
-use Rattle.deny_json.specs.Reading.{AreCounted, AreJsonLines, AreShort}
+use Rattle.deny_json.specs.Reading.{AreJsonLines, AreShort}
 use Rattle.deny_gate.specs.declared.report.Finding.{Finding}
 use Rattle.deny_gate.specs.declared.report.Report.{Report}
 use Rattle.deny_cli.specs.Dead.{dead_value}
@@ -39,10 +39,6 @@ told_for (Some command) report = answer_told command report
 -- what these words have told of a report is lines of JSON, a value a line
 abbrev pub TellsJson : List (List ℕ) → Report → Type 0
 TellsJson words report = AreJsonLines (lines_for (asked_by words) report) (told_for (asked_by words) report)
-
--- the labels of a finding are told by numbers of 64 bits
-unfoldable pub IsCounted : List File → Finding → Type 0
-IsCounted files finding = AreCounted files finding.diag.diag.labels
 
 -- a range is told by numbers of 64 bits
 abbrev pub HasNumbers : EntryId → Type 0

@@ -1,6 +1,6 @@
 -- The words of a run: what they ask for, which lists are accepted, and where the others break off.
 use Rattle.std.specs.Prelude.{◌≡◌, ℕ, ◌+◌, ◌<◌, ◌≤◌, ◌==◌, ◌&&◌, Bool, false, not, nat_le, List, [], ◌∷◌, ◌++◌, Option}
-use Rattle.std.specs.Prelude.{Some, None, is_none, is_some, option_map, option_and_then, length, take, map, codes, ⊤}
+use Rattle.std.specs.Prelude.{Some, None, is_none, is_some, option_map, option_and_then, length, take, map, codes}
 use Rattle.std.specs.Prelude.{String, string_bytes, if◌then◌else◌}
 use Rattle.std.specs.Char.{is_ascii_digit}
 use Rattle.std.specs.List.{list_all}
@@ -165,10 +165,3 @@ pub record IsUsageAt (words : List (List ℕ)) (at : ℕ) : Type 0 where
   pub within : at ≤ length words
   pub before : GoesOn (take at words)
   pub here : at < length words → ¬ GoesOn (take (at + 1) words)
-
--- ---- for private clauses
-
--- no more crates than can be asked for
-abbrev pub AsksForFew : Command → Type 0
-AsksForFew (check asked) = ⊤
-AsksForFew (generate crates) = crates ≤ most_crates

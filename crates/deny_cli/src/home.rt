@@ -1,13 +1,13 @@
 //! The home that an option names.
 ghost use Rattle.std.specs.Prelude.{◌≡◌};
 ghost use Rattle.std.specs.Option.{option_copied};
-ghost use Rattle.deny_cli.specs.Home.{home_by, home_of};
+ghost use Rattle.deny_cli.specs.Home.{home_of, nonempty_home};
 
 use crate::options::behind;
 
 /// A home, which is not empty.
-fn home_by(path: &str) -> Option<&str>
-    ensures { option_copied result ≡ home_by path.now }
+fn nonempty_home(path: &str) -> Option<&str>
+    ensures { option_copied result ≡ nonempty_home path.now }
 {
     if path.is_empty() { None } else { Some(path) }
 }
@@ -18,7 +18,7 @@ pub fn home_of(word: &str) -> Option<&str>
     ensures { option_copied result ≡ home_of word.now }
 {
     match behind("--home=", word) {
-        Some(path) => home_by(path),
+        Some(path) => nonempty_home(path),
         None => None,
     }
 }

@@ -5,7 +5,8 @@ ghost use Rattle.serde_json.specs.View.{view};
 ghost use Rattle.deny_cli.specs.Lines.{dead_line, finding_line, lines, malformed_line};
 ghost use Rattle.deny_cli.specs.Lines.{unread_line, verdict_line, verdict_value, verdict_word};
 ghost use Rattle.deny_cli.specs.Outcome.{bits_of};
-ghost use Rattle.deny_cli.specs.Told.{HasNumbers, IsCounted, told};
+ghost use Rattle.deny_cli.specs.Told.{HasNumbers, told};
+ghost use Rattle.deny_cli.specs.private.Told.{IsCounted};
 ghost use Rattle.deny_json.specs.Reading.{IsPlain};
 
 use crate::dead::dead_value;
@@ -43,7 +44,7 @@ fn verdict_value(alloc: Global, verdict: Verdict) -> Result<Value, NoMemory>
 }
 
 /// The line of a finding, with its trees.
-#[tactic(auto, unfolding(crate::specs::Lines::finding_line, crate::specs::Told::IsCounted))]
+#[tactic(auto, unfolding(crate::specs::Lines::finding_line, crate::specs::private::Told::IsCounted))]
 fn finding_line(
     alloc: Global,
     files: &Files,

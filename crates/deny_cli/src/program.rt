@@ -6,19 +6,24 @@ ghost use Rattle.deny_outside.specs.Disk.{Disk, IsLater};
 ghost use Rattle.deny_gate.specs.Gating.{AreShort, IsCausedReport, IsReportOf, texts_in};
 ghost use Rattle.deny_gate.specs.Labels.{AreLabelled};
 ghost use Rattle.deny_gate.specs.Report.{has_error};
-ghost use Rattle.deny_cli.specs.Causes.{IsCausedForCommand, IsCausedForWords, AreTextsOf, ComesBy, StopsWords, StopsCommand};
-ghost use Rattle.deny_cli.specs.Causes.{IsHeadlineOn, CanDoWithoutDeadOn, IsReadAt, IsReadIfNamed, IsReadStop};
+ghost use Rattle.deny_cli.specs.Causes.{IsCausedForCommand, IsCausedForWords, AreTextsOf, ComesBy};
+ghost use Rattle.deny_cli.specs.private.Causes.{StopsWords, StopsCommand};
+ghost use Rattle.deny_cli.specs.Causes.{IsHeadlineOn, CanDoWithoutDeadOn, IsReadAt, IsReadIfNamed};
+ghost use Rattle.deny_cli.specs.private.Causes.{IsReadStop};
 ghost use Rattle.deny_cli.specs.Causes.{IsReportOfCommand, IsReportOfWords, IsValidRun, IsRefusedRun, IsReadable};
-ghost use Rattle.deny_cli.specs.Causes.{IsGateStop, IsTextOfClashes, end_stop, made_files, made_texts};
-ghost use Rattle.deny_cli.specs.Commands.{asked_view, command_view};
+ghost use Rattle.deny_cli.specs.Causes.{IsTextOfClashes, made_files, made_texts};
+ghost use Rattle.deny_cli.specs.private.Causes.{IsGateStop, end_stop};
+ghost use Rattle.deny_cli.specs.private.Commands.{asked_view, command_view};
 ghost use Rattle.deny_cli.specs.Outcome.{IfDone, IfReported, IsUsage, IsDoneOrMemory};
 ghost use Rattle.deny_cli.specs.Outcome.{IsStopOrMemory, failing_bits, status_of};
 ghost use Rattle.deny_cli.specs.declared.outcome.Outcome.{Outcome};
-ghost use Rattle.deny_cli.specs.Stops.{IsTextOf};
-ghost use Rattle.deny_cli.specs.Outputs.{LeavesOut, LeavesErr, PutsLine, WritesReport};
+ghost use Rattle.deny_cli.specs.private.Stops.{IsTextOf};
+ghost use Rattle.deny_cli.specs.Outputs.{LeavesOut, LeavesErr, PutsLine};
+ghost use Rattle.deny_cli.specs.private.Outputs.{WritesReport};
 ghost use Rattle.deny_cli.specs.Told.{TellsJson, answer_told, told_for};
 ghost use Rattle.deny_json.specs.Reading.{IsPlain};
-ghost use Rattle.deny_cli.specs.Words.{check, generate, texts, Asks, AsksForFew, IsAccepted, asked_by, most_crates};
+ghost use Rattle.deny_cli.specs.Words.{check, generate, texts, Asks, IsAccepted, asked_by, most_crates};
+ghost use Rattle.deny_cli.specs.private.Words.{AsksForFew};
 
 use crate::outcome::{Ended, Outcome};
 use crate::registries::registries_in;
@@ -109,7 +114,7 @@ fn read_replacements<D: PackageFiles>(
 }
 
 /// The home that a check names.
-fn home_in(alloc: Global, asked: Asked<'_>) -> Result<Option<Text>, NoMemory>
+fn asked_home(alloc: Global, asked: Asked<'_>) -> Result<Option<Text>, NoMemory>
     ensures { IfOk result (λ home. home ≡ (asked_view asked.entry).home) }
 {
     match asked.home {
@@ -134,7 +139,7 @@ fn inputs_with(
       registries = (asked_view asked.entry).registries;
     }) }
 {
-    let home = home_in(alloc, asked)?;
+    let home = asked_home(alloc, asked)?;
     let registries = registries_in(alloc, asked.words)?;
     Ok(Inputs {
         policy,

@@ -1,8 +1,8 @@
 //! The registries that options name.
 ghost use Rattle.std.specs.Prelude.{◌≡◌, ◌++◌, [], IfOk, OnOk, option_map, string_bytes};
 ghost use Rattle.std.specs.List.{cons_option};
-ghost use Rattle.deny_cli.specs.Commands.{named_view};
-ghost use Rattle.deny_cli.specs.Registries.{named_by, registries_in, registry_by, registry_of};
+ghost use Rattle.deny_cli.specs.private.Commands.{named_view};
+ghost use Rattle.deny_cli.specs.Registries.{named_by, nonempty_registry, registries_in, registry_of};
 ghost use Rattle.deny_cli.specs.Words.{texts};
 
 use crate::options::behind;
@@ -18,8 +18,8 @@ pub struct Named<'a> {
 }
 
 /// A registry by its name and address, of which neither is empty.
-fn registry_by<'w>(name: &'w str, address: &'w str) -> Option<Named<'w>>
-    ensures { option_map named_view result ≡ registry_by name.now address.now }
+fn nonempty_registry<'w>(name: &'w str, address: &'w str) -> Option<Named<'w>>
+    ensures { option_map named_view result ≡ nonempty_registry name.now address.now }
 {
     if name.is_empty() || address.is_empty() {
         return None;
@@ -32,7 +32,7 @@ fn named_by(text: &str) -> Option<Named<'_>>
     ensures { option_map named_view result ≡ named_by text.now }
 {
     match text.split_once('=') {
-        Some((name, address)) => registry_by(name, address),
+        Some((name, address)) => nonempty_registry(name, address),
         None => None,
     }
 }

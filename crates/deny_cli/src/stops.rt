@@ -5,7 +5,8 @@ ghost use Rattle.serde_json.specs.View.{view};
 ghost use Rattle.deny_cfg.specs.PolicyText.{policy_file};
 ghost use Rattle.deny_json.specs.Diagnostics.{diagnostic_value, tells};
 ghost use Rattle.deny_json.specs.Reading.{AreJsonLines};
-ghost use Rattle.deny_cli.specs.Stops.{HasSpan, HasStopNumbers, IsTextOf, config_fields, fault_value, fault_detail};
+ghost use Rattle.deny_cli.specs.Stops.{config_fields, fault_value, fault_detail};
+ghost use Rattle.deny_cli.specs.private.Stops.{HasSpan, HasStopNumbers, IsTextOf};
 ghost use Rattle.deny_cli.specs.Stops.{fault_fields, fault_word, file_word, invalid_fields, kind_word};
 ghost use Rattle.deny_cli.specs.Stops.{memory_line, replacement_fields, stop_at_file, stop_line, stop_told, stop_word};
 

@@ -3,7 +3,7 @@ ghost use Rattle.std.specs.Prelude.{◌≡◌, ◌<◌, ◌^◌, All, codes, fil
 ghost use Rattle.serde_json.specs.Data.{member, no_members, number, object, string, unsigned};
 ghost use Rattle.serde_json.specs.View.{view};
 ghost use Rattle.deny_gate.specs.Report.{has_error};
-ghost use Rattle.deny_cli.specs.Commands.{command_view};
+ghost use Rattle.deny_cli.specs.private.Commands.{command_view};
 ghost use Rattle.deny_cli.specs.Summary.{answer_lines, report_summary, summary_line};
 ghost use Rattle.deny_cli.specs.Told.{answer_told};
 ghost use Rattle.deny_json.specs.Reading.{IsPlain};

@@ -1,7 +1,7 @@
 ghost use Rattle.std.specs.Prelude.{◌≡◌, ◌↔◌, IsTrue, MatchResult, codes, option_map};
 ghost use Rattle.std.specs.Char.{is_ascii_digit};
 ghost use Rattle.std.specs.List.{list_all};
-ghost use Rattle.deny_cli.specs.Commands.{command_view, form_view, so_far_view};
+ghost use Rattle.deny_cli.specs.private.Commands.{command_view, form_view, so_far_view};
 ghost use Rattle.deny_cli.specs.Registries.{registries_in, registry_of};
 ghost use Rattle.deny_cli.specs.Words.{count_of, is_plain, leads_with_zero, home_added, names_file};
 ghost use Rattle.deny_cli.specs.Words.{texts, Asks, IsUsageAt, command_of, option_added, path_added, step};

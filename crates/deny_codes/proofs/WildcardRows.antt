@@ -20,7 +20,7 @@ use Rattle.deny_codes.specs.Telling.{plainly}
 use Rattle.deny_codes.specs.Wildcards.{is_allowed_path, is_asked, is_minded_in, is_shared, is_unresolved, is_wildcard}
 use Rattle.deny_codes.specs.Wildcards.{labels_of_wildcard, paths_sentence, shared_labels, unresolved_key}
 use Rattle.deny_codes.specs.Wildcards.{unresolved_keys, unresolved_keys_of, unresolved_labels, unresolved_labels_in}
-use Rattle.deny_codes.specs.Wildcards.{unresolved_labels_of, unresolved_told, wildcard_keys, wildcard_keys_of}
+use Rattle.deny_codes.specs.Wildcards.{unresolved_labels_of_dep, unresolved_told, wildcard_keys, wildcard_keys_of}
 use Rattle.deny_codes.specs.Wildcards.{wildcard_label, wildcard_labels, wildcard_labels_in, wildcard_labels_of}
 use Rattle.deny_codes.specs.Wildcards.{wildcard_message, wildcard_told, wildcards_in, wildcards_of}
 use Rattle.deny_codes.proofs.Cases.{all_count, app, entry_at, plain, range, root_of}
@@ -47,7 +47,7 @@ unfoldable pub wildcards_on_cases : ⊤
 unfolding manifests_on_cases minding lenient private published key_of is_marked is_rooted matches is_wildcard
     is_allowed_path is_minded_in wildcards_in is_asked wildcards_of wildcard_keys_of is_shared is_unresolved
     unresolved_key unresolved_keys_of shared_labels wildcard_label labels_of_wildcard wildcard_labels_in
-    wildcard_labels_of wildcard_labels paths_sentence wildcard_message wildcard_told unresolved_labels_of
+    wildcard_labels_of wildcard_labels paths_sentence wildcard_message wildcard_told unresolved_labels_of_dep
     unresolved_labels_in unresolved_labels unresolved_told words_as
 wildcards_on_cases = tt
 

@@ -158,13 +158,13 @@ abbrev pub declared_at : Span → Manifest → Option Declared
 declared_at range m = find (λ d. same_span d.key range) m.deps
 
 -- at the flag that says that the workspace declares it, and at the value
-unfoldable pub unresolved_labels_of : ℕ → Declared → List Label
-unresolved_labels_of file d =
+unfoldable pub unresolved_labels_of_dep : ℕ → Declared → List Label
+unresolved_labels_of_dep file d =
     option_map_or (λ flag. primary file flag.span (codes "usage of workspace dependency") ∷ []) d.workspace []
     ++ secondary file d.value [] ∷ []
 
 unfoldable pub unresolved_labels_in : Span → Manifest → List Label
-unresolved_labels_in range m = option_map_or (unresolved_labels_of m.file) (declared_at range m) []
+unresolved_labels_in range m = option_map_or (unresolved_labels_of_dep m.file) (declared_at range m) []
 
 unfoldable pub unresolved_labels : Graph → View → Key → List Label
 unresolved_labels g view key =

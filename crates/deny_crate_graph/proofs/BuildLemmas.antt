@@ -4,11 +4,13 @@ use Rattle.std.specs.Prelude.{IfErr, IfOk}
 use Rattle.deny_model.specs.Graph.{Graph}
 use Rattle.deny_resolve.specs.Checked.{Resolved, checked, resolved}
 use Rattle.deny_metadata.specs.Document.{document_at, document_of, value_at}
-use Rattle.deny_metadata.specs.Reading.{◌>>=◌, Fails, Gives}
+use Rattle.deny_lists.specs.Reader.{◌>>=◌, Answers, Fails, IsFault}
 use Rattle.deny_crate_graph.specs.Read.{IsGraph, IsGraphOf}
 use Rattle.deny_metadata.specs.declared.document.Document.{Document}
 use Rattle.deny_metadata.specs.declared.fault.MetadataFault.{MetadataFault}
-use Rattle.deny_metadata.proofs.ReadingLemmas.{err-ok, fails_through}
+use Rattle.deny_metadata.specs.declared.fault.MetadataFault.TheVariants.{Memory}
+use Rattle.deny_lists.proofs.Results.{err_is_no_ok}
+use Rattle.deny_lists.proofs.ReaderLemmas.{fails_through}
 use Rattle.deny_crate_graph.proofs.ResolvedLemmas.{resolved_is}
 
 -- a step after two others
@@ -16,7 +18,7 @@ then_ok : {A B C : Type 0} (m : Result A MetadataFault) (f : A → Result B Meta
     (g : B → Result C MetadataFault) (y : B)
     → m >>= f ≡ Ok y → m >>= (λ x. f x >>= g) ≡ g y
 then_ok (Ok x) f g y is = rw is refl
-then_ok (Err e) f g y is = absurd (err-ok e y is)
+then_ok (Err e) f g y is = err_is_no_ok is
 
 then_err : {A B C : Type 0} (m : Result A MetadataFault) (f : A → Result B MetadataFault)
     (g : B → Result C MetadataFault) (e : MetadataFault)
@@ -32,15 +34,15 @@ no_document : (bytes : List ℕ) (e : MetadataFault) → document_at bytes ≡ E
 unfolding checked document_at
 no_document bytes e is = then_err (value_at bytes) document_of resolved e is
 
-pub document_stands : (bytes : List ℕ) (r : Result Document MetadataFault) → Gives r (document_at bytes)
+pub document_stands : (bytes : List ℕ) (r : Result Document MetadataFault) → Answers Memory (document_at bytes) r
     → IfOk r (λ d. checked bytes ≡ resolved d)
 document_stands bytes (Ok d) gives = document_reads bytes d gives
 document_stands bytes (Err e) gives = tt
 
-pub document_fails : (bytes : List ℕ) (r : Result Document MetadataFault) → Gives r (document_at bytes)
-    → IfErr r (λ e. Fails e (checked bytes))
+pub document_fails : (bytes : List ℕ) (r : Result Document MetadataFault) → Answers Memory (document_at bytes) r
+    → IfErr r (Fails Memory (IsFault (checked bytes)))
 document_fails bytes (Ok d) gives = tt
-document_fails bytes (Err e) gives = fails_through e (document_at bytes) (checked bytes)
+document_fails bytes (Err e) gives = fails_through Memory e (document_at bytes) (checked bytes)
     (λ f is. no_document bytes f is) gives
 
 pub graph_is : (bytes : List ℕ) (doc : Document) (g : Graph) → checked bytes ≡ resolved doc

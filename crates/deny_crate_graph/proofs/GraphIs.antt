@@ -31,6 +31,7 @@ use Rattle.deny_crate_graph.proofs.GraphLemmas.{listed_is, one_kept}
 use Rattle.deny_lists.proofs.Members.{contains_map, from_contains_map, from_map_at, from_there, map_at, one_there}
 use Rattle.deny_lists.proofs.Members.{there}
 use Rattle.deny_lists.proofs.Sorted.{ascends_at, ascends_map}
+use Rattle.deny_lists.proofs.Equalities.{subst₃}
 use Rattle.deny_crate_graph.proofs.OrderLemmas.{kept_cmp-total, rank_cmp-exact}
 use Rattle.deny_crate_graph.proofs.ResolvedLemmas.{
   IsAt,
@@ -368,10 +369,7 @@ module _ (doc : Document) (starting : List ℕ) (rows : List ResolvedNode) (mark
                   (subst (λ (n : ℕ). slice_get kept n ≡ Some from.kept_one) (sym parent) from.stands);
               child_stands = map_at (listed doc.packages) kept e.child m.1
                   (subst (λ (n : ℕ). slice_get kept n ≡ Some m.1) (sym child) m.2);
-              needs = subst (λ (t : List ℕ). NeedsFor doc (listed doc.packages from.kept_one).id
-                  (record { kind = e.kind; target = e.target }) t) needed
-                  (subst (λ (n : NeededAs). NeedsFor doc (listed doc.packages from.kept_one).id n needs.0) needed_as
-                  (subst (λ (t : List ℕ). NeedsFor doc t from.link.needed_as needs.0) id needs.2));
+              needs = subst₃ (NeedsFor doc) id needed_as needed needs.2;
             }
 
 -- the edges are what target edges are

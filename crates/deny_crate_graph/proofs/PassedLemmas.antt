@@ -6,9 +6,10 @@ use Rattle.semver.specs.Parse.{Parts, version_parts}
 use Rattle.semver.specs.declared.error.Error.{Error}
 use Rattle.deny_lists.proofs.Members.{Contains-by_cases, no_member}
 use Rattle.deny_crate_graph.specs.private.Numbered.{HasVersion}
-use Rattle.deny_metadata.proofs.ReadingLemmas.{bound, err-ok}
+use Rattle.deny_lists.proofs.ReaderLemmas.{bound}
+use Rattle.deny_lists.proofs.Results.{err_is_no_ok}
 use Rattle.deny_resolve.specs.Checked.{packages_read, read_or, version_reads}
-use Rattle.deny_metadata.specs.Reading.{each_passes}
+use Rattle.deny_lists.specs.Reader.{each_passes}
 use Rattle.deny_metadata.specs.declared.document.Package.{Package}
 use Rattle.deny_metadata.specs.declared.fault.MetadataFault.{MetadataFault}
 use Rattle.deny_metadata.specs.declared.fault.MetadataFault.TheVariants.{Version}
@@ -34,4 +35,4 @@ versions_read packages passed p stands =
     by_case : (read : Result Parts Error) → version_parts p.version ≡ read
         → read_or (Version p.id) (result_ok read) ≡ Ok tt → HasVersion p
     by_case (Ok version) reads passes = (version, reads)
-    by_case (Err error) reads passes = absurd (err-ok (Version p.id) tt passes)
+    by_case (Err error) reads passes = err_is_no_ok passes

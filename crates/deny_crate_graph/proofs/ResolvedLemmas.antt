@@ -16,7 +16,7 @@ use Rattle.deny_resolve.specs.Checked.{packages_read, resolved, resolved_by, res
 use Rattle.deny_crate_graph.specs.private.Numbered.{IsResolved}
 use Rattle.deny_crate_graph.specs.private.Reach.{Reaches, from_start, by_link, links_at}
 use Rattle.deny_crate_graph.specs.Read.{IsReached, is_member, by_need, Needs, NeedsFor}
-use Rattle.deny_metadata.specs.Reading.{◌>>=◌, each}
+use Rattle.deny_lists.specs.Reader.{◌>>=◌, each}
 use Rattle.deny_resolve.specs.declared.checked.Link.{Link}
 use Rattle.deny_resolve.specs.declared.checked.ResolvedNode.{ResolvedNode}
 use Rattle.deny_metadata.specs.declared.document.NeededAs.{NeededAs}
@@ -25,25 +25,26 @@ use Rattle.deny_metadata.specs.declared.document.Document.{Document}
 use Rattle.deny_metadata.specs.declared.document.Node.{Node}
 use Rattle.deny_metadata.specs.declared.document.Package.{Package}
 use Rattle.deny_metadata.specs.declared.fault.MetadataFault.{MetadataFault}
-use Rattle.deny_metadata.specs.declared.fault.MetadataFault.TheVariants.{DuplicateId, DanglingId}
+use Rattle.deny_metadata.specs.declared.fault.MetadataFault.TheVariants.{DuplicateId}
 use Rattle.deny_crate_graph.proofs.GraphLemmas.{links_of_row}
 use Rattle.deny_lists.proofs.Members.{contains_map, from_contains_map, from_map_at, from_there, from_zip_at, map_at}
 use Rattle.deny_lists.proofs.Members.{one_there, there, zip_at}
 use Rattle.deny_crate_graph.proofs.PassedLemmas.{versions_read}
-use Rattle.deny_metadata.proofs.ReadingLemmas.{bound, err-ok, ok_is}
+use Rattle.deny_lists.proofs.ReaderLemmas.{bound}
+use Rattle.deny_lists.proofs.Results.{err_is_no_ok, ok_inj}
 
 each_zip : {A B : Type 0} (read : A → Result B MetadataFault) (xs : List A) (ys : List B) → each read xs ≡ Ok ys
     → AllZip (λ x y. read x ≡ Ok y) xs ys
 unfolding each
 each_zip read [] [] is = tt
-each_zip {A} {B} read [] (y ∷ ys) is = absurd (cons_nil (sym (ok_is [] (y ∷ ys) is)))
+each_zip {A} {B} read [] (y ∷ ys) is = absurd (cons_nil (sym (ok_inj {x = []} is)))
   where
     cons_nil : y ∷ ys ≡ [] → ⊥
     cons_nil e = absurd (cc)
 each_zip {A} {B} read (x ∷ xs) ys is =
     let first = bound (read x) (λ y. each read xs >>= (λ zs. Ok (y ∷ zs))) ys is in
     let second = bound (each read xs) (λ zs. Ok (first.0 ∷ zs)) ys first.2 in
-    subst (λ (zs : List B). AllZip (λ x y. read x ≡ Ok y) (x ∷ xs) zs) (ok_is (first.0 ∷ second.0) ys second.2)
+    subst (λ (zs : List B). AllZip (λ x y. read x ≡ Ok y) (x ∷ xs) zs) (ok_inj {x = first.0 ∷ second.0} second.2)
     (first.1, each_zip read xs second.0 second.1)
 
 -- what a document without fault resolves to
@@ -56,7 +57,7 @@ resolved_is doc r is =
     let three = bound (each (known (package_numbers doc) (node_numbers doc)) doc.members) _ r two.2 in
     let four = bound (each (resolved_node (package_numbers doc) (node_numbers doc)) doc.nodes) _ r three.2 in
     let five = bound (packages_read doc.packages) _ r four.2 in
-    let same = ok_is _ r five.2 in (
+    let same = ok_inj five.2 in (
       record {
         packages = one.1;
         nodes = two.1;
@@ -104,7 +105,7 @@ came_new before ids x is = by_test (list_any (same_text x) before) refl is
     by_test : (b : Bool) → list_any (same_text x) before ≡ b
         → cond b (Err (DuplicateId x)) (distinct_after (before ++ x ∷ []) ids) ≡ Ok tt
         → (list_any (same_text x) before ≡ false) × (distinct_after (before ++ x ∷ []) ids ≡ Ok tt)
-    by_test true there e = absurd (err-ok (DuplicateId x) tt e)
+    by_test true there e = err_is_no_ok e
     by_test false none e = (none, e)
 
 or_first : (a b : Bool) → (a || b) ≡ false → a ≡ false
@@ -156,8 +157,8 @@ apart ids i j id is at at' = apart_after [] ids i j id is at at'
 -- a number that was found
 found : (id : List ℕ) (o : Option ℕ) (n : ℕ) → number_or id o ≡ Ok n → o ≡ Some n
 unfolding number_or
-found id None n is = absurd (err-ok (DanglingId id) n is)
-found id (Some m) n is = ap (λ k. Some k) (ok_is m n is)
+found id None n is = err_is_no_ok is
+found id (Some m) n is = ap (λ k. Some k) (ok_inj is)
 
 knows : (packages nodes : Numbering) (id : List ℕ) (n : ℕ) → known packages nodes id ≡ Ok n → nodes id ≡ Some n
 unfolding known
@@ -171,7 +172,7 @@ unfolding resolved_node
 owner_is packages nodes node r is =
     let one = bound (number_or node.id (packages node.id)) _ r is in
     let two = bound (links_of packages nodes node.deps) _ r one.2 in
-    let same = ok_is _ r two.2 in (
+    let same = ok_inj two.2 in (
       found node.id (packages node.id) r.owner (one.1 ∙ ap (λ (s : ResolvedNode). Ok s.owner) same),
       two.1 ∙ ap
           (λ (s : ResolvedNode). Ok s.links) same,
@@ -190,11 +191,11 @@ link_sound : (packages nodes : Numbering) (deps : List NodeDependency) (links : 
     → links_of packages nodes deps ≡ Ok links → Contains links l → LinkIs nodes deps l
 unfolding links_of
 link_sound packages nodes [] links l is stands =
-    absurd (none-some l (there [] l (subst (λ (ls : List Link). Contains ls l) (sym (ok_is [] links is)) stands)).1)
+    absurd (none-some l (there [] l (subst (λ (ls : List Link). Contains ls l) (sym (ok_inj {x = []} is)) stands)).1)
 link_sound packages nodes (dep ∷ deps) links l is stands =
     let one = bound (known packages nodes dep.pkg) _ links is in
     let two = bound (links_of packages nodes deps) _ links one.2 in
-    let all = ok_is _ links two.2 in
+    let all = ok_inj two.2 in
     by_part two.0 (λ other. link_sound packages nodes deps two.0 l two.1 other) one.0 one.1 two.0 two.1
     (Contains-append_cases (links_to one.0 dep.kinds) two.0 l
     (subst (λ (ls : List Link). Contains ls l) (sym all) stands))
@@ -230,7 +231,7 @@ link_whole packages nodes [] links dep kind is stands of = absurd (none-some dep
 link_whole packages nodes (first ∷ deps) links dep kind is stands of =
     let one = bound (known packages nodes first.pkg) _ links is in
     let two = bound (links_of packages nodes deps) _ links one.2 in
-    subst (λ (ls : List Link). IsLinked nodes ls dep.pkg kind) (ok_is _ links two.2)
+    subst (λ (ls : List Link). IsLinked nodes ls dep.pkg kind) (ok_inj two.2)
     (by_place two.0 (λ k at. link_whole packages nodes deps two.0 dep kind two.1 (from_there deps k dep at) of) one.0
     one.1 (there (first ∷ deps) dep stands).0 (there (first ∷ deps) dep stands).1)
   where

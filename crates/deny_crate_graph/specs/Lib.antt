@@ -1,5 +1,4 @@
 pub use Rattle.deny_resolve.specs.Checked
-pub use Rattle.deny_metadata.specs.Reading
 pub mod Bounds
 pub mod Crates
 pub mod Dependents

@@ -178,7 +178,7 @@ fn lists_of(
     ensures enabled { IfOk result (λ lists. Lists (slice_cmp nat_cmp) (Contains enabled.now) lists.enabled) }
 {
     let features = features_in(alloc, features)?;
-    let deps = dependencies_in(alloc, declarations, requirements)?;
+    let deps = declared_dependencies(alloc, declarations, requirements)?;
     let enabled = in_order(enabled)?;
     Ok(KrateLists {
         features,
@@ -199,7 +199,7 @@ fn features_in(alloc: Global, listed: List<Feature>) -> Result<TextMap<List<Text
 }
 
 // The dependencies of declarations with their requirements.
-fn dependencies_in(
+fn declared_dependencies(
     alloc: Global,
     declarations: List<Declaration>,
     requirements: List<VersionReq>,

@@ -115,7 +115,11 @@ pub fn inverse_of(alloc: Global, numbers: &[u32], size: usize) -> Result<List<u3
 }
 
 /// The places of kept packages by the numbers of their nodes; 0 for other nodes.
-pub fn places_in(alloc: Global, kept: &[KeptPackage], size: usize) -> Result<List<u32>, NoMemory>
+pub fn places_by_node(
+    alloc: Global,
+    kept: &[KeptPackage],
+    size: usize,
+) -> Result<List<u32>, NoMemory>
     requires few { length kept.now < 2 ^ 28 }
     requires inside { All (λ n. n < size) (map (λ k. k.node) kept.now) }
     requires apart { AllPairs (λ m n. m ≢ n) (map (λ k. k.node) kept.now) }

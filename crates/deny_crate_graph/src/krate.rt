@@ -96,7 +96,7 @@ impl Krate {
     pub fn folder(&self) -> &str
         ensures { result.now ≡ folder (crate_view 0 self.now) }
     {
-        folder_in(self.manifest_path.as_str())
+        parent_folder(self.manifest_path.as_str())
     }
 }
 
@@ -114,7 +114,7 @@ fn is_among(name: &Text, others: &[Text]) -> bool
 }
 
 // What stands before the last `/` of a path, or `/`.
-fn folder_in(path: &str) -> &str
+fn parent_folder(path: &str) -> &str
     ensures { result.now ≡ folder_of path.now }
 {
     match path.rfind('/') {

@@ -3,6 +3,7 @@ ghost use Rattle.std.specs.Prelude.{All, Bool, List, Ok, ◌≡◌, ◌<◌, ◌
 ghost use Rattle.std.specs.Cmp.Lexicographic.{slice_cmp};
 ghost use Rattle.std.specs.List.Sorted.{IsSortedByKey};
 ghost use Rattle.std.specs.Ordering.{nat_cmp};
+ghost use Rattle.deny_lists.specs.Reader.{Fails, IsFault};
 ghost use Rattle.deny_crate_graph.specs.Crates.{graph_of};
 ghost use Rattle.deny_crate_graph.specs.IdEntries.{AreIds};
 ghost use Rattle.deny_crate_graph.specs.Orderly.{IsOrderly};
@@ -11,14 +12,13 @@ ghost use Rattle.deny_crate_graph.specs.private.Direct.{AreApart, AreDependencie
 ghost use Rattle.deny_crate_graph.specs.private.Numbered.{IsNumbered, IsResolved};
 ghost use Rattle.deny_crate_graph.specs.private.Relations.{AreRelations, whole_graph};
 ghost use Rattle.deny_metadata.specs.declared.document.Document.{Document};
-ghost use Rattle.deny_metadata.specs.Reading.{Fails};
 ghost use Rattle.deny_resolve.specs.Checked.{Resolved, checked, resolved};
 ghost use Rattle.deny_resolve.specs.PackageTexts.{AreTextsOf};
 
 use crate::bounds::check_bounds;
 use crate::crates::krates_of;
 use crate::direct::{dependencies_of, dependents_of};
-use crate::graph::{KeptPackage, edges_of, kept_of, members_of, places_in, target_edges_of};
+use crate::graph::{KeptPackage, edges_of, kept_of, members_of, places_by_node, target_edges_of};
 use crate::ids::{Entry, ids_of, ranks_of};
 use crate::krate::{DirectDependent, Krate};
 use crate::reach::reach;
@@ -54,10 +54,10 @@ pub fn graph_at(alloc: Global, bytes: &[u8]) -> Result<CrateGraph, MetadataFault
     requires { length bytes.now < 2 ^ 28 }
     ensures ok { IfOk result (λ g. IsGraphOf bytes.now (graph_read g)) }
     ensures sound { IfOk result IsSound }
-    ensures err { IfErr result (λ e. Fails e (checked bytes.now)) }
+    ensures err { IfErr result (Fails MetadataFault.Memory (IsFault (checked bytes.now))) }
 {
     let document = document_at(alloc, bytes)?;
-    graph_in(alloc, document)
+    graph_of_document(alloc, document)
 }
 
 // More packages or nodes than any text of fewer bytes holds.
@@ -66,16 +66,16 @@ const MANY: usize = 1 << 28;
 // The metadata of a text.
 fn document_at(alloc: Global, bytes: &[u8]) -> Result<Document, MetadataFault>
     ensures ok { IfOk result (λ d. checked bytes.now ≡ resolved d) }
-    ensures err { IfErr result (λ e. Fails e (checked bytes.now)) }
+    ensures err { IfErr result (Fails MetadataFault.Memory (IsFault (checked bytes.now))) }
 {
     deny_metadata::document_at(alloc, bytes)
 }
 
 // The graph of a document, or its first fault.
-fn graph_in(alloc: Global, document: Document) -> Result<CrateGraph, MetadataFault>
+fn graph_of_document(alloc: Global, document: Document) -> Result<CrateGraph, MetadataFault>
     ensures ok { IfOk result (λ g. (r : Resolved) × (resolved document ≡ Ok r) × IsGraph document (graph_read g)) }
     ensures sound { IfOk result IsSound }
-    ensures err { IfErr result (λ e. Fails e (resolved document)) }
+    ensures err { IfErr result (Fails MetadataFault.Memory (IsFault (resolved document))) }
 {
     if document.packages.len() >= MANY || document.nodes.len() >= MANY {
         return Err(MetadataFault::Memory);
@@ -172,7 +172,7 @@ fn relations_of(
         × IsNumbered document starts.now rows.now marks kept.now }
     ensures { IfOk result (AreRelations starts.now rows.now kept.now) }
 {
-    let places = places_in(alloc, kept, rows.len())?;
+    let places = places_by_node(alloc, kept, rows.len())?;
     let members = members_of(alloc, starts, places.as_slice())?;
     let target_edges = target_edges_of(alloc, kept, rows, places.as_slice())?;
     let edges = edges_of(alloc, target_edges.as_slice())?;

@@ -35,7 +35,7 @@ use Rattle.deny_model.specs.Wrappers.{hits_wrapper, same_span, wraps}
 use Rattle.deny_model.proofs.SpanLemmas.{same-span}
 use Rattle.deny_lists.proofs.Agreement.{filter_map_on, find_on, found_on, list_any_on}
 use Rattle.deny_facts.specs.Wrappers.{AreFirst, range_at, range_of}
-use Rattle.deny_crate_rules.specs.private.WrappedEdges.{LeadToFirsts, first_wrapped_edge, hit_at, hit_by}
+use Rattle.deny_crate_rules.specs.private.WrappedEdges.{LeadToFirsts, first_wrapped_edge, hit_at, hit_by_edge}
 use Rattle.deny_crate_rules.specs.private.WrappedEdges.{wrapped_edge_at, wrapped_edges_at, wrapper_hits}
 use Rattle.deny_crate_rules.specs.declared.hits.WrappedEdge.{WrappedEdge}
 use Rattle.deny_lists.proofs.Filters.{and_then-and_then, any-filter_map, filter-map, filter_map-map, find-filter}
@@ -137,8 +137,8 @@ range-wraps wrappers ranges w c d first =
 
 -- what a wrapped edge of two crates hits
 hit-by : (g : Graph) (c d : Crate) (range : Span) → ArePlaced g.crates → Contains g.crates c → Contains g.crates d
-    → hit_by g (edge_from c d range) ≡ Some (hit_of Wrapper range (Parent (kid_of c) (kid_of d)))
-unfolding hit_by
+    → hit_by_edge g (edge_from c d range) ≡ Some (hit_of Wrapper range (Parent (kid_of c) (kid_of d)))
+unfolding hit_by_edge
 hit-by g c d range placed c_stands d_stands =
     ap (option_and_then (λ (b : Crate). option_map (λ (e : Crate). hit_of Wrapper range (Parent (kid_of b) (kid_of e)))
     (crate_at g d.place))) (placed.at c c_stands)
@@ -147,33 +147,33 @@ hit-by g c d range placed c_stands d_stands =
 -- where the wrapper stands for a dependent, their wrapped edge makes the wrapper's hit
 wrapped-hit : (g : Graph) (wrappers : List Words) (ranges : TextFinMap Span) (w : Words) (c d : Crate)
     → ArePlaced g.crates → AreFirst wrappers ranges → Contains g.crates c → Contains g.crates d
-    → wraps wrappers w d ≡ true → option_and_then (hit_by g) (wrapped ranges c d) ≡ Some
+    → wraps wrappers w d ≡ true → option_and_then (hit_by_edge g) (wrapped ranges c d) ≡ Some
     (hit_of Wrapper w.span (Parent (kid_of c) (kid_of d)))
 unfolding wraps
 wrapped-hit g wrappers ranges w c d placed first c_stands d_stands is =
-    ap (λ (o : Option Span). option_and_then (hit_by g) (option_map (edge_from c d) o))
+    ap (λ (o : Option Span). option_and_then (hit_by_edge g) (option_map (edge_from c d) o))
     (range-wrapper wrappers ranges d first) ∙ by_first (wrapper_of wrappers d) is
   where
     by_first : (o : Option Words) → option_map_or (λ (f : Words). same_span f.span w.span) o false ≡ true
-        → option_and_then (hit_by g) (option_map (edge_from c d) (option_map (λ (f : Words). f.span) o)) ≡ Some
+        → option_and_then (hit_by_edge g) (option_map (edge_from c d) (option_map (λ (f : Words). f.span) o)) ≡ Some
         (hit_of Wrapper w.span (Parent (kid_of c) (kid_of d)))
     by_first None is = cc
-    by_first (Some f) is = ap (λ (span : Span). hit_by g (edge_from c d span)) (same-span f.span w.span is)
+    by_first (Some f) is = ap (λ (span : Span). hit_by_edge g (edge_from c d span)) (same-span f.span w.span is)
         ∙ hit-by g c d w.span placed c_stands d_stands
 
 -- the first wrapped edge of a wrapper at a crate
 first-at : (g : Graph) (ban : Ban) (ranges : TextFinMap Span) (w : Words) (c : Crate) → ArePlaced g.crates
     → AreFirst ban.wrappers ranges → Contains g.crates c
-    → option_and_then (hit_by g) (find (is_of w) (wrapped_edges_at g ranges c.place)) ≡ wrapper_hit_at g ban w c
+    → option_and_then (hit_by_edge g) (find (is_of w) (wrapped_edges_at g ranges c.place)) ≡ wrapper_hit_at g ban w c
 unfolding wrapper_hit_at
 first-at g ban ranges w c placed first stands =
-    ap (λ (es : List WrappedEdge). option_and_then (hit_by g) (find (is_of w) es))
+    ap (λ (es : List WrappedEdge). option_and_then (hit_by_edge g) (find (is_of w) es))
     (wrapped-dependents g ranges c placed)
-    ∙ (ap (option_and_then (hit_by g)) (find-filter_map (is_of w) (wrapped ranges c) (dependents g c.place)
+    ∙ (ap (option_and_then (hit_by_edge g)) (find-filter_map (is_of w) (wrapped ranges c) (dependents g c.place)
     ∙ ap (option_and_then (wrapped ranges c)) (find_on (passes (is_of w) (wrapped ranges c)) (wraps ban.wrappers w)
     (dependents g c.place) (λ d _. range-wraps ban.wrappers ranges w c d first)))
-    ∙ (and_then-and_then (hit_by g) (wrapped ranges c) (find (wraps ban.wrappers w) (dependents g c.place))
-    ∙ (found_on (λ d. option_and_then (hit_by g) (wrapped ranges c d))
+    ∙ (and_then-and_then (hit_by_edge g) (wrapped ranges c) (find (wraps ban.wrappers w) (dependents g c.place))
+    ∙ (found_on (λ d. option_and_then (hit_by_edge g) (wrapped ranges c d))
     (λ (d : Crate). Some (hit_of Wrapper w.span (Parent (kid_of c) (kid_of d)))) (wraps ban.wrappers w)
     (dependents g c.place)
     (λ d is wrapped. wrapped-hit g ban.wrappers ranges w c d placed first stands
@@ -200,7 +200,7 @@ module _ (p : Policy) (g : Graph) (placed : ArePlaced g.crates) where
       ∙ and_comm (list_any (wraps ban.wrappers w) (dependents g c.place)) (concerns p g ban c)
 
   first-hit : (ban : Ban) (ranges : TextFinMap Span) (w : Words) → AreFirst ban.wrappers ranges
-      → option_and_then (hit_by g)
+      → option_and_then (hit_by_edge g)
       (first_wrapped_edge (flat_map (wrapped_edges_at g ranges) (places_concerned p g ban)) w.span)
       ≡ wrapper_hit p g ban w
   unfolding places_concerned wrapper_hit
@@ -208,16 +208,16 @@ module _ (p : Policy) (g : Graph) (placed : ArePlaced g.crates) where
       let met_by = λ (c : Crate). wrapped_edges_at g ranges c.place in
       let any = λ (c : Crate). list_any (is_of w) (wrapped_edges_at g ranges c.place) in
       let met = filter (concerns p g ban) g.crates in
-      ap (λ (es : List WrappedEdge). option_and_then (hit_by g) (find (is_of w) es))
+      ap (λ (es : List WrappedEdge). option_and_then (hit_by_edge g) (find (is_of w) es))
       (flat_map-map (wrapped_edges_at g ranges) place_of met)
-      ∙ (ap (option_and_then (hit_by g)) (find-flat_map (is_of w) met_by met
+      ∙ (ap (option_and_then (hit_by_edge g)) (find-flat_map (is_of w) met_by met
       ∙ ap (option_and_then (λ (c : Crate). find (is_of w) (met_by c)))
       (find-filter any (concerns p g ban) g.crates
       ∙ find_on (λ c. any c && concerns p g ban c) (hits_wrapper p g ban w) g.crates
       (λ c _. tested ban ranges w first c)))
-      ∙ (and_then-and_then (hit_by g) (λ (c : Crate). find (is_of w) (met_by c))
+      ∙ (and_then-and_then (hit_by_edge g) (λ (c : Crate). find (is_of w) (met_by c))
       (find (hits_wrapper p g ban w) g.crates)
-      ∙ found_on (λ (c : Crate). option_and_then (hit_by g) (find (is_of w) (met_by c))) (wrapper_hit_at g ban w)
+      ∙ found_on (λ (c : Crate). option_and_then (hit_by_edge g) (find (is_of w) (met_by c))) (wrapper_hit_at g ban w)
       (hits_wrapper p g ban w) g.crates (λ c stands _. first-at g ban ranges w c placed first stands)))
 
   -- the hits of a ban's wrappers
@@ -228,7 +228,7 @@ module _ (p : Policy) (g : Graph) (placed : ArePlaced g.crates) where
   unfolding hit_at
   hits-made ban ranges places firsts are first leads =
       filter_map_on (hit_at g firsts) (wrapper_hit p g ban) ban.wrappers
-      (λ w _. ap (option_and_then (hit_by g)) (leads.at w.span
+      (λ w _. ap (option_and_then (hit_by_edge g)) (leads.at w.span
       ∙ ap (λ (ps : List ℕ). first_wrapped_edge (flat_map (wrapped_edges_at g ranges) ps) w.span) are)
       ∙ first-hit ban ranges w first)
 

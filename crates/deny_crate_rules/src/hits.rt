@@ -8,7 +8,7 @@ ghost use Rattle.deny_model.specs.Policy.{Policy};
 ghost use Rattle.deny_facts.specs.Marks.{facts_of};
 ghost use Rattle.deny_facts.specs.Matches.{IsBanMatch, ban_of};
 ghost use Rattle.deny_crate_rules.specs.private.EntryHits.{entry_hit};
-ghost use Rattle.deny_crate_rules.specs.private.WrappedEdges.{LeadToFirsts, hit_at, hit_by, wrapped_edge_at};
+ghost use Rattle.deny_crate_rules.specs.private.WrappedEdges.{LeadToFirsts, hit_at, hit_by_edge, wrapped_edge_at};
 ghost use Rattle.deny_crate_rules.specs.private.WrappedEdges.{wrapped_edges_at, wrapper_hits};
 
 use deny_base::{EntryId, EntryKind, Hit, Span, Spanned, Witness};
@@ -170,15 +170,15 @@ fn hit_at(
     ensures { IfOk result (λ hit. hit ≡ hit_at krates.now firsts.now wrapper.now) }
 {
     match firsts.get(&wrapper.span) {
-        Some(edge) => hit_by(krates, edge),
+        Some(edge) => hit_by_edge(krates, edge),
         None => Ok(None),
     }
 }
 
 /// The hit by a wrapped edge.
-#[tactic(auto, unfolding(crate::specs::private::WrappedEdges::hit_by))]
-fn hit_by(krates: &Krates, edge: &WrappedEdge) -> Result<Option<Hit>, NoMemory>
-    ensures { IfOk result (λ hit. hit ≡ hit_by krates.now edge.now) }
+#[tactic(auto, unfolding(crate::specs::private::WrappedEdges::hit_by_edge))]
+fn hit_by_edge(krates: &Krates, edge: &WrappedEdge) -> Result<Option<Hit>, NoMemory>
+    ensures { IfOk result (λ hit. hit ≡ hit_by_edge krates.now edge.now) }
 {
     let Some(krate) = krate_at(krates, edge.place) else {
         return Ok(None);

@@ -51,13 +51,17 @@ fn add_skipped(alloc: Global, skips: &[EntryMatch], keys: &mut List<Key>) -> Res
     ensures { OnOk result (keys.new ≡ keys.old ++ flat_map skipped_keys_by skips.now) }
 {
     for skip in skips {
-        add_skipped_by(alloc, skip, keys)?;
+        add_skipped_crates(alloc, skip, keys)?;
     }
     Ok(())
 }
 
 #[tactic(auto, unfolding(crate::specs::private::Skipping::skipped_keys_by))]
-fn add_skipped_by(alloc: Global, skip: &EntryMatch, keys: &mut List<Key>) -> Result<(), NoMemory>
+fn add_skipped_crates(
+    alloc: Global,
+    skip: &EntryMatch,
+    keys: &mut List<Key>,
+) -> Result<(), NoMemory>
     ensures { OnOk result (keys.new ≡ keys.old ++ skipped_keys_by skip.now) }
 {
     let places = skip.places.as_slice();

@@ -18,7 +18,7 @@ use Rattle.deny_facts.specs.Placed.{ArePlaced}
 use Rattle.deny_facts.specs.Steps.{HasEdgeFrom}
 use Rattle.deny_facts.proofs.DependentLemmas.{dependent_within}
 use Rattle.deny_krates.proofs.NeighbourLemmas.{child_stands}
-use Rattle.deny_dup_edges.specs.Above.{AreAbove, LeadsToOne}
+use Rattle.deny_dup_edges.specs.private.Above.{AreAbove, LeadsToOne}
 
 pub each_dependent_stands : (g : Graph) (place : ℕ) (ds : List DirectDependent) → ArePlaced g.crates
     → AreDirectDependents g place ds → All (λ d. d.place < length g.crates) ds

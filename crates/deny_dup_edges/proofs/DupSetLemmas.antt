@@ -16,7 +16,7 @@ use Rattle.deny_krates.specs.Orderly.{IsOrderly}
 use Rattle.deny_lists.proofs.Members.{Contains-by_cases, Contains-first, Contains-rest, from_there, no_member, zip_push}
 use Rattle.deny_model.specs.Counting.{Chain}
 use Rattle.deny_model.specs.Graph.{Graph}
-use Rattle.deny_dup_edges.specs.Above.{AreAbove}
+use Rattle.deny_dup_edges.specs.private.Above.{AreAbove}
 use Rattle.deny_lists.specs.Walk.{has_distance}
 use Rattle.deny_dup_edges.specs.DupEdges.{IsNumberOf}
 use Rattle.deny_dup_edges.specs.private.EdgeLists.{IsReachedNumber}

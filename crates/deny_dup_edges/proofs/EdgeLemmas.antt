@@ -15,7 +15,7 @@ use Rattle.deny_krates.specs.Dependents.{AreDirectDependents}
 use Rattle.deny_krates.specs.Orderly.{IsOrderly}
 use Rattle.deny_krates.specs.krate.DirectDependent.{DirectDependent}
 use Rattle.deny_model.specs.Graph.{Graph}
-use Rattle.deny_dup_edges.specs.Above.{AreAbove}
+use Rattle.deny_dup_edges.specs.private.Above.{AreAbove}
 use Rattle.deny_dup_edges.specs.DupEdges.{IsAboveOne}
 use Rattle.deny_dup_edges.specs.private.EdgeLists.{IsBetween, IsEdge, IsTo, IsToOne}
 use Rattle.deny_facts.specs.Placed.{ArePlaced}

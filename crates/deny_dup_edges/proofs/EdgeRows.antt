@@ -165,9 +165,9 @@ above_one place e d at above is = record {
 }
 
 -- all edges above one of the two crates, in order; that to the crate at 4 is none of them
-edges_above : Lists edge_cmp (IsAboveOne apart (0 ∷ 1 ∷ [])) shown
+ancestor_edges : Lists edge_cmp (IsAboveOne apart (0 ∷ 1 ∷ [])) shown
 unfolding IsStrictlySortedBy kind_number
-edges_above = record {
+ancestor_edges = record {
   ascending = ((refl, (refl, tt)), ((refl, tt), (tt, tt)));
   whole = λ e is. Contains-by_cases 0 (1 ∷ []) is.place is.is_one (λ first. shown_of_first is.place e first is.above)
       (λ other. Contains-by_cases 1 [] is.place other (λ second. shown_of_second is.place e second is.above)

@@ -1,6 +1,5 @@
 -- The crates that lead to others.
-use Rattle.std.specs.Prelude.{◌≡◌, ◌<◌, ◌↔◌, ℕ, IsTrue, List, Option, length, Contains}
-use Rattle.deny_lists.specs.Walk.{AreThose, has_distance}
+use Rattle.std.specs.Prelude.{ℕ, length}
 use Rattle.deny_model.specs.Counting.{Chain}
 use Rattle.deny_model.specs.Graph.{Graph}
 
@@ -8,15 +7,3 @@ use Rattle.deny_model.specs.Graph.{Graph}
 pub record LeadsTo (g : Graph) (from to : ℕ) : Type 0 where
   pub length : ℕ
   pub chain : Chain g.edges from to length
-
--- a chain leads from the place to one of these
-pub record LeadsToOne (g : Graph) (places : List ℕ) (from : ℕ) : Type 0 where
-  pub place : ℕ
-  pub is_one : Contains places place
-  pub leads : LeadsTo g from place
-
--- the crates that lead to one of these places: they alone have distances
-pub record AreAbove (g : Graph) (places : List ℕ) (distances : List (Option ℕ)) (reached : List ℕ) : Type 0 where
-  pub long : length distances ≡ length g.crates
-  pub those : AreThose distances reached
-  pub each : (place : ℕ) → place < length g.crates → IsTrue (has_distance distances place) ↔ LeadsToOne g places place

@@ -2,7 +2,6 @@
 use Rattle.std.specs.Prelude.{◌≡◌, ◌≤◌, ◌<◌, ℕ, Bool, true, false, List, [], ◌∷◌, Option, None, Some, length, slice_get}
 use Rattle.std.specs.Prelude.{Contains, if◌then◌else◌}
 use Rattle.std.specs.List.{AllZip}
-use Rattle.std.specs.Option.{option_map_or}
 use Rattle.std.specs.Ordering.{nat_cmp}
 use Rattle.deny_lists.specs.Ascending.{Lists}
 use Rattle.deny_base.specs.Edge.{edge_cmp}
@@ -47,10 +46,6 @@ pub record IsSimplest (sets : List DupSet) (number : ℕ) : Type 0 where
   pub fewest : (other : ℕ) → (s : DupSet) → slice_get sets other ≡ Some s → length set.edges ≤ length s.edges
   pub first : (other : ℕ) → (s : DupSet) → slice_get sets other ≡ Some s → other < number
       → length set.edges < length s.edges
-
--- how many edges a set has
-abbrev pub edge_count : List DupSet → ℕ → ℕ
-edge_count sets number = option_map_or (λ set. length set.edges) (slice_get sets number) 0
 
 -- it is shown where it is asked for; no crates have none
 abbrev pub Simplest : Bool → List DupSet → Option ℕ → Type 0

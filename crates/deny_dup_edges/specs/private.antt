@@ -1,1 +1,3 @@
+pub mod Above
+pub mod DupEdges
 pub mod EdgeLists

@@ -2,7 +2,7 @@
 ghost use Rattle.std.specs.Prelude.{◌≡◌, ◌<◌, IfOk, OnOk, All, filter, length, nat_lt};
 ghost use Rattle.deny_lists.specs.Walk.{AreDistances, AreThose, AreUnset};
 ghost use Rattle.deny_facts.specs.Steps.{HasEdgeFrom};
-ghost use Rattle.deny_dup_edges.specs.Above.{AreAbove};
+ghost use Rattle.deny_dup_edges.specs.private.Above.{AreAbove};
 
 use deny_facts::Dependents;
 use deny_krates::Krates;

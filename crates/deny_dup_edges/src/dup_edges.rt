@@ -7,7 +7,8 @@ ghost use Rattle.deny_base.specs.Edge.{edge_cmp};
 ghost use Rattle.deny_cfg.specs.PolicyView.{policy_view};
 ghost use Rattle.deny_lists.specs.Walk.{AreUnset};
 ghost use Rattle.deny_dup_edges.specs.DupEdges.{AreEdgesOf, IsAboveOne, IsSetOf, IsSimplest};
-ghost use Rattle.deny_dup_edges.specs.DupEdges.{ShowsEach, Simplest, edge_count, is_of_duplicate};
+ghost use Rattle.deny_dup_edges.specs.DupEdges.{ShowsEach, Simplest, is_of_duplicate};
+ghost use Rattle.deny_dup_edges.specs.private.DupEdges.{edge_count};
 ghost use Rattle.deny_dup_edges.specs.private.EdgeLists.{IsBetween, IsEdge, IsReachedNumber, IsTo, IsToOne};
 
 use crate::above::{reach_above, unset_distances};
@@ -58,7 +59,7 @@ pub fn dup_edges_of(
     let mut distances = unset_distances(alloc, krates)?;
     for key in keys {
         if is_of_duplicate(key) {
-            shown.push(edges_of(alloc, cfg, krates, key, &mut distances)?)?;
+            shown.push(edges_of_duplicate(alloc, cfg, krates, key, &mut distances)?)?;
         }
     }
     Ok(shown)
@@ -73,7 +74,7 @@ fn is_of_duplicate(key: &Key) -> bool
 
 // What is shown of a duplicate. The distances are lent from one duplicate to the next, since to make
 // them takes a step for each crate of the graph.
-fn edges_of(
+fn edges_of_duplicate(
     alloc: Global,
     cfg: &ValidConfig,
     krates: &Krates,
@@ -85,7 +86,7 @@ fn edges_of(
     ensures unset { OnOk result (AreUnset (length krates.now.crates) distances.new) }
 {
     let places = key.places.as_slice();
-    let edges = edges_above(alloc, krates, places, distances)?;
+    let edges = ancestor_edges(alloc, krates, places, distances)?;
     let sets = sets_of(alloc, krates, edges.as_slice(), places, distances)?;
     let simplest = if cfg.highlight.simplest() {
         simplest_of(sets.as_slice())?
@@ -107,7 +108,7 @@ fn edges_of(
 }
 
 // The edges that lead to one of the crates, at any distance.
-fn edges_above(
+fn ancestor_edges(
     alloc: Global,
     krates: &Krates,
     places: &[u32],
@@ -119,7 +120,7 @@ fn edges_above(
 {
     let _standing = krates.krates();
     let reached = reach_above(alloc, krates, places, distances)?;
-    let mut edges = edges_to(alloc, krates, reached.as_slice())?;
+    let mut edges = direct_edges(alloc, krates, reached.as_slice())?;
     take_back(distances, reached.as_slice());
     edge_order();
     put_in_order(&mut edges)?;
@@ -127,7 +128,7 @@ fn edges_above(
 }
 
 // The edges to some crates.
-fn edges_to(alloc: Global, krates: &Krates, children: &[u32]) -> Result<List<Edge>, NoMemory>
+fn direct_edges(alloc: Global, krates: &Krates, children: &[u32]) -> Result<List<Edge>, NoMemory>
     requires { All (λ child. child < length krates.now.crates) children.now }
     ensures { IfOk result (Adds (IsToOne krates.now children.now) []) }
 {
@@ -267,10 +268,10 @@ fn simplest_of(sets: &[DupSet]) -> Result<Option<u32>, NoMemory>
     if sets.is_empty() {
         return Ok(None);
     }
-    Ok(Some(in_32_bits(simplest_at(sets))?))
+    Ok(Some(in_32_bits(simplest_index(sets))?))
 }
 
-fn simplest_at(sets: &[DupSet]) -> usize
+fn simplest_index(sets: &[DupSet]) -> usize
     requires { 0 < length sets.now }
     ensures { IsSimplest sets.now result }
 {

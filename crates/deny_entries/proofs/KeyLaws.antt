@@ -2,11 +2,11 @@
 use Rattle.std.proofs.lemmas.Bool.{and_parts}
 use Rattle.std.proofs.Common.{◌≡◌, Bool, true, false, List, [], ◌∷◌, Option, Some, refl, sym, ap, subst, ◌∙◌}
 use Rattle.std.specs.Cmp.Lexicographic.{pointwise}
-use Rattle.std.specs.Prelude.{nat_eq, option_map}
+use Rattle.std.specs.Prelude.{nat_eq, option_map, IsSomeAnd}
 use Rattle.deny_toml.specs.Calls.{value_at}
-use Rattle.deny_toml.specs.declared.value.Value.{Value}
+use Rattle.deny_toml.specs.value.Value.{Value}
 use Rattle.deny_entries.specs.PolicyKey.{name_of}
-use Rattle.deny_entries.specs.Table.{AreAlikeAt, EachSays, Entries, Field, Gives, ReadAt, ReadsIfThere, ReadsKeys}
+use Rattle.deny_entries.specs.Table.{AreAlikeAt, EachSays, Entries, Field, ReadAt, ReadsIfThere, ReadsKeys}
 use Rattle.deny_entries.specs.Table.{State, TableKey, after, are_apart, faults_of_fields, fields_of, is_other}
 use Rattle.deny_entries.specs.declared.policy_key.PolicyKey.{PolicyKey}
 use Rattle.deny_entries.proofs.TableLaws.{alike-itself, alike-trans, alike-without, none_first, none_rest}
@@ -57,9 +57,9 @@ read_table_keys {x = x} keys apart start steps none =
 
 -- a step whose value is there says it of the value
 pub there : {T : Type 0} (f : Field) (s : State) (Reads : Option Value → T → Type 0) (o : Option T) (x : T) → o ≡ Some x
-    → ReadAt f s (λ v. Gives (Reads v) o) → ReadAt f s (λ v. Reads v x)
+    → ReadAt f s (λ v. IsSomeAnd o (Reads v)) → ReadAt f s (λ v. Reads v x)
 there f s Reads o x is read =
-    record { says = λ none. subst (Gives (Reads (value_at f.name s.entries))) is (read.says none) }
+    record { says = λ none. subst (λ o. IsSomeAnd o (Reads (value_at f.name s.entries))) is (read.says none) }
 
 -- the same of a part of what may be there
 pub mapped : {S T : Type 0} (f : Field) (s : State) (Reads : Value → T → Type 0) (o : Option S) (part : S → T)

@@ -1,13 +1,14 @@
 -- Licences that are read with their spans.
 use Rattle.std.proofs.Common.{◌≡◌, List, [], ◌∷◌, Option, None, Some, map, sym, ap, subst}
+use Rattle.std.specs.Prelude.{IsSomeAnd}
 use Rattle.deny_base.specs.declared.span.Spanned.{Spanned}
 use Rattle.deny_spdx.specs.Meaning.{requirement_in}
 use Rattle.deny_spdx.specs.declared.requirement.Requirement.{Requirement}
-use Rattle.deny_toml.specs.Calls.{array_in}
+use Rattle.deny_toml.specs.Calls.{array_in, value_at}
 use Rattle.deny_toml.specs.Deserialize.{ReadsArray, ReadsEach}
-use Rattle.deny_toml.specs.declared.value.Value.{Value}
-use Rattle.deny_entries.specs.Licence.{ReadsLicences, requirement_of}
-use Rattle.deny_entries.specs.Table.{Field, Gives, ReadAt, ReadsOr, ReadsThere, State}
+use Rattle.deny_toml.specs.value.Value.{Value}
+use Rattle.deny_entries.specs.Licence.{ReadsLicences, licence_requirement}
+use Rattle.deny_entries.specs.Table.{Field, ReadAt, ReadsOr, ReadsThere, State}
 use Rattle.deny_entries.specs.Words.{ReadsAs, ReadsList, ReadsSpanned}
 use Rattle.deny_entries.specs.declared.licence.Licence.{Licence}
 
@@ -28,31 +29,32 @@ array_mapped Reads part (Some vs) xs reads = each_mapped Reads part vs xs reads
 abbrev ReadsWrapped : Value → List (Spanned Licence) → Type 0
 ReadsWrapped = ReadsList (ReadsSpanned (λ v (read : Licence). ReadsAs requirement_in v read.0))
 
-unwrapped : (v : Value) (xs : List (Spanned Licence)) → ReadsWrapped v xs → ReadsLicences v (map requirement_of xs)
-unwrapped v xs reads = array_mapped (ReadsSpanned (ReadsAs requirement_in)) requirement_of (array_in v) xs reads
+unwrapped : (v : Value) (xs : List (Spanned Licence)) → ReadsWrapped v xs → ReadsLicences v (map licence_requirement xs)
+unwrapped v xs reads = array_mapped (ReadsSpanned (ReadsAs requirement_in)) licence_requirement (array_in v) xs reads
 
 unwrapped_or : (v : Option Value) (xs : List (Spanned Licence)) → ReadsOr [] ReadsWrapped v xs
-    → ReadsOr [] ReadsLicences v (map requirement_of xs)
-unwrapped_or None xs reads = ap (map requirement_of) reads
+    → ReadsOr [] ReadsLicences v (map licence_requirement xs)
+unwrapped_or None xs reads = ap (map licence_requirement) reads
 unwrapped_or (Some v) xs reads = unwrapped v xs reads
 
 unwrapped_there : (v : Option Value) (xs : List (Spanned Licence)) → ReadsThere ReadsWrapped v xs
-    → ReadsThere ReadsLicences v (map requirement_of xs)
+    → ReadsThere ReadsLicences v (map licence_requirement xs)
 unwrapped_there None xs reads = reads
 unwrapped_there (Some v) xs reads = unwrapped v xs reads
 
 pub read_if_there : (f : Field) (s : State) (xs : List (Spanned Licence)) (ys : List (Spanned Requirement))
-    → ys ≡ map requirement_of xs → ReadAt f s (λ v. ReadsOr [] ReadsWrapped v xs)
+    → ys ≡ map licence_requirement xs → ReadAt f s (λ v. ReadsOr [] ReadsWrapped v xs)
     → ReadAt f s (λ v. ReadsOr [] ReadsLicences v ys)
 read_if_there f s xs ys is read = record {
   says = λ none. subst (ReadsOr [] ReadsLicences _) (sym is) (unwrapped_or _ xs (read.says none));
 }
 
 pub read_there : (f : Field) (s : State) (found : Option (List (Spanned Licence))) (xs : List (Spanned Licence))
-    (ys : List (Spanned Requirement)) → found ≡ Some xs → ys ≡ map requirement_of xs
-    → ReadAt f s (λ v. Gives (ReadsThere ReadsWrapped v) found)
-    → ReadAt f s (λ v. Gives (ReadsThere ReadsLicences v) (Some ys))
+    (ys : List (Spanned Requirement)) → found ≡ Some xs → ys ≡ map licence_requirement xs
+    → ReadAt f s (λ v. IsSomeAnd found (ReadsThere ReadsWrapped v))
+    → ReadAt f s (λ v. IsSomeAnd (Some ys) (ReadsThere ReadsLicences v))
 read_there f s found xs ys there is read = record {
-  says = λ none. subst (ReadsThere ReadsLicences _) (sym is)
-      (unwrapped_there _ xs (subst (Gives (ReadsThere ReadsWrapped _)) there (read.says none)));
+  says = λ none. subst (ReadsThere ReadsLicences (value_at f.name s.entries)) (sym is)
+      (unwrapped_there (value_at f.name s.entries) xs
+      (subst (λ o. IsSomeAnd o (ReadsThere ReadsWrapped (value_at f.name s.entries))) there (read.says none)));
 }

@@ -6,7 +6,7 @@ use Rattle.semver.specs.declared.VersionReq.{VersionReq}
 use Rattle.deny_toml.specs.Calls.{array_in, bool_in, integer_in, table_in, text_in}
 use Rattle.deny_toml.specs.Deserialize.{ReadsArray, ReadsEach, small_number}
 use Rattle.deny_toml.specs.Value.{entries_in}
-use Rattle.deny_toml.specs.declared.value.Value.{Value}
+use Rattle.deny_toml.specs.value.Value.{Value}
 use Rattle.deny_entries.specs.declared.package_spec.PackageSpec.{PackageSpec}
 use Rattle.deny_entries.specs.declared.policy_key.PolicyKey.TheVariants as key
 use Rattle.deny_entries.specs.PolicyKey.{name_of}

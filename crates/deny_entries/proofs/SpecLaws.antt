@@ -15,7 +15,7 @@ use Rattle.deny_toml.specs.Calls.{is_verbatim, layer_in, one_line_of, scalar_of,
 use Rattle.deny_toml.specs.Value.{span_in}
 use Rattle.deny_toml.specs.Scalar.{Scalar}
 use Rattle.deny_toml.specs.Scalar.TheVariants as scalar
-use Rattle.deny_toml.specs.declared.value.Value.{Value}
+use Rattle.deny_toml.specs.value.Value.{Value}
 use Rattle.deny_entries.specs.declared.package_spec.PackageSpec.{PackageSpec}
 use Rattle.deny_entries.specs.Requirement.{held_in, requirement_in}
 use Rattle.deny_entries.specs.SpecView.{same_spec, spec_view}

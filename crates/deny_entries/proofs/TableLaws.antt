@@ -8,11 +8,11 @@ use Rattle.std.specs.List.{list_any}
 use Rattle.std.specs.Cmp.Lexicographic.{pointwise}
 use Rattle.deny_base.specs.declared.span.Span.{Span}
 use Rattle.deny_toml.specs.declared.error.ConfigFault.{ConfigFault}
-use Rattle.deny_toml.specs.declared.value.Value.{Value}
+use Rattle.deny_toml.specs.value.Value.{Value}
 use Rattle.deny_toml.specs.Key.{Key}
 use Rattle.deny_toml.specs.Calls.{has_name, table_in, value_at, without}
 use Rattle.deny_toml.specs.Value.{span_in, entries_in, table_with}
-use Rattle.deny_toml.specs.declared.value.Content.TheViews.{out-roll-Table}
+use Rattle.deny_toml.specs.value.Content.TheViews.{out-roll-Table}
 use Rattle.deny_toml.specs.Faults.{in_order}
 use Rattle.deny_toml.specs.TableHelper.{unknown}
 use Rattle.deny_toml.specs.declared.error.DeserError.{DeserError}

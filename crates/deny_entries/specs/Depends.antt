@@ -1,10 +1,10 @@
 -- What an entry says besides its spec depends on what its table holds at the keys of that alone.
 use Rattle.std.proofs.Common.{◌≡◌, None, Some, refl, sym, ap, subst, ◌∙◌}
-use Rattle.std.specs.Prelude.{[], ◌∷◌, List, ◌&&◌, not, is_some}
+use Rattle.std.specs.Prelude.{[], ◌∷◌, List, ◌&&◌, not, is_some, IsSomeAnd}
 use Rattle.deny_toml.specs.Calls.{value_at}
 use Rattle.deny_entries.specs.Entry.{ReadsSome, holds_none}
 use Rattle.deny_entries.specs.Reasons.{ReadsReason, ReadsReasonKey, reason_fields}
-use Rattle.deny_entries.specs.Table.{AreAlikeAt, DependsOn, EachSays, Entries, Field, Gives, ReadsIfThere, ReadsKeys}
+use Rattle.deny_entries.specs.Table.{AreAlikeAt, DependsOn, EachSays, Entries, Field, ReadsIfThere, ReadsKeys}
 use Rattle.deny_entries.specs.Table.{TableKey, fields_of}
 
 holds_alike : (fields : List Field) (one other : Entries) → AreAlikeAt fields one other
@@ -21,7 +21,7 @@ some-depends fields Reads depends one other (Some x) alike reads =
     (sym (holds_alike fields one other alike) ∙ reads.0, depends one other x alike reads.1)
 
 pub gives-depends : {T : Type 0} (fields : List Field) (Reads : Entries → T → Type 0) → DependsOn fields Reads
-    → DependsOn fields (λ entries said. Gives (Reads entries) said)
+    → DependsOn fields (λ entries said. IsSomeAnd said (Reads entries))
 gives-depends fields Reads depends one other None alike reads = reads
 gives-depends fields Reads depends one other (Some x) alike reads = depends one other x alike reads
 

@@ -2,7 +2,7 @@
 use Rattle.std.specs.Prelude.{◌≡◌, ℕ, Bool, true, false, not, List, ◌++◌, Option, None, Some, is_some}
 use Rattle.std.specs.List.{list_all}
 use Rattle.deny_toml.specs.declared.error.ConfigFault.{ConfigFault}
-use Rattle.deny_toml.specs.declared.value.Value.{Value}
+use Rattle.deny_toml.specs.value.Value.{Value}
 use Rattle.deny_toml.specs.Calls.{text_in, value_at}
 use Rattle.deny_entries.specs.declared.package_spec.PackageSpec.{PackageSpec}
 use Rattle.deny_entries.specs.Spec.{spec_fields, spec_in, ReadsSpecKeys, ReadsSpecText}

@@ -4,12 +4,12 @@ use Rattle.deny_base.specs.declared.span.Spanned.{Spanned}
 use Rattle.deny_spdx.specs.declared.requirement.Requirement.{Requirement}
 use Rattle.deny_spdx.specs.Meaning.{requirement_in}
 use Rattle.deny_toml.specs.declared.error.ConfigFault.{ConfigFault}
-use Rattle.deny_toml.specs.declared.value.Value.{Value}
+use Rattle.deny_toml.specs.value.Value.{Value}
 use Rattle.deny_entries.specs.Words.{Kind, ReadsAs, ReadsList, ReadsSpanned, faults_as, faults_of_list}
 use Rattle.deny_entries.specs.declared.licence.Licence.{Licence}
 
-abbrev pub requirement_of : Spanned Licence → Spanned Requirement
-requirement_of licence = record { value = licence.value.0; span = licence.span }
+abbrev pub licence_requirement : Spanned Licence → Spanned Requirement
+licence_requirement licence = record { value = licence.value.0; span = licence.span }
 
 -- an array of licences, each with its span
 abbrev pub faults_of_licences : Value → List ConfigFault

@@ -1,7 +1,7 @@
 -- Reasons, and entries that say nothing else besides their spec.
 use Rattle.std.specs.Prelude.{List, [], ◌∷◌, Option}
 use Rattle.deny_toml.specs.declared.error.ConfigFault.{ConfigFault}
-use Rattle.deny_toml.specs.declared.value.Value.{Value}
+use Rattle.deny_toml.specs.value.Value.{Value}
 use Rattle.deny_entries.specs.declared.policy_key.PolicyKey.TheVariants as key
 use Rattle.deny_entries.specs.declared.reason.Reason.{Reason}
 use Rattle.deny_entries.specs.declared.spec_or_extended.PackageSpecOrExtended.{PackageSpecOrExtended}

@@ -6,8 +6,8 @@ use Rattle.std.specs.Prelude.{nat_eq}
 use Rattle.deny_base.specs.declared.span.Span.{Span}
 use Rattle.deny_toml.specs.declared.error.ConfigFault.{ConfigFault}
 use Rattle.deny_toml.specs.Key.{Key}
-use Rattle.deny_toml.specs.declared.value.Value.{Value}
-use Rattle.deny_toml.specs.declared.value.Table.{Table}
+use Rattle.deny_toml.specs.value.Value.{Value}
+use Rattle.deny_toml.specs.value.Table.{Table}
 use Rattle.deny_toml.specs.Value.{span_in, entries_in}
 use Rattle.deny_toml.specs.Calls.{has_name, table_in, value_at, without}
 use Rattle.deny_toml.specs.Faults.{wrong_kind, in_order}
@@ -139,11 +139,6 @@ abbrev pub a_table : {T : Type 0} → List (TableKey T) → Kind T
 a_table keys = record { faults_of = faults_of_table (λ entries. fields_of keys); Reads = ReadsTable (ReadsKeys keys) }
 
 -- ---- how a table is read
-
--- something was read
-abbrev pub Gives : {T : Type 0} → (T → Type 0) → Option T → Type 0
-Gives Reads None = ⊥
-Gives Reads (Some x) = Reads x
 
 -- whether no two of these keys have one name
 abbrev pub are_apart : List Field → Bool

@@ -4,7 +4,7 @@ use Rattle.std.specs.Str.{bytes_eq}
 use Rattle.deny_base.specs.declared.level.LintLevel.{LintLevel}
 use Rattle.deny_base.specs.declared.level.LintLevel.TheVariants as level
 use Rattle.deny_toml.specs.declared.error.ConfigFault.{ConfigFault}
-use Rattle.deny_toml.specs.declared.value.Value.{Value}
+use Rattle.deny_toml.specs.value.Value.{Value}
 use Rattle.deny_toml.specs.Value.{span_in}
 use Rattle.deny_toml.specs.Calls.{array_in, text_in, bool_in, integer_in}
 use Rattle.deny_toml.specs.Deserialize.{faults_of_kind, faults_of_small, small_number, faults_of_array, ReadsArray}

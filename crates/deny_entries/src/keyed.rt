@@ -1,7 +1,7 @@
 //! Types that are read from the keys of a table.
-ghost use Rattle.std.specs.Prelude.{◌≡◌, [], true, List, IfOk, IfErr, OnOk};
+ghost use Rattle.std.specs.Prelude.{◌≡◌, [], true, List, IfOk, IfErr, OnOk, IsSomeAnd};
 ghost use Rattle.deny_toml.specs.Faults.{Reports};
-ghost use Rattle.deny_entries.specs.Table.{Entries, Field, Gives, ReadsTable, are_apart};
+ghost use Rattle.deny_entries.specs.Table.{Entries, Field, ReadsTable, are_apart};
 ghost use Rattle.deny_entries.specs.Table.{after_all, faults_of_fields, faults_of_table, state_of};
 
 use deny_lists::NoMemory;
@@ -20,7 +20,7 @@ pub trait Keyed: Sized + Drop {
     fn read_keys(alloc: Global, helper: &mut TableHelper<'_>) -> Result<Option<Self>, NoMemory>
         ensures next { OnOk result (state_of helper.new ≡ after_all fields (state_of helper.old)) }
         ensures read { IfOk result (λ x. faults_of_fields fields helper.old.span helper.old.entries ≡ []
-            → Gives (reads_in helper.old.entries) x) };
+            → IsSomeAnd x (reads_in helper.old.entries)) };
 
     ghost apart: { are_apart fields ≡ true };
 }

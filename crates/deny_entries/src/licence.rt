@@ -1,8 +1,8 @@
 //! Licences that a policy names.
-ghost use Rattle.std.specs.Prelude.{◌≡◌, [], map, IfOk, OnOk};
+ghost use Rattle.std.specs.Prelude.{◌≡◌, [], map, IfOk, OnOk, IsSomeAnd};
 ghost use Rattle.deny_spdx.specs.Meaning.{requirement_in};
-ghost use Rattle.deny_entries.specs.Licence.{ReadsLicences, faults_of_licences, requirement_of};
-ghost use Rattle.deny_entries.specs.Table.{Gives, ReadAt, ReadsOr, ReadsThere, after, state_of};
+ghost use Rattle.deny_entries.specs.Licence.{ReadsLicences, faults_of_licences, licence_requirement};
+ghost use Rattle.deny_entries.specs.Table.{ReadAt, ReadsOr, ReadsThere, after, state_of};
 ghost use Rattle.deny_entries.specs.Table as spec;
 ghost use Rattle.deny_entries.specs.Words.{faults_as, ReadsAs};
 
@@ -36,8 +36,8 @@ impl Deserialize for Licence {
     }
 }
 
-fn requirement_of(licence: Spanned<Licence>) -> Spanned<Requirement>
-    ensures { result ≡ requirement_of licence }
+fn licence_requirement(licence: Spanned<Licence>) -> Spanned<Requirement>
+    ensures { result ≡ licence_requirement licence }
 {
     Spanned {
         value: licence.value.0,
@@ -49,11 +49,11 @@ fn requirements_of(
     alloc: Global,
     licences: List<Spanned<Licence>>,
 ) -> Result<List<Spanned<Requirement>>, NoMemory>
-    ensures { IfOk result (λ all. all ≡ map requirement_of licences) }
+    ensures { IfOk result (λ all. all ≡ map licence_requirement licences) }
 {
     let mut all = List::new(alloc);
     'licences: for licence in licences.vec {
-        all.push(requirement_of(licence))?;
+        all.push(licence_requirement(licence))?;
     }
     Ok(all)
 }
@@ -84,7 +84,7 @@ pub fn licences(
     ensures next { OnOk result (state_of helper.new
         ≡ after (spec.required key faults_of_licences) (state_of helper.old)) }
     ensures read { IfOk result (λ x. ReadAt (spec.required key faults_of_licences) (state_of helper.old)
-        (λ v. Gives (ReadsThere ReadsLicences v) x)) }
+        (λ v. IsSomeAnd x (ReadsThere ReadsLicences v))) }
 {
     let Some(licences) = table::required(helper, key)? else {
         return Ok(None);

@@ -1,5 +1,5 @@
 //! Specs as they are read.
-ghost use Rattle.std.specs.Prelude.{◌≡◌, ◌≤◌, ◌+◌, ℕ, true, [], Some, None, IfOk};
+ghost use Rattle.std.specs.Prelude.{◌≡◌, ◌≤◌, ◌+◌, ℕ, true, [], Some, None, IfOk, IsSomeAnd};
 ghost use Rattle.std.specs.Prelude.{IfErr, IfSome, OnOk, option_map, is_some, length};
 ghost use Rattle.deny_toml.specs.Faults.{Reports};
 ghost use Rattle.std.specs.List.{list_any};
@@ -11,7 +11,7 @@ ghost use Rattle.deny_entries.specs.Spec as spec;
 ghost use Rattle.deny_entries.specs.Spec.{parts_in, divided, name_in, spec_in, name_span, ReadsSpecText};
 ghost use Rattle.deny_entries.specs.Spec.{ReadsSpecKeys, ReadsSpec, ReadsName, crate_fields};
 ghost use Rattle.deny_entries.specs.Spec.{name_field, name_fields, spec_fields, faults_of_spec};
-ghost use Rattle.deny_entries.specs.Table.{Gives, ReadAt, ReadsThere, ReadsTable, after, after_all};
+ghost use Rattle.deny_entries.specs.Table.{ReadAt, ReadsThere, ReadsTable, after, after_all};
 ghost use Rattle.deny_entries.specs.Table.{faults_of_table, faults_of_fields, state_of, at_key};
 ghost use Rattle.deny_entries.specs.Words.{faults_as, ReadsAs, ReadsSpanned};
 ghost use Rattle.deny_entries.specs.declared.policy_key.PolicyKey.TheVariants as key;
@@ -168,7 +168,7 @@ fn read_crate(helper: &mut TableHelper<'_>) -> Result<Option<PackageSpec>, NoMem
     requires there { is_some (at_key key.Crate helper.old.entries) ≡ true }
     ensures next { OnOk result (state_of helper.new ≡ after_all crate_fields (state_of helper.old)) }
     ensures read { IfOk result (λ x. faults_of_fields crate_fields helper.old.span helper.old.entries ≡ []
-        → Gives (ReadsSpecKeys helper.old.entries) x) }
+        → IsSomeAnd x (ReadsSpecKeys helper.old.entries)) }
 {
     match table::optional::<SpecText>(helper, PolicyKey::Crate)? {
         Some(read) => Ok(Some(read.0)),
@@ -180,7 +180,7 @@ fn read_crate(helper: &mut TableHelper<'_>) -> Result<Option<PackageSpec>, NoMem
 fn read_name_key(helper: &mut TableHelper<'_>) -> Result<Option<Spanned<Text>>, NoMemory>
     ensures next { OnOk result (state_of helper.new ≡ after name_field (state_of helper.old)) }
     ensures read { IfOk result (λ x. ReadAt name_field (state_of helper.old)
-        (λ v. Gives (ReadsThere (ReadsSpanned (ReadsAs name_in)) v) x)) }
+        (λ v. IsSomeAnd x (ReadsThere (ReadsSpanned (ReadsAs name_in)) v))) }
 {
     match table::required::<Spanned<SpecName>>(helper, PolicyKey::Name)? {
         Some(name) => Ok(Some(Spanned {
@@ -195,7 +195,7 @@ fn read_name_key(helper: &mut TableHelper<'_>) -> Result<Option<Spanned<Text>>, 
 fn read_name(helper: &mut TableHelper<'_>) -> Result<Option<PackageSpec>, NoMemory>
     ensures next { OnOk result (state_of helper.new ≡ after_all name_fields (state_of helper.old)) }
     ensures read { IfOk result (λ x. faults_of_fields name_fields helper.old.span helper.old.entries ≡ []
-        → Gives (ReadsName helper.old.entries) x) }
+        → IsSomeAnd x (ReadsName helper.old.entries)) }
 {
     let name = read_name_key(helper)?;
     let version = table::optional::<WrittenRequirement>(helper, PolicyKey::Version)?;
@@ -243,7 +243,7 @@ pub(crate) fn read_spec(helper: &mut TableHelper<'_>) -> Result<Option<PackageSp
         ≡ after_all (spec_fields helper.old.entries) (state_of helper.old)) }
     ensures read { IfOk result (λ x.
         faults_of_fields (spec_fields helper.old.entries) helper.old.span helper.old.entries ≡ []
-        → Gives (ReadsSpecKeys helper.old.entries) x) }
+        → IsSomeAnd x (ReadsSpecKeys helper.old.entries)) }
 {
     if has_crate(helper) {
         read_crate(helper)

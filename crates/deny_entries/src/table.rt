@@ -1,8 +1,8 @@
 //! Tables that are read key by key.
-ghost use Rattle.std.specs.Prelude.{◌≡◌, [], List, IfOk, IfErr, OnOk, Option};
-ghost use Rattle.deny_toml.specs.declared.value.Value.{Value};
+ghost use Rattle.std.specs.Prelude.{◌≡◌, [], List, IfOk, IfErr, OnOk, Option, IsSomeAnd};
+ghost use Rattle.deny_toml.specs.value.Value.{Value};
 ghost use Rattle.deny_toml.specs.Faults.{Reports};
-ghost use Rattle.deny_entries.specs.Table.{ReadsIfThere, ReadsOr, ReadsThere, Gives, state_of, after, ReadAt};
+ghost use Rattle.deny_entries.specs.Table.{ReadsIfThere, ReadsOr, ReadsThere, state_of, after, ReadAt};
 ghost use Rattle.deny_entries.specs.Table as spec;
 ghost use Rattle.deny_entries.specs.Words.{faults_of_list, ReadsList};
 
@@ -48,7 +48,7 @@ pub fn required<T: Deserialize>(
 ) -> Result<Option<T>, NoMemory>
     ensures next { OnOk result (state_of helper.new ≡ after (spec.required key T.faults_of) (state_of helper.old)) }
     ensures read { IfOk result (λ x. ReadAt (spec.required key T.faults_of) (state_of helper.old)
-        (λ v. Gives (ReadsThere T.reads v) x)) }
+        (λ v. IsSomeAnd x (ReadsThere T.reads v))) }
 {
     match helper.required(key.name()) {
         Ok(read) => Ok(Some(read)),

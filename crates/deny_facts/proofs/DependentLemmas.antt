@@ -17,7 +17,7 @@ use Rattle.deny_model.specs.Graph.{Crate, Graph, dependents}
 use Rattle.deny_model.specs.Groups.{has_name}
 use Rattle.deny_model.specs.Told.{crate_at}
 use Rattle.deny_facts.specs.Wrappers.{has_range, range_at, range_of}
-use Rattle.deny_facts.specs.Groups.{all_bear, bears}
+use Rattle.deny_facts.specs.private.Groups.{all_bear, bears}
 use Rattle.deny_facts.specs.Placed.{ArePlaced}
 use Rattle.deny_lists.proofs.Members.{Contains-from_map, all_at, all_from}
 use Rattle.deny_lists.proofs.Booleans.{tests_agree}

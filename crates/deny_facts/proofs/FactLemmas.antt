@@ -18,7 +18,8 @@ use Rattle.deny_model.specs.Policy.{Root}
 use Rattle.deny_model.specs.Roots.{IsNear, IsInTree}
 use Rattle.deny_lists.specs.Walk.{distance_at}
 use Rattle.deny_facts.specs.Distances.{IsLed, IsDistance, AreDistances}
-use Rattle.deny_facts.specs.Marks.{marked, is_near, AreCounted, IsTreeOf}
+use Rattle.deny_facts.specs.Marks.{marked, AreCounted}
+use Rattle.deny_facts.specs.private.Marks.{is_near, IsTreeOf}
 use Rattle.deny_facts.specs.Placed.{ArePlaced}
 use Rattle.deny_facts.proofs.MarkLemmas.{places_within}
 use Rattle.deny_krates.proofs.PlaceLemmas.{place_within}

@@ -16,7 +16,8 @@ use Rattle.deny_model.specs.Graph.{Crate, Graph, dependents}
 use Rattle.deny_model.specs.Groups.{has_name, group, is_in_group, is_internal, is_marked, is_rooted, may_stand, reduced}
 use Rattle.deny_model.specs.Policy.{Policy}
 use Rattle.deny_lists.proofs.Agreement.{AgreeOn, filter_on, map_on}
-use Rattle.deny_facts.specs.Groups.{is_left, is_left_at, may_stand_at, AddsLeft}
+use Rattle.deny_facts.specs.Groups.{is_left}
+use Rattle.deny_facts.specs.private.Groups.{is_left_at, may_stand_at, AddsLeft}
 use Rattle.deny_facts.specs.Marks.{mark_at, marked}
 use Rattle.deny_facts.specs.Placed.{ArePlaced}
 use Rattle.deny_lists.proofs.Filters.{filter-filter}

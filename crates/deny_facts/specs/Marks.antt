@@ -1,13 +1,9 @@
 -- The facts that the rules rest on, as the code keeps them: a mark for each crate, at its place.
-use Rattle.std.specs.Prelude.{◌≡◌, ◌||◌, ◌<◌, ◌↔◌, ℕ, max, Bool, true, false, IsTrue, List, [], Option, None, Some}
-use Rattle.std.specs.Prelude.{length, map, slice_index_or, nat_lt, Contains}
-use Rattle.deny_cfg.specs.PolicyView.{root_view}
-use Rattle.deny_cfg.specs.TreeSkipExtended.{TreeSkipExtended}
-use Rattle.deny_cfg.specs.PackageSpecOrExtended.{PackageSpecOrExtended}
+use Rattle.std.specs.Prelude.{◌≡◌, ◌||◌, ◌<◌, ◌↔◌, ℕ, Bool, false, IsTrue, List, []}
+use Rattle.std.specs.Prelude.{length, map, slice_index_or, Contains}
 use Rattle.deny_model.specs.Counting.{Counts}
 use Rattle.deny_model.specs.Facts.{Facts}
 use Rattle.deny_model.specs.Graph.{Crate, Graph}
-use Rattle.deny_model.specs.Roots.{IsInTree}
 use Rattle.deny_facts.specs.declared.facts.Marks.{Marks}
 
 -- the mark at a place; none is as `false`
@@ -36,14 +32,3 @@ facts_of m = record {
 -- the crates that count are marked
 pub record AreCounted (include_dev : Bool) (g : Graph) (marks : List Bool) : Type 0 where
   pub each : (c : Crate) → Contains g.crates c → IsTrue (marked marks c) ↔ Counts include_dev g c
-
--- the crates of an entry's tree are marked, whichever number the entry has
-pub record IsTreeOf (g : Graph) (entry : PackageSpecOrExtended TreeSkipExtended) (marks : List Bool) : Type 0 where
-  pub each : (number : ℕ) (c : Crate) → Contains g.crates c
-      → IsTrue (marked marks c) ↔ IsInTree g (root_view number entry) c
-
--- a distance that is near enough for a depth, of which 0 is as 1; without a depth every distance is
-unfoldable pub is_near : Option ℕ → Option ℕ → Bool
-is_near depth None = false
-is_near None (Some distance) = true
-is_near (Some depth) (Some distance) = nat_lt distance (max depth 1)

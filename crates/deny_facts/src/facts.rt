@@ -5,7 +5,8 @@ ghost use Rattle.deny_cfg.specs.PolicyView.{policy_view};
 ghost use Rattle.deny_cfg.specs.SpecView.{spec_view};
 ghost use Rattle.deny_model.specs.Facts.{AreFacts};
 ghost use Rattle.deny_model.specs.Match.{matches};
-ghost use Rattle.deny_facts.specs.Marks.{facts_of, is_near, AreCounted, IsTreeOf};
+ghost use Rattle.deny_facts.specs.Marks.{facts_of, AreCounted};
+ghost use Rattle.deny_facts.specs.private.Marks.{is_near, IsTreeOf};
 ghost use Rattle.deny_facts.specs.Matches.{root_match, spec_match};
 
 use crate::distances::distances_from;
@@ -119,7 +120,7 @@ fn near(
 }
 
 /// Whether a distance is near enough: there is one, and it is below the depth, of which 0 is as 1.
-#[tactic(auto, unfolding(crate::specs::Marks::is_near))]
+#[tactic(auto, unfolding(crate::specs::private::Marks::is_near))]
 fn is_near(depth: Option<u32>, distance: Option<u32>) -> bool
     ensures { result ≡ is_near depth distance }
 {

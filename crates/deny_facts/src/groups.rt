@@ -6,8 +6,10 @@ ghost use Rattle.deny_cfg.specs.SpecView.{spec_view};
 ghost use Rattle.deny_model.specs.Graph.{Graph, dependents};
 ghost use Rattle.deny_model.specs.Groups.{has_name};
 ghost use Rattle.deny_model.specs.Match.{matches};
-ghost use Rattle.deny_facts.specs.Groups.{AddsLeft, AreGroups, IsReducedLength, all_bear};
-ghost use Rattle.deny_facts.specs.Groups.{bears, is_left, is_left_at, may_stand_at};
+ghost use Rattle.deny_facts.specs.Groups.{AreGroups, IsReducedLength};
+ghost use Rattle.deny_facts.specs.private.Groups.{AddsLeft, all_bear};
+ghost use Rattle.deny_facts.specs.Groups.{is_left};
+ghost use Rattle.deny_facts.specs.private.Groups.{bears, is_left_at, may_stand_at};
 ghost use Rattle.deny_facts.specs.Marks.{AddsMarks, HaveBesides, facts_of, mark_at, marked};
 ghost use Rattle.deny_facts.specs.Matches.{skip_match};
 
@@ -198,7 +200,7 @@ fn standing_of(
 }
 
 /// Whether the crate at a place counts, and a skip speaks of it or no tree has it.
-#[tactic(auto, unfolding(crate::specs::Groups::may_stand_at))]
+#[tactic(auto, unfolding(crate::specs::private::Groups::may_stand_at))]
 fn may_stand_at(counts: &[bool], skipped: &[bool], rooted: &[bool], place: u32) -> bool
     ensures { result ≡ may_stand_at counts.now skipped.now rooted.now place }
 {
@@ -258,7 +260,7 @@ fn reduce_run(
 }
 
 /// Whether the crate at a place stands, and is alone in that or has a dependent of another name.
-#[tactic(auto, unfolding(crate::specs::Groups::is_left_at))]
+#[tactic(auto, unfolding(crate::specs::private::Groups::is_left_at))]
 fn is_left_at(krates: &Krates, standing: &[bool], name: &str, alone: bool, place: u32) -> bool
     requires { place < length krates.now.crates }
     ensures { result ≡ is_left_at krates.now standing.now name.now alone place }
@@ -275,7 +277,7 @@ fn is_internal(krates: &Krates, name: &str, place: u32) -> bool
 }
 
 /// Whether all these dependents bear a name.
-#[tactic(auto, unfolding(crate::specs::Groups::all_bear))]
+#[tactic(auto, unfolding(crate::specs::private::Groups::all_bear))]
 fn all_bear(krates: &[Krate], name: &str, dependents: &[DirectDependent]) -> bool
     requires { All (λ d. d.place < length krates.now) dependents.now }
     ensures { result ≡ all_bear krates.now name.now dependents.now }
@@ -289,7 +291,7 @@ fn all_bear(krates: &[Krate], name: &str, dependents: &[DirectDependent]) -> boo
 }
 
 /// Whether the crate at a place bears a name.
-#[tactic(auto, unfolding(crate::specs::Groups::bears))]
+#[tactic(auto, unfolding(crate::specs::private::Groups::bears))]
 fn bears(krates: &[Krate], name: &str, place: u32) -> bool
     requires { place < length krates.now }
     ensures { result ≡ bears krates.now name.now place }

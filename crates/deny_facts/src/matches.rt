@@ -72,7 +72,7 @@ impl<'c> Matches<'c> {
         ensures facts { IfOk result (λ found. AreFacts (policy_view found.cfg.now) found.krates.now
             (facts_of found.marks)) }
     {
-        let marked = marked_of(alloc, cfg, krates)?;
+        let marked = mark_graph(alloc, cfg, krates)?;
         let grouped = grouped_of(alloc, cfg, krates, &marked.marks)?;
         let banned = banned_of(alloc, cfg, krates)?;
         Ok(Matches {
@@ -97,7 +97,7 @@ struct Marked {
 }
 
 /// What is true of a configuration and a graph, and what each entry of `skip-tree` speaks of.
-fn marked_of(alloc: Global, cfg: &ValidConfig, krates: &Krates) -> Result<Marked, NoMemory>
+fn mark_graph(alloc: Global, cfg: &ValidConfig, krates: &Krates) -> Result<Marked, NoMemory>
     ensures facts { IfOk result (λ marked. AreFacts (policy_view cfg.now) krates.now (facts_of marked.marks)) }
     ensures roots { IfOk result (λ marked. marked.roots ≡ map (root_match krates.now) (policy_view cfg.now).skip_tree) }
 {

@@ -32,7 +32,8 @@ use Rattle.deny_facts.specs.Marks.{AddsMarks, mark_at}
 use Rattle.deny_facts.specs.Placed.{ArePlaced}
 use Rattle.deny_facts.proofs.MarkLemmas.{marked-is}
 use Rattle.deny_krates.proofs.PlaceLemmas.{place_of, flat_map-place_of}
-use Rattle.deny_features.specs.Crates.{enabled_at, has_feature_at}
+use Rattle.deny_features.specs.Crates.{enabled_at}
+use Rattle.deny_features.specs.private.Crates.{has_feature_at}
 use Rattle.deny_features.specs.private.Keys.{banned_keys_at, default_keys_at, default_keys_of, is_default_enabled_at}
 use Rattle.deny_features.specs.private.Keys.{is_left_at, leaves_open, minds, tells_unknown_at, unknown_keys_at}
 use Rattle.deny_features.specs.Listed.{has_default_apart_at, is_unlisted_at, unlisted_at}

@@ -1,6 +1,6 @@
 -- Chains of steps on numbers are chains of plain entries on texts.
 use Rattle.std.proofs.Common.{◌≡◌, ℕ, zero, suc, ◌<◌, Bool, true, false, List, [], Option, Some, None, map, is_some}
-use Rattle.std.proofs.Common.{length, refl, sym, ap, ◌∙◌, subst, arith}
+use Rattle.std.proofs.Common.{length, refl, sym, ap, ◌∙◌, subst, subst₂, arith}
 use Rattle.std.specs.Prelude.{IsTrue, All, Contains, cond, filter_map, slice_get, slice_index_or}
 use Rattle.std.specs.FinMap as finite
 use Rattle.std.specs.Cmp.Lexicographic.{bytes_decides}
@@ -142,9 +142,9 @@ module _ (features : TextFinMap (List (List ℕ))) (names : List (List ℕ)) (nu
   pub roots_in : (rs : List (List ℕ)) (starts : List ℕ) (words : List Words) → rs ≡ rows
       → starts ≡ filter_map (λ w. finite.get numbers w.value) words → All (λ root. root < length rs) starts
   roots_in rs starts words is are =
-      subst (λ (all : List (List ℕ)). All (λ root. root < length all) starts) (sym is)
-      (subst (λ (count : ℕ). All (λ root. root < count) starts) (sym (length-map names (row_of features numbers)))
-      (subst (All (λ root. root < length names)) (sym are) (roots_inside words)))
+      let long : length names ≡ length rs =
+      sym (length-map names (row_of features numbers)) ∙ ap (λ (all : List (List ℕ)). length all) (sym is) in
+      subst₂ (λ (count : ℕ) (from : List ℕ). All (λ root. root < count) from) long (sym are) (roots_inside words)
 
   -- ---- from numbers to texts
 
@@ -283,8 +283,8 @@ module _ (features : TextFinMap (List (List ℕ))) (names : List (List ℕ)) (nu
       → AreMarks (λ n. Contains (slice_index_or rs n [])) (length rs) starts marks
       → AreMarks leads (length names) (filter_map (λ w. finite.get numbers w.value) words) marks
   marks_are rs starts words marks is are marked =
+      let of_rows : AreMarks leads (length rows) (filter_map (λ w. finite.get numbers w.value) words) marks =
+      subst₂ (λ (all : List (List ℕ)) (from : List ℕ). AreMarks (λ n. Contains (slice_index_or all n [])) (length all)
+      from marks) is are marked in
       subst (λ (count : ℕ). AreMarks leads count (filter_map (λ w. finite.get numbers w.value) words) marks)
-      (length-map names (row_of features numbers))
-      (subst (λ (from : List ℕ). AreMarks leads (length rows) from marks) are
-      (subst (λ (all : List (List ℕ)). AreMarks (λ n. Contains (slice_index_or all n [])) (length all) starts marks) is
-      marked))
+      (length-map names (row_of features numbers)) of_rows

@@ -1,5 +1,5 @@
 -- What a crate has of features, by its place.
-use Rattle.std.specs.Prelude.{◌==◌, ℕ, Bool, false, List, [], Option, if◌then◌else◌}
+use Rattle.std.specs.Prelude.{◌==◌, ℕ, Bool, List, [], Option, if◌then◌else◌}
 use Rattle.std.specs.List.{list_any}
 use Rattle.std.specs.Option.{option_map_or}
 use Rattle.deny_base.specs.declared.level.LintLevel.{LintLevel}
@@ -7,7 +7,6 @@ use Rattle.deny_base.specs.declared.span.Spanned.{Spanned}
 use Rattle.deny_model.specs.Graph.{Graph}
 use Rattle.deny_model.specs.Policy.{Policy}
 use Rattle.deny_model.specs.Told.{crate_at}
-use Rattle.deny_codes.specs.Features.{has_feature}
 
 -- the enabled features of the crate at a place
 abbrev pub enabled_at : Graph → ℕ → List (List ℕ)
@@ -20,7 +19,3 @@ is_member_at g place = list_any (λ member. member == place) g.members
 -- the level of the feature `default` of the crate at a place
 abbrev pub default_level_at : Policy → Graph → ℕ → Option (Spanned LintLevel)
 default_level_at p g place = if is_member_at g place then p.workspace_default else p.external_default
-
--- the crate at a place has a feature in its table
-abbrev pub has_feature_at : Graph → ℕ → List ℕ → Bool
-has_feature_at g place feature = option_map_or (λ c. has_feature c feature) (crate_at g place) false

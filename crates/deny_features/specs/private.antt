@@ -1,3 +1,4 @@
+pub mod Crates
 pub mod FeatureMatches
 pub mod Keys
 pub mod Listed

@@ -27,12 +27,12 @@ pub fn add_banned_keys(
     ensures { OnOk result (keys.new ≡ keys.old ++ feature_banned_keys (policy_view _cfg.now) krates.now) }
 {
     for entry in found {
-        add_banned_of(alloc, krates, entry, keys)?;
+        add_banned_of_entry(alloc, krates, entry, keys)?;
     }
     Ok(())
 }
 
-fn add_banned_of(
+fn add_banned_of_entry(
     alloc: Global,
     krates: &Krates,
     found: &FeatureMatch<'_>,
@@ -46,10 +46,10 @@ fn add_banned_of(
         return Ok(());
     }
     let denied = found.written.features.deny.as_slice();
-    add_banned_among(alloc, krates, denied, found.places.as_slice(), keys)
+    add_banned_crates(alloc, krates, denied, found.places.as_slice(), keys)
 }
 
-fn add_banned_among(
+fn add_banned_crates(
     alloc: Global,
     krates: &Krates,
     denied: &[Spanned<Text>],

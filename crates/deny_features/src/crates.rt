@@ -10,7 +10,8 @@ ghost use Rattle.deny_codes.specs.Features.{default_feature};
 ghost use Rattle.deny_krates.specs.Ids.{crate_of};
 ghost use Rattle.deny_model.specs.Keys.{crate_key};
 ghost use Rattle.deny_model.specs.Text.{same_text};
-ghost use Rattle.deny_features.specs.Crates.{default_level_at, enabled_at, has_feature_at, is_member_at};
+ghost use Rattle.deny_features.specs.Crates.{default_level_at, enabled_at, is_member_at};
+ghost use Rattle.deny_features.specs.private.Crates.{has_feature_at};
 
 use deny_base::{Code, DiagnosticCode, Key, Kid, LintLevel, Section, Span, Spanned};
 use deny_cfg::bans::cfg::ValidConfig;
@@ -26,12 +27,12 @@ pub fn enabled_at(krates: &Krates, place: u32) -> &[Text]
 {
     let _orderly = krates.krates();
     match krate_at(krates, place) {
-        Some(krate) => enabled_of(krates, &krate.id),
+        Some(krate) => enabled_of_kid(krates, &krate.id),
         None => &[],
     }
 }
 
-fn enabled_of<'k>(krates: &'k Krates, kid: &Kid) -> &'k [Text]
+fn enabled_of_kid<'k>(krates: &'k Krates, kid: &Kid) -> &'k [Text]
     ensures { result.now ≡ option_map_or (λ c. c.enabled) (crate_of krates.now kid.now.0) [] }
 {
     match krates.get_enabled_features(kid) {

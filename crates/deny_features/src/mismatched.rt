@@ -27,12 +27,12 @@ pub fn add_mismatched_keys(
     ensures { OnOk result (keys.new ≡ keys.old ++ mismatched_keys (policy_view cfg.now) krates.now) }
 {
     for entry in found {
-        add_mismatched_of(alloc, cfg, krates, entry, keys)?;
+        add_mismatched_of_entry(alloc, cfg, krates, entry, keys)?;
     }
     Ok(())
 }
 
-fn add_mismatched_of(
+fn add_mismatched_of_entry(
     alloc: Global,
     cfg: &ValidConfig,
     krates: &Krates,

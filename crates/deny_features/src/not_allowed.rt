@@ -32,12 +32,12 @@ pub fn add_not_allowed_keys(
     ensures { OnOk result (Adds (IsFeatureNotAllowed (policy_view cfg.now) krates.now) keys.old keys.new) }
 {
     for entry in found {
-        add_not_allowed_of(alloc, cfg, krates, entry, keys)?;
+        add_not_allowed_of_entry(alloc, cfg, krates, entry, keys)?;
     }
     Ok(())
 }
 
-fn add_not_allowed_of(
+fn add_not_allowed_of_entry(
     alloc: Global,
     cfg: &ValidConfig,
     krates: &Krates,
@@ -56,10 +56,10 @@ fn add_not_allowed_of(
     if listed.is_empty() {
         return Ok(());
     }
-    add_not_allowed_among(alloc, cfg, krates, found, keys)
+    add_not_allowed_crates(alloc, cfg, krates, found, keys)
 }
 
-fn add_not_allowed_among(
+fn add_not_allowed_crates(
     alloc: Global,
     cfg: &ValidConfig,
     krates: &Krates,

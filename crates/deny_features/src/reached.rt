@@ -43,11 +43,11 @@ fn reached(
     if names.len() >= MANY {
         return Err(NoMemory);
     }
-    reached_by(alloc, features, names.as_slice(), words)
+    reached_by_names(alloc, features, names.as_slice(), words)
 }
 
 /// The same by the names of the table.
-fn reached_by(
+fn reached_by_names(
     alloc: Global,
     features: &TextMap<List<Text>>,
     names: &[Text],
@@ -112,12 +112,12 @@ fn add_plain(
     ensures { OnOk result (texts.new ≡ texts.old ++ plain_of features.now name.now) }
 {
     if let Some(entries) = features.get(name.as_str()) {
-        add_plain_among(entries.as_slice(), texts)?;
+        add_plain_entries(entries.as_slice(), texts)?;
     }
     Ok(())
 }
 
-fn add_plain_among(entries: &[Text], texts: &mut List<Text>) -> Result<(), NoMemory>
+fn add_plain_entries(entries: &[Text], texts: &mut List<Text>) -> Result<(), NoMemory>
     ensures { OnOk result (texts.new ≡ texts.old ++ filter is_plain entries.now) }
 {
     for entry in entries {

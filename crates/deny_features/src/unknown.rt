@@ -28,12 +28,12 @@ pub fn add_unknown_keys(
     ensures { OnOk result (keys.new ≡ keys.old ++ unknown_feature_keys (policy_view cfg.now) krates.now) }
 {
     for entry in found {
-        add_unknown_of(alloc, cfg, krates, entry, keys)?;
+        add_unknown_of_entry(alloc, cfg, krates, entry, keys)?;
     }
     Ok(())
 }
 
-fn add_unknown_of(
+fn add_unknown_of_entry(
     alloc: Global,
     cfg: &ValidConfig,
     krates: &Krates,
@@ -46,7 +46,7 @@ fn add_unknown_of(
 {
     are_placed(krates);
     let told = telling(alloc, cfg, krates, found)?;
-    add_unknown_among(alloc, krates, found.written, told.as_slice(), keys)
+    add_unknown_crates(alloc, krates, found.written, told.as_slice(), keys)
 }
 
 /// The places of the crates of which an entry speaks and tells unknown features.
@@ -90,7 +90,7 @@ fn tells_unknown(
     Ok(!is_mismatched(alloc, cfg, krates, found, place)?)
 }
 
-fn add_unknown_among(
+fn add_unknown_crates(
     alloc: Global,
     krates: &Krates,
     entry: &ValidKrateFeatures,

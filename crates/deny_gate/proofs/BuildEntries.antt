@@ -40,8 +40,9 @@ use Rattle.deny_codes.specs.Packages.{file_keys, folder_key, is_used, looking, p
 use Rattle.deny_codes.specs.Packages.{right_script_keys, script_keys, script_shown, sum_keys, unmatched_bypass_keys}
 use Rattle.deny_codes.specs.Packages.{unmatched_glob_keys, unmatched_keys, unmatched_path_keys, walked_keys, walks}
 use Rattle.deny_laws.proofs.Asking.{used_member}
-use Rattle.deny_gate.specs.Labels.{build_ranges, building_ranges, bypass_ranges, older_range, path_ranges, sum_range}
-use Rattle.deny_gate.specs.Labels.{written_globs}
+use Rattle.deny_gate.specs.private.Labels.{build_ranges, building_ranges, bypass_ranges, older_range, path_ranges}
+use Rattle.deny_gate.specs.private.Labels.{sum_range}
+use Rattle.deny_gate.specs.private.Labels.{written_globs}
 use Rattle.deny_gate.proofs.BuildOrigins.{path_written}
 
 -- ---- the ranges of a policy

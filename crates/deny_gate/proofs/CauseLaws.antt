@@ -12,8 +12,10 @@ use Rattle.deny_packages.specs.Why.{AreFoldersOf}
 use Rattle.deny_unread.specs.Bound.{Folders}
 use Rattle.deny_unread.specs.Causes.{AreCaused}
 use Rattle.deny_gate.specs.Dead.{CanDoWithoutDead}
-use Rattle.deny_gate.specs.Gating.{HasGraph, IsCause, IsCauseBehind, IsCausedReport, IsFirstFault, IsMetadataCause}
-use Rattle.deny_gate.specs.Gating.{IsReportBy, IsReportOf, IsPolicyReport, IsTableCauseFor, Texts}
+use Rattle.deny_gate.specs.Gating.{HasGraph, IsCause, IsCausedReport, IsFirstFault}
+use Rattle.deny_gate.specs.private.Gating.{IsCauseBehind, IsMetadataCause}
+use Rattle.deny_gate.specs.Gating.{IsReportBy, IsReportOf, Texts}
+use Rattle.deny_gate.specs.private.Gating.{IsPolicyReport, IsTableCauseFor}
 use Rattle.deny_gate.specs.Headline.{IsHeadlineOf}
 use Rattle.deny_gate.specs.Report.{policy_id}
 use Rattle.deny_gate.specs.declared.report.GateError.{GateError}

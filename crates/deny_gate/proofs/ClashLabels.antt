@@ -17,7 +17,8 @@ use Rattle.deny_cfg.proofs.Among.{lie_prefix, lie_rest}
 use Rattle.deny_cfg.proofs.LabelLaws.{Lie}
 use Rattle.deny_toml.specs.Ranges.{IsRange}
 use Rattle.deny_model.specs.Policy.{Policy}
-use Rattle.deny_gate.specs.Gating.{IsCauseBehind, IsPolicyCause, Texts}
+use Rattle.deny_gate.specs.Gating.{Texts}
+use Rattle.deny_gate.specs.private.Gating.{IsCauseBehind, IsPolicyCause}
 use Rattle.deny_gate.specs.Labels.{AreLabelledClashes, ArePlaced, IsLabelledCause, IsPlaced}
 use Rattle.deny_gate.specs.Report.{policy_id}
 use Rattle.deny_gate.specs.declared.report.GateError.{GateError}

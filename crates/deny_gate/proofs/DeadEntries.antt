@@ -15,7 +15,7 @@ use Rattle.deny_base.specs.declared.entry.EntryId.{EntryId}
 use Rattle.deny_base.specs.declared.entry.Hit.{Hit}
 use Rattle.deny_base.specs.declared.key.Key.{Key}
 use Rattle.deny_laws.specs.Dead.{AreDead, IsDead, unused_entry}
-use Rattle.deny_gate.specs.Dead.{dead_entry, is_among}
+use Rattle.deny_gate.specs.private.Dead.{dead_entry, is_among}
 use Rattle.deny_gate.specs.Hits.{entry_of}
 
 is_there : IsTotalOrder entry_cmp → (entries : List EntryId) (e : EntryId) → Contains entries e

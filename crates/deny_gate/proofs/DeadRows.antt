@@ -20,7 +20,7 @@ use Rattle.deny_codes.proofs.Cases.{one_x, plain, range, skip_keys, skips_on_cas
 use Rattle.deny_codes.proofs.LicenceRows.{allowed_at, alone, every, exception_at, granting, licence, licences_on_cases}
 use Rattle.deny_codes.proofs.LicenceRows.{mit}
 use Rattle.deny_laws.specs.Dead.{AreDead, unused_entry}
-use Rattle.deny_gate.specs.Dead.{dead_entry, is_among}
+use Rattle.deny_gate.specs.private.Dead.{dead_entry, is_among}
 use Rattle.deny_gate.specs.Hits.{AreHits, entry_of}
 use Rattle.deny_gate.proofs.DeadEntries.{dead_listed}
 

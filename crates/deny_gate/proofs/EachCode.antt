@@ -1,5 +1,5 @@
 -- What holds of each code, a line for each: what its severity rests on, where it is an error, and what its labels mark.
-use Rattle.std.proofs.Common.{◌≡◌, ℕ, List, Option, refl, ◌∙◌, true, false, [], ◌∷◌, Contains, sym, inl, inr}
+use Rattle.std.proofs.Common.{◌≡◌, ℕ, List, Option, refl, ◌∙◌, true, [], ◌∷◌, sym, inl, inr}
 use Rattle.std.specs.Option.{option_map_or, option_and_then}
 use Rattle.std.specs.Prelude.{codes}
 use Rattle.std.proofs.lemmas.Bool.{false≢true}
@@ -41,7 +41,8 @@ use Rattle.deny_codes.specs.Told.{words_by, words_told}
 use Rattle.deny_codes.specs.Wildcards.{wildcard_told, unresolved_told}
 use Rattle.deny_codes.specs.Wrappers.{unused_wrapper_told}
 use Rattle.deny_laws.specs.Removal.{without_in}
-use Rattle.deny_gate.specs.Labels.{ArePlaced, licence_ranges}
+use Rattle.deny_gate.specs.Labels.{ArePlaced}
+use Rattle.deny_gate.specs.private.Labels.{licence_ranges}
 use Rattle.deny_gate.specs.Report.{is_error}
 use Rattle.deny_gate.proofs.BuildEntries.{entry_known, older_known}
 use Rattle.deny_gate.proofs.Found.{of_found}

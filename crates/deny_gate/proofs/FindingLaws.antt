@@ -15,6 +15,7 @@ use Rattle.deny_lists.proofs.Agreement.{filter_on, map_on}
 use Rattle.deny_lists.proofs.Filters.{filter-none}
 use Rattle.deny_lists.proofs.Members.{no_member}
 use Rattle.deny_lists.proofs.Options.{is_some-option_map}
+use Rattle.deny_lists.proofs.Equalities.{subst₃}
 use Rattle.deny_cfg.specs.LicensingView.{licensing_of, licensing_view}
 use Rattle.deny_cfg.specs.PolicyText.{policy_files}
 use Rattle.deny_cfg.specs.PolicyView.{AreGlobsRead, building_of, builtin_file_of, policy_view}
@@ -42,11 +43,15 @@ use Rattle.deny_rules.specs.Check.{IsChecked}
 use Rattle.deny_rules.specs.declared.check.BansEnd.{BansEnd}
 use Rattle.deny_dup_edges.specs.declared.dup_edges.DupEdges.{DupEdges}
 use Rattle.deny_laws.specs.Dead.{AreDead}
-use Rattle.deny_gate.specs.Gating.{AreEntriesApart, Extras, IsLicensedIf, IsPolicyReport, IsReportSeen}
-use Rattle.deny_gate.specs.Gating.{IsTableFor, IsTold}
-use Rattle.deny_gate.specs.Gating.{IsToldOn, Texts, circumstances_of, extras_of, first_files}
-use Rattle.deny_gate.specs.Hits.{AreHits, IsOneEach}
-use Rattle.deny_gate.specs.Report.{finding_told, findings_of, keys_in, lock_id, policy_id, verdict_of}
+use Rattle.deny_gate.specs.private.Gating.{AreEntriesApart, Extras, IsLicensedIf, IsPolicyReport, IsReportSeen}
+use Rattle.deny_gate.specs.Gating.{IsTableFor}
+use Rattle.deny_gate.specs.private.Gating.{IsTold}
+use Rattle.deny_gate.specs.Gating.{Texts, circumstances_of, first_files}
+use Rattle.deny_gate.specs.private.Gating.{IsToldOn, extras_of}
+use Rattle.deny_gate.specs.Hits.{AreHits}
+use Rattle.deny_gate.specs.private.Hits.{IsOneEach}
+use Rattle.deny_gate.specs.Report.{finding_told, keys_in, lock_id, policy_id, verdict_of}
+use Rattle.deny_gate.specs.private.Report.{findings_of}
 use Rattle.deny_gate.specs.Stats.{all_stats}
 use Rattle.deny_gate.specs.Unread.{of_manifests, of_packages}
 use Rattle.deny_gate.specs.declared.checks.Looked.{Looked}
@@ -249,12 +254,9 @@ seen_report before after said g extras first new looked report of in_files graph
       view = of.view;
       packages = of.packages;
       ascending = subst (IsStrictlySortedBy unread_cmp) (sym unread) of.ascending;
-      seen = subst (λ (fs : List File). IsSeen before.files g extras.registries first fs (of_manifests report.unread)
-          report.malformed of.view) (sym in_files)
-          (subst (λ (us : List Unread). IsSeen before.files g extras.registries first new (of_manifests us)
-          report.malformed of.view) (sym unread)
-          (subst (λ (paths : List (List ℕ)). IsSeen before.files g extras.registries first new
-          (of_manifests looked.unread) paths of.view) (sym malformed) of.seen));
+      seen = subst₃ (λ (fs : List File) (us : List Unread) (paths : List (List ℕ)).
+          IsSeen before.files g extras.registries first fs (of_manifests us) paths of.view) (sym in_files) (sym unread)
+          (sym malformed) of.seen;
       looked_at = subst (λ (us : List Unread). AreSeenBy before.files building extras.home g
           (of_packages us) of.packages)
           (sym unread) of.looked_at;

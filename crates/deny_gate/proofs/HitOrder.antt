@@ -12,7 +12,8 @@ use Rattle.std.proofs.lemmas.List.Sorted.{Contains-permutation, IsPermutation-sy
 use Rattle.deny_lists.proofs.Sorted.{ascends_map}
 use Rattle.deny_base.specs.Entry.{entry_cmp}
 use Rattle.deny_base.specs.declared.entry.Hit.{Hit}
-use Rattle.deny_gate.specs.Hits.{AreHits, IsOneEach, entry_of, hit_cmp}
+use Rattle.deny_gate.specs.Hits.{AreHits, entry_of, hit_cmp}
+use Rattle.deny_gate.specs.private.Hits.{IsOneEach}
 
 abbrev pub same_entry : Hit → Hit → Bool
 same_entry h k = eq_by_cmp entry_cmp (entry_of h) (entry_of k)

@@ -12,7 +12,7 @@ use Rattle.deny_base.specs.declared.entry.Witness.TheVariants.{Krate}
 use Rattle.deny_base.specs.declared.span.Span.{Span}
 use Rattle.deny_model.specs.Graph.{Crate, kid_of}
 use Rattle.deny_model.specs.Hits.{hit_of}
-use Rattle.deny_gate.specs.Hits.{IsOneEach}
+use Rattle.deny_gate.specs.private.Hits.{IsOneEach}
 use Rattle.deny_laws.proofs.Taken.{entry}
 
 -- ---- hits of one kind, and of several

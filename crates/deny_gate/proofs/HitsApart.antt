@@ -47,7 +47,7 @@ use Rattle.deny_codes.specs.Licences.{allowance_hit, allowance_range, exception_
 use Rattle.deny_codes.specs.Licences.{grants_by_allowance, grants_by_exception, licence_hits}
 use Rattle.deny_codes.specs.Saying.{Saying}
 use Rattle.deny_codes.specs.StdReplacements.{hits_ignore, ignore_hit, ignore_hits, ignore_range}
-use Rattle.deny_gate.specs.Hits.{IsOneEach}
+use Rattle.deny_gate.specs.private.Hits.{IsOneEach}
 use Rattle.deny_gate.proofs.BypassHitsApart.{bypasses_part, looking_at}
 use Rattle.deny_gate.proofs.HitParts.{Part, by_crate, given_part, joined_parts, no_part, part_turned}
 use Rattle.deny_gate.proofs.ApartLemmas.{AreApart, apart_left, apart_of, apart_right, one_mapped, one_of}

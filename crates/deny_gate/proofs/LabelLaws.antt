@@ -66,9 +66,11 @@ use Rattle.deny_codes.specs.Telling.{not_built}
 use Rattle.deny_codes.specs.Wrappers.{unused_wrapper_keys}
 use Rattle.deny_codes.specs.declared.words.Words as finding
 use Rattle.deny_laws.proofs.Asking.{used_member}
-use Rattle.deny_gate.specs.Labels.{AreLockLines, ArePlaced, IsPlaced, build_ranges, building_ranges, built_in_globs}
-use Rattle.deny_gate.specs.Labels.{built_in_ranges, feature_ranges, level_ranges, licence_ranges, own_range, range_of}
-use Rattle.deny_gate.specs.Labels.{ranges_of}
+use Rattle.deny_gate.specs.Labels.{ArePlaced, IsPlaced}
+use Rattle.deny_gate.specs.private.Labels.{AreLockLines, build_ranges, building_ranges, built_in_globs}
+use Rattle.deny_gate.specs.private.Labels.{built_in_ranges, feature_ranges, level_ranges, licence_ranges, own_range}
+use Rattle.deny_gate.specs.private.Labels.{range_of}
+use Rattle.deny_gate.specs.private.Labels.{ranges_of}
 use Rattle.deny_gate.specs.Report.{lock_id, policy_id}
 use Rattle.deny_gate.proofs.BuildEntries.{feature_there, glob_there, of_bypass, of_extension}
 use Rattle.deny_gate.proofs.Found.{of_found}

@@ -14,6 +14,7 @@ use Rattle.std.proofs.lemmas.Option.{same_Some}
 use Rattle.deny_base.specs.declared.files.File.{File}
 use Rattle.deny_base.specs.declared.key.Key.{Key}
 use Rattle.deny_lists.proofs.Members.{Contains-first, Contains-rest, at_member, map_at, there, zip_at}
+use Rattle.deny_lists.proofs.Equalities.{subst₃}
 use Rattle.deny_lock.specs.Order.{lock_cmp}
 use Rattle.deny_lock.specs.Text.{IsLineOf, LinesAscend, lock_span_at, lock_text}
 use Rattle.deny_lock.specs.declared.line.LockSpan.{LockSpan}
@@ -28,7 +29,8 @@ use Rattle.deny_spans.specs.SpansView.{AreSpansOf}
 use Rattle.deny_spans.specs.declared.krate_spans.KrateSpans.{KrateSpans}
 use Rattle.deny_toml.specs.Ranges.{IsRange}
 use Rattle.deny_codes.specs.Duplicates.{duplicate_told, lock_label, lock_labels, lock_lines}
-use Rattle.deny_gate.specs.Labels.{AreLockLines, ArePlaced}
+use Rattle.deny_gate.specs.Labels.{ArePlaced}
+use Rattle.deny_gate.specs.private.Labels.{AreLockLines}
 use Rattle.deny_gate.proofs.Beside.{listed_from}
 use Rattle.deny_gate.proofs.ManifestLabels.{first_label, no_labels}
 use Rattle.deny_gate.proofs.Placed.{ArePlaced as AtPlaces}
@@ -129,10 +131,8 @@ module _ (g : Graph) (lines : AreLockLines g) where
       label_placed (Some a) None c d first_is other_is one last up = absurd (cc other_is)
       label_placed (Some a) (Some b) c d first_is other_is one last up =
           first_label files lock file there (primary lock (lock_lines g a b) (codes "lock entries")) [] refl
-          (subst (λ (text : List ℕ). IsRange text (lock_lines g a b)) (sym source)
-          (subst (λ (e : Crate). IsRange (lock_text g.crates) (lock_lines g e b)) (same_Some c a (sym first_is))
-          (subst (λ (e : Crate). IsRange (lock_text g.crates) (lock_lines g c e)) (same_Some d b (sym other_is))
-          (lines_are c d one last up)))) (no_labels files)
+          (subst₃ (λ (text : List ℕ) (e f : Crate). IsRange text (lock_lines g e f)) (sym source)
+          (same_Some c a (sym first_is)) (same_Some d b (sym other_is)) (lines_are c d one last up)) (no_labels files)
 
       labels_placed : (crates : List Crate) (name : List ℕ) → IsStrictlySortedBy version_cmp crates
           → ((c : Crate) → Contains crates c → Contains g.crates c × (c.name ≡ name))

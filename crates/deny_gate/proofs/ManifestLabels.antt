@@ -25,7 +25,7 @@ use Rattle.deny_codes.specs.Sharing.{use_labels, uses_at, uses_in, uses_of}
 use Rattle.deny_codes.specs.Sharing.{workspace_duplicate_labels, workspace_duplicate_told, workspace_duplicate_told_by}
 use Rattle.deny_codes.specs.Telling.{not_built}
 use Rattle.deny_codes.specs.Wildcards.{is_minded_in, is_shared, labels_of_wildcard, shared_labels}
-use Rattle.deny_codes.specs.Wildcards.{shared_range, unresolved_labels, unresolved_labels_in, unresolved_labels_of}
+use Rattle.deny_codes.specs.Wildcards.{shared_range, unresolved_labels, unresolved_labels_in, unresolved_labels_of_dep}
 use Rattle.deny_codes.specs.Wildcards.{unresolved_told, version_range, wildcard_label, wildcard_labels}
 use Rattle.deny_codes.specs.Wildcards.{wildcard_labels_in, wildcard_labels_of, wildcard_told, wildcards_in}
 use Rattle.deny_codes.specs.Wildcards.{workspace_label, workspace_label_at}
@@ -146,8 +146,8 @@ module _ (files : List File) where
     -- ---- what the workspace does not share
 
     flag_placed : (number : ℕ) (file : File) → slice_get files number ≡ Some file → (d : Declared)
-        → DeclaredLies file.source d → ArePlaced files (unresolved_labels_of number d)
-    unfolding unresolved_labels_of
+        → DeclaredLies file.source d → ArePlaced files (unresolved_labels_of_dep number d)
+    unfolding unresolved_labels_of_dep
     flag_placed number file there d lie =
         let value = secondary number d.value [] in
         let flag : Spanned Bool → List Label =
@@ -162,7 +162,7 @@ module _ (files : List File) where
     unfolding unresolved_told unresolved_labels unresolved_labels_in
     unresolved_placed g key = of_option (ArePlaced files) (unresolved_labels_in key.entry)
         (option_and_then (manifest_of view) (crate_at g key.place)) no_labels
-        (λ m is. of_found (ArePlaced files) (unresolved_labels_of m.file) (λ d. same_span d.key key.entry) m.deps
+        (λ m is. of_found (ArePlaced files) (unresolved_labels_of_dep m.file) (λ d. same_span d.key key.entry) m.deps
         no_labels (λ d written.
         let lie = found_manifest (crate_at g key.place) m is in
         flag_placed m.file lie.file lie.is d (lie.deps d written)))

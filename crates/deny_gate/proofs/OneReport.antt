@@ -17,6 +17,7 @@ use Rattle.deny_lists.proofs.Agreement.{filter_on, map_on}
 use Rattle.deny_lists.proofs.Filters.{filter-map}
 use Rattle.deny_lists.proofs.Members.{Contains-filter, filtered, passes_filter}
 use Rattle.deny_lists.proofs.Sorted.{one_ascending, one_list}
+use Rattle.deny_lists.proofs.Equalities.{subst₃}
 use Rattle.deny_build_model.specs.Building.{Building}
 use Rattle.deny_build_model.specs.declared.package.Package.{Package}
 use Rattle.deny_cfg.specs.LicensingView.{licensing_of}
@@ -323,25 +324,16 @@ module _ (laws : ReportLaws) where
       λ i. (policy_file texts.policy ∷ globs_files (saying i).globs) ++ lock_file (graphs i).root (graphs i) ∷ [] in
       let seen : IsSeen (Some files) that.by.graph texts.registries
       (first_files texts.policy that.by.said that.by.graph) a.files (of_manifests b.unread) a.malformed this.view =
-      subst (λ (us : List Unread). IsSeen (Some files) that.by.graph texts.registries
-      (first_files texts.policy that.by.said that.by.graph) a.files (of_manifests us) a.malformed this.view) unread
-      (subst (λ (fs : List File). IsSeen (Some files) that.by.graph texts.registries fs a.files
-      (of_manifests a.unread) a.malformed this.view) first
-      (subst (λ (g : Graph). IsSeen (Some files) g texts.registries
-      (first_files texts.policy this.by.said this.by.graph) a.files (of_manifests a.unread) a.malformed this.view)
-      graphs this.by.seen)) in
+      subst₃ (λ (g : Graph) (fs : List File) (us : List Unread). IsSeen (Some files) g texts.registries fs a.files
+      (of_manifests us) a.malformed this.view) graphs first unread this.by.seen in
       let same = same_seen files that.by.graph texts.registries
       (ids_apart texts.metadata that.by.graph that.by.is_graph)
       (first_files texts.policy that.by.said that.by.graph) (of_manifests b.unread)
       a.files b.files a.malformed b.malformed this.view that.view seen that.by.seen in
       let looked : AreSeenBy (Some files) (building_of that.by.said.bans) texts.home that.by.graph
       (of_packages b.unread) this.packages =
-      subst (λ (us : List Unread). AreSeenBy (Some files) (building_of that.by.said.bans) texts.home that.by.graph
-      (of_packages us) this.packages) unread
-      (subst (λ (said : Saying). AreSeenBy (Some files) said.building texts.home that.by.graph (of_packages a.unread)
-      this.packages) saying
-      (subst (λ (g : Graph). AreSeenBy (Some files) (building_of this.by.said.bans) texts.home g
-      (of_packages a.unread) this.packages) graphs this.by.looked_at)) in
+      subst₃ (λ (g : Graph) (said : Saying) (us : List Unread). AreSeenBy (Some files) said.building texts.home g
+      (of_packages us) this.packages) graphs saying unread this.by.looked_at in
       let packages = same_packages files (building_of that.by.said.bans) texts.home that.by.graph
       (of_packages b.unread) this.packages that.packages looked that.by.looked_at failures in
       one_of a b

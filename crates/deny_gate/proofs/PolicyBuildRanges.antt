@@ -28,9 +28,10 @@ use Rattle.deny_cfg.specs.LabelRanges as written
 use Rattle.deny_cfg.proofs.Among.{lie_prefix, lie_rest}
 use Rattle.deny_cfg.proofs.BuiltLaws.{IsLocated, patterns_located}
 use Rattle.deny_cfg.proofs.LabelLaws.{Lie, lie_append}
-use Rattle.deny_gate.specs.Labels.{build_ranges, building_ranges, built_in_globs, built_in_ranges, bypass_ranges}
-use Rattle.deny_gate.specs.Labels.{older_range}
-use Rattle.deny_gate.specs.Labels.{path_ranges, sum_range, written_globs}
+use Rattle.deny_gate.specs.private.Labels.{build_ranges, building_ranges, built_in_globs, built_in_ranges}
+use Rattle.deny_gate.specs.private.Labels.{bypass_ranges}
+use Rattle.deny_gate.specs.private.Labels.{older_range}
+use Rattle.deny_gate.specs.private.Labels.{path_ranges, sum_range, written_globs}
 use Rattle.deny_gate.proofs.BypassHitsApart.{HasUsers, users_of}
 
 module _ (text : List ℕ) where

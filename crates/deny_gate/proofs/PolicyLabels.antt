@@ -48,11 +48,16 @@ use Rattle.deny_krates.specs.Read.{IsGraphOf}
 use Rattle.deny_outside.specs.Disk.{Disk}
 use Rattle.deny_spans.specs.Seen.{lock_file}
 use Rattle.deny_toml.specs.Ranges.{IsRange}
-use Rattle.deny_gate.specs.Gating.{Extras, IsPolicyReport, IsReportSeen, Texts, circumstances_of}
-use Rattle.deny_gate.specs.Gating.{extras_of, first_files}
-use Rattle.deny_gate.specs.Labels.{AreLabelled, ban_ranges, build_ranges, built_in_globs, built_in_ranges, entry_ranges}
-use Rattle.deny_gate.specs.Labels.{feature_ranges, ignore_ranges, licence_ranges, own_range, range_of, ranges_of}
-use Rattle.deny_gate.specs.Labels.{root_ranges, ArePlaced}
+use Rattle.deny_gate.specs.Gating.{Texts, circumstances_of}
+use Rattle.deny_gate.specs.private.Gating.{Extras, IsPolicyReport, IsReportSeen}
+use Rattle.deny_gate.specs.Gating.{first_files}
+use Rattle.deny_gate.specs.private.Gating.{extras_of}
+use Rattle.deny_gate.specs.Labels.{AreLabelled}
+use Rattle.deny_gate.specs.private.Labels.{ban_ranges, build_ranges, built_in_globs, built_in_ranges, entry_ranges}
+use Rattle.deny_gate.specs.private.Labels.{feature_ranges, ignore_ranges, licence_ranges, own_range, range_of}
+use Rattle.deny_gate.specs.private.Labels.{ranges_of}
+use Rattle.deny_gate.specs.Labels.{ArePlaced}
+use Rattle.deny_gate.specs.private.Labels.{root_ranges}
 use Rattle.deny_gate.specs.Report.{lock_id, policy_id, IsReport, finding_told}
 use Rattle.deny_gate.specs.declared.report.Finding.{Finding}
 use Rattle.deny_gate.specs.declared.report.GateError.{GateError}

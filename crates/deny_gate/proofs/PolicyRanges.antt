@@ -6,8 +6,9 @@ use Rattle.std.proofs.lemmas.List.Elements.{Contains-append_left, Contains-appen
 use Rattle.deny_base.specs.declared.span.Span.{Span}
 use Rattle.deny_lists.proofs.Members.{Contains-first, Contains-flat_map, Contains-rest, contains_map}
 use Rattle.deny_model.specs.Policy.{Ban, Entry, FeatureEntry, Policy, Replacing, Root, Words}
-use Rattle.deny_gate.specs.Labels.{ban_ranges, entry_ranges, feature_ranges, ignore_ranges, level_ranges, range_of}
-use Rattle.deny_gate.specs.Labels.{ranges_of, root_ranges}
+use Rattle.deny_gate.specs.private.Labels.{ban_ranges, entry_ranges, feature_ranges, ignore_ranges, level_ranges}
+use Rattle.deny_gate.specs.private.Labels.{range_of}
+use Rattle.deny_gate.specs.private.Labels.{ranges_of, root_ranges}
 
 pub ban_known : (p : Policy) (ban : Ban) (range : Span) → Contains p.deny ban → Contains (ban_ranges ban) range
     → Contains (ranges_of p) range

@@ -18,8 +18,8 @@ use Rattle.deny_base.specs.declared.span.Spanned.{Spanned}
 use Rattle.deny_toml.specs.Calls.{array_in, below_name, table_in, text_in, value_at}
 use Rattle.deny_toml.specs.Deserialize.{ReadsArray, ReadsEach}
 use Rattle.deny_toml.specs.Value.{entries_in}
-use Rattle.deny_toml.specs.declared.value.Table.{Table}
-use Rattle.deny_toml.specs.declared.value.Value.{Value}
+use Rattle.deny_toml.specs.value.Table.{Table}
+use Rattle.deny_toml.specs.value.Value.{Value}
 use Rattle.deny_codes.specs.BuildScripts.{is_minded}
 use Rattle.deny_entries.specs.PolicyKey.{name_of}
 use Rattle.deny_entries.specs.Spec.{ReadsSpec}

@@ -1,17 +1,13 @@
 -- The dead entries of a report, and what the report of a policy without them is.
-use Rattle.std.specs.Prelude.{◌≡◌, Bool, List, Option, None, Some, Contains, option_and_then, option_map, if◌then◌else◌}
-use Rattle.std.specs.List.{list_any}
-use Rattle.std.specs.Ordering.{eq_by_cmp}
-use Rattle.deny_base.specs.Entry.{entry_cmp}
+use Rattle.std.specs.Prelude.{◌≡◌, Bool, List, Option, Contains, option_map}
 use Rattle.deny_base.specs.declared.entry.EntryId.{EntryId}
-use Rattle.deny_base.specs.declared.key.Key.{Key}
 use Rattle.deny_build_model.specs.declared.package.Package.{Package}
 use Rattle.deny_cfg.specs.PolicyView.{building_of}
 use Rattle.deny_codes.specs.Circumstances.{Circumstances}
 use Rattle.deny_codes.specs.Hits.{TellsLicensed, both_hits}
 use Rattle.deny_codes.specs.Standing.{AreKeys}
 use Rattle.deny_codes.specs.Told.{words_told}
-use Rattle.deny_laws.specs.Dead.{AreAmong, unused_entry}
+use Rattle.deny_laws.specs.Dead.{AreAmong}
 use Rattle.deny_laws.specs.Removal.{EmptyNone, cut_building, unnaming, without_in}
 use Rattle.deny_model.specs.Graph.{Crate}
 use Rattle.deny_model.specs.View.{View}
@@ -56,13 +52,3 @@ pub record CanDoWithoutDead (told : Option Files) (texts : Texts) (report : Repo
 pub record LosesOnly (taken : List EntryId) (report other : Report) : Type 0 where
   pub keys : keys_in other.findings ≡ unnaming taken (keys_in report.findings)
   pub hits : other.hits ≡ report.hits
-
--- ---- for private clauses
-
--- an entry is one of these
-unfoldable pub is_among : List EntryId → EntryId → Bool
-is_among entries e = list_any (λ other. eq_by_cmp entry_cmp other e) entries
-
--- the entry that a key names as unused, unless it is one of those that are hit
-unfoldable pub dead_entry : List EntryId → Key → Option EntryId
-dead_entry hit key = option_and_then (λ e. if is_among hit e then None else Some e) (unused_entry key)

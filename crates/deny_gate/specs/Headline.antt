@@ -27,7 +27,7 @@ use Rattle.deny_model.specs.Policy.{Ban, Entry, Policy, Root, Spec, Words}
 use Rattle.deny_model.specs.VersionOrder.{version_cmp}
 use Rattle.deny_toml.specs.Calls.{array_in, below_name, text_in}
 use Rattle.deny_toml.specs.Parser.{IsTreeOf}
-use Rattle.deny_toml.specs.declared.value.Value.{Value}
+use Rattle.deny_toml.specs.value.Value.{Value}
 use Rattle.deny_gate.specs.Gating.{Texts}
 use Rattle.deny_gate.specs.Report.{has_error, policy_id, verdict_of}
 use Rattle.deny_gate.specs.declared.report.Finding.{Finding}

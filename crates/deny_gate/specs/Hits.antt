@@ -1,5 +1,5 @@
 -- The hits of a report: one for each entry that is hit.
-use Rattle.std.specs.Prelude.{◌≡◌, List, Contains}
+use Rattle.std.specs.Prelude.{List, Contains}
 use Rattle.std.specs.Ordering.{on}
 use Rattle.std.specs.declared.cmp.Ordering.{Ordering}
 use Rattle.deny_lists.specs.Ascending.{Lists}
@@ -17,9 +17,3 @@ hit_cmp = on entry_of entry_cmp
 -- exactly these, in the order of their entries, of which no two are one
 abbrev pub AreHits : List Hit → List Hit → Type 0
 AreHits all hits = Lists hit_cmp (Contains all) hits
-
--- ---- for private clauses
-
--- two hits of one entry are one hit
-abbrev pub IsOneEach : List Hit → Type 0
-IsOneEach hits = (one other : Hit) → Contains hits one → Contains hits other → one.entry ≡ other.entry → one ≡ other

@@ -7,3 +7,4 @@ pub mod Report
 pub mod Stats
 pub mod Unread
 pub mod Unseeing
+pub mod private

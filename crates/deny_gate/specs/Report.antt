@@ -4,12 +4,9 @@ use Rattle.std.specs.Prelude.{◌≡◌, ◌&&◌, ◌+◌, ℕ, Bool, true, fal
 use Rattle.std.specs.List.{list_any}
 use Rattle.deny_base.specs.declared.check.Check.{Check}
 use Rattle.deny_base.specs.declared.check.Check.TheVariants.{Bans, Licenses}
-use Rattle.deny_base.specs.declared.finding.Diag.{Diag}
-use Rattle.deny_base.specs.declared.finding.Pack.{Pack}
 use Rattle.deny_base.specs.declared.key.Key.{Key}
 use Rattle.deny_base.specs.declared.level.Severity.{Severity}
 use Rattle.deny_base.specs.declared.level.Severity.TheVariants.{Bug, Error, Warning, Note, Help}
-use Rattle.deny_base.specs.declared.span.Kid.{Kid}
 use Rattle.deny_codes.specs.Circumstances.{Circumstances}
 use Rattle.deny_codes.specs.Hits.{TellsLicensed, both_hits}
 use Rattle.deny_codes.specs.Standing.{AreKeys}
@@ -40,13 +37,6 @@ finding_told c key = record {
   kid = (words_told c key).krate;
   diag = diag_told c key;
 }
-
-abbrev pub finding_of : Check → Option Kid → Diag → Finding
-finding_of check kid diag = record { check = check; kid = kid; diag = diag }
-
--- the findings of a pack
-unfoldable pub findings_of : Pack → List Finding
-findings_of pack = map (finding_of pack.check pack.kid) pack.diags
 
 abbrev pub is_error : Severity → Bool
 is_error Error = true

@@ -10,8 +10,9 @@ ghost use Rattle.deny_spans.specs.SpansView.{AreSpansOf, spans_view};
 ghost use Rattle.deny_spans.specs.Wanted.{AreWanted};
 ghost use Rattle.deny_unread.specs.Bound.{Folders};
 ghost use Rattle.deny_unread.specs.Causes.{AreCaused};
-ghost use Rattle.deny_gate.specs.Gating.{AreEntriesApart, IsCheckedBy, IsLicensedIf, IsTableFor, IsToldOn};
-ghost use Rattle.deny_gate.specs.Gating.{extras_in};
+ghost use Rattle.deny_gate.specs.Gating.{IsTableFor};
+ghost use Rattle.deny_gate.specs.private.Gating.{AreEntriesApart, IsCheckedBy, IsLicensedIf, IsToldOn};
+ghost use Rattle.deny_gate.specs.private.Gating.{extras_in};
 ghost use Rattle.deny_gate.specs.Report.{lock_id};
 ghost use Rattle.deny_gate.specs.Unread.{of_manifests};
 

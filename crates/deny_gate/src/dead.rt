@@ -3,7 +3,7 @@ ghost use Rattle.std.specs.Prelude.{◌≡◌, IfOk, filter_map, map};
 ghost use Rattle.std.specs.List.Sorted.{IsStrictlySortedBy};
 ghost use Rattle.deny_base.specs.Entry.{entry_cmp};
 ghost use Rattle.deny_laws.specs.Dead.{AreDead, unused_entry};
-ghost use Rattle.deny_gate.specs.Dead.{dead_entry, is_among};
+ghost use Rattle.deny_gate.specs.private.Dead.{dead_entry, is_among};
 ghost use Rattle.deny_gate.specs.Hits.{entry_of, hit_cmp};
 ghost use Rattle.deny_gate.specs.Report.{keys_in};
 
@@ -45,7 +45,7 @@ fn is_among(entries: &[EntryId], entry: &EntryId) -> bool
 }
 
 /// The entry that a key names as unused, unless it is one of those that are hit.
-#[tactic(auto, unfolding(crate::specs::Dead::dead_entry))]
+#[tactic(auto, unfolding(crate::specs::private::Dead::dead_entry))]
 fn dead_entry(key: &Key, hit: &[EntryId]) -> Option<EntryId>
     requires { IsStrictlySortedBy entry_cmp hit.now }
     ensures { result ≡ dead_entry hit.now key.now }

@@ -1,7 +1,8 @@
 //! What a report tells of each key, and what it comes to.
 ghost use Rattle.std.specs.Prelude.{◌≡◌, ◌++◌, map, IfOk, OnOk};
 ghost use Rattle.std.specs.List.{list_any, flat_map};
-ghost use Rattle.deny_gate.specs.Report.{finding_of, findings_of, has_error, fails_as, is_error};
+ghost use Rattle.deny_gate.specs.Report.{has_error, fails_as, is_error};
+ghost use Rattle.deny_gate.specs.private.Report.{finding_of, findings_of};
 ghost use Rattle.deny_gate.specs.Report.{verdict_by, verdict_of};
 ghost use Rattle.deny_gate.specs.Stats.{same_check};
 
@@ -36,7 +37,7 @@ fn add_diags(
 }
 
 /// Adds the findings of a pack.
-#[tactic(auto, unfolding(crate::specs::Report::findings_of))]
+#[tactic(auto, unfolding(crate::specs::private::Report::findings_of))]
 fn add_pack(pack: Pack, findings: &mut List<Finding>) -> Result<(), NoMemory>
     ensures { OnOk result (findings.new ≡ findings.old ++ findings_of pack) }
 {

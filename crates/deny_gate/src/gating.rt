@@ -13,10 +13,14 @@ ghost use Rattle.deny_spans.specs.Wanted.{AreWanted};
 ghost use Rattle.deny_toml.specs.Ranges.{IsRange};
 ghost use Rattle.deny_unread.specs.Bound.{Folders};
 ghost use Rattle.deny_unread.specs.Causes.{AreCaused};
-ghost use Rattle.deny_gate.specs.Gating.{AreEntriesApart, AreShort, IsCause, IsCauseBehind, IsCausedReport};
-ghost use Rattle.deny_gate.specs.Gating.{IsJudged, IsMetadataCause, IsPolicyCause, IsReportOf, IsPolicyReport};
-ghost use Rattle.deny_gate.specs.Gating.{IsTableCause, IsTableCauseFor, IsTableFor, IsToldOn};
-ghost use Rattle.deny_gate.specs.Gating.{extras_in, extras_of, report_with, texts_in};
+ghost use Rattle.deny_gate.specs.Gating.{AreShort, IsCause, IsCausedReport};
+ghost use Rattle.deny_gate.specs.private.Gating.{AreEntriesApart, IsCauseBehind};
+ghost use Rattle.deny_gate.specs.Gating.{IsReportOf};
+ghost use Rattle.deny_gate.specs.private.Gating.{IsJudged, IsMetadataCause, IsPolicyCause, IsPolicyReport};
+ghost use Rattle.deny_gate.specs.Gating.{IsTableFor};
+ghost use Rattle.deny_gate.specs.private.Gating.{IsTableCause, IsTableCauseFor, IsToldOn};
+ghost use Rattle.deny_gate.specs.Gating.{texts_in};
+ghost use Rattle.deny_gate.specs.private.Gating.{extras_in, extras_of, report_with};
 ghost use Rattle.deny_gate.specs.Dead.{CanDoWithoutDead};
 ghost use Rattle.deny_gate.specs.Headline.{IsHeadlineOf};
 ghost use Rattle.deny_gate.specs.Labels.{AreLabelled, IsLabelledCause};
@@ -101,7 +105,11 @@ fn check_table(alloc: Global, table: Option<&[u8]>) -> Result<(), GateError>
 }
 
 /// The same where a configuration asks for a table; another never looks at the bytes.
-fn check_table_for(alloc: Global, cfg: &ValidConfig, table: Option<&[u8]>) -> Result<(), GateError>
+fn check_asked_table(
+    alloc: Global,
+    cfg: &ValidConfig,
+    table: Option<&[u8]>,
+) -> Result<(), GateError>
     ensures ok { OnOk result (IsTableFor (policy_view cfg.now) (option_copied table.entry)) }
     ensures err { IfErr result (IsTableCauseFor (policy_view cfg.now) (option_copied table.entry)) }
 {
@@ -174,7 +182,7 @@ fn extras_of(inputs: &Inputs) -> Extras<'_>
 
 /// What a policy comes to on a graph with what is handed in, where the table is there that it asks for.
 #[tactic(auto, using(crate::proofs::CauseLaws::no_table_cause))]
-fn judged_for<D: PackageFiles>(
+fn judged_with_inputs<D: PackageFiles>(
     alloc: Global,
     policy: &Policy,
     krates: &Krates,
@@ -201,7 +209,7 @@ fn judged_for<D: PackageFiles>(
     ensures later { IsLater (D.seen disk.old) (D.seen disk.new) }
 {
     let extras = extras_of(inputs);
-    check_table_for(alloc, &policy.bans, extras.table)?;
+    check_asked_table(alloc, &policy.bans, extras.table)?;
     let judged = judged_on(alloc, policy, krates, &extras, disk, files)?;
     Ok(judged)
 }
@@ -260,7 +268,7 @@ fn report_on_graph<D: PackageFiles>(
     ensures later { IsLater (D.seen disk.old) (D.seen disk.new) }
 {
     let mut files = files;
-    let judged = judged_for(alloc, policy, &krates, inputs, disk, &mut files)?;
+    let judged = judged_with_inputs(alloc, policy, &krates, inputs, disk, &mut files)?;
     Ok(report_with(files, krates, judged))
 }
 

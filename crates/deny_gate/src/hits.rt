@@ -1,6 +1,7 @@
 //! The hits of a report.
 ghost use Rattle.std.specs.Prelude.{◌≡◌, ◌++◌, IfOk, OnOk};
-ghost use Rattle.deny_gate.specs.Hits.{AreHits, IsOneEach};
+ghost use Rattle.deny_gate.specs.Hits.{AreHits};
+ghost use Rattle.deny_gate.specs.private.Hits.{IsOneEach};
 
 use deny_base::{Hit, entry_order};
 use deny_lists::{List, NoMemory};

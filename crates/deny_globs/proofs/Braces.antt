@@ -11,7 +11,7 @@ use Rattle.deny_globs.specs.declared.reading.Reading.{Reading}
 use Rattle.deny_globs.specs.Characters.{slash, comma}
 use Rattle.deny_globs.specs.Tree.{most_braces, AreTokens, nothing, token, middle, middle_inside, comma_outside, braces}
 use Rattle.deny_globs.specs.Tree.{AreAlternatives, last, more}
-use Rattle.deny_globs.specs.Reading.{middle_of, parted, closed, after_piece}
+use Rattle.deny_globs.specs.private.Reading.{middle_of, parted, closed, after_piece}
 
 abbrev pub state : List Opened → List Token → Reading
 state opened tokens = record { opened = opened; tokens = tokens }

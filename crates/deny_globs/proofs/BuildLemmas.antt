@@ -14,9 +14,11 @@ use Rattle.deny_globs.specs.declared.state.State.{State}
 use Rattle.deny_globs.specs.declared.state.State.TheVariants as state
 use Rattle.deny_globs.specs.Characters.{slash}
 use Rattle.deny_globs.specs.Fits.{any_text, Fits}
-use Rattle.deny_globs.specs.States.{end_of, IsAtOnce, IsBehind, Leads, ends, over, aside, PointsBelow}
-use Rattle.deny_globs.specs.Sizes.{states_in, states_of, states_of_all}
-use Rattle.deny_globs.specs.Compiled.{IsProgram, Grows, IsPushed, StandsFor, IsBuilt, IsBuiltOver, IsBuiltBeside}
+use Rattle.deny_globs.specs.States.{IsAtOnce, IsBehind, Leads, ends, over, aside, PointsBelow}
+use Rattle.deny_globs.specs.private.States.{end_of}
+use Rattle.deny_globs.specs.private.Sizes.{states_in, states_of, states_of_all}
+use Rattle.deny_globs.specs.Compiled.{IsProgram}
+use Rattle.deny_globs.specs.private.Compiled.{Grows, IsPushed, StandsFor, IsBuilt, IsBuiltOver, IsBuiltBeside}
 use Rattle.deny_globs.proofs.FitsLemmas.{split_first, fits_joined, TakesOne, takes, character_takes}
 use Rattle.deny_globs.proofs.FitsLemmas.{any_character_takes, class_takes_one}
 use Rattle.deny_globs.proofs.FormLemmas.{above_fits, above_from_fits, trailing_fits, trailing_from_fits, middle_fits}

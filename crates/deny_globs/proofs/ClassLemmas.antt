@@ -5,13 +5,15 @@ use Rattle.std.proofs.lemmas.List.{take-append-drop, length-take-le}
 use Rattle.deny_globs.proofs.Seams.{seam}
 use Rattle.std.specs.Prelude.{◌==◌, ◌&&◌, ◌||◌, not}
 use Rattle.deny_lists.proofs.Booleans.{and-true, and-false}
+use Rattle.deny_lists.proofs.Equalities.{subst₃}
 use Rattle.deny_globs.specs.declared.token.CharacterRange.{CharacterRange}
 use Rattle.deny_globs.specs.declared.stop.Stop.{Stop}
 use Rattle.deny_globs.specs.declared.stop.Stop.TheVariants.{Fault, Memory}
 use Rattle.deny_globs.specs.Characters.{dash, close_bracket, begins}
 use Rattle.deny_globs.specs.Pieces.{may_be_member, begins_range, AreMembers, no_more, range, one}
 use Rattle.deny_globs.specs.Faults.{is_empty, FallsAt, falls}
-use Rattle.deny_globs.specs.Steps.{AddsMember, adds_range, adds_one, IsFalling, StopsMember, StopsMembers, GoesOnAt}
+use Rattle.deny_globs.specs.private.Steps.{adds_range, adds_one}
+use Rattle.deny_globs.specs.private.Steps.{AddsMember, IsFalling, StopsMember, StopsMembers, GoesOnAt}
 
 pub both_true : (a b : Bool) → IsTrue (a && b) → IsTrue a × IsTrue b
 both_true true b h = (refl, h)
@@ -120,10 +122,7 @@ members_more body next size old new before (adds_range {rest} {behind} {first} {
         IsTrue (may_be_member (is_empty prefix) first) → IsTrue (not (last == close_bracket)) → first ≤ last
         → AreMembers true longer after new
     moved prefix longer after a b ms m l le =
-        subst (λ r. AreMembers true longer after r) (sym e)
-        (subst (λ r. AreMembers true r after (old ++ record { first = first; last = last } ∷ [])) (sym a)
-        (subst (λ r. AreMembers true (prefix ++ first ∷ dash ∷ last ∷ []) r
-        (old ++ record { first = first; last = last } ∷ [])) (sym b) (snoc_range first last behind ms m l le)))
+        subst₃ (AreMembers true) (sym a) (sym b) (sym e) (snoc_range first last behind ms m l le)
 members_more body next size old new before (adds_one {rest} {behind} {c} w b s e) q =
     let m = seam body next size (c ∷ []) behind before.within w s in
     record {
@@ -137,10 +136,7 @@ members_more body next size old new before (adds_one {rest} {behind} {c} w b s e
         → AreMembers true prefix (c ∷ behind) old →
         IsTrue (may_be_member (is_empty prefix) c) → AreMembers true longer after new
     moved prefix longer after a d ms m =
-        subst (λ r. AreMembers true longer after r) (sym e)
-        (subst (λ r. AreMembers true r after (old ++ record { first = c; last = c } ∷ [])) (sym a)
-        (subst (λ r. AreMembers true (prefix ++ c ∷ []) r (old ++ record { first = c; last = c } ∷ [])) (sym d)
-        (snoc_one c behind ms m b)))
+        subst₃ (AreMembers true) (sym a) (sym d) (sym e) (snoc_one c behind ms m b)
 
 pub members_fall : (body : List ℕ) (next : ℕ) (ranges : List CharacterRange) → AreMembersTo body next ranges
     → IsFalling (drop next body) →

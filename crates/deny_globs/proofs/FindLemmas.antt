@@ -12,7 +12,8 @@ use Rattle.deny_lists.proofs.Orders.{text_cmp-exact}
 use Rattle.deny_lists.proofs.Sorted.{ascends_at}
 use Rattle.deny_lists.proofs.Options.{some_inj}
 use Rattle.deny_globs.specs.declared.extensions.Extension.{Extension}
-use Rattle.deny_globs.specs.Index.{name_of, Ascend, IsNamedAt, IsBetween, IsGap}
+use Rattle.deny_globs.specs.Index.{name_of, Ascend, IsNamedAt}
+use Rattle.deny_globs.specs.private.Index.{IsBetween, IsGap}
 
 pub between_all : (extensions : List Extension) (name : List ℕ) → IsBetween extensions name 0 (length extensions)
 between_all extensions name = record {

@@ -9,7 +9,8 @@ use Rattle.deny_globs.specs.declared.token.Token.TheViews.{out-Token, outs-Chara
 use Rattle.deny_globs.specs.declared.token.Token.TheViews.{outs-AnyText, outs-LeadingFolders, outs-TrailingPath}
 use Rattle.deny_globs.specs.declared.token.Token.TheViews.{outs-MiddleFolders, outs-Alternatives}
 use Rattle.deny_globs.specs.Characters.{slash}
-use Rattle.deny_globs.specs.Compiled.{OneFits, the_first, another}
+use Rattle.deny_globs.specs.private.Compiled.{the_first, another}
+use Rattle.deny_globs.specs.private.Compiled.{OneFits}
 use Rattle.deny_globs.specs.Fits.{IsText, itself, any_character, member, any_text, at_the_start, below_the_start}
 use Rattle.deny_globs.specs.Fits.{at_the_end, one_slash, between_slashes, alternative, IsTextOfOne, first, later, Fits}
 use Rattle.deny_globs.proofs.FitsLemmas.{split_first, fits_joined, split_list, fits_list, character_takes}

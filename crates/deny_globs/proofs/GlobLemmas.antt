@@ -18,9 +18,11 @@ use Rattle.deny_globs.specs.Pieces.{IsPiece, open_braces, close_braces, Spells, 
 use Rattle.deny_globs.specs.Tree.{most_braces, IsGlob}
 use Rattle.deny_globs.specs.Faults.{open_behind, outermost, IsReadTo, FirstFault, unopened, too_deep, nothing_escaped}
 use Rattle.deny_globs.specs.Faults.{falling_range, unclosed_class, unclosed_brace}
-use Rattle.deny_globs.specs.Steps.{IsPieceOf, IsStop, escapes_nothing, has_falling_range, is_unclosed}
-use Rattle.deny_globs.specs.Reading.{inner_first, after_piece, brace_of, parted, closed, outermost_of, StopsEnd}
-use Rattle.deny_globs.specs.Reading.{ReadsOn, StopsNext, StopsGlob}
+use Rattle.deny_globs.specs.private.Steps.{escapes_nothing, has_falling_range, is_unclosed}
+use Rattle.deny_globs.specs.private.Steps.{IsPieceOf, IsStop}
+use Rattle.deny_globs.specs.private.Reading.{inner_first, after_piece, brace_of, parted, closed, outermost_of}
+use Rattle.deny_globs.specs.private.Reading.{StopsEnd}
+use Rattle.deny_globs.specs.private.Reading.{ReadsOn, StopsNext, StopsGlob}
 use Rattle.deny_globs.proofs.Braces.{state, start, brace, run, run_more, tokens_of_run, after_some}
 use Rattle.deny_globs.proofs.Seams.{seam}
 use Rattle.deny_globs.proofs.Spelling.{spells_more}

@@ -9,7 +9,7 @@ use Rattle.deny_globs.specs.declared.piece.Piece.TheVariants.{Token as Whole, Mi
 use Rattle.deny_globs.specs.Characters.{slash, comma}
 use Rattle.deny_globs.specs.Pieces as pieces
 use Rattle.deny_globs.specs.Pieces.{IsPiece, Spells}
-use Rattle.deny_globs.specs.Sizes.{states_in, states_of}
+use Rattle.deny_globs.specs.private.Sizes.{states_in, states_of}
 use Rattle.deny_globs.specs.Tree.{IsGlob, AreTokens, AreAlternatives, nothing, token, middle, middle_inside}
 use Rattle.deny_globs.specs.Tree.{comma_outside, braces, last, more}
 use Rattle.deny_globs.proofs.SizeLemmas.{size_character, size_any_character, size_class, size_any_text, size_leading}

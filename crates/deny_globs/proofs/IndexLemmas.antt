@@ -18,7 +18,9 @@ use Rattle.deny_lists.proofs.Indices.{slice_get-set_other, slice_get-set_cases}
 use Rattle.deny_lists.proofs.Members.{contains_none}
 use Rattle.deny_globs.proofs.FindLemmas.{ascends}
 use Rattle.deny_globs.specs.declared.extensions.Extension.{Extension}
-use Rattle.deny_globs.specs.Index.{name_of, Ascend, IsNamedAt, IsGap, IsNumbered, IsExtended, numbered, inserted}
+use Rattle.deny_globs.specs.Index.{name_of, Ascend, IsNamedAt}
+use Rattle.deny_globs.specs.private.Index.{numbered, inserted}
+use Rattle.deny_globs.specs.private.Index.{IsGap, IsNumbered, IsExtended}
 use Rattle.deny_globs.specs.Index.{IsIndexed}
 use Rattle.deny_globs.specs.Patterns.{Pattern, characters_of}
 use Rattle.deny_globs.specs.Sets.{is_simple, extension_of, AsksFor}

@@ -5,7 +5,7 @@ use Rattle.std.proofs.lemmas.List.{reverse-append}
 use Rattle.deny_globs.specs.declared.token.Token.{Token}
 use Rattle.deny_globs.specs.declared.token.Token.TheVariants.{Character}
 use Rattle.deny_globs.specs.Fits.{Fits}
-use Rattle.deny_globs.specs.Literals.{BeginsAll, EndsAll}
+use Rattle.deny_globs.specs.private.Literals.{BeginsAll, EndsAll}
 use Rattle.deny_globs.proofs.FitsLemmas.{split_first, split_list, nothing_fits, character_takes}
 
 drop_suc : (tokens : List Token) (k : ℕ) {token : Token} {c : ℕ} → k < length tokens → token ≡ get_or tokens k token

@@ -7,7 +7,7 @@ use Rattle.std.proofs.lemmas.Bool.{cases_eq, false≢true}
 use Rattle.std.proofs.lemmas.List.{length_push, take_more, get_or-set_same, get_or-set_other, get_or_default}
 use Rattle.std.proofs.lemmas.List.Elements.{Contains-push, Contains-push_cases, Contains-append_left}
 use Rattle.deny_lists.proofs.Members.{contains_none}
-use Rattle.deny_globs.specs.Marked.{marks_in, IsMarked, Extends, Marks, MarksIf}
+use Rattle.deny_globs.specs.private.Marked.{marks_in, IsMarked, Extends, Marks, MarksIf}
 
 pub contains_in : {A : Type 0} {old new : List A} {x : A} → new ≡ old → Contains new x → Contains old x
 contains_in {A} {old} {new} {x} e h = subst (λ l. Contains l x) e h

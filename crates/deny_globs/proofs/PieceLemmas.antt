@@ -15,8 +15,10 @@ use Rattle.deny_globs.specs.declared.stop.Stop.TheVariants.{Fault, Memory}
 use Rattle.deny_globs.specs.Characters.{slash, star, backslash, open_bracket, close_bracket, begins, begins_mark}
 use Rattle.deny_globs.specs.Pieces.{AreMembers, IsMark, negates, no_mark, is_leading, is_trailing, is_middle, IsPiece}
 use Rattle.deny_globs.specs.Pieces.{leading, stars, middle, trailing, lone_slash, escaped, class}
-use Rattle.deny_globs.specs.Steps.{IsClosedClass, StopsMembers, IsPieceOf, IsStop, escapes_nothing, has_falling_range}
-use Rattle.deny_globs.specs.Steps.{is_unclosed, StopsPiece, piece_of_class}
+use Rattle.deny_globs.specs.private.Steps.{escapes_nothing, has_falling_range}
+use Rattle.deny_globs.specs.private.Steps.{IsClosedClass, StopsMembers, IsPieceOf, IsStop}
+use Rattle.deny_globs.specs.private.Steps.{is_unclosed}
+use Rattle.deny_globs.specs.private.Steps.{StopsPiece, piece_of_class}
 use Rattle.deny_globs.proofs.ClassLemmas.{same_number, both_true, and_true}
 
 pub piece_of : (at : ℕ) (rest : List ℕ) (size : ℕ) (piece : Piece) (prefix behind : List ℕ) → rest ≡ prefix ++ behind

@@ -5,7 +5,8 @@ use Rattle.deny_globs.specs.declared.token.Token.TheVariants.{Character}
 use Rattle.deny_globs.specs.declared.reading.Opened.{Opened}
 use Rattle.deny_globs.specs.declared.reading.Reading.{Reading}
 use Rattle.deny_globs.specs.Characters.{comma}
-use Rattle.deny_globs.specs.Reading.{Parts, itself, parts}
+use Rattle.deny_globs.specs.private.Reading.{itself, parts}
+use Rattle.deny_globs.specs.private.Reading.{Parts}
 
 pub part_none : (old : Reading) (left : List Opened) (new : Reading) → (old.opened ≡ []) × (left ≡ [])
     → new ≡ record { opened = left; tokens = old.tokens ++ Character comma ∷ [] } → Parts old new

@@ -23,17 +23,21 @@ use Rattle.deny_globs.specs.declared.token.Token.{Token}
 use Rattle.deny_globs.specs.declared.token.Token.TheVariants.{Alternatives}
 use Rattle.deny_globs.specs.declared.state.State.{State}
 use Rattle.deny_globs.specs.declared.state.State.TheVariants.{End}
-use Rattle.deny_globs.specs.Compiled.{Grows, IsPushed, IsBuilt, StandsFor, AddsStates}
+use Rattle.deny_globs.specs.private.Compiled.{Grows, IsPushed, IsBuilt, StandsFor, AddsStates}
 use Rattle.deny_globs.specs.Fits.{Fits, nothing}
-use Rattle.deny_globs.specs.Index.{name_of, IsNamedAt, IsGap, IsExtended, IsIndexed, AreCompiled, FitsSimply}
-use Rattle.deny_globs.specs.Index.{NotesNamed, BoundsNamed, BoundsSimple, Indexes}
+use Rattle.deny_globs.specs.Index.{name_of, IsNamedAt, IsIndexed, AreCompiled}
+use Rattle.deny_globs.specs.private.Index.{IsGap, IsExtended, FitsSimply}
+use Rattle.deny_globs.specs.private.Index.{NotesNamed, BoundsNamed, BoundsSimple, Indexes}
 use Rattle.deny_globs.specs.Patterns.{Pattern, characters_of, tokens_of}
 use Rattle.deny_globs.specs.Sets.{FitsAt, is_simple, extension_of, AsksFor, FitsOther, HasExtensions, weight, weight_of}
-use Rattle.deny_globs.specs.Sets.{KeepsBound, AreFitting, AreFirstFitting}
-use Rattle.deny_globs.specs.Starts.{Starting, AddsStart, KeepsStarts, SomeStarts}
-use Rattle.deny_globs.specs.States.{end_of, Leads, ends}
+use Rattle.deny_globs.specs.Sets.{KeepsBound, AreFirstFitting}
+use Rattle.deny_globs.specs.private.Sets.{AreFitting}
+use Rattle.deny_globs.specs.Starts.{Starting, SomeStarts}
+use Rattle.deny_globs.specs.private.Starts.{AddsStart, KeepsStarts}
+use Rattle.deny_globs.specs.States.{Leads, ends}
+use Rattle.deny_globs.specs.private.States.{end_of}
 use Rattle.deny_globs.specs.Tree.{IsGlob}
-use Rattle.deny_globs.specs.Walk.{Notes}
+use Rattle.deny_globs.specs.private.Walk.{Notes}
 use Rattle.deny_globs.proofs.BuildLemmas.{grows_on, grows_push, length_grown, length_pushed, leads_grown, leads_ungrown}
 use Rattle.deny_globs.proofs.BuildLemmas.{pushed_at}
 use Rattle.deny_globs.proofs.FitsLemmas.{nothing_fits, split_list}

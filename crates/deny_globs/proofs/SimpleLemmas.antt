@@ -13,7 +13,7 @@ use Rattle.deny_globs.specs.declared.piece.Piece.TheVariants.{Token as Whole}
 use Rattle.deny_globs.specs.Characters.{slash, star, dot, question_mark, backslash, open_bracket, comma, open_brace}
 use Rattle.deny_globs.specs.Characters.{close_brace, is_plain}
 use Rattle.deny_globs.specs.Fits.{any_text, Fits, nothing, joined, itself}
-use Rattle.deny_globs.specs.Index.{or_else, behind_last_dot}
+use Rattle.deny_globs.specs.private.Index.{or_else, behind_last_dot}
 use Rattle.deny_globs.specs.Pieces.{stars, Spells, next, itself as plain_piece, nothing as no_pieces}
 use Rattle.deny_globs.specs.Sets.{is_simple, extension_of}
 use Rattle.deny_globs.specs.Tree.{IsGlob, AreTokens, token, nothing as no_tokens}

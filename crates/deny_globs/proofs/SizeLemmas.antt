@@ -11,7 +11,7 @@ use Rattle.deny_globs.specs.declared.token.Token.TheVariants.{rolls-Character, r
 use Rattle.deny_globs.specs.declared.token.Token.TheVariants.{rolls-AnyText, rolls-LeadingFolders, rolls-TrailingPath}
 use Rattle.deny_globs.specs.declared.token.Token.TheVariants.{rolls-MiddleFolders, rolls-Alternatives}
 use Rattle.deny_globs.specs.declared.token.Token.TheOpen as open_token
-use Rattle.deny_globs.specs.Sizes.{states_step, states_in, states_of, states_of_all}
+use Rattle.deny_globs.specs.private.Sizes.{states_step, states_in, states_of, states_of_all}
 
 pub size_character : (c : ℕ) → states_in (Character c) ≡ 1
 size_character c = ap states_in (sym (rolls-Character c)) ∙ fold-roll-Token ℕ states_step (open_token.Character c)

@@ -7,10 +7,12 @@ use Rattle.deny_globs.specs.declared.starts.Starts.{Starts}
 use Rattle.deny_globs.specs.declared.state.State.{State}
 use Rattle.deny_globs.specs.declared.token.Token.{Token}
 use Rattle.deny_globs.specs.declared.words.Node.{Node}
-use Rattle.deny_globs.specs.Literals.{BeginsAll, EndsAll}
-use Rattle.deny_globs.specs.Starts.{AreStarts, Starting, KeepsStarts, AddsStart, SomeStarts}
-use Rattle.deny_globs.specs.States.{SomeLeads}
-use Rattle.deny_globs.specs.Words.{IsTree, Finds, ends_here, goes_on, Keeps, AddsWord}
+use Rattle.deny_globs.specs.private.Literals.{BeginsAll, EndsAll}
+use Rattle.deny_globs.specs.Starts.{AreStarts, Starting, SomeStarts}
+use Rattle.deny_globs.specs.private.Starts.{KeepsStarts, AddsStart}
+use Rattle.deny_globs.specs.private.States.{SomeLeads}
+use Rattle.deny_globs.specs.Words.{IsTree, Finds, ends_here, goes_on}
+use Rattle.deny_globs.specs.private.Words.{Keeps, AddsWord}
 use Rattle.deny_globs.proofs.WordLemmas.{keeps_same}
 
 map_left : {A B C : Type 0} → (A → B) → A ⊎ C → B ⊎ C

@@ -13,9 +13,10 @@ use Rattle.deny_globs.specs.declared.state.State.TheVariants.{End, Character, An
 use Rattle.deny_globs.specs.declared.state.State.TheVariants.{Never}
 use Rattle.deny_globs.specs.declared.token.Class.{Class}
 use Rattle.deny_globs.specs.Class.{class_takes}
-use Rattle.deny_globs.specs.Marked.{Extends, Marks, MarksIf}
-use Rattle.deny_globs.specs.States.{end_of, IsAtOnce, IsBehind, Leads, ends, over, aside, SomeLeads}
-use Rattle.deny_globs.specs.Walk.{first_passes, StepsOver, HasEnd, Passes, Notes}
+use Rattle.deny_globs.specs.private.Marked.{Extends, Marks, MarksIf}
+use Rattle.deny_globs.specs.States.{IsAtOnce, IsBehind, Leads, ends, over, aside}
+use Rattle.deny_globs.specs.private.States.{end_of, SomeLeads}
+use Rattle.deny_globs.specs.private.Walk.{first_passes, StepsOver, HasEnd, Passes, Notes}
 use Rattle.deny_globs.proofs.MarkedLemmas.{extends_same, extends_on, extended_contains}
 
 head_same : {A : Type 0} {x y : A} {xs ys : List A} → x ∷ xs ≡ y ∷ ys → x ≡ y

@@ -18,8 +18,9 @@ use Rattle.deny_lists.proofs.Indices.{slice_get-set_same}
 use Rattle.deny_lists.proofs.Indices.{slice_get-set_cases, slice_get-set_other}
 use Rattle.deny_lists.proofs.Options.{none_is_no_some, some_inj}
 use Rattle.deny_globs.specs.declared.words.Node.{Node}
-use Rattle.deny_globs.specs.Words.{next_of, IsEdge, HasNoEdge, IsTree, Finds, ends_here, goes_on, IsBare, AddsBare}
-use Rattle.deny_globs.specs.Words.{PutsEdge, PutsNoEdge, PutsNumber, Keeps, AddsWord}
+use Rattle.deny_globs.specs.Words.{IsEdge, IsTree, Finds, ends_here, goes_on}
+use Rattle.deny_globs.specs.private.Words.{next_of, HasNoEdge, IsBare, AddsBare}
+use Rattle.deny_globs.specs.private.Words.{PutsEdge, PutsNoEdge, PutsNumber, Keeps, AddsWord}
 use Rattle.deny_globs.proofs.WalkLemmas.{drop_one}
 
 none_led : {entries : List (ℕ × ℕ)} (c : ℕ) {next : ℕ} → entries ≡ [] → lookup (is_at (nat_cmp c)) entries ≡ Some next

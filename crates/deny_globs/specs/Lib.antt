@@ -4,16 +4,11 @@ pub mod Compiled
 pub mod Faults
 pub mod Fits
 pub mod Index
-pub mod Literals
-pub mod Marked
 pub mod Patterns
 pub mod Pieces
-pub mod Reading
 pub mod Sets
-pub mod Sizes
 pub mod Starts
 pub mod States
-pub mod Steps
 pub mod Tree
-pub mod Walk
 pub mod Words
+pub mod private

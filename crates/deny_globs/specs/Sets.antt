@@ -1,5 +1,5 @@
 -- What a set of globs says of a path, and how large it is.
-use Rattle.std.specs.Prelude.{ℕ, ◌≡◌, ◌<◌, ◌≤◌, ◌+◌, ◌*◌, ◌^◌, ◌↔◌, List, [], ◌∷◌, length, drop, Bool, true, false}
+use Rattle.std.specs.Prelude.{ℕ, ◌≡◌, ◌<◌, ◌≤◌, ◌+◌, ◌*◌, ◌^◌, List, [], ◌∷◌, length, drop, Bool, true, false}
 use Rattle.std.specs.Prelude.{◌==◌, ◌&&◌, if◌then◌else◌, Some, Contains, IsSomeAnd, slice_get}
 use Rattle.std.specs.List.{list_all, sum_by}
 use Rattle.std.specs.List.Sorted.{IsStrictlyIncreasing}
@@ -51,11 +51,6 @@ weight glob = if is_simple (characters_of glob) then 0 else 2 * length (characte
 
 abbrev pub weight_of : List Pattern → ℕ
 weight_of globs = sum_by weight globs
-
--- the numbers are ascending, and those of exactly the globs that fit
-pub record AreFitting (globs : List Pattern) (path indices : List ℕ) : Type 0 where
-  pub ascending : IsStrictlyIncreasing indices
-  pub exact : (i : ℕ) → Contains indices i ↔ FitsAt globs i path
 
 -- the numbers are ascending, and the first of those of the globs that fit
 pub record AreFirstFitting (globs : List Pattern) (path indices : List ℕ) : Type 0 where

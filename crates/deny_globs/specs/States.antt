@@ -1,19 +1,9 @@
 -- A compiled glob: its states, and what leads from one of them to the glob's end.
-use Rattle.std.specs.Prelude.{ℕ, ◌≡◌, ◌<◌, ◌⊎◌, List, [], ◌∷◌, Option, Some, None, IsTrue, Contains, slice_get, nat_eq}
+use Rattle.std.specs.Prelude.{ℕ, ◌≡◌, ◌<◌, ◌⊎◌, List, [], ◌∷◌, Some, IsTrue, slice_get, nat_eq}
 use Rattle.deny_globs.specs.declared.state.State.{State}
 use Rattle.deny_globs.specs.declared.state.State.TheVariants.{End, Character, AnyCharacter, OneOf, AnyText, Either}
 use Rattle.deny_globs.specs.declared.state.State.TheVariants.{Never}
 use Rattle.deny_globs.specs.Class.{class_takes}
-
--- the glob whose end the state is
-abbrev pub end_of : State → Option ℕ
-end_of (End glob) = Some glob
-end_of (Character d next) = None
-end_of (AnyCharacter next) = None
-end_of (OneOf class next) = None
-end_of (AnyText next) = None
-end_of (Either first second) = None
-end_of Never = None
 
 -- what this state stands for is also what the state with that number stands for, without a character more
 abbrev pub IsAtOnce : State → ℕ → Type 0
@@ -52,9 +42,3 @@ PointsBelow n (OneOf class next) = next < n
 PointsBelow n (AnyText next) = next < n
 PointsBelow n (Either first second) = (first < n) × (second < n)
 PointsBelow n Never = Unit {0}
-
--- some of the marked states is one from which the characters lead to the end of the glob
-pub record SomeLeads (states : List State) (marked : List ℕ) (glob : ℕ) (cs : List ℕ) : Type 0 where
-  pub number : ℕ
-  pub is_marked : Contains marked number
-  pub leads : Leads states glob number cs

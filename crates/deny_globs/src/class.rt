@@ -2,8 +2,8 @@ ghost use Rattle.std.specs.Prelude.{◌≡◌, ◌<◌, ◌+◌, ◌^◌, length
 ghost use Rattle.std.specs.Bool.{MatchBool};
 ghost use Rattle.deny_globs.specs.Characters.{open_bracket, begins, begins_mark};
 ghost use Rattle.deny_globs.specs.Pieces.{begins_range};
-ghost use Rattle.deny_globs.specs.Steps.{AddsMember, StopsMember, ClosesAt, GoesOnAt, IsClosedClass};
-ghost use Rattle.deny_globs.specs.Steps.{piece_of_class, StopsMembers, IsPieceOf, StopsPiece};
+ghost use Rattle.deny_globs.specs.private.Steps.{AddsMember, StopsMember, ClosesAt, GoesOnAt, IsClosedClass};
+ghost use Rattle.deny_globs.specs.private.Steps.{piece_of_class, StopsMembers, IsPieceOf, StopsPiece};
 
 use crate::piece::Piece;
 use crate::stop::Stop;

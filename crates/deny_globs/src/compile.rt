@@ -1,6 +1,7 @@
 ghost use Rattle.std.specs.Prelude.{◌≡◌, ◌<◌, ◌∷◌, ◌++◌, [], length, IfOk, OnErr};
 ghost use Rattle.deny_globs.specs.Characters.{slash};
-ghost use Rattle.deny_globs.specs.Compiled.{IsProgram, Grows, IsBuilt, IsBuiltOver, IsBuiltBeside, IsPushed};
+ghost use Rattle.deny_globs.specs.Compiled.{IsProgram};
+ghost use Rattle.deny_globs.specs.private.Compiled.{Grows, IsBuilt, IsBuiltOver, IsBuiltBeside, IsPushed};
 ghost use Rattle.deny_globs.specs.declared.token.Token.TheVariants.{Character as CharacterToken, LeadingFolders};
 ghost use Rattle.deny_globs.specs.declared.token.Token.TheVariants.{TrailingPath, MiddleFolders, OneOf};
 

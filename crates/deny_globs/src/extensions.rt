@@ -2,8 +2,9 @@ ghost use Rattle.std.specs.Prelude.{ℕ, List, nat_eq, slice_index, ◌-◌, ◌
 ghost use Rattle.std.specs.Prelude.{length, drop, insert, OnOk, OnErr, IfOk, IfErr, IfSome, IfNone, None, Some};
 ghost use Rattle.std.specs.List.{list_all};
 ghost use Rattle.std.specs.Char.{is_ascii_alphanumeric};
-ghost use Rattle.deny_globs.specs.Index.{behind_last_dot, Ascend, IsNamedAt, IsBetween};
-ghost use Rattle.deny_globs.specs.Index.{IsGap, IsHalved, IsNumbered, IsExtended};
+ghost use Rattle.deny_globs.specs.Index.{Ascend, IsNamedAt};
+ghost use Rattle.deny_globs.specs.private.Index.{behind_last_dot, IsBetween};
+ghost use Rattle.deny_globs.specs.private.Index.{IsGap, IsHalved, IsNumbered, IsExtended};
 ghost use Rattle.std.specs.Cmp.Lexicographic.{slice_cmp};
 ghost use Rattle.std.specs.Ordering.{nat_cmp};
 ghost use Rattle.deny_globs.specs.Characters.{dot};

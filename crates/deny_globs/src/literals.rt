@@ -1,5 +1,5 @@
 ghost use Rattle.std.specs.Prelude.{◌≡◌, IfOk, reverse};
-ghost use Rattle.deny_globs.specs.Literals.{BeginsAll, EndsAll};
+ghost use Rattle.deny_globs.specs.private.Literals.{BeginsAll, EndsAll};
 
 use crate::token::Token;
 use deny_lists::NoMemory;

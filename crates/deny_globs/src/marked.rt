@@ -1,6 +1,6 @@
 ghost use Rattle.std.specs.Prelude.{ℕ, ◌≡◌, ◌<◌, ◌≤◌, ◌+◌, [], length, OnOk, IfOk};
 ghost use Rattle.std.specs.Prelude.{get_or, slice_index, true, false, Contains};
-ghost use Rattle.deny_globs.specs.Marked.{Marks, MarksIf};
+ghost use Rattle.deny_globs.specs.private.Marked.{Marks, MarksIf};
 
 use deny_lists::{NoMemory, Steps};
 use std::alloc::Global;
@@ -17,7 +17,7 @@ pub struct Marked {
 /// Contracts see the states in their order, and for how many there is room.
 impl Model for Marked {
     ghost use Rattle.std.specs.Prelude.{ℕ, List, length};
-    ghost use Rattle.deny_globs.specs.Marked.{IsMarked};
+    ghost use Rattle.deny_globs.specs.private.Marked.{IsMarked};
 
     ghost Value = { List ℕ × ℕ };
 

@@ -1,8 +1,8 @@
 ghost use Rattle.std.specs.Prelude.{◌≡◌, ◌<◌, ◌+◌, ◌^◌, length, drop, IfOk, IfErr, IsTrue, take_while, ◌==◌, ◌≤◌};
 ghost use Rattle.deny_globs.specs.Characters.{slash, star, backslash, begins};
 ghost use Rattle.deny_globs.specs.Pieces.{is_leading, is_trailing, is_middle};
-ghost use Rattle.deny_globs.specs.Reading.{ReadsOn, StopsNext, StopsGlob};
-ghost use Rattle.deny_globs.specs.Steps.{IsPieceOf, StopsPiece};
+ghost use Rattle.deny_globs.specs.private.Reading.{ReadsOn, StopsNext, StopsGlob};
+ghost use Rattle.deny_globs.specs.private.Steps.{IsPieceOf, StopsPiece};
 ghost use Rattle.deny_globs.specs.Tree.{IsGlob};
 
 use crate::class::read_class;

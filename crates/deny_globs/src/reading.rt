@@ -1,6 +1,6 @@
 ghost use Rattle.std.specs.Prelude.{◌≡◌, ◌≤◌, [], ◌∷◌, ◌++◌, length, Some, OnOk, IfOk, OnErr, IfErr, MatchOption};
-ghost use Rattle.deny_globs.specs.Reading.{inner_first, after_piece, StopsReading, outermost_of};
-ghost use Rattle.deny_globs.specs.Reading.{middle_of, StopsAt, OpensAt, Parts, Closes, StopsEnd};
+ghost use Rattle.deny_globs.specs.private.Reading.{inner_first, after_piece, StopsReading, outermost_of};
+ghost use Rattle.deny_globs.specs.private.Reading.{middle_of, StopsAt, OpensAt, Parts, Closes, StopsEnd};
 ghost use Rattle.deny_globs.specs.Tree.{most_braces};
 
 use crate::piece::Piece;

@@ -2,12 +2,16 @@ ghost use Rattle.std.specs.Prelude.{ℕ, List, ◌≡◌, ◌<◌, ◌≤◌, �
 ghost use Rattle.std.specs.Prelude.{length, OnOk, OnErr, Contains, IfOk};
 ghost use Rattle.std.specs.List.Sorted.{IsStrictlyIncreasing};
 ghost use Rattle.std.specs.Str.{chars};
-ghost use Rattle.deny_globs.specs.Compiled.{IsProgram, Grows, AddsStates};
-ghost use Rattle.deny_globs.specs.Index.{Ascend, IsIndexed, AreCompiled, NotesNamed};
-ghost use Rattle.deny_globs.specs.Index.{NotesSimple, BoundsNamed, BoundsSimple, Indexes};
-ghost use Rattle.deny_globs.specs.Sets.{FitsAt, KeepsBound, AreFitting, AreFirstFitting};
-ghost use Rattle.deny_globs.specs.Starts.{AreStarts, KeepsStarts};
-ghost use Rattle.deny_globs.specs.Walk.{Notes};
+ghost use Rattle.deny_globs.specs.Compiled.{IsProgram};
+ghost use Rattle.deny_globs.specs.private.Compiled.{Grows, AddsStates};
+ghost use Rattle.deny_globs.specs.Index.{Ascend, IsIndexed, AreCompiled};
+ghost use Rattle.deny_globs.specs.private.Index.{NotesNamed};
+ghost use Rattle.deny_globs.specs.private.Index.{NotesSimple, BoundsNamed, BoundsSimple, Indexes};
+ghost use Rattle.deny_globs.specs.Sets.{FitsAt, KeepsBound, AreFirstFitting};
+ghost use Rattle.deny_globs.specs.private.Sets.{AreFitting};
+ghost use Rattle.deny_globs.specs.Starts.{AreStarts};
+ghost use Rattle.deny_globs.specs.private.Starts.{KeepsStarts};
+ghost use Rattle.deny_globs.specs.private.Walk.{Notes};
 
 use crate::compile::{compile, push_state};
 use crate::extensions::{Extension, add_extension, find_extension, is_simple, last_extension};

@@ -1,5 +1,6 @@
 ghost use Rattle.std.specs.Prelude.{ℕ, ◌↔◌, Contains, OnOk, OnErr, IfOk};
-ghost use Rattle.deny_globs.specs.Starts.{AreStarts, AddsStart, KeepsStarts, Starting};
+ghost use Rattle.deny_globs.specs.Starts.{AreStarts, Starting};
+ghost use Rattle.deny_globs.specs.private.Starts.{AddsStart, KeepsStarts};
 
 use crate::literals::{backward, literal_beginning, literal_ending};
 use crate::token::Token;

@@ -3,9 +3,9 @@ ghost use Rattle.std.specs.Prelude.{IfOk, true, Some, Contains, nat_eq, slice_ge
 ghost use Rattle.std.specs.List.{list_any};
 ghost use Rattle.deny_globs.specs.Class.{in_range, class_takes};
 ghost use Rattle.deny_globs.specs.Compiled.{IsProgram};
-ghost use Rattle.deny_globs.specs.States.{end_of, SomeLeads};
+ghost use Rattle.deny_globs.specs.private.States.{end_of, SomeLeads};
 ghost use Rattle.deny_globs.specs.declared.state.State.TheVariants.{End};
-ghost use Rattle.deny_globs.specs.Walk.{first_passes, StepsOver, Passes, HasEnd, Notes};
+ghost use Rattle.deny_globs.specs.private.Walk.{first_passes, StepsOver, Passes, HasEnd, Notes};
 
 use crate::marked::Marked;
 use crate::state::State;

@@ -1,8 +1,10 @@
 ghost use Rattle.std.specs.Prelude.{ℕ, ◌≡◌, ◌<◌, ◌↔◌, ◌⊎◌, length, Contains, OnOk, OnErr, IfOk};
 ghost use Rattle.std.specs.BTreeMap.{get};
 ghost use Rattle.std.specs.Ordering.{nat_cmp};
-ghost use Rattle.deny_globs.specs.Words.{IsTree, IsEdge, HasNoEdge, AddsBare, PutsEdge};
-ghost use Rattle.deny_globs.specs.Words.{PutsNoEdge, PutsNumber, Keeps, AddsWord, Finds, next_of};
+ghost use Rattle.deny_globs.specs.Words.{IsTree, IsEdge};
+ghost use Rattle.deny_globs.specs.private.Words.{HasNoEdge, AddsBare, PutsEdge};
+ghost use Rattle.deny_globs.specs.Words.{Finds};
+ghost use Rattle.deny_globs.specs.private.Words.{PutsNoEdge, PutsNumber, Keeps, AddsWord, next_of};
 
 use deny_lists::{List, NoMemory};
 use std::alloc::Global;

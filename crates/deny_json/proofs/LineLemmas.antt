@@ -12,7 +12,7 @@ use Rattle.deny_base.specs.declared.label.Label.{Label}
 use Rattle.deny_trees.specs.declared.node.GraphNode.{GraphNode}
 use Rattle.deny_json.specs.Diagnostics.{code_member, fields_after_code, fields_after_labels, labels_member}
 use Rattle.deny_json.specs.Findings.{finding_fields, finding_value, graphs_member}
-use Rattle.deny_json.specs.Lines.{line_with}
+use Rattle.deny_json.specs.Lines.{line_with_graphs}
 use Rattle.deny_json.specs.private.Writing.{code_text, graphs_text}
 
 behind_comma : (files : List File) (labels : List Label) (d : Diagnostic)
@@ -43,10 +43,10 @@ with_code (Some code) graphs others =
     (codes "\"graphs\":" ++ (graphs_text graphs ++ members_text true others))))
 
 finding_text : (files : List File) (d : Diagnostic) (graphs : List GraphNode)
-    → line_with files d graphs
+    → line_with_graphs files d graphs
     ≡ codes "{\"fields\":{" ++ (members_text false (finding_fields files d graphs)
     ++ codes ",\"type\":\"diagnostic\"}\n")
-unfolding serde_json_on_literals line_with finding_value
+unfolding serde_json_on_literals line_with_graphs finding_value
 finding_text files d graphs =
     ap (λ (text : List ℕ). codes "{\"fields\":{" ++ text)
     (append_assoc (members_text false (finding_fields files d graphs)) (codes ",\"type\":\"diagnostic\"}") (10 ∷ []))
@@ -63,7 +63,7 @@ after old start new part same written = written ∙ ap (λ (text : List ℕ). te
 pub line_written : (files : List File) (d : Diagnostic) (graphs : List GraphNode) (a b c e f g : List ℕ)
     → a ≡ codes "{\"fields\":{" → b ≡ a ++ code_text d.code → c ≡ b ++ codes "\"graphs\":"
     → e ≡ c ++ graphs_text graphs → f ≡ e ++ members_text true (fields_after_code files d)
-    → g ≡ f ++ codes ",\"type\":\"diagnostic\"}\n" → g ≡ line_with files d graphs
+    → g ≡ f ++ codes ",\"type\":\"diagnostic\"}\n" → g ≡ line_with_graphs files d graphs
 line_written files d graphs a b c e f g at_a at_b at_c at_e at_f at_g =
     let start = codes "{\"fields\":{" in
     let end = codes ",\"type\":\"diagnostic\"}\n" in

@@ -17,8 +17,8 @@ use Rattle.deny_base.specs.declared.level.Severity.TheVariants as severity
 use Rattle.deny_json.specs.Diagnostics.{diagnostic_value, tells}
 use Rattle.deny_json.specs.Findings.{finding_value}
 use Rattle.deny_json.specs.Graphs.{graph_value}
-use Rattle.deny_json.specs.Labels.{column_of, label_value, line_of, marked, range_in, trimmed}
-use Rattle.deny_json.specs.Lines.{line, line_with}
+use Rattle.deny_json.specs.Labels.{column_of, label_value, shown_line, marked, range_in, trimmed}
+use Rattle.deny_json.specs.Lines.{line, line_with_graphs}
 use Rattle.deny_json.proofs.GraphRows.{x, x_value}
 
 -- `[bans]`, a newline, `deny = ["x"]` and a newline
@@ -51,7 +51,7 @@ marks = refl
 abbrev label_told : Option Location → List ℕ → Data
 label_told at text = object
     (member (codes "column") (number (unsigned (column_of at)))
-    (member (codes "line") (number (unsigned (line_of at)))
+    (member (codes "line") (number (unsigned (shown_line at)))
     (member (codes "message") (string (codes "banned here"))
     (member (codes "span") (string text) no_members))))
 
@@ -69,14 +69,14 @@ finding_told label graph = tells (codes "diagnostic")
     (member (codes "severity") (string (codes "error")) no_members)))))
 
 -- a ban, with the tree of its crate
-pub is_banned : line_with the_files a_diagnostic (x ∷ [])
+pub is_banned : line_with_graphs the_files a_diagnostic (x ∷ [])
     ≡ codes "{\"fields\":{\"code\":\"banned\",\"graphs\":["
     ++ (codes "{\"Krate\":{\"name\":\"x\",\"version\":\"1.0.0\"},\"parents\":["
     ++ (codes "{\"Krate\":{\"name\":\"app\",\"version\":\"0.1.0\"}}]}],"
     ++ (codes "\"labels\":[{\"column\":10,\"line\":2,\"message\":\"banned here\",\"span\":\"x\"}],"
     ++ (codes "\"message\":\"crate 'x = 1.0.0' is explicitly banned\","
     ++ codes "\"severity\":\"error\"},\"type\":\"diagnostic\"}\n"))))
-unfolding serde_json_on_literals digits line_with finding_value code_name
+unfolding serde_json_on_literals digits line_with_graphs finding_value code_name
 is_banned =
     ap (λ (label : Data). line (finding_told label (graph_value x))) is_labelled
     ∙ ap (λ (graph : Data). line (finding_told (label_told (Some (record { line = 1; column = 9 })) (codes "x")) graph))
@@ -92,10 +92,10 @@ a_note = record {
 }
 
 -- the trees stand there also where there are none; labels and notes do not
-pub has_no_tree : line_with [] a_note []
+pub has_no_tree : line_with_graphs [] a_note []
     ≡ codes "{\"fields\":{\"code\":\"allowed\",\"graphs\":[],\"message\":\"m\",\"notes\":[\"a\",\"\"],"
     ++ codes "\"severity\":\"note\"},\"type\":\"diagnostic\"}\n"
-unfolding serde_json_on_literals line_with finding_value code_name
+unfolding serde_json_on_literals line_with_graphs finding_value code_name
 has_no_tree = refl
 
 -- a diagnostic alone has no such member

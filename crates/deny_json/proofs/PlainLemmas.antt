@@ -26,7 +26,7 @@ use Rattle.deny_json.specs.Diagnostics.{code_member, diagnostic_value, fields_af
 use Rattle.deny_json.specs.Diagnostics.{fields_of, labels_member, notes_member, severity_word, tells}
 use Rattle.deny_json.specs.Findings.{finding_fields, finding_value, graphs_member}
 use Rattle.deny_json.specs.Graphs.{graph_value, krate_value, node_value, parents_member, repeat_member}
-use Rattle.deny_json.specs.Labels.{column_of, label_value, line_of}
+use Rattle.deny_json.specs.Labels.{column_of, label_value, shown_line}
 use Rattle.deny_json.specs.Reading.{AreCounted, AreShort, IsBeforeNext, IsCounted, IsPlain, ItemsArePlain}
 use Rattle.deny_json.specs.Reading.{MembersArePlain}
 use Rattle.deny_json.proofs.GraphLemmas.{value_of_node}
@@ -88,7 +88,7 @@ short_at files id short = elim (slice_get_cases files id).1 as (λ _. IfSome (sl
   | inr past ↦ subst (λ (file : Option File). IfSome file IsShort) (sym past.1) tt
 ]
 
-line_fits : (at : Option Location) → IfNear at → line_of at < 2 ^ 64
+line_fits : (at : Option Location) → IfNear at → shown_line at < 2 ^ 64
 line_fits None near = omega arith
 line_fits (Some at) near = omega (arith, near.0)
 
@@ -100,11 +100,11 @@ column_fits (Some at) near = omega (arith, near.1)
 
 -- a label is told by its line and column
 pub label_told : (files : List File) (label : Label) (at : Option Location)
-    → at ≡ location_in files label.file_id label.span.start → column_of at < 2 ^ 64 → line_of at < 2 ^ 64
+    → at ≡ location_in files label.file_id label.span.start → column_of at < 2 ^ 64 → shown_line at < 2 ^ 64
     → IsCounted files label
 unfolding label_value IsCounted
 label_told files label at is column line =
-    let here = λ (o : Option Location). (column_of o < 2 ^ 64) × (line_of o < 2 ^ 64) in
+    let here = λ (o : Option Location). (column_of o < 2 ^ 64) × (shown_line o < 2 ^ 64) in
     let fits = subst here is (column, line) in
     (refl, fits.0, (refl, fits.1, (refl, tt, (tt, tt, tt))))
 

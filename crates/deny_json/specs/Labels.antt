@@ -10,9 +10,9 @@ use Rattle.deny_base.specs.declared.span.Span.{Span}
 
 -- lines and columns are told from 1. Every label of a report lies in its file; of one that did not, 0 would be told,
 -- and no text
-abbrev pub line_of : Option Location → ℕ
-line_of None = 0
-line_of (Some at) = at.line + 1
+abbrev pub shown_line : Option Location → ℕ
+shown_line None = 0
+shown_line (Some at) = at.line + 1
 
 abbrev pub column_of : Option Location → ℕ
 column_of None = 0
@@ -46,6 +46,6 @@ marked files label = marked_in (slice_get files label.file_id) label.span
 unfoldable pub label_value : List File → Label → Data
 label_value files label = object
     (member (codes "column") (number (unsigned (column_of (location_in files label.file_id label.span.start))))
-    (member (codes "line") (number (unsigned (line_of (location_in files label.file_id label.span.start))))
+    (member (codes "line") (number (unsigned (shown_line (location_in files label.file_id label.span.start))))
     (member (codes "message") (string label.message)
     (member (codes "span") (string (marked files label)) no_members))))

@@ -15,9 +15,9 @@ abbrev pub line : Data → List ℕ
 line value = compact_text value ++ 10 ∷ []
 
 -- the line of a diagnostic that is told with these trees, and whose labels lie in these files
-unfoldable pub line_with : List File → Diagnostic → List GraphNode → List ℕ
-line_with files d graphs = line (finding_value files d graphs)
+unfoldable pub line_with_graphs : List File → Diagnostic → List GraphNode → List ℕ
+line_with_graphs files d graphs = line (finding_value files d graphs)
 
 -- the line of a finding of this crate, or of no single one, with the trees of the graph that it shows
 unfoldable pub diag_line : List File → Graph → Option Kid → Diag → List ℕ
-diag_line files g kid diag = line_with files diag.diag (graphs_shown g kid diag)
+diag_line files g kid diag = line_with_graphs files diag.diag (graphs_shown g kid diag)

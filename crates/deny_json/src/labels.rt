@@ -4,7 +4,7 @@ ghost use Rattle.std.specs.Str.{IsCharBoundary};
 ghost use Rattle.serde_json.specs.Data.{member, no_members, number, object, string, unsigned};
 ghost use Rattle.serde_json.specs.View.{view};
 ghost use Rattle.deny_base.specs.Files.{is_boundary, location_in};
-ghost use Rattle.deny_json.specs.Labels.{column_of, label_value, line_of, marked};
+ghost use Rattle.deny_json.specs.Labels.{column_of, label_value, shown_line, marked};
 ghost use Rattle.deny_json.specs.Labels.{range_in, trimmed, without_end, without_start};
 ghost use Rattle.deny_json.specs.Reading.{AreCounted, IsCounted};
 
@@ -13,9 +13,9 @@ use serde_json::{Value, json};
 use std::alloc::{AllocError, Global};
 
 /// The line of a location, from 1; 0 where there is none.
-fn line_of(at: Option<Location>) -> u64
-    ensures line { result ≡ line_of at }
-    ensures fits { line_of at < 2 ^ 64 }
+fn shown_line(at: Option<Location>) -> u64
+    ensures line { result ≡ shown_line at }
+    ensures fits { shown_line at < 2 ^ 64 }
 {
     match at {
         Some(at) => u64::from(at.line) + 1,
@@ -119,7 +119,7 @@ fn label_value(alloc: Global, files: &Files, label: &Label) -> Result<Value, All
     let at = files.location(label.file_id, label.span.start);
     let message = label.message.as_str();
     let span = marked(files, label);
-    label_at(alloc, column_of(at), line_of(at), message, span)
+    label_at(alloc, column_of(at), shown_line(at), message, span)
 }
 
 /// Labels as JSON, in their order.

@@ -4,7 +4,7 @@ ghost use Rattle.std.specs.Prelude.{◌≡◌, ◌++◌, ◌∷◌, ℕ, List, I
 ghost use Rattle.serde_json.specs.View.{view};
 ghost use Rattle.serde_json.specs.Written.{has_float, members_text};
 ghost use Rattle.deny_json.specs.Diagnostics.{fields_after_code};
-ghost use Rattle.deny_json.specs.Lines.{diag_line, line, line_with};
+ghost use Rattle.deny_json.specs.Lines.{diag_line, line, line_with_graphs};
 ghost use Rattle.deny_json.specs.Reading.{AreCounted};
 ghost use Rattle.deny_json.specs.private.Writing.{code_text};
 
@@ -70,13 +70,13 @@ fn write_rest(
 }
 
 /// The line of a diagnostic that is told with these trees; its labels lie in these files.
-pub(crate) fn line_with(
+pub(crate) fn line_with_graphs(
     alloc: Global,
     files: &Files,
     diagnostic: &Diagnostic,
     graphs: &[GraphNode],
 ) -> Result<Text, NoMemory>
-    ensures text { IfOk result (λ text. text ≡ line_with files.now diagnostic.now graphs.now) }
+    ensures text { IfOk result (λ text. text ≡ line_with_graphs files.now diagnostic.now graphs.now) }
     ensures counted { OnOk result (AreCounted files.now diagnostic.now.labels) }
 {
     let mut text = Text::from_str(alloc, "{\"fields\":{")?;
@@ -104,7 +104,7 @@ pub fn diag_line(
     ensures counted { OnOk result (AreCounted files.now diag.now.diag.labels) }
 {
     let graphs = graphs_of(alloc, grapher, kid, diag)?;
-    let text = line_with(alloc, files, &diag.diag, graphs.as_slice());
+    let text = line_with_graphs(alloc, files, &diag.diag, graphs.as_slice());
     let_go(graphs);
     text
 }

@@ -1,6 +1,5 @@
 pub use Rattle.deny_resolve.specs.Checked
 pub use Rattle.deny_metadata.specs.Document
-pub use Rattle.deny_metadata.specs.Reading
 pub use Rattle.deny_resolve.specs.Source
 pub use Rattle.deny_resolve.specs.Versions
 pub use Rattle.deny_metadata.specs.declared.document

@@ -56,7 +56,7 @@ pub fn parents_of_crate(
     add_own(&krates.krates()[place as usize], place, &mut parents)?;
     let dependents = krates.direct_dependents(place);
     for direct in dependents {
-        add_to_crate(krates, place, direct.place, &mut parents)?;
+        add_crate_edges(krates, place, direct.place, &mut parents)?;
     }
     Ok(parents)
 }
@@ -81,7 +81,7 @@ pub fn parents_of_feature(
     )?;
     let dependents = krates.direct_dependents(place);
     for direct in dependents {
-        add_to_feature(krates, place, feature, direct.place, &mut parents)?;
+        add_feature_edges(krates, place, feature, direct.place, &mut parents)?;
     }
     Ok(parents)
 }
@@ -93,7 +93,7 @@ fn add_own(krate: &Krate, place: u32, parents: &mut List<Parent>) -> Result<(), 
 {
     let enabled = krate.enabled.as_slice();
     for feature in enabled {
-        add_feature(krate, place, feature, None, parents)?;
+        push_feature(krate, place, feature, None, parents)?;
     }
     Ok(())
 }
@@ -112,13 +112,13 @@ fn add_own_leading(
     let enabled = krate.enabled.as_slice();
     for feature in enabled {
         if holds_plain(krate, other, feature) {
-            add_feature(krate, place, feature, None, parents)?;
+            push_feature(krate, place, feature, None, parents)?;
         }
     }
     Ok(())
 }
 
-fn add_feature(
+fn push_feature(
     krate: &Krate,
     place: u32,
     feature: &Text,
@@ -137,7 +137,7 @@ fn add_feature(
 }
 
 // Adds what leads from one crate to another.
-fn add_to_crate(
+fn add_crate_edges(
     krates: &Krates,
     child: u32,
     parent: u32,
@@ -149,14 +149,14 @@ fn add_to_crate(
         → slice_get krates.now.crates parent ≡ Some p → parents.new ≡ parents.old
         ++ map (parent_of krates.now) (flat_map (sources_of_crate krates.now c p) all_kinds)) }
 {
-    add_to_crate_as(krates, child, parent, DepKind::Normal, parents)?;
-    add_to_crate_as(krates, child, parent, DepKind::Dev, parents)?;
-    add_to_crate_as(krates, child, parent, DepKind::Build, parents)?;
+    add_crate_edges_of_kind(krates, child, parent, DepKind::Normal, parents)?;
+    add_crate_edges_of_kind(krates, child, parent, DepKind::Dev, parents)?;
+    add_crate_edges_of_kind(krates, child, parent, DepKind::Build, parents)?;
     Ok(())
 }
 
 // The same, by an edge of this kind.
-fn add_to_crate_as(
+fn add_crate_edges_of_kind(
     krates: &Krates,
     child: u32,
     parent: u32,
@@ -171,12 +171,12 @@ fn add_to_crate_as(
 {
     let _placed = krates.krates();
     if leads_to_crate(krates, child, parent, kind) {
-        add_crate(krates, parent, kind, parents)?;
+        push_crate(krates, parent, kind, parents)?;
     }
     Ok(())
 }
 
-fn add_crate(
+fn push_crate(
     krates: &Krates,
     place: u32,
     kind: DepKind,
@@ -242,7 +242,7 @@ fn leaves_crate(
 }
 
 // Adds what leads from one crate, and its features, to a feature of another.
-fn add_to_feature(
+fn add_feature_edges(
     krates: &Krates,
     child: u32,
     feature: &str,
@@ -255,14 +255,14 @@ fn add_to_feature(
         → slice_get krates.now.crates parent ≡ Some p → parents.new ≡ parents.old
         ++ map (parent_of krates.now) (flat_map (sources_of_feature krates.now c feature.now p) all_kinds)) }
 {
-    add_to_feature_as(krates, child, feature, parent, DepKind::Normal, parents)?;
-    add_to_feature_as(krates, child, feature, parent, DepKind::Dev, parents)?;
-    add_to_feature_as(krates, child, feature, parent, DepKind::Build, parents)?;
+    add_feature_edges_of_kind(krates, child, feature, parent, DepKind::Normal, parents)?;
+    add_feature_edges_of_kind(krates, child, feature, parent, DepKind::Dev, parents)?;
+    add_feature_edges_of_kind(krates, child, feature, parent, DepKind::Build, parents)?;
     Ok(())
 }
 
 // The same, by declarations of this kind.
-fn add_to_feature_as(
+fn add_feature_edges_of_kind(
     krates: &Krates,
     child: u32,
     feature: &str,
@@ -298,7 +298,7 @@ fn add_asking(
         ++ (if leads_by_asking krates.now c feature.now p kind then parent_in p (Some kind) None ∷ [] else [])) }
 {
     if leads_by_asking(krates, child, feature, parent, kind) {
-        add_crate(krates, parent, kind, parents)?;
+        push_crate(krates, parent, kind, parents)?;
     }
     Ok(())
 }
@@ -356,7 +356,7 @@ fn add_led_over(
     let enabled = krate.enabled.as_slice();
     for from in enabled {
         if any_led_over(run, krate, kind, feature, from) {
-            add_feature(krate, place, from, Some(kind), parents)?;
+            push_feature(krate, place, from, Some(kind), parents)?;
         }
     }
     Ok(())

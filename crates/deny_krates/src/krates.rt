@@ -12,7 +12,7 @@ ghost use Rattle.deny_krates.specs.private.NodeNumbers.{first_features_of};
 ghost use Rattle.deny_krates.specs.private.Resolved.{AreBetween};
 ghost use Rattle.deny_resolve.specs.Checked.{checked};
 ghost use Rattle.deny_crate_graph.specs.Read.{IsGraphOf, IsSound, graph_read};
-ghost use Rattle.deny_metadata.specs.Reading.{Fails};
+ghost use Rattle.deny_lists.specs.Reader.{Fails, IsFault};
 ghost use Rattle.deny_crate_graph.specs.Dependents.{AreDirectDependencies, AreDirectDependents};
 ghost use Rattle.deny_crate_graph.specs.Filtered.{AreMarks};
 ghost use Rattle.deny_crate_graph.specs.Ids.{crate_of};
@@ -85,7 +85,7 @@ impl Krates {
     pub fn build(alloc: Global, bytes: &[u8]) -> Result<Krates, MetadataFault>
         requires { length bytes.now < 2 ^ 28 }
         ensures ok { IfOk result (IsGraphOf bytes.now) }
-        ensures err { IfErr result (λ e. Fails e (checked bytes.now)) }
+        ensures err { IfErr result (Fails MetadataFault.Memory (IsFault (checked bytes.now))) }
     {
         let graph = graph_at(alloc, bytes)?;
         Ok(finish(alloc, graph)?)

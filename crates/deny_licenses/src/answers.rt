@@ -69,11 +69,11 @@ pub fn answers_to(
         requirements.now) }
 {
     let excepted = granting.excepted(alloc, krate)?;
-    answers_by(alloc, granting, &excepted, requirements)
+    answers_by_grants(alloc, granting, &excepted, requirements)
 }
 
 /// The same by what the exceptions grant that speak of the crate.
-fn answers_by(
+fn answers_by_grants(
     alloc: Global,
     granting: &Granting<'_>,
     excepted: &Grants,

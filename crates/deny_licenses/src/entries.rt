@@ -18,7 +18,7 @@ use deny_spdx::Requirement;
 use std::alloc::Global;
 
 /// The entries of a configuration: licences, and then exceptions.
-pub fn granters_of(alloc: Global, cfg: &ValidConfig) -> Result<List<Granter>, NoMemory>
+pub fn all_granters(alloc: Global, cfg: &ValidConfig) -> Result<List<Granter>, NoMemory>
     ensures { IfOk result (λ granters. granters ≡ policy_granters (licensing_view cfg.now)) }
 {
     let mut granters = List::new(alloc);
@@ -106,13 +106,13 @@ pub fn unused_of(
     ensures { IfOk result (Lists granter_cmp (Contains (flat_map (unused_at witnesses.now) granters.now))) }
 {
     granters_differ();
-    let mut unused = unused_in(alloc, granters, witnesses)?;
+    let mut unused = unused_unordered(alloc, granters, witnesses)?;
     put_in_order(&mut unused)?;
     Ok(unused)
 }
 
 /// The same as they come.
-fn unused_in(
+fn unused_unordered(
     alloc: Global,
     granters: &[Granter],
     witnesses: &Witnesses,

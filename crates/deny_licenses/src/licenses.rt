@@ -9,7 +9,7 @@ ghost use Rattle.deny_licenses.specs.private.Told.{TellsUnused};
 ghost use Rattle.deny_licenses.specs.private.Witnesses.{hits_at};
 
 use crate::counted::counted_places;
-use crate::entries::{granters_of, hits_of, unused_of};
+use crate::entries::{all_granters, hits_of, unused_of};
 use crate::found::{Found, found_at};
 use crate::granter::Granter;
 use crate::granting::Granting;
@@ -42,7 +42,7 @@ pub fn check(
     ensures unchanged { OnErr result (sink.new ≡ sink.old) }
 {
     are_placed(krates);
-    let mut found = found_in(alloc, cfg, krates)?;
+    let mut found = found_of_graph(alloc, cfg, krates)?;
     let hits = tell_granters(alloc, cfg, krates, id, &mut found)?;
     append(sink, &mut found.packs)?;
     Ok(hits)
@@ -61,7 +61,7 @@ fn tell_granters(
     ensures hits { IfOk result (λ hits. hits
         ≡ flat_map (hits_at krates.now found.old.witnesses) (policy_granters (licensing_view cfg.now))) }
 {
-    let granters = granters_of(alloc, cfg)?;
+    let granters = all_granters(alloc, cfg)?;
     add_unused(
         alloc,
         cfg.unused_allowed,
@@ -74,15 +74,19 @@ fn tell_granters(
 }
 
 /// What is told of the crates that count, and the first of them to which each entry grants something.
-fn found_in(alloc: Global, cfg: &ValidConfig, krates: &Krates) -> Result<Found, NoMemory>
+fn found_of_graph(alloc: Global, cfg: &ValidConfig, krates: &Krates) -> Result<Found, NoMemory>
     ensures { IfOk result (IsFound cfg.now.include_dev (licensing_view cfg.now) krates.now) }
 {
     let granting = Granting::new(alloc, cfg)?;
-    found_by(alloc, &granting, krates)
+    found_by_granting(alloc, &granting, krates)
 }
 
 /// The same by what the policy grants.
-fn found_by(alloc: Global, granting: &Granting<'_>, krates: &Krates) -> Result<Found, NoMemory>
+fn found_by_granting(
+    alloc: Global,
+    granting: &Granting<'_>,
+    krates: &Krates,
+) -> Result<Found, NoMemory>
     ensures { IfOk result (IsFound granting.now.cfg.now.include_dev (licensing_view granting.now.cfg.now) krates.now) }
 {
     let places = counted_places(alloc, granting.cfg.include_dev, krates)?;

@@ -198,17 +198,17 @@ fn notes_of(alloc: Global, krate: &Krate, judgement: Judgement) -> Result<List<T
 {
     match judgement {
         Judgement::Private | Judgement::Unlicensed => Ok(List::new(alloc)),
-        Judgement::Unreadable(_) | Judgement::Accepted(_) => notes_with(
+        Judgement::Unreadable(_) | Judgement::Accepted(_) => notes_with_text(
             alloc,
             krate,
             List::new(alloc),
         ),
-        Judgement::Rejected(_, notes) => notes_with(alloc, krate, notes),
+        Judgement::Rejected(_, notes) => notes_with_text(alloc, krate, notes),
     }
 }
 
 /// A note of the text of a crate's licence, and then these.
-fn notes_with(alloc: Global, krate: &Krate, others: List<Text>) -> Result<List<Text>, NoMemory>
+fn notes_with_text(alloc: Global, krate: &Krate, others: List<Text>) -> Result<List<Text>, NoMemory>
     ensures { IfOk result (λ notes. notes ≡ with_text (licence_text (crate_view 0 krate.now)) ∷ others) }
 {
     let mut others = others;

@@ -3,6 +3,7 @@ pub mod Agreement
 pub mod Alike
 pub mod Booleans
 pub mod Each
+pub mod Equalities
 pub mod Filters
 pub mod Finding
 pub mod FirstLemmas

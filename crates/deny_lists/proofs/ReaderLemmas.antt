@@ -5,6 +5,7 @@ use Rattle.std.specs.Prelude.{slice_index_or, IfErr}
 use Rattle.std.specs.Result.{IsErrAnd}
 use Rattle.std.proofs.Math.ListN.{drop_of_length-le}
 use Rattle.std.proofs.Math.Seq.{drop-cons}
+use Rattle.deny_lists.proofs.Results.{err_is_no_ok}
 use Rattle.deny_lists.specs.Reader.{◌>>=◌, Fails, Gives, Answers, IsFault, IsValue, each, each_passes}
 
 -- ---- what was read stands before what the rest reads to
@@ -76,6 +77,12 @@ no_more_passes check xs i past = rw (drop_of_length-le xs past) refl
 pub all_read : {A E : Type 0} (whole here : Result (List A) E) (xs : List A) → whole ≡ with_prefix xs here
     → here ≡ Ok [] → whole ≡ Ok xs
 all_read whole here xs so_far last = so_far ∙ (ap (with_prefix xs) last ∙ ap (λ ys. Ok ys) (append-nil xs))
+
+-- what gave a value in two steps gave one in each
+pub bound : {A B E : Type 0} (first : Result A E) (then : A → Result B E) (y : B) → first >>= then ≡ Ok y
+    → (x : A) × (first ≡ Ok x) × (then x ≡ Ok y)
+bound (Ok x) then y is = (x, refl, is)
+bound (Err e) then y is = err_is_no_ok is
 
 -- ---- failures
 

@@ -20,6 +20,10 @@ IsFault read e = read ≡ Err e
 abbrev pub Answers : {A E : Type 0} → E → Result A E → Result A E → Type 0
 Answers memory read r = Gives memory (IsValue read) (IsFault read) r
 
+-- a value exactly where a check passes, or a fault of the check
+abbrev pub Passes : {A E : Type 0} → E → Result (Unit {0}) E → Result A E → Type 0
+Passes memory check r = Gives memory (λ _. IsValue check tt) (IsFault check) r
+
 -- the second step, if the first gave a value
 infixl 10 ◌>>=◌
 abbrev pub ◌>>=◌ : {A B E : Type 0} → Result A E → (A → Result B E) → Result B E

@@ -135,7 +135,7 @@ pub fn reach_from<G: Neighbours, L: Ledger>(
     let mut next = 0;
     while next < order.len() {
         steps.tick();
-        let place = place_at(&order, next);
+        let place = nth_place(&order, next);
         let distance = distance_of(distances, place) + 1;
         reach_row::<G, L>(
             graph.neighbours(place),
@@ -166,7 +166,7 @@ pub fn take_back(distances: &mut List<Option<u32>>, places: &[u32])
     }
 }
 
-fn place_at(order: &List<u32>, index: usize) -> u32
+fn nth_place(order: &List<u32>, index: usize) -> u32
     requires { index < length order.now }
     ensures { result ≡ slice_index_or order.now index 0 }
 {

@@ -19,7 +19,7 @@ use Rattle.deny_resolve.specs.Checked.{Numbering, Resolved, distinct, distinct_a
 use Rattle.deny_resolve.specs.Checked.{manifest_path_reads, node_ids, number_in, number_or, optional_reads}
 use Rattle.deny_resolve.specs.Checked.{package_ids, packages_read, read_or, requirement_reads, requirements_read}
 use Rattle.deny_resolve.specs.Checked.{resolved, resolved_by, resolved_node, source_reads, version_reads}
-use Rattle.deny_metadata.specs.Reading.{◌>>=◌, each, each_passes}
+use Rattle.deny_lists.specs.Reader.{◌>>=◌, each, each_passes}
 use Rattle.deny_resolve.specs.Source.{crates_io_of, known_or, source_of}
 use Rattle.deny_resolve.specs.declared.checked.Link.{Link}
 use Rattle.deny_resolve.specs.declared.checked.ResolvedNode.{ResolvedNode}

@@ -8,7 +8,7 @@ use Rattle.deny_entries.specs.declared.spec_or_extended.PackageSpecOrExtended.{P
 use Rattle.deny_tables.specs.declared.bans.cfg.ban.CrateBanExtended.{CrateBanExtended}
 use Rattle.deny_tables.specs.declared.bans.cfg.config.Config.{Config}
 use Rattle.deny_tables.specs.declared.bans.cfg.highlight.GraphHighlight.TheVariants as highlight
-use Rattle.deny_toml.specs.declared.value.Value.{Value}
+use Rattle.deny_toml.specs.value.Value.{Value}
 use Rattle.deny_generator.specs.Made.{name_of}
 use Rattle.deny_made_policy.proofs.Elements.{in_quotes}
 use Rattle.deny_made_policy.proofs.Skipped.{spec_text}

@@ -10,7 +10,7 @@ use Rattle.deny_entries.specs.declared.package_spec.PackageSpec.{PackageSpec}
 use Rattle.deny_toml.specs.Deserialize.{ReadsArray, ReadsEach, faults_from, faults_of_array}
 use Rattle.deny_toml.specs.Faults.{in_order}
 use Rattle.deny_toml.specs.declared.error.ConfigFault.{ConfigFault}
-use Rattle.deny_toml.specs.declared.value.Value.{Value}
+use Rattle.deny_toml.specs.value.Value.{Value}
 use Rattle.deny_made_policy.proofs.Config.{skipped_from, skipped_spec}
 use Rattle.deny_made_policy.proofs.Elements.{in_quotes}
 use Rattle.deny_made_policy.proofs.Skipped.{spec_text}

@@ -20,7 +20,7 @@ use Rattle.deny_tables.specs.Config.{faults_of_config}
 use Rattle.deny_toml.specs.Calls.{below_name}
 use Rattle.deny_toml.specs.Faults.{in_order}
 use Rattle.deny_toml.specs.Parser.{whole}
-use Rattle.deny_toml.specs.declared.value.Value.{Value}
+use Rattle.deny_toml.specs.value.Value.{Value}
 use Rattle.deny_made_policy.specs.Policies.{IsPolicy, MindsNoReplacements}
 use Rattle.deny_made_policy.proofs.Config.{config_of, denied_spec, skipped_from}
 use Rattle.deny_made_policy.proofs.Document.{key_at, text_of}

@@ -15,7 +15,7 @@ use Rattle.deny_toml.specs.Faults.{in_order}
 use Rattle.deny_toml.specs.TableHelper.{unknown}
 use Rattle.deny_toml.specs.Value.{span_in, span_of}
 use Rattle.deny_toml.specs.declared.error.ConfigFault.{ConfigFault}
-use Rattle.deny_toml.specs.declared.value.Value.{Value}
+use Rattle.deny_toml.specs.value.Value.{Value}
 use Rattle.deny_toml.proofs.TreeOrderLaws.{entries_are}
 use Rattle.std.specs.Prelude.{option_and_then}
 use Rattle.deny_made_policy.proofs.Config.{config_of, config_with, denied_entry, denied_spec, skipped_from}

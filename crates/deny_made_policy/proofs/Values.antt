@@ -2,8 +2,8 @@
 use Rattle.std.specs.Prelude.{◌+◌, ◌∷◌, [], ℕ, List, codes, length}
 use Rattle.deny_base.specs.declared.span.Span.{Span}
 use Rattle.deny_toml.specs.Value.{span_of, value_with}
-use Rattle.deny_toml.specs.declared.value.Content.TheVariants as content
-use Rattle.deny_toml.specs.declared.value.Value.{Value}
+use Rattle.deny_toml.specs.value.Content.TheVariants as content
+use Rattle.deny_toml.specs.value.Value.{Value}
 use Rattle.deny_toml_grammar.specs.declared.parts.Key.{Key}
 use Rattle.deny_toml_grammar.specs.declared.parts.Scalar.TheVariants.{Text}
 use Rattle.deny_toml.proofs.TreeCases.{table_value}

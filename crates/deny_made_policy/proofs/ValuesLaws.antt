@@ -3,8 +3,8 @@ use Rattle.std.proofs.Common.{◌≡◌, ℕ, List, Some, ap, rules}
 use Rattle.deny_base.specs.declared.span.Span.{Span}
 use Rattle.deny_toml.specs.Calls.{array_in, below_name, table_in, text_in, value_at}
 use Rattle.deny_toml.specs.Value.{table_with}
-use Rattle.deny_toml.specs.declared.value.Content.{the_lemmas}
-use Rattle.deny_toml.specs.declared.value.Value.{Value}
+use Rattle.deny_toml.specs.value.Content.{the_lemmas}
+use Rattle.deny_toml.specs.value.Value.{Value}
 use Rattle.deny_toml_grammar.specs.declared.parts.Key.{Key}
 use Rattle.deny_toml.proofs.TreeOrderLaws.{entries_are}
 use Rattle.deny_toml.proofs.TreeCases.{table_value}

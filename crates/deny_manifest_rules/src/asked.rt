@@ -18,11 +18,11 @@ pub fn asked_of(alloc: Global, found: &Matches<'_>) -> Result<List<bool>, NoMemo
         ≡ map (is_asked (policy_view found.now.cfg.now) (facts_of found.now.marks)) found.now.krates.now.crates) }
 {
     are_placed(found.krates);
-    asked_by(alloc, found.krates, &found.marks, &found.groups)
+    asked_by_marks(alloc, found.krates, &found.marks, &found.groups)
 }
 
 /// The same, by marks.
-fn asked_by(
+fn asked_by_marks(
     alloc: Global,
     krates: &Krates,
     marks: &Marks,

@@ -117,13 +117,13 @@ fn put_uses_at<'s, 'k>(
 {
     are_placed(krates);
     match spans.manifest_at(member) {
-        Some(manifest) => put_uses_in(sharing, manifest, rows),
+        Some(manifest) => put_manifest_uses(sharing, manifest, rows),
         None => Ok(()),
     }
 }
 
 /// Puts the declarations of a manifest to the rows.
-fn put_uses_in<'s, 'k>(
+fn put_manifest_uses<'s, 'k>(
     sharing: &WorkspaceDepsConfig,
     manifest: &'s Manifest<'k>,
     rows: &mut Vec<List<Use<'s, 'k>>>,

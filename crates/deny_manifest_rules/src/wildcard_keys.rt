@@ -88,11 +88,11 @@ fn add_at(
     let Some(manifest) = spans.manifest_at(place) else {
         return Ok(());
     };
-    add_in(alloc, cfg, krates, spans, place, krate, manifest, keys)
+    add_minded(alloc, cfg, krates, spans, place, krate, manifest, keys)
 }
 
 /// Adds the keys of what the policy minds in the manifest of the crate at a place.
-fn add_in(
+fn add_minded(
     alloc: Global,
     cfg: &ValidConfig,
     krates: &Krates,

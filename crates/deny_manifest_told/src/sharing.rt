@@ -43,13 +43,13 @@ pub fn workspace_duplicate_told(
         words ≡ workspace_duplicate_told c.policy c.graph c.view key.now) }
 {
     match &told.cfg.workspace_dependencies {
-        Some(shared) => workspace_duplicate_told_by(alloc, told, uses, key, shared),
+        Some(shared) => shared_duplicate_told(alloc, told, uses, key, shared),
         None => Ok(not_built(alloc)),
     }
 }
 
 #[tactic(auto, unfolding(deny_codes::specs::Sharing::workspace_duplicate_told_by))]
-fn workspace_duplicate_told_by(
+fn shared_duplicate_told(
     alloc: Global,
     told: &Told<'_>,
     uses: &Uses<'_, '_>,
@@ -282,13 +282,13 @@ pub fn unused_entry_told(
         words ≡ unused_entry_told c.policy c.view key.now) }
 {
     match &told.cfg.workspace_dependencies {
-        Some(shared) => unused_entry_told_by(alloc, told, unused, key, shared),
+        Some(shared) => shared_unused_told(alloc, told, unused, key, shared),
         None => Ok(not_built(alloc)),
     }
 }
 
 #[tactic(auto, unfolding(deny_codes::specs::Sharing::unused_entry_told_by, deny_codes::specs::Sharing::unused_entry_message))]
-fn unused_entry_told_by(
+fn shared_unused_told(
     alloc: Global,
     told: &Told<'_>,
     unused: &ByRange<'_, UnusedWorkspaceDep>,

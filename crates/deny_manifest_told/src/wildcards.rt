@@ -4,7 +4,7 @@ ghost use Rattle.std.specs.Prelude.{◌≡◌, ◌++◌, [], ℕ, IfOk, OnOk, op
 ghost use Rattle.std.specs.Option.{option_map_or};
 ghost use Rattle.deny_codes.specs.Wildcards.{declared_at, dependency_word, labels_of_wildcard, paths_note};
 ghost use Rattle.deny_codes.specs.Wildcards.{shared_labels, shared_range, unresolved_labels, unresolved_labels_in};
-ghost use Rattle.deny_codes.specs.Wildcards.{unresolved_labels_of};
+ghost use Rattle.deny_codes.specs.Wildcards.{unresolved_labels_of_dep};
 ghost use Rattle.deny_codes.specs.Wildcards.{unresolved_told, version_range, wildcard_labels, wildcard_message};
 ghost use Rattle.deny_codes.specs.Wildcards.{wildcard_labels_in, wildcard_told, workspace_label_at};
 ghost use Rattle.deny_krates.specs.Crates.{crate_view};
@@ -209,16 +209,16 @@ fn unresolved_labels(alloc: Global, told: &Told<'_>, key: &Key) -> Labels
     let Some(manifest) = told.spans.manifest_at(key.place) else {
         return Ok(List::new(alloc));
     };
-    unresolved_labels_in(alloc, manifest, key.entry)
+    unresolved_manifest_labels(alloc, manifest, key.entry)
 }
 
 // At the declaration of a manifest whose key has this range.
 #[tactic(auto, unfolding(deny_codes::specs::Wildcards::unresolved_labels_in))]
-fn unresolved_labels_in(alloc: Global, manifest: &Manifest<'_>, range: Span) -> Labels
+fn unresolved_manifest_labels(alloc: Global, manifest: &Manifest<'_>, range: Span) -> Labels
     ensures { IfOk result (λ labels. labels ≡ unresolved_labels_in range (manifest_view manifest.now)) }
 {
     match declared_at(manifest, range) {
-        Some(dep) => unresolved_labels_of(alloc, manifest.id, dep),
+        Some(dep) => unresolved_labels_of_dep(alloc, manifest.id, dep),
         None => Ok(List::new(alloc)),
     }
 }
@@ -242,9 +242,9 @@ fn is_at(dep: &ManifestDep<'_>, range: Span) -> bool
 }
 
 // At the flag that says that the workspace declares it, and at the value.
-#[tactic(auto, unfolding(deny_codes::specs::Wildcards::unresolved_labels_of))]
-fn unresolved_labels_of(alloc: Global, file: FileId, dep: &ManifestDep<'_>) -> Labels
-    ensures { IfOk result (λ labels. labels ≡ unresolved_labels_of file (dep_view dep.now)) }
+#[tactic(auto, unfolding(deny_codes::specs::Wildcards::unresolved_labels_of_dep))]
+fn unresolved_labels_of_dep(alloc: Global, file: FileId, dep: &ManifestDep<'_>) -> Labels
+    ensures { IfOk result (λ labels. labels ≡ unresolved_labels_of_dep file (dep_view dep.now)) }
 {
     let mut labels = List::new(alloc);
     if let Some(flag) = &dep.workspace {

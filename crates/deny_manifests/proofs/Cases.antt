@@ -4,8 +4,8 @@ use Rattle.deny_base.specs.declared.span.Span.{Span}
 use Rattle.deny_toml.specs.Key.{Key}
 use Rattle.deny_toml.specs.Scalar.TheVariants as scalar
 use Rattle.deny_toml.specs.Value.{span_of, table_with, value_with}
-use Rattle.deny_toml.specs.declared.value.Content.TheVariants as content
-use Rattle.deny_toml.specs.declared.value.Value.{Value}
+use Rattle.deny_toml.specs.value.Content.TheVariants as content
+use Rattle.deny_toml.specs.value.Value.{Value}
 
 -- the range of one byte
 abbrev pub range : ℕ → Span

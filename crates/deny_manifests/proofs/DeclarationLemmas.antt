@@ -10,7 +10,7 @@ use Rattle.semver.specs.Parse.{Held}
 use Rattle.deny_base.specs.declared.span.Spanned.{Spanned}
 use Rattle.deny_toml.specs.Key.{Key}
 use Rattle.deny_toml.specs.Value.{span_in}
-use Rattle.deny_toml.specs.declared.value.Value.{Value}
+use Rattle.deny_toml.specs.value.Value.{Value}
 use Rattle.std.proofs.Math.Seq.{drop-cons}
 use Rattle.std.proofs.lemmas.List.{map-append}
 use Rattle.std.proofs.lemmas.List.Elements.{All-append, All-nil}

@@ -2,7 +2,7 @@
 use Rattle.std.proofs.Common.{◌≡◌, [], ◌∷◌, true, false, None, Some, codes, rules}
 use Rattle.semver.proofs.OnLiterals.{semver_on_literals}
 use Rattle.semver.specs.declared.Op.TheVariants as op
-use Rattle.deny_toml.specs.declared.value.Content.{the_lemmas}
+use Rattle.deny_toml.specs.value.Content.{the_lemmas}
 use Rattle.deny_manifests.proofs.Cases.{array, entry, flag, range, table, text}
 use Rattle.deny_manifests.specs.Found.{rename_of, requirement_in, version_of, versioned, workspace_of}
 

@@ -5,7 +5,7 @@ use Rattle.std.specs.List.{list_any}
 use Rattle.std.specs.Option.{option_map_or}
 use Rattle.deny_manifests.specs.Ignored.{duplicates_in, ignored_at, ignored_in, unnamed_in, words_in}
 use Rattle.deny_model.specs.Graph.{Graph}
-use Rattle.deny_toml.specs.declared.value.Value.{Value}
+use Rattle.deny_toml.specs.value.Value.{Value}
 
 -- what is ignored, by whether the crate is a member and by what is listed
 pub ignored_is : (g : Graph) (place : ℕ) (tree : Value) (b : Bool) (o : Option (List Value))

@@ -5,8 +5,8 @@ use Rattle.deny_base.specs.declared.edge.DepKind.TheVariants.{Build, Dev, Normal
 use Rattle.deny_manifests.proofs.Cases.{array, flag}
 use Rattle.deny_manifests.specs.Ignored.{ignored_at, ignored_in, is_among, unnamed_in, words_in}
 use Rattle.deny_model.specs.Graph.{Graph}
-use Rattle.deny_toml.specs.declared.value.Content.{the_lemmas}
-use Rattle.deny_toml.specs.declared.value.Value.{Value}
+use Rattle.deny_toml.specs.value.Content.{the_lemmas}
+use Rattle.deny_toml.specs.value.Value.{Value}
 
 -- all kinds but those that are listed
 all_but_normal : unnamed_in (codes "" ∷ []) ≡ Dev ∷ Build ∷ []

@@ -39,7 +39,7 @@ use Rattle.deny_manifests.specs.private.Targets.{NumbersTargets, number_of}
 use Rattle.deny_model.specs.Graph.{Dependency}
 use Rattle.deny_model.specs.Text.{same_text}
 use Rattle.deny_toml.specs.Key.{Key}
-use Rattle.deny_toml.specs.declared.value.Value.{Value}
+use Rattle.deny_toml.specs.value.Value.{Value}
 
 -- ---- entries that are added
 

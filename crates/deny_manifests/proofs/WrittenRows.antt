@@ -14,8 +14,8 @@ use Rattle.deny_model.specs.Resolution.{agreeing, resolution, suits}
 use Rattle.deny_model.specs.Text.{same_text}
 use Rattle.deny_model.specs.declared.target_edge.TargetEdge.{TargetEdge}
 use Rattle.deny_toml.specs.Key.{Key}
-use Rattle.deny_toml.specs.declared.value.Content.{the_lemmas}
-use Rattle.deny_toml.specs.declared.value.Value.{Value}
+use Rattle.deny_toml.specs.value.Content.{the_lemmas}
+use Rattle.deny_toml.specs.value.Value.{Value}
 
 entries_of-table : (at : ℕ) (entries : List (Key × Value)) → entries_of (table at entries) ≡ entries
 unfolding entries_of

@@ -11,7 +11,7 @@ use Rattle.deny_model.specs.Resolution.{resolution}
 use Rattle.deny_model.specs.View.{Declared}
 use Rattle.deny_toml.specs.Key.{Key}
 use Rattle.deny_toml.specs.Value.{span_in}
-use Rattle.deny_toml.specs.declared.value.Value.{Value}
+use Rattle.deny_toml.specs.value.Value.{Value}
 
 abbrev pub declared_by : ℕ → Dependency → ℕ → Key × Value → Declared
 declared_by index d child entry = record {

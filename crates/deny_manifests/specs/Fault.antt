@@ -5,7 +5,7 @@ use Rattle.deny_manifests.specs.declared.fault.ManifestFault.TheVariants as mani
 use Rattle.deny_toml.specs.Parser.{IsTreeOf}
 use Rattle.deny_toml.specs.declared.error.TomlError.{TomlError}
 use Rattle.deny_toml.specs.declared.error.TomlError.TheVariants as toml
-use Rattle.deny_toml.specs.declared.value.Value.{Value}
+use Rattle.deny_toml.specs.value.Value.{Value}
 
 abbrev pub fault_of : TomlError → ManifestFault
 fault_of (toml.Fault kind span) = manifest.Toml

@@ -7,7 +7,7 @@ use Rattle.semver.specs.declared.VersionReq.{VersionReq}
 use Rattle.deny_base.specs.declared.span.Spanned.{Spanned}
 use Rattle.deny_toml.specs.Calls.{below_name, bool_in, text_in}
 use Rattle.deny_toml.specs.Value.{span_in}
-use Rattle.deny_toml.specs.declared.value.Value.{Value}
+use Rattle.deny_toml.specs.value.Value.{Value}
 
 -- what a reader finds in a value, with the value's range
 abbrev pub spanned_in : {A : Type 0} → (Value → Option A) → Value → Option (Spanned A)

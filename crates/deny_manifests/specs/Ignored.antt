@@ -10,7 +10,7 @@ use Rattle.deny_manifests.specs.Written.{kinds}
 use Rattle.deny_model.specs.Graph.{Graph}
 use Rattle.deny_model.specs.Text.{same_text}
 use Rattle.deny_toml.specs.Calls.{array_in, text_in, value_at_path}
-use Rattle.deny_toml.specs.declared.value.Value.{Value}
+use Rattle.deny_toml.specs.value.Value.{Value}
 
 -- the word that a manifest lists for a kind
 abbrev pub kind_word : DepKind → List ℕ

@@ -14,7 +14,7 @@ use Rattle.deny_manifests.specs.declared.manifest.ManifestDeps.{ManifestDeps}
 use Rattle.deny_model.specs.Graph.{Crate, Graph}
 use Rattle.deny_model.specs.View.{Declared}
 use Rattle.deny_toml.specs.Parser.{IsTreeOf}
-use Rattle.deny_toml.specs.declared.value.Value.{Value}
+use Rattle.deny_toml.specs.value.Value.{Value}
 
 -- a declaration as plain data
 abbrev pub dep_view : ManifestDep → Declared

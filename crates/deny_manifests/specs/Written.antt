@@ -10,7 +10,7 @@ use Rattle.deny_model.specs.Graph.{Dependency}
 use Rattle.deny_model.specs.Text.{same_text}
 use Rattle.deny_toml.specs.Calls.{entry_at, table_in}
 use Rattle.deny_toml.specs.Value.{entries_in}
-use Rattle.deny_toml.specs.declared.value.Value.{Value}
+use Rattle.deny_toml.specs.value.Value.{Value}
 use Rattle.deny_toml.specs.Key.{Key}
 
 -- the entries of a value, of which only a table has any, in byte order of their keys

@@ -8,7 +8,7 @@ ghost use Rattle.deny_manifests.specs.Declarations.{declared_at, declared_in};
 ghost use Rattle.deny_manifests.specs.Manifest.{IsOfGraph, dep_view};
 ghost use Rattle.deny_model.specs.Resolution.{declaration_at};
 ghost use Rattle.deny_manifests.specs.private.Sections.{IsIndexOf};
-ghost use Rattle.deny_toml.specs.declared.value.Value.{Value};
+ghost use Rattle.deny_toml.specs.value.Value.{Value};
 
 use crate::found::{rename_of, version_of, workspace_of};
 use crate::sections::Sections;

@@ -85,7 +85,7 @@ fn manifest_by<'k>(
     let Some(place) = place_of(krates, krate) else {
         return Err(ManifestFault::NoNode);
     };
-    Ok(manifest_of(alloc, krates, place, krate, tree)?)
+    Ok(manifest_at_place(alloc, krates, place, krate, tree)?)
 }
 
 /// The place of a crate, where it is in the graph.
@@ -102,7 +102,7 @@ fn place_of(krates: &Krates, krate: &Krate) -> Option<u32>
 }
 
 /// The manifest of the crate at a place, by the tree of its text.
-fn manifest_of<'k>(
+fn manifest_at_place<'k>(
     alloc: Global,
     krates: &'k Krates,
     place: u32,

@@ -7,7 +7,7 @@ ghost use Rattle.deny_manifests.specs.Written.{entries_at, found_in, key_name, s
 ghost use Rattle.deny_manifests.specs.private.Sections.{FindsKeyed, IsIndexOf, KeyedEntry, kind_keyed};
 ghost use Rattle.deny_manifests.specs.private.Sections.{keyed_at, sections_keyed, targets_keyed};
 ghost use Rattle.deny_manifests.specs.private.Targets.{NumbersTargets, number_of};
-ghost use Rattle.deny_toml.specs.declared.value.Value.{Value};
+ghost use Rattle.deny_toml.specs.value.Value.{Value};
 
 use crate::firsts::Firsts;
 use crate::found::below;

@@ -7,7 +7,7 @@ use Rattle.serde_json.specs.Data.{Data}
 use Rattle.deny_metadata.specs.private.Borrowed.{view, items_view}
 use Rattle.json.specs.declared.value.Value.{Value}
 use Rattle.deny_metadata.specs.Elements.{elements_from, part_of}
-use Rattle.deny_metadata.specs.Reading.{◌>>=◌}
+use Rattle.deny_lists.specs.Reader.{◌>>=◌}
 use Rattle.deny_metadata.specs.declared.fault.MetadataFault.{MetadataFault}
 
 pub next_element : {A B : Type 0} (read : List ℕ → Data → Result A MetadataFault) (path : List ℕ)

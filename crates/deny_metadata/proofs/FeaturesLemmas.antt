@@ -13,7 +13,7 @@ use Rattle.json.specs.declared.value.Value.{Value}
 use Rattle.serde_json.specs.Data.{Members, no_members, put}
 use Rattle.deny_metadata.specs.Document.{feature_at, features_from}
 use Rattle.deny_metadata.specs.private.Borrowed.{members_after, sorted_view, view}
-use Rattle.deny_metadata.specs.Reading.{◌>>=◌}
+use Rattle.deny_lists.specs.Reader.{◌>>=◌}
 
 -- a member that was sorted
 abbrev pub Sorted : Type 0 → Type 0

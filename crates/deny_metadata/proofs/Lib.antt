@@ -4,6 +4,5 @@ pub mod FeaturesLemmas
 pub mod PartsLemmas
 pub mod PrunedLemmas
 pub mod ReadBackLemmas
-pub mod ReadingLemmas
 pub mod WantedLemmas
 pub mod WholeLemmas

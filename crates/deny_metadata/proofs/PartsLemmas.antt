@@ -5,8 +5,8 @@ use Rattle.deny_base.specs.declared.edge.DepKind.{DepKind}
 use Rattle.deny_metadata.specs.Document.{declaration_at, features_member, kind_member, package_at, target_at}
 use Rattle.deny_metadata.specs.Elements.{each_optional, flag_member, object_at, optional_text, optional_texts, text_at}
 use Rattle.deny_metadata.specs.Elements.{text_member}
-use Rattle.deny_metadata.specs.Reading.{◌>>=◌, Fails}
-use Rattle.deny_metadata.proofs.ReadingLemmas.{fails_through}
+use Rattle.deny_lists.specs.Reader.{◌>>=◌, Fails, IsFault}
+use Rattle.deny_lists.proofs.ReaderLemmas.{fails_through}
 use Rattle.deny_metadata.specs.declared.document.Contents.{Contents}
 use Rattle.deny_metadata.specs.declared.document.Declaration.{Declaration}
 use Rattle.deny_metadata.specs.declared.document.Feature.{Feature}
@@ -17,6 +17,7 @@ use Rattle.deny_metadata.specs.declared.document.Target.{Target}
 use Rattle.deny_metadata.specs.declared.document.Terms.{Terms}
 use Rattle.deny_metadata.specs.declared.document.Usage.{Usage}
 use Rattle.deny_metadata.specs.declared.fault.MetadataFault.{MetadataFault}
+use Rattle.deny_metadata.specs.declared.fault.MetadataFault.TheVariants.{Memory}
 use Rattle.deny_metadata.specs.declared.member.Member.TheVariants.{Name, Version, Id, ManifestPath, Source, License}
 use Rattle.deny_metadata.specs.declared.member.Member.TheVariants.{RustVersion, Publish, Targets, Dependencies}
 use Rattle.deny_metadata.specs.declared.member.Member.TheVariants.{Req, Rename, Target as ForTarget, Path, Features}
@@ -32,9 +33,9 @@ steps_on whole first then x is reads = is ∙ ap (λ r. r >>= then) reads
 -- a fault of its first step is one of the whole
 pub fails_first : {A B : Type 0} (whole : Result B MetadataFault) (first : Result A MetadataFault)
     (then : A → Result B MetadataFault) (e : MetadataFault)
-    → whole ≡ first >>= then → Fails e first → Fails e whole
+    → whole ≡ first >>= then → Fails Memory (IsFault first) e → Fails Memory (IsFault whole) e
 fails_first whole first then e is fails =
-    fails_through e first whole (λ f fault. is ∙ ap (λ r. r >>= then) fault) fails
+    fails_through Memory e first whole (λ f fault. is ∙ ap (λ r. r >>= then) fault) fails
 
 -- three steps whose values are then joined
 three_steps : {A B C P R : Type 0} (a : Result A MetadataFault) (b : Result B MetadataFault)

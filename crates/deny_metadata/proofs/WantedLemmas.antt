@@ -18,7 +18,7 @@ use Rattle.deny_metadata.specs.Elements.{flag_member, given, object_at, object_i
 use Rattle.deny_metadata.specs.Elements.{optional_text, optional_text_of, optional_texts, part_of, path_to, required}
 use Rattle.deny_metadata.specs.Elements.{text_at, text_member, texts_given}
 use Rattle.deny_metadata.specs.Member.{name_of}
-use Rattle.deny_metadata.specs.Reading.{◌>>=◌}
+use Rattle.deny_lists.specs.Reader.{◌>>=◌}
 use Rattle.deny_metadata.specs.declared.document.Document.{Document}
 use Rattle.deny_metadata.specs.declared.fault.MetadataFault.{MetadataFault}
 use Rattle.deny_metadata.specs.declared.member.Member.TheVariants as named

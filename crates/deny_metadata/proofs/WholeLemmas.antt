@@ -1,6 +1,6 @@
 -- When the data of JSON is what it reads as: always where it reads, and where its numbers are whole.
 use Rattle.std.proofs.Common.{◌≡◌, ◌∙◌, ◌&&◌, ℕ, List, Bool, true, false, Option, Some, None, Ok, Err, refl}
-use Rattle.std.proofs.Common.{refl, sym, ap, subst, inl, inr, ◌⊎◌, true≢false, option_map, option_and_then}
+use Rattle.std.proofs.Common.{refl, sym, ap, subst, true≢false, option_map, option_and_then}
 use Rattle.std.proofs.Common.{Ordering, Less, Equal, Greater}
 use Rattle.std.specs.Prelude.{◌||◌, ⊤, if◌then◌else◌, unwrap_or}
 use Rattle.std.specs.Ordering.{match_ordering, nat_cmp}
@@ -15,10 +15,11 @@ use Rattle.serde_json.specs.Written.{has_float, items_have_float, members_have_f
 use Rattle.deny_metadata.specs.Document.{document_at, json_at, json_of, value_at, whole}
 use Rattle.deny_metadata.specs.private.Borrowed.{are_items_whole, are_members_whole, data_of, is_number_whole}
 use Rattle.deny_metadata.specs.private.Borrowed.{is_whole, items_of, members_after, parsed}
-use Rattle.deny_metadata.specs.Reading.{Fails}
+use Rattle.deny_lists.specs.Reader.{Fails, IsFault}
 use Rattle.deny_metadata.specs.declared.fault.MetadataFault.{MetadataFault}
 use Rattle.deny_metadata.specs.declared.fault.MetadataFault.TheVariants.{Json as NoJson, Float, Memory}
-use Rattle.deny_metadata.proofs.ReadingLemmas.{bound, ok_is, err-ok}
+use Rattle.deny_lists.proofs.ReaderLemmas.{bound, fails_weaker}
+use Rattle.deny_lists.proofs.Results.{err_is_no_ok, ok_inj}
 
 -- what is read is this, if anything
 abbrev Is : {A : Type 0} → Option A → A → Type 0
@@ -153,8 +154,8 @@ value_whole bytes j utf8 is e =
     rw (utf8, reads, stands.1) refl
 
 whole_by : (b : Bool) (d x : Data) → (if b then Err Float else Ok x) ≡ Ok d → x ≡ d
-whole_by true d x e = absurd (err-ok Float d e)
-whole_by false d x e = ok_is x d e
+whole_by true d x e = err_is_no_ok e
+whole_by false d x e = ok_inj e
 
 whole_is : (d x : Data) → whole x ≡ Ok d → x ≡ d
 unfolding whole
@@ -162,12 +163,12 @@ whole_is d x e = whole_by (has_float x) d x e
 
 json_by : (o : Option Data) (x : Data) → json_of o ≡ Ok x → o ≡ Some x
 unfolding json_of
-json_by None x e = absurd (err-ok NoJson x e)
-json_by (Some y) x e = ap (λ z. Some z) (ok_is y x e)
+json_by None x e = err_is_no_ok e
+json_by (Some y) x e = ap (λ z. Some z) (ok_inj e)
 
 json_if : (b : Bool) (o : Option Data) (x : Data) → (if b then json_of o else Err NoJson) ≡ Ok x → o ≡ Some x
 json_if true o x e = json_by o x e
-json_if false o x e = absurd (err-ok NoJson x e)
+json_if false o x e = err_is_no_ok e
 
 json_is : (bytes : List ℕ) (x : Data) → json_at bytes ≡ Ok x → read bytes ≡ Some x
 unfolding json_at
@@ -193,10 +194,10 @@ no_json bytes utf8 none =
 
 -- what does not parse
 pub parse_fails : (bytes : List ℕ) (e : MetadataFault) → is_utf8 bytes ≡ true
-    → (e ≡ Memory) ⊎ ((e ≡ NoJson) × (parsed bytes ≡ None)) → Fails e (value_at bytes)
-parse_fails bytes e utf8 (inl memory) = subst (λ (f : MetadataFault). Fails f (value_at bytes)) (sym memory) tt
-parse_fails bytes e utf8 (inr (is, none)) =
-    subst (λ (f : MetadataFault). Fails f (value_at bytes)) (sym is) (no_json bytes utf8 none)
+    → Fails Memory (λ f. (f ≡ NoJson) × (parsed bytes ≡ None)) e → Fails Memory (IsFault (value_at bytes)) e
+parse_fails bytes e utf8 =
+    fails_weaker Memory (λ f. (f ≡ NoJson) × (parsed bytes ≡ None)) (IsFault (value_at bytes)) e
+    (λ f fault. subst (IsFault (value_at bytes)) (sym fault.0) (no_json bytes utf8 fault.1))
 
 pub no_text : (bytes : List ℕ) → is_utf8 bytes ≡ false → document_at bytes ≡ Err NoJson
 unfolding document_at value_at json_at

@@ -14,7 +14,7 @@ use Rattle.deny_metadata.specs.Elements.{part_of, path_to, required, given, obje
 use Rattle.deny_metadata.specs.Elements.{optional_text, optional_texts, flag_member, array_member, object_member}
 use Rattle.deny_metadata.specs.Elements.{elements_from, each_member, each_optional}
 use Rattle.deny_metadata.specs.Member.{name_of}
-use Rattle.deny_metadata.specs.Reading.{◌>>=◌}
+use Rattle.deny_lists.specs.Reader.{◌>>=◌}
 use Rattle.deny_metadata.specs.declared.document.Declaration.{Declaration}
 use Rattle.deny_metadata.specs.declared.document.Document.{Document}
 use Rattle.deny_metadata.specs.declared.document.Feature.{Feature}

@@ -6,7 +6,7 @@ use Rattle.std.specs.Fmt.{decimal}
 use Rattle.serde_json.specs.Data.{Data, Items, no_items, item}
 use Rattle.serde_json.specs.Find.{get, as_null, as_bool, as_str, as_array, as_object}
 use Rattle.deny_metadata.specs.Member.{name_of}
-use Rattle.deny_metadata.specs.Reading.{◌>>=◌}
+use Rattle.deny_lists.specs.Reader.{◌>>=◌}
 use Rattle.deny_metadata.specs.declared.fault.MetadataFault.{MetadataFault}
 use Rattle.deny_metadata.specs.declared.fault.MetadataFault.TheVariants.{Shape}
 use Rattle.deny_metadata.specs.declared.member.Member.{Member}

@@ -1,19 +1,19 @@
-ghost use Rattle.std.specs.Prelude.{◌≡◌, ◌++◌, [], ◌∷◌, IfOk, MatchResult, Ok, true};
+ghost use Rattle.std.specs.Prelude.{◌≡◌, ◌++◌, [], ◌∷◌, IfOk, Ok, true};
 ghost use Rattle.std.specs.Str.{is_utf8};
+ghost use Rattle.deny_lists.specs.Reader.{Answers, Gives, IsFault};
 ghost use Rattle.deny_metadata.specs.private.Borrowed.{items_view, members_view, sorted_view, view};
-ghost use Rattle.deny_metadata.specs.private.Parts.{contents_at, document_of_packages, document_with, identity_at};
+ghost use Rattle.deny_metadata.specs.private.Parts.{contents_at, document_of_packages, document_of_workspace, identity_at};
 ghost use Rattle.deny_metadata.specs.private.Parts.{requested_at, terms_at, usage_at};
 ghost use Rattle.deny_metadata.specs.Document.{document_at, target_at, declaration_at, feature_at, features_from};
 ghost use Rattle.deny_metadata.specs.Document.{features_member, package_at, kind_named, kind_member, needed_as_at};
 ghost use Rattle.deny_metadata.specs.Document.{kinds_of, node_dependency_at, node_at, resolve_given, document_of};
-ghost use Rattle.deny_metadata.specs.Reading.{Fails, Gives};
 ghost use Rattle.deny_metadata.specs.declared.document.Feature.{Feature};
 
 use crate::borrowed::{items_in, members_in, text_in};
 use crate::elements::{
-    Element, array_in, each_given, each_of, each_text_given, each_text_of, elements, flag_in,
-    given_member, object, object_in, optional_text_in, optional_texts_in, path_of, refuse_member,
-    text_of, texts,
+    Element, array_in, each_given, each_of, each_text_given, elements, flag_or_default,
+    given_member, object, optional_text_in, optional_texts_in, path_of, refuse_member,
+    required_object, required_text, required_texts, texts,
 };
 use crate::fault::MetadataFault;
 use crate::member::Member;
@@ -44,8 +44,8 @@ impl Element for Target {
     #[tactic(auto, unfolding(crate::specs::Document::target_at))]
     fn from_value(alloc: Global, path: &str, value: &Value<'_>) -> Result<Target, MetadataFault> {
         object(alloc, path, value)?;
-        let kind = each_text_of(alloc, path, value, Member::Kind)?;
-        let src_path = text_of(alloc, path, value, Member::SrcPath)?;
+        let kind = required_texts(alloc, path, value, Member::Kind)?;
+        let src_path = required_text(alloc, path, value, Member::SrcPath)?;
         Ok(Target { kind, src_path })
     }
 }
@@ -98,12 +98,12 @@ struct Requested {
 // What the dependency that a value declares is.
 #[tactic(auto, unfolding(crate::specs::private::Parts::requested_at))]
 fn requested_in(alloc: Global, path: &str, value: &Value<'_>) -> Result<Requested, MetadataFault>
-    ensures { Gives result (requested_at path.now (view value.now)) }
+    ensures { Answers MetadataFault.Memory (requested_at path.now (view value.now)) result }
 {
     object(alloc, path, value)?;
-    let name = text_of(alloc, path, value, Member::Name)?;
-    let req = text_of(alloc, path, value, Member::Req)?;
-    let kind = kind_in(alloc, path, value)?;
+    let name = required_text(alloc, path, value, Member::Name)?;
+    let req = required_text(alloc, path, value, Member::Req)?;
+    let kind = dependency_kind(alloc, path, value)?;
     let rename = optional_text_in(alloc, path, value, Member::Rename)?;
     Ok(Requested {
         name,
@@ -125,12 +125,18 @@ struct Usage {
 // How the dependency that a value declares is used.
 #[tactic(auto, unfolding(crate::specs::private::Parts::usage_at))]
 fn usage_in(alloc: Global, path: &str, value: &Value<'_>) -> Result<Usage, MetadataFault>
-    ensures { Gives result (usage_at path.now (view value.now)) }
+    ensures { Answers MetadataFault.Memory (usage_at path.now (view value.now)) result }
 {
     let target = optional_text_in(alloc, path, value, Member::Target)?;
     let folder = optional_text_in(alloc, path, value, Member::Path)?;
     let features = each_text_given(alloc, path, value, Member::Features)?;
-    let uses_default_features = flag_in(alloc, path, value, Member::UsesDefaultFeatures, true)?;
+    let uses_default_features = flag_or_default(
+        alloc,
+        path,
+        value,
+        Member::UsesDefaultFeatures,
+        true,
+    )?;
     Ok(Usage {
         target,
         path: folder,
@@ -191,13 +197,13 @@ struct Identity {
 // The identity of the package that a value is.
 #[tactic(auto, unfolding(crate::specs::private::Parts::identity_at))]
 fn identity_in(alloc: Global, path: &str, value: &Value<'_>) -> Result<Identity, MetadataFault>
-    ensures { Gives result (identity_at path.now (view value.now)) }
+    ensures { Answers MetadataFault.Memory (identity_at path.now (view value.now)) result }
 {
     object(alloc, path, value)?;
-    let name = text_of(alloc, path, value, Member::Name)?;
-    let version = text_of(alloc, path, value, Member::Version)?;
-    let id = text_of(alloc, path, value, Member::Id)?;
-    let manifest_path = text_of(alloc, path, value, Member::ManifestPath)?;
+    let name = required_text(alloc, path, value, Member::Name)?;
+    let version = required_text(alloc, path, value, Member::Version)?;
+    let id = required_text(alloc, path, value, Member::Id)?;
+    let manifest_path = required_text(alloc, path, value, Member::ManifestPath)?;
     Ok(Identity {
         name,
         version,
@@ -218,7 +224,7 @@ struct Terms {
 // The terms of the package that a value is.
 #[tactic(auto, unfolding(crate::specs::private::Parts::terms_at))]
 fn terms_in(alloc: Global, path: &str, value: &Value<'_>) -> Result<Terms, MetadataFault>
-    ensures { Gives result (terms_at path.now (view value.now)) }
+    ensures { Answers MetadataFault.Memory (terms_at path.now (view value.now)) result }
 {
     let source = optional_text_in(alloc, path, value, Member::Source)?;
     let license = optional_text_in(alloc, path, value, Member::License)?;
@@ -243,9 +249,9 @@ struct Contents {
 // What the package that a value is is made of.
 #[tactic(auto, unfolding(crate::specs::private::Parts::contents_at))]
 fn contents_in(alloc: Global, path: &str, value: &Value<'_>) -> Result<Contents, MetadataFault>
-    ensures { Gives result (contents_at path.now (view value.now)) }
+    ensures { Answers MetadataFault.Memory (contents_at path.now (view value.now)) result }
 {
-    let features = features_in(alloc, path, value)?;
+    let features = package_features(alloc, path, value)?;
     let targets = each_given(alloc, path, value, Member::Targets)?;
     let dependencies = each_given(alloc, path, value, Member::Dependencies)?;
     Ok(Contents {
@@ -257,8 +263,12 @@ fn contents_in(alloc: Global, path: &str, value: &Value<'_>) -> Result<Contents,
 
 // The features of a package that may write none.
 #[tactic(auto, unfolding(crate::specs::Document::features_member, crate::specs::Document::features_given, crate::specs::Document::features_at, crate::specs::Elements::required))]
-fn features_in(alloc: Global, path: &str, value: &Value<'_>) -> Result<List<Feature>, MetadataFault>
-    ensures { Gives result (features_member path.now (view value.now)) }
+fn package_features(
+    alloc: Global,
+    path: &str,
+    value: &Value<'_>,
+) -> Result<List<Feature>, MetadataFault>
+    ensures { Answers MetadataFault.Memory (features_member path.now (view value.now)) result }
 {
     match given_member(value, Member::Features) {
         None => Ok(List::new(alloc)),
@@ -266,22 +276,22 @@ fn features_in(alloc: Global, path: &str, value: &Value<'_>) -> Result<List<Feat
             None => refuse_member(alloc, path, Member::Features),
             Some(members) => {
                 let at = path_of(alloc, path, Member::Features.name())?;
-                features_of(alloc, at.as_str(), members)
+                member_features(alloc, at.as_str(), members)
             }
         },
     }
 }
 
 // The features that the members of an object are.
-fn features_of<'t>(
+fn member_features<'t>(
     alloc: Global,
     path: &str,
     members: &[(&'t str, Value<'t>)],
 ) -> Result<List<Feature>, MetadataFault>
-    ensures { Gives result (features_from path.now (members_view members.now)) }
+    ensures { Answers MetadataFault.Memory (features_from path.now (members_view members.now)) result }
 {
     let sorted = by_name(alloc, members)?;
-    features_by(alloc, path, &sorted)
+    sorted_features(alloc, path, &sorted)
 }
 
 // The members of an object by their names, and of a name the last.
@@ -299,12 +309,12 @@ fn by_name<'v, 't>(
 }
 
 // The features that members by their names are.
-fn features_by<'v, 't>(
+fn sorted_features<'v, 't>(
     alloc: Global,
     path: &str,
     sorted: &BTreeMap<&'t str, &'v Value<'t>>,
 ) -> Result<List<Feature>, MetadataFault>
-    ensures { Gives result (features_from path.now (sorted_view sorted.now.entries)) }
+    ensures { Answers MetadataFault.Memory (features_from path.now (sorted_view sorted.now.entries)) result }
 {
     let mut features = List::new(alloc);
     for (name, value) in sorted.iter() {
@@ -321,10 +331,10 @@ fn push_feature(
     value: &Value<'_>,
     features: &mut List<Feature>,
 ) -> Result<(), MetadataFault>
-    ensures { MatchResult result
+    ensures { Gives MetadataFault.Memory
         (λ _. (f : Feature) × (feature_at path.now name.now (view value.now) ≡ Ok f)
         × (features.new ≡ features.old ++ f ∷ []))
-        (λ e. Fails e (feature_at path.now name.now (view value.now))) }
+        (IsFault (feature_at path.now name.now (view value.now))) result }
 {
     features.push(feature_of(alloc, path, name, value)?)?;
     Ok(())
@@ -338,7 +348,7 @@ fn feature_of(
     name: &str,
     value: &Value<'_>,
 ) -> Result<Feature, MetadataFault>
-    ensures { Gives result (feature_at path.now name.now (view value.now)) }
+    ensures { Answers MetadataFault.Memory (feature_at path.now name.now (view value.now)) result }
 {
     let enables = texts(alloc, path, name, value)?;
     let name = Text::from_str(alloc, name)?;
@@ -347,7 +357,7 @@ fn feature_of(
 
 // A kind by its name.
 #[tactic(auto, unfolding(crate::specs::Document::kind_named))]
-fn kind_of(name: &str) -> Option<DepKind>
+fn kind_by_name(name: &str) -> Option<DepKind>
     ensures { result ≡ kind_named name.now }
 {
     if name == "normal" {
@@ -363,12 +373,16 @@ fn kind_of(name: &str) -> Option<DepKind>
 
 // The kind of a dependency, normal where it writes none.
 #[tactic(auto, unfolding(crate::specs::Document::kind_member, crate::specs::Document::kind_given, crate::specs::Elements::required))]
-fn kind_in(alloc: Global, path: &str, dependency: &Value<'_>) -> Result<DepKind, MetadataFault>
-    ensures { Gives result (kind_member path.now (view dependency.now)) }
+fn dependency_kind(
+    alloc: Global,
+    path: &str,
+    dependency: &Value<'_>,
+) -> Result<DepKind, MetadataFault>
+    ensures { Answers MetadataFault.Memory (kind_member path.now (view dependency.now)) result }
 {
     match given_member(dependency, Member::Kind) {
         None => Ok(DepKind::Normal),
-        Some(value) => match text_in(value).and_then(kind_of) {
+        Some(value) => match text_in(value).and_then(kind_by_name) {
             Some(kind) => Ok(kind),
             None => refuse_member(alloc, path, Member::Kind),
         },
@@ -388,7 +402,7 @@ impl Element for NeededAs {
     #[tactic(auto, unfolding(crate::specs::Document::needed_as_at))]
     fn from_value(alloc: Global, path: &str, value: &Value<'_>) -> Result<NeededAs, MetadataFault> {
         object(alloc, path, value)?;
-        let kind = kind_in(alloc, path, value)?;
+        let kind = dependency_kind(alloc, path, value)?;
         let target = optional_text_in(alloc, path, value, Member::Target)?;
         Ok(NeededAs { kind, target })
     }
@@ -412,7 +426,7 @@ impl Element for NodeDependency {
         value: &Value<'_>,
     ) -> Result<NodeDependency, MetadataFault> {
         object(alloc, path, value)?;
-        let pkg = text_of(alloc, path, value, Member::Pkg)?;
+        let pkg = required_text(alloc, path, value, Member::Pkg)?;
         let written = each_given(alloc, path, value, Member::DepKinds)?;
         let kinds = kinds_in(written)?;
         Ok(NodeDependency { pkg, kinds })
@@ -447,7 +461,7 @@ impl Element for Node {
     #[tactic(auto, unfolding(crate::specs::Document::node_at))]
     fn from_value(alloc: Global, path: &str, value: &Value<'_>) -> Result<Node, MetadataFault> {
         object(alloc, path, value)?;
-        let id = text_of(alloc, path, value, Member::Id)?;
+        let id = required_text(alloc, path, value, Member::Id)?;
         let features = each_text_given(alloc, path, value, Member::Features)?;
         let deps = each_given(alloc, path, value, Member::Deps)?;
         Ok(Node { id, features, deps })
@@ -465,7 +479,7 @@ pub struct Document {
 
 #[tactic(auto, unfolding(crate::specs::Document::resolve_given))]
 fn resolve_stands(root: &Value<'_>) -> Result<(), MetadataFault>
-    ensures { Gives result (resolve_given (view root.now)) }
+    ensures { Answers MetadataFault.Memory (resolve_given (view root.now)) result }
 {
     if given_member(root, Member::Resolve).is_none() {
         return Err(MetadataFault::NoResolve);
@@ -474,9 +488,9 @@ fn resolve_stands(root: &Value<'_>) -> Result<(), MetadataFault>
 }
 
 // The metadata that a value is, or its first fault.
-#[tactic(auto, unfolding(crate::specs::Document::document_of, crate::specs::private::Parts::document_of_packages, crate::specs::private::Parts::document_with, crate::specs::Elements::array_member, crate::specs::Elements::required))]
-fn document_in(alloc: Global, root: &Value<'_>) -> Result<Document, MetadataFault>
-    ensures { Gives result (document_of (view root.now)) }
+#[tactic(auto, unfolding(crate::specs::Document::document_of, crate::specs::private::Parts::document_of_packages, crate::specs::private::Parts::document_of_workspace, crate::specs::Elements::array_member, crate::specs::Elements::required))]
+fn document_of_root(alloc: Global, root: &Value<'_>) -> Result<Document, MetadataFault>
+    ensures { Answers MetadataFault.Memory (document_of (view root.now)) result }
 {
     object(alloc, "", root)?;
     resolve_stands(root)?;
@@ -493,27 +507,28 @@ fn document_of_packages(
     root: &Value<'_>,
     packages: &[Value<'_>],
 ) -> Result<Document, MetadataFault>
-    ensures { Gives result (document_of_packages (view root.now) (items_view packages.now)) }
+    ensures { Answers MetadataFault.Memory (document_of_packages (view root.now) (items_view packages.now)) result }
 {
-    let members = each_text_of(alloc, "", root, Member::WorkspaceMembers)?;
-    let workspace_root = text_of(alloc, "", root, Member::WorkspaceRoot)?;
-    match object_in(root, Member::Resolve) {
-        Some(resolve) => document_with(alloc, members, workspace_root, packages, resolve),
+    let members = required_texts(alloc, "", root, Member::WorkspaceMembers)?;
+    let workspace_root = required_text(alloc, "", root, Member::WorkspaceRoot)?;
+    match required_object(root, Member::Resolve) {
+        Some(resolve) => document_of_workspace(alloc, members, workspace_root, packages, resolve),
         None => refuse_member(alloc, "", Member::Resolve),
     }
 }
 
 // The metadata of a workspace with these members and this folder, whose packages are the elements of an
 // array, and whose nodes are those of an object.
-#[tactic(auto, unfolding(crate::specs::private::Parts::document_with, crate::specs::Elements::part_of))]
-fn document_with(
+#[tactic(auto, unfolding(crate::specs::private::Parts::document_of_workspace, crate::specs::Elements::part_of))]
+fn document_of_workspace(
     alloc: Global,
     members: List<Text>,
     workspace_root: Text,
     packages: &[Value<'_>],
     resolve: &Value<'_>,
 ) -> Result<Document, MetadataFault>
-    ensures { Gives result (document_with members workspace_root (items_view packages.now) (view resolve.now)) }
+    ensures { Answers MetadataFault.Memory
+        (document_of_workspace members workspace_root (items_view packages.now) (view resolve.now)) result }
 {
     let packages = elements(alloc, Member::Packages.name(), packages)?;
     let nodes = each_of(alloc, Member::Resolve.name(), resolve, Member::Nodes)?;
@@ -527,7 +542,7 @@ fn document_with(
 
 /// The metadata that a text in UTF-8 is, or its first fault.
 pub fn document_at(alloc: Global, bytes: &[u8]) -> Result<Document, MetadataFault>
-    ensures { Gives result (document_at bytes.now) }
+    ensures { Answers MetadataFault.Memory (document_at bytes.now) result }
 {
     match simdutf8::compat::from_utf8(bytes) {
         Ok(text) => document_of_text(alloc, bytes, text),
@@ -540,11 +555,11 @@ pub fn document_at(alloc: Global, bytes: &[u8]) -> Result<Document, MetadataFaul
 fn document_of_text(alloc: Global, bytes: &[u8], text: &str) -> Result<Document, MetadataFault>
     requires text { is_utf8 bytes.now ≡ true }
     requires same { text.now ≡ bytes.now }
-    ensures { Gives result (document_at bytes.now) }
+    ensures { Answers MetadataFault.Memory (document_at bytes.now) result }
 {
     let mut scratch = Scratch::new(alloc);
     match pruned_in(alloc, text, &mut scratch) {
-        Some(value) => document_in(alloc, &value),
+        Some(value) => document_of_root(alloc, &value),
         None => document_of_all(alloc, bytes, text),
     }
 }
@@ -554,9 +569,9 @@ fn document_of_text(alloc: Global, bytes: &[u8], text: &str) -> Result<Document,
 fn document_of_all(alloc: Global, bytes: &[u8], text: &str) -> Result<Document, MetadataFault>
     requires text { is_utf8 bytes.now ≡ true }
     requires same { text.now ≡ bytes.now }
-    ensures { Gives result (document_at bytes.now) }
+    ensures { Answers MetadataFault.Memory (document_at bytes.now) result }
 {
     let mut scratch = Scratch::new(alloc);
     let value = value_in(alloc, bytes, text, &mut scratch)?;
-    document_in(alloc, &value)
+    document_of_root(alloc, &value)
 }

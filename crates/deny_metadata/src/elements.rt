@@ -1,5 +1,6 @@
 ghost use Rattle.std.specs.Prelude.{◌≡◌, List, ℕ, Result, Ok, Err, IfOk, OnOk, option_and_then, option_map, map};
 ghost use Rattle.std.specs.Fmt.{decimal};
+ghost use Rattle.deny_lists.specs.Reader.{Answers};
 ghost use Rattle.serde_json.specs.Data.{Data};
 ghost use Rattle.serde_json.specs.Find.{as_array, get};
 ghost use Rattle.deny_metadata.specs.private.Borrowed.{view, items_view};
@@ -7,7 +8,6 @@ ghost use Rattle.deny_metadata.specs.Elements.{part_of, path_to, given, object_a
 ghost use Rattle.deny_metadata.specs.Elements.{optional_text, optional_text_of, optional_texts, texts_at, flag_member};
 ghost use Rattle.deny_metadata.specs.Elements.{object_itself, elements_from, each_member, each_optional, required};
 ghost use Rattle.deny_metadata.specs.Member.{name_of};
-ghost use Rattle.deny_metadata.specs.Reading.{Fails, Gives};
 ghost use Rattle.deny_metadata.specs.declared.fault.MetadataFault.{MetadataFault};
 
 use crate::borrowed::{flag_of, is_null, items_in, member_of, members_in, text_in};
@@ -23,26 +23,26 @@ pub trait Element: Sized + Drop {
 
     /// The value at `path` as this type, or the first fault in it.
     fn from_value(alloc: Global, path: &str, value: &Value<'_>) -> Result<Self, MetadataFault>
-        ensures { Gives result (read_at path.now (view value.now)) };
+        ensures { Answers MetadataFault.Memory (read_at path.now (view value.now)) result };
 }
 
 /// The fault of a value that is not of its kind.
 pub fn refuse<T>(alloc: Global, path: &str) -> Result<T, MetadataFault>
-    ensures { Gives result (Err (MetadataFault.Shape path.now)) }
+    ensures { Answers MetadataFault.Memory (Err (MetadataFault.Shape path.now)) result }
 {
     Err(MetadataFault::Shape(Text::from_str(alloc, path)?))
 }
 
 // The fault of a part that is not of its kind.
 fn refuse_part<T>(alloc: Global, path: &str, name: &str) -> Result<T, MetadataFault>
-    ensures { Gives result (Err (MetadataFault.Shape (part_of path.now name.now))) }
+    ensures { Answers MetadataFault.Memory (Err (MetadataFault.Shape (part_of path.now name.now))) result }
 {
     Err(MetadataFault::Shape(path_of(alloc, path, name)?))
 }
 
 /// The fault of a member that is missing or not of its kind.
 pub fn refuse_member<T>(alloc: Global, path: &str, member: Member) -> Result<T, MetadataFault>
-    ensures { Gives result (Err (MetadataFault.Shape (path_to path.now member))) }
+    ensures { Answers MetadataFault.Memory (Err (MetadataFault.Shape (path_to path.now member))) result }
 {
     refuse_part(alloc, path, member.name())
 }
@@ -90,7 +90,8 @@ fn refuse_element<T>(
     name: &str,
     index: usize,
 ) -> Result<T, MetadataFault>
-    ensures { Gives result (Err (MetadataFault.Shape (part_of (part_of path.now name.now) (decimal index)))) }
+    ensures { Answers MetadataFault.Memory
+        (Err (MetadataFault.Shape (part_of (part_of path.now name.now) (decimal index)))) result }
 {
     let array = path_of(alloc, path, name)?;
     let mut at = Text::new(alloc);
@@ -112,7 +113,7 @@ pub fn given_member<'v, 't>(object: &'v Value<'t>, member: Member) -> Option<&'v
 /// That the value is an object.
 #[tactic(auto, unfolding(crate::specs::Elements::object_at))]
 pub fn object(alloc: Global, path: &str, value: &Value<'_>) -> Result<(), MetadataFault>
-    ensures { Gives result (object_at path.now (view value.now)) }
+    ensures { Answers MetadataFault.Memory (object_at path.now (view value.now)) result }
 {
     if members_in(value).is_some() {
         Ok(())
@@ -123,13 +124,13 @@ pub fn object(alloc: Global, path: &str, value: &Value<'_>) -> Result<(), Metada
 
 /// A text that must stand.
 #[tactic(auto, unfolding(crate::specs::Elements::text_member, crate::specs::Elements::required))]
-pub fn text_of(
+pub fn required_text(
     alloc: Global,
     path: &str,
     object: &Value<'_>,
     member: Member,
 ) -> Result<Text, MetadataFault>
-    ensures { Gives result (text_member path.now member (view object.now)) }
+    ensures { Answers MetadataFault.Memory (text_member path.now member (view object.now)) result }
 {
     match member_of(object, member.name()).and_then(text_in) {
         Some(text) => Ok(Text::from_str(alloc, text)?),
@@ -145,7 +146,7 @@ pub fn optional_text_in(
     object: &Value<'_>,
     member: Member,
 ) -> Result<Option<Text>, MetadataFault>
-    ensures { Gives result (optional_text path.now member (view object.now)) }
+    ensures { Answers MetadataFault.Memory (optional_text path.now member (view object.now)) result }
 {
     match given_member(object, member) {
         Some(value) => match text_in(value) {
@@ -158,14 +159,14 @@ pub fn optional_text_in(
 
 /// A flag that may be missing or null, with what it is then.
 #[tactic(auto, unfolding(crate::specs::Elements::flag_member, crate::specs::Elements::flag_given, crate::specs::Elements::required))]
-pub fn flag_in(
+pub fn flag_or_default(
     alloc: Global,
     path: &str,
     object: &Value<'_>,
     member: Member,
     default: bool,
 ) -> Result<bool, MetadataFault>
-    ensures { Gives result (flag_member path.now member default (view object.now)) }
+    ensures { Answers MetadataFault.Memory (flag_member path.now member default (view object.now)) result }
 {
     match given_member(object, member) {
         Some(value) => match flag_of(value) {
@@ -185,7 +186,7 @@ pub fn array_in<'v, 't: 'v>(object: &'v Value<'t>, member: Member) -> Option<&'v
 }
 
 /// An object that must stand; none where it does not.
-pub fn object_in<'v, 't: 'v>(object: &'v Value<'t>, member: Member) -> Option<&'v Value<'t>>
+pub fn required_object<'v, 't: 'v>(object: &'v Value<'t>, member: Member) -> Option<&'v Value<'t>>
     ensures { option_map (λ v. view v.now) result
         ≡ option_and_then object_itself (get (name_of member) (view object.now)) }
 {
@@ -210,7 +211,7 @@ pub fn elements<T: Element>(
     path: &str,
     items: &[Value<'_>],
 ) -> Result<List<T>, MetadataFault>
-    ensures { Gives result (elements_from T.read_at path.now 0 (items_view items.now)) }
+    ensures { Answers MetadataFault.Memory (elements_from T.read_at path.now 0 (items_view items.now)) result }
 {
     let mut list = List::new(alloc);
     let mut at = Text::new(alloc);
@@ -229,7 +230,7 @@ pub fn each_of<T: Element>(
     object: &Value<'_>,
     member: Member,
 ) -> Result<List<T>, MetadataFault>
-    ensures { Gives result (each_member T.read_at path.now member (view object.now)) }
+    ensures { Answers MetadataFault.Memory (each_member T.read_at path.now member (view object.now)) result }
 {
     match array_in(object, member) {
         None => refuse_member(alloc, path, member),
@@ -248,7 +249,7 @@ pub fn each_given<T: Element>(
     object: &Value<'_>,
     member: Member,
 ) -> Result<List<T>, MetadataFault>
-    ensures { Gives result (each_optional T.read_at path.now member (view object.now)) }
+    ensures { Answers MetadataFault.Memory (each_optional T.read_at path.now member (view object.now)) result }
 {
     match given_member(object, member) {
         None => Ok(List::new(alloc)),
@@ -271,7 +272,8 @@ fn element_text(
     index: usize,
     value: &Value<'_>,
 ) -> Result<Text, MetadataFault>
-    ensures { Gives result (text_at (part_of (part_of path.now name.now) (decimal index)) (view value.now)) }
+    ensures { Answers MetadataFault.Memory
+        (text_at (part_of (part_of path.now name.now) (decimal index)) (view value.now)) result }
 {
     match text_in(value) {
         Some(text) => Ok(Text::from_str(alloc, text)?),
@@ -287,7 +289,8 @@ fn each_text(
     name: &str,
     items: &[Value<'_>],
 ) -> Result<List<Text>, MetadataFault>
-    ensures { Gives result (elements_from text_at (part_of path.now name.now) 0 (items_view items.now)) }
+    ensures { Answers MetadataFault.Memory
+        (elements_from text_at (part_of path.now name.now) 0 (items_view items.now)) result }
 {
     let mut list = List::new(alloc);
     for (index, value) in items.iter().enumerate() {
@@ -298,13 +301,13 @@ fn each_text(
 
 /// The texts of an array that must stand, or the first fault in them.
 #[tactic(auto, unfolding(crate::specs::Elements::each_member, crate::specs::Elements::array_member, crate::specs::Elements::required))]
-pub fn each_text_of(
+pub fn required_texts(
     alloc: Global,
     path: &str,
     object: &Value<'_>,
     member: Member,
 ) -> Result<List<Text>, MetadataFault>
-    ensures { Gives result (each_member text_at path.now member (view object.now)) }
+    ensures { Answers MetadataFault.Memory (each_member text_at path.now member (view object.now)) result }
 {
     match array_in(object, member) {
         None => refuse_member(alloc, path, member),
@@ -320,7 +323,7 @@ pub fn each_text_given(
     object: &Value<'_>,
     member: Member,
 ) -> Result<List<Text>, MetadataFault>
-    ensures { Gives result (each_optional text_at path.now member (view object.now)) }
+    ensures { Answers MetadataFault.Memory (each_optional text_at path.now member (view object.now)) result }
 {
     match given_member(object, member) {
         None => Ok(List::new(alloc)),
@@ -339,7 +342,7 @@ pub fn texts(
     name: &str,
     value: &Value<'_>,
 ) -> Result<List<Text>, MetadataFault>
-    ensures { Gives result (texts_at (part_of path.now name.now) (view value.now)) }
+    ensures { Answers MetadataFault.Memory (texts_at (part_of path.now name.now) (view value.now)) result }
 {
     match items_in(value) {
         Some(items) => each_text(alloc, path, name, items),
@@ -355,7 +358,7 @@ pub fn optional_texts_in(
     object: &Value<'_>,
     member: Member,
 ) -> Result<Option<List<Text>>, MetadataFault>
-    ensures { Gives result (optional_texts path.now member (view object.now)) }
+    ensures { Answers MetadataFault.Memory (optional_texts path.now member (view object.now)) result }
 {
     match given_member(object, member) {
         Some(value) => Ok(Some(texts(alloc, path, member.name(), value)?)),

@@ -1,8 +1,8 @@
-ghost use Rattle.std.specs.Prelude.{◌≡◌, ◌⊎◌, Some, None, Ok, IfOk, IfErr, MatchResult};
+ghost use Rattle.std.specs.Prelude.{◌≡◌, Some, None, Ok, IfOk, IfErr};
 ghost use Rattle.serde_json.specs.Read.{read};
 ghost use Rattle.serde_json.specs.View.{view};
+ghost use Rattle.deny_lists.specs.Reader.{Fails, Gives, IsFault};
 ghost use Rattle.deny_metadata.specs.Document.{json_at, value_at};
-ghost use Rattle.deny_metadata.specs.Reading.{Fails};
 
 use crate::fault::MetadataFault;
 use crate::floats::is_fractional;
@@ -11,8 +11,8 @@ use std::alloc::Global;
 
 /// The value of a text in UTF-8 whose numbers are whole and within 64 bits.
 #[tactic(auto, unfolding(crate::specs::Document::value_at, crate::specs::Document::whole))]
-pub fn value_of(alloc: Global, bytes: &[u8]) -> Result<Value, MetadataFault>
-    ensures { MatchResult result (λ v. value_at bytes.now ≡ Ok (view v)) (λ e. Fails e (value_at bytes.now)) }
+pub fn owned_value(alloc: Global, bytes: &[u8]) -> Result<Value, MetadataFault>
+    ensures { Gives MetadataFault.Memory (λ v. value_at bytes.now ≡ Ok (view v)) (IsFault (value_at bytes.now)) result }
 {
     let value = json_in(alloc, bytes)?;
     if is_fractional(&value) {
@@ -24,7 +24,7 @@ pub fn value_of(alloc: Global, bytes: &[u8]) -> Result<Value, MetadataFault>
 // The value of a text in UTF-8.
 #[tactic(auto, unfolding(crate::specs::Document::json_at, crate::specs::Document::json_of))]
 fn json_in(alloc: Global, bytes: &[u8]) -> Result<Value, MetadataFault>
-    ensures { MatchResult result (λ v. json_at bytes.now ≡ Ok (view v)) (λ e. Fails e (json_at bytes.now)) }
+    ensures { Gives MetadataFault.Memory (λ v. json_at bytes.now ≡ Ok (view v)) (IsFault (json_at bytes.now)) result }
 {
     match simdutf8::compat::from_utf8(bytes) {
         Ok(text) => value_of_text(alloc, text),
@@ -34,7 +34,8 @@ fn json_in(alloc: Global, bytes: &[u8]) -> Result<Value, MetadataFault>
 
 fn value_of_text(alloc: Global, text: &str) -> Result<Value, MetadataFault>
     ensures ok { IfOk result (λ v. read text.now ≡ Some (view v)) }
-    ensures err { IfErr result (λ e. (e ≡ MetadataFault.Memory) ⊎ ((e ≡ MetadataFault.Json) × (read text.now ≡ None))) }
+    ensures err { IfErr result (Fails MetadataFault.Memory
+        (λ e. (e ≡ MetadataFault.Json) × (read text.now ≡ None))) }
 {
     match Value::from_str(alloc, text) {
         Ok(value) => Ok(value),

@@ -1,15 +1,15 @@
-ghost use Rattle.std.specs.Prelude.{◌≡◌, ◌⊎◌, None, Ok, Some, true, IfSome, MatchResult};
+ghost use Rattle.std.specs.Prelude.{◌≡◌, None, Ok, Some, true, IfSome};
 ghost use Rattle.std.specs.Str.{is_utf8};
 ghost use Rattle.json.specs.Json.{Json};
 ghost use Rattle.json.specs.Value.{value_view};
+ghost use Rattle.deny_lists.specs.Reader.{Gives, IsFault};
 ghost use Rattle.deny_metadata.specs.Document.{value_at};
 ghost use Rattle.deny_metadata.specs.private.Borrowed.{is_whole, parsed, view};
 ghost use Rattle.deny_metadata.specs.private.Wanted.{pruned};
 ghost use Rattle.deny_metadata.specs.declared.wanted.Wanted.TheVariants.{Metadata};
-ghost use Rattle.deny_metadata.specs.Reading.{Fails};
 
 use crate::fault::MetadataFault;
-use crate::owned::value_of;
+use crate::owned::owned_value;
 use crate::pruned::read;
 use crate::wanted::Wanted;
 use crate::whole::is_whole;
@@ -29,7 +29,7 @@ pub fn value_in<'t>(
 ) -> Result<Value<'t>, MetadataFault>
     requires text { is_utf8 bytes.now ≡ true }
     requires same { text.now ≡ bytes.now }
-    ensures { MatchResult result (λ v. value_at bytes.now ≡ Ok (view v)) (λ e. Fails e (value_at bytes.now)) }
+    ensures { Gives MetadataFault.Memory (λ v. value_at bytes.now ≡ Ok (view v)) (IsFault (value_at bytes.now)) result }
 {
     match parse(alloc, text, scratch) {
         Ok(value) => {
@@ -61,8 +61,8 @@ fn parse<'t>(
     text: &'t str,
     scratch: &'t mut Scratch,
 ) -> Result<Value<'t>, MetadataFault>
-    ensures { MatchResult result (λ v. parsed text.now ≡ Some (value_view v))
-        (λ e. (e ≡ MetadataFault.Memory) ⊎ ((e ≡ MetadataFault.Json) × (parsed text.now ≡ None))) }
+    ensures { Gives MetadataFault.Memory (λ v. parsed text.now ≡ Some (value_view v))
+        (λ e. (e ≡ MetadataFault.Json) × (parsed text.now ≡ None)) result }
 {
     let mut reader = Reader::new(text, scratch)?;
     match Value::read(alloc, &mut reader, MAX_DEPTH) {
@@ -83,12 +83,13 @@ fn parse<'t>(
 fn check_numbers(alloc: Global, bytes: &[u8], value: &Value<'_>) -> Result<(), MetadataFault>
     requires text { is_utf8 bytes.now ≡ true }
     requires parsed { parsed bytes.now ≡ Some (value_view value.now) }
-    ensures { MatchResult result (λ _. value_at bytes.now ≡ Ok (view value.now)) (λ e. Fails e (value_at bytes.now)) }
+    ensures { Gives MetadataFault.Memory (λ _. value_at bytes.now ≡ Ok (view value.now))
+        (IsFault (value_at bytes.now)) result }
 {
     if is_whole(value) {
         return Ok(());
     }
-    match value_of(alloc, bytes) {
+    match owned_value(alloc, bytes) {
         Ok(_) => Ok(()),
         Err(fault) => Err(fault),
     }

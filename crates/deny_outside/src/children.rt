@@ -62,7 +62,7 @@ pub fn path_behind<'p>(prefix: &str, path: &'p str) -> Option<&'p str>
 }
 
 /// What stands behind a folder and its slash, in a path that begins with these.
-pub fn path_below<'p>(dir: &str, path: &'p str) -> Option<&'p str>
+pub fn path_in_folder<'p>(dir: &str, path: &'p str) -> Option<&'p str>
     ensures { option_copied result ≡ text_behind (prefix_of dir.now) path.now }
 {
     match path_behind(dir, path) {

@@ -13,7 +13,7 @@ mod real_disk;
 mod real_out;
 mod sure_disk;
 
-pub use children::{child_path, path_behind, path_below};
+pub use children::{child_path, path_behind, path_in_folder};
 pub use disk::{Call, DiskError, Entry, PackageFiles, Place};
 pub use memory_disk::MemoryDisk;
 pub use memory_out::MemoryOut;

@@ -98,7 +98,7 @@ fn put_alone(
 }
 
 /// Puts the folders that are not there yet, and then the file.
-fn put_below(
+fn put_with_folders(
     alloc: Global,
     files: &mut TextMap<Place>,
     folders: &[Text],
@@ -113,10 +113,10 @@ fn put_below(
         return put_alone(alloc, files, path, bytes);
     };
     if files.contains_key(folder.as_str()) {
-        return put_below(alloc, files, rest, path, bytes);
+        return put_with_folders(alloc, files, rest, path, bytes);
     }
     files.insert(folder.clone()?, Place::Folder)?;
-    match put_below(alloc, files, rest, path, bytes) {
+    match put_with_folders(alloc, files, rest, path, bytes) {
         Ok(()) => Ok(()),
         Err(error) => {
             files.remove(folder.as_str());
@@ -136,7 +136,7 @@ pub(crate) fn put_at(
     ensures err { OnErr result (files.new ≡ files.old) }
 {
     let folders = folders_of(alloc, path)?;
-    put_below(alloc, files, folders.as_slice(), path, bytes)
+    put_with_folders(alloc, files, folders.as_slice(), path, bytes)
 }
 
 /// Copies the text from `offset` to the start of `buf`, at most `piece` bytes of it.

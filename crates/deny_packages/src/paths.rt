@@ -2,14 +2,14 @@
 ghost use Rattle.std.specs.Prelude.{◌≡◌};
 ghost use Rattle.deny_packages.specs.Paths.{below};
 
-use deny_outside::path_below;
+use deny_outside::path_in_folder;
 
 /// What a path has behind the folder and its slash; all of a path that does not begin with these.
 #[tactic(auto, unfolding(crate::specs::Paths::below))]
 pub(crate) fn below<'p>(folder: &str, path: &'p str) -> &'p str
     ensures { result.now ≡ below folder.now path.now }
 {
-    match path_below(folder, path) {
+    match path_in_folder(folder, path) {
         Some(rest) => rest,
         None => path,
     }

@@ -1,21 +1,23 @@
 -- The links of dependencies, from a place on.
 use Rattle.std.proofs.Common.{◌≡◌, ◌<◌, ◌≤◌, ◌+◌, ◌++◌, ℕ, List, [], Result, Ok, Err, length, drop, refl, sym, ap, ◌∙◌}
 use Rattle.std.proofs.Common.{add-one}
-use Rattle.std.specs.Prelude.{slice_index_or, MatchResult}
+use Rattle.std.specs.Prelude.{slice_index_or}
 use Rattle.std.specs.BTreeMap.{BTreeMap}
 use mathlib.Core.Path.{fun_ext}
 use Rattle.std.proofs.Math.ListN.{drop_of_length-le}
 use Rattle.std.proofs.Math.Seq.{drop-cons}
 use Rattle.deny_resolve.specs.Checked.{Numbering, Resolved, distinct, known, links_of, links_to, node_ids, package_ids}
-use Rattle.deny_resolve.specs.Checked.{resolved, resolved_by}
+use Rattle.deny_resolve.specs.Checked.{number_or, resolved, resolved_by, resolved_node}
 use Rattle.deny_resolve.specs.private.Index.{IsIndex, number_by}
-use Rattle.deny_metadata.specs.Reading.{◌>>=◌, Fails}
+use Rattle.deny_lists.specs.Reader.{◌>>=◌, Gives, IsFault}
 use Rattle.deny_resolve.specs.declared.checked.Resolution.{Resolution}
+use Rattle.deny_metadata.specs.declared.document.Node.{Node}
 use Rattle.deny_metadata.specs.declared.document.NodeDependency.{NodeDependency}
 use Rattle.deny_metadata.specs.declared.document.Document.{Document}
 use Rattle.deny_metadata.specs.declared.fault.MetadataFault.{MetadataFault}
+use Rattle.deny_metadata.specs.declared.fault.MetadataFault.TheVariants.{Memory}
 use Rattle.deny_resolve.specs.declared.index.HashedId.{HashedId}
-use Rattle.deny_metadata.proofs.ReadingLemmas.{fails_through}
+use Rattle.deny_lists.proofs.ReaderLemmas.{fails_through}
 
 pub next_links : (packages nodes : Numbering) (deps : List NodeDependency) (i : ℕ) (dep : NodeDependency)
     → i < length deps → dep ≡ slice_index_or deps i dep
@@ -54,11 +56,17 @@ pub second_fails : (doc : Document) (e : MetadataFault) → distinct (package_id
 unfolding resolved
 second_fails doc e apart is = rw (apart, is) refl
 
+-- a node whose own id has no package
+pub owner_fails : (packages nodes : Numbering) (node : Node) (e : MetadataFault)
+    → number_or node.id (packages node.id) ≡ Err e → resolved_node packages nodes node ≡ Err e
+unfolding resolved_node
+owner_fails packages nodes node e is = rw is refl
+
 -- what resolves by the indexes resolves
 pub resolves : (doc : Document) (by : Result Resolved MetadataFault) (result : Result Resolution MetadataFault)
     → resolved doc ≡ by
-    → MatchResult result (λ r. by ≡ Ok (record { document = doc; starts = r.starts; rows = r.rows })) (λ e. Fails e by)
-    → MatchResult result (λ r. resolved doc ≡ Ok (record { document = doc; starts = r.starts; rows = r.rows }))
-    (λ e. Fails e (resolved doc))
+    → Gives Memory (λ r. by ≡ Ok (record { document = doc; starts = r.starts; rows = r.rows })) (IsFault by) result
+    → Gives Memory (λ r. resolved doc ≡ Ok (record { document = doc; starts = r.starts; rows = r.rows }))
+    (IsFault (resolved doc)) result
 resolves doc by (Ok r) same h = same ∙ h
-resolves doc by (Err e) same h = fails_through e by (resolved doc) (λ f is. same ∙ is) h
+resolves doc by (Err e) same h = fails_through Memory e by (resolved doc) (λ f is. same ∙ is) h

@@ -1,18 +1,18 @@
 -- Steps of the loops that read what packages write.
-use Rattle.std.proofs.Common.{◌≡◌, ◌<◌, ◌+◌, ◌++◌, ◌∷◌, ℕ, List, [], Some, Result, Ok, Err, length, map, refl}
-use Rattle.std.proofs.Common.{add-one, subst, sym, take}
-use Rattle.std.specs.Prelude.{IsErrAnd, slice_index_or}
+use Rattle.std.proofs.Common.{◌≡◌, ◌<◌, ◌+◌, ◌++◌, ◌∷◌, ℕ, List, [], Some, Ok, length, map, refl}
+use Rattle.std.proofs.Common.{add-one, subst, take}
+use Rattle.std.specs.Prelude.{slice_index_or}
 use Rattle.std.proofs.Math.Seq.{take-suc}
 use Rattle.std.proofs.lemmas.List.{map_push}
 use Rattle.semver.specs.Parse.{Parts}
 use Rattle.deny_resolve.specs.Checked.{optional_reads, read_or, requirement_reads, requirements_read, version_reads}
 use Rattle.deny_resolve.specs.PackageTexts.{version_said}
 use Rattle.deny_resolve.specs.Versions.{rust_version_of}
-use Rattle.deny_metadata.specs.Reading.{Fails, Passes, each_passes}
+use Rattle.deny_lists.specs.Reader.{Fails, IsFault, each_passes}
 use Rattle.deny_metadata.specs.declared.document.Declaration.{Declaration}
 use Rattle.deny_metadata.specs.declared.document.Package.{Package}
 use Rattle.deny_metadata.specs.declared.fault.MetadataFault.{MetadataFault}
-use Rattle.deny_metadata.specs.declared.fault.MetadataFault.TheVariants.{Version}
+use Rattle.deny_metadata.specs.declared.fault.MetadataFault.TheVariants.{Memory, Version}
 
 -- one more is read
 pub read_more : {A B C : Type 0} (view : B → C) (said : A → C) (read new : List B) (y : B) (xs : List A) (i : ℕ) (x : A)
@@ -21,13 +21,6 @@ pub read_more : {A B C : Type 0} (view : B → C) (said : A → C) (read new : L
 read_more view said read new y xs i x inside is pushed so_far same =
     rw (pushed, add-one, take-suc xs i x inside, ← is, map_push view read y, map_push said (take i xs) x, so_far, same)
     refl
-
--- what `?` hands on is a fault of the check
-pub fault_handed : {A : Type 0} (result : Result A MetadataFault) (e : MetadataFault)
-    (check : Result (Unit {0}) MetadataFault)
-    → IsErrAnd result (λ f. f ≡ e) → Fails e check → Passes result check
-fault_handed (Ok x) e check is fails = absurd is
-fault_handed (Err f) e check is fails = subst (λ (d : MetadataFault). Fails d check) (sym is) fails
 
 -- the same, where what is read is what stands
 pub read_pushed : {A C : Type 0} (said : A → C) (new read : List C) (y : C) (xs : List A) (i : ℕ) (x : A)
@@ -50,8 +43,9 @@ requirements_pass p declarations same passes =
     subst (λ (ds : List Declaration). each_passes (requirement_reads p.id) ds ≡ Ok tt) same passes
 
 pub requirements_fail : (p : Package) (declarations : List Declaration) (e : MetadataFault)
-    → declarations ≡ p.dependencies → Fails e (each_passes (requirement_reads p.id) declarations)
-    → Fails e (requirements_read p)
+    → declarations ≡ p.dependencies → Fails Memory (IsFault (each_passes (requirement_reads p.id) declarations)) e
+    → Fails Memory (IsFault (requirements_read p)) e
 unfolding requirements_read
 requirements_fail p declarations e same fails =
-    subst (λ (ds : List Declaration). Fails e (each_passes (requirement_reads p.id) ds)) same fails
+    subst (λ (ds : List Declaration). Fails Memory (IsFault (each_passes (requirement_reads p.id) ds)) e)
+    same fails

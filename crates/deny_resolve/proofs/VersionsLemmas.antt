@@ -10,7 +10,8 @@ use Rattle.std.proofs.lemmas.Bool.Decides.{nat_tests}
 use Rattle.std.proofs.lemmas.Int.Digits.{digits_value_more}
 use Rattle.form_urlencoded.specs.Form.{onto_first, split}
 use Rattle.semver.specs.Parse.{Parts}
-use Rattle.deny_resolve.specs.Versions.{number_of, pieces_of, release_of, rust_version_of, whole_release}
+use Rattle.deny_resolve.specs.Versions.{number_of, release_of, rust_version_of, whole_release}
+use Rattle.deny_resolve.specs.private.Versions.{pieces_of}
 
 pub next_value : (ds : List ℕ) (i number : ℕ) → i < length ds → is_ascii_digit (get_or ds i 0) ≡ true
     → number ≡ digits_value 10 (take i ds)

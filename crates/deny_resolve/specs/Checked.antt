@@ -3,9 +3,9 @@ use Rattle.std.specs.Prelude.{◌++◌, ℕ, List, [], ◌∷◌, Option, Some, 
 use Rattle.std.specs.Result.{result_ok}
 use Rattle.std.specs.List.{list_any, position_from}
 use Rattle.semver.specs.Parse.{req_of, version_parts}
+use Rattle.deny_lists.specs.Reader.{◌>>=◌, each, each_passes}
 use Rattle.deny_model.specs.Text.{same_text}
 use Rattle.deny_metadata.specs.Document.{value_at, document_of}
-use Rattle.deny_metadata.specs.Reading.{◌>>=◌, each, each_passes}
 use Rattle.deny_resolve.specs.Source.{source_of}
 use Rattle.deny_resolve.specs.Versions.{rust_version_of}
 use Rattle.deny_resolve.specs.declared.checked.Link.{Link}

@@ -29,8 +29,3 @@ release_of (major ∷ minor ∷ patch ∷ more ∷ others) = None
 -- the version of Rust that a text is: numbers joined by dots
 unfoldable pub rust_version_of : List ℕ → Option Parts
 rust_version_of text = release_of (split 46 text)
-
--- the pieces of a text that was cut at its first dot
-abbrev pub pieces_of : List ℕ → Option (List ℕ) → List (List ℕ)
-pieces_of piece None = piece ∷ []
-pieces_of piece (Some rest) = piece ∷ split 46 rest

@@ -1,11 +1,11 @@
 ghost use Rattle.std.specs.Prelude.{◌≡◌, ◌≤◌, ◌<◌, ◌^◌, ◌++◌, ℕ, List, Ok, Err};
-ghost use Rattle.std.specs.Prelude.{Some, OnOk, MatchResult, IfOk, length, map};
+ghost use Rattle.std.specs.Prelude.{Some, OnOk, IfOk, length, map};
+ghost use Rattle.deny_lists.specs.Reader.{Answers, Gives, IsFault, Passes, each, each_passes};
 ghost use Rattle.deny_resolve.specs.Checked.{Resolved, resolved, resolved_by, number_or, number_in, known};
 ghost use Rattle.deny_resolve.specs.Checked.{links_to, links_of, resolved_node, manifest_path_reads};
 ghost use Rattle.deny_resolve.specs.Checked.{packages_read, package_ids, node_ids, distinct};
 ghost use Rattle.deny_resolve.specs.private.Index.{IsIndex, number_by};
 ghost use Rattle.deny_resolve.specs.PackageTexts.{AreTextsOf};
-ghost use Rattle.deny_metadata.specs.Reading.{Fails, Gives, Passes, each, each_passes};
 
 use crate::index::{HashedId, index_of, number_by};
 use crate::package_texts::{PackageTexts, requirements_of, sources_of, versions_of};
@@ -37,19 +37,19 @@ pub struct Indexes<'d> {
 
 // The fault of an id without a package, or without a node.
 fn dangles<T>(alloc: Global, id: &str) -> Result<T, MetadataFault>
-    ensures { Gives result (Err (MetadataFault.DanglingId id.now)) }
+    ensures { Answers MetadataFault.Memory (Err (MetadataFault.DanglingId id.now)) result }
 {
     Err(MetadataFault::DanglingId(Text::from_str(alloc, id)?))
 }
 
 // The number of an id, or the fault that it has none.
 #[tactic(auto, unfolding(crate::specs::Checked::number_or))]
-fn number_of<'d>(
+fn required_number<'d>(
     alloc: Global,
     index: &BTreeMap<HashedId<'d>, u32>,
     id: &'d str,
 ) -> Result<u32, MetadataFault>
-    ensures { Gives result (number_or id.now (number_by index.now id.now)) }
+    ensures { Answers MetadataFault.Memory (number_or id.now (number_by index.now id.now)) result }
 {
     match number_by(index, id) {
         Some(number) => Ok(number),
@@ -60,10 +60,11 @@ fn number_of<'d>(
 // The number of an id's node, where a package has the id too.
 #[tactic(auto, unfolding(crate::specs::Checked::known))]
 fn known_number<'d>(alloc: Global, indexes: &Indexes<'d>, id: &'d str) -> Result<u32, MetadataFault>
-    ensures { Gives result (known (number_by indexes.now.packages) (number_by indexes.now.nodes) id.now) }
+    ensures { Answers MetadataFault.Memory
+        (known (number_by indexes.now.packages) (number_by indexes.now.nodes) id.now) result }
 {
-    number_of(alloc, &indexes.packages, id)?;
-    number_of(alloc, &indexes.nodes, id)
+    required_number(alloc, &indexes.packages, id)?;
+    required_number(alloc, &indexes.nodes, id)
 }
 
 // The numbers of the nodes of the members.
@@ -72,7 +73,8 @@ fn numbers<'d>(
     indexes: &Indexes<'d>,
     members: &'d [Text],
 ) -> Result<List<u32>, MetadataFault>
-    ensures { Gives result (each (known (number_by indexes.now.packages) (number_by indexes.now.nodes)) members.now) }
+    ensures { Answers MetadataFault.Memory
+        (each (known (number_by indexes.now.packages) (number_by indexes.now.nodes)) members.now) result }
 {
     let mut numbers = List::new(alloc);
     for member in members {
@@ -100,7 +102,8 @@ fn links_in<'d>(
     indexes: &Indexes<'d>,
     deps: &'d [NodeDependency],
 ) -> Result<List<Link>, MetadataFault>
-    ensures { Gives result (links_of (number_by indexes.now.packages) (number_by indexes.now.nodes) deps.now) }
+    ensures { Answers MetadataFault.Memory
+        (links_of (number_by indexes.now.packages) (number_by indexes.now.nodes) deps.now) result }
 {
     let mut links = List::new(alloc);
     for dep in deps {
@@ -117,9 +120,10 @@ fn resolve_node<'d>(
     indexes: &Indexes<'d>,
     node: &'d Node,
 ) -> Result<ResolvedNode, MetadataFault>
-    ensures { Gives result (resolved_node (number_by indexes.now.packages) (number_by indexes.now.nodes) node.now) }
+    ensures { Answers MetadataFault.Memory
+        (resolved_node (number_by indexes.now.packages) (number_by indexes.now.nodes) node.now) result }
 {
-    let owner = number_of(alloc, &indexes.packages, node.id.as_str())?;
+    let owner = required_number(alloc, &indexes.packages, node.id.as_str())?;
     let links = links_in(alloc, indexes, node.deps.as_slice())?;
     Ok(ResolvedNode { owner, links })
 }
@@ -130,8 +134,8 @@ fn resolve_nodes<'d>(
     indexes: &Indexes<'d>,
     nodes: &'d [Node],
 ) -> Result<List<ResolvedNode>, MetadataFault>
-    ensures { Gives result (each (resolved_node (number_by indexes.now.packages) (number_by indexes.now.nodes))
-        nodes.now) }
+    ensures { Answers MetadataFault.Memory
+        (each (resolved_node (number_by indexes.now.packages) (number_by indexes.now.nodes)) nodes.now) result }
 {
     let mut rows = List::new(alloc);
     for node in nodes {
@@ -143,7 +147,7 @@ fn resolve_nodes<'d>(
 // That a package's manifest stands in a folder.
 #[tactic(auto, unfolding(crate::specs::Checked::manifest_path_reads))]
 fn check_manifest_path(listed: &Package) -> Result<(), MetadataFault>
-    ensures { Gives result (manifest_path_reads listed.now) }
+    ensures { Answers MetadataFault.Memory (manifest_path_reads listed.now) result }
 {
     if listed.manifest_path.as_str().as_bytes().contains(&b'/') {
         Ok(())
@@ -154,7 +158,7 @@ fn check_manifest_path(listed: &Package) -> Result<(), MetadataFault>
 
 // That each package's manifest stands in a folder.
 fn check_manifest_paths(packages: &[Package]) -> Result<(), MetadataFault>
-    ensures { Gives result (each_passes manifest_path_reads packages.now) }
+    ensures { Answers MetadataFault.Memory (each_passes manifest_path_reads packages.now) result }
 {
     for listed in packages {
         check_manifest_path(listed)?;
@@ -165,7 +169,7 @@ fn check_manifest_paths(packages: &[Package]) -> Result<(), MetadataFault>
 // What the packages write, read, or the first fault of it.
 #[tactic(auto, unfolding(crate::specs::Checked::packages_read))]
 fn read_packages(alloc: Global, packages: &[Package]) -> Result<PackageTexts, MetadataFault>
-    ensures faults { Passes result (packages_read packages.now) }
+    ensures faults { Passes MetadataFault.Memory (packages_read packages.now) result }
     ensures texts { IfOk result (AreTextsOf packages.now) }
 {
     let versions = versions_of(alloc, packages)?;
@@ -189,15 +193,15 @@ pub struct Resolution {
 }
 
 #[tactic(auto, unfolding(crate::specs::Checked::resolved_by))]
-fn resolve_by<'d>(
+fn resolve_indexed<'d>(
     alloc: Global,
     indexes: &Indexes<'d>,
     document: &'d Document,
 ) -> Result<Resolution, MetadataFault>
-    ensures numbers { MatchResult result (λ r.
+    ensures numbers { Gives MetadataFault.Memory (λ r.
         resolved_by (number_by indexes.now.packages) (number_by indexes.now.nodes) document.now
         ≡ Ok (record { document = document.now; starts = r.starts; rows = r.rows }))
-        (λ e. Fails e (resolved_by (number_by indexes.now.packages) (number_by indexes.now.nodes) document.now)) }
+        (IsFault (resolved_by (number_by indexes.now.packages) (number_by indexes.now.nodes) document.now)) result }
     ensures texts { IfOk result (λ r. AreTextsOf document.now.packages r.texts) }
 {
     let starts = numbers(alloc, indexes, document.members.as_slice())?;
@@ -214,13 +218,13 @@ fn resolve_by<'d>(
 pub fn resolve(alloc: Global, document: &Document) -> Result<Resolution, MetadataFault>
     requires packages { length document.now.packages < 2 ^ 28 }
     requires nodes { length document.now.nodes < 2 ^ 28 }
-    ensures numbers { MatchResult result (λ r.
+    ensures numbers { Gives MetadataFault.Memory (λ r.
         resolved document.now ≡ Ok (record { document = document.now; starts = r.starts; rows = r.rows }))
-        (λ e. Fails e (resolved document.now)) }
+        (IsFault (resolved document.now)) result }
     ensures texts { IfOk result (λ r. AreTextsOf document.now.packages r.texts) }
 {
     let packages = index_of(alloc, document.packages.as_slice())?;
     let nodes = index_of(alloc, document.nodes.as_slice())?;
     let indexes = Indexes { packages, nodes };
-    resolve_by(alloc, &indexes, document)
+    resolve_indexed(alloc, &indexes, document)
 }

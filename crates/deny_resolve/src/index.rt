@@ -1,7 +1,7 @@
-ghost use Rattle.std.specs.Prelude.{◌≡◌, ◌<◌, ◌^◌, ℕ, List, Ok, Err, IfOk, MatchResult, length, map};
+ghost use Rattle.std.specs.Prelude.{◌≡◌, ◌<◌, ◌^◌, ℕ, List, Ok, Err, IfOk, length, map};
 ghost use Rattle.deny_resolve.specs.Checked.{distinct, number_in};
 ghost use Rattle.deny_resolve.specs.private.Index.{IsIndex, hash_of, number_by};
-ghost use Rattle.deny_metadata.specs.Reading.{Fails, Gives};
+ghost use Rattle.deny_lists.specs.Reader.{Passes};
 
 use deny_lists::Text;
 use deny_metadata::{MetadataFault, Node, Package};
@@ -78,8 +78,7 @@ pub fn index_of<'n, T: Named>(
 ) -> Result<BTreeMap<HashedId<'n>, u32>, MetadataFault>
     requires { length things.now < 2 ^ 28 }
     ensures index { IfOk result (λ index. IsIndex index (map T.id_of things.now)) }
-    ensures distinct { MatchResult result (λ _. distinct (map T.id_of things.now) ≡ Ok tt)
-        (λ e. Fails e (distinct (map T.id_of things.now))) }
+    ensures distinct { Passes MetadataFault.Memory (distinct (map T.id_of things.now)) result }
 {
     let mut index = BTreeMap::new(alloc);
     for (number, thing) in things.iter().enumerate() {

@@ -1,10 +1,10 @@
 ghost use Rattle.std.specs.Prelude.{◌≡◌, IfOk, Some, map, option_map};
 ghost use Rattle.semver.specs.Identifiers.{parts_of};
+ghost use Rattle.deny_lists.specs.Reader.{Passes, each_passes};
 ghost use Rattle.deny_resolve.specs.Checked.{optional_reads, requirement_reads};
 ghost use Rattle.deny_resolve.specs.Checked.{requirements_read, source_reads, version_reads};
 ghost use Rattle.deny_resolve.specs.PackageTexts.{requirement_said, requirement_view, requirements_said};
 ghost use Rattle.deny_resolve.specs.PackageTexts.{rust_version_said, source_said, version_said};
-ghost use Rattle.deny_metadata.specs.Reading.{Passes, each_passes};
 ghost use Rattle.deny_resolve.specs.Versions.{rust_version_of};
 
 use crate::source::{Source, source_in};
@@ -36,7 +36,7 @@ pub fn versions_of(
     alloc: Global,
     packages: &[Package],
 ) -> Result<List<PackageVersions>, MetadataFault>
-    ensures faults { Passes result (each_passes version_reads packages.now) }
+    ensures faults { Passes MetadataFault.Memory (each_passes version_reads packages.now) result }
     ensures versions { IfOk result (λ read. map (λ v. Some (parts_of v.version)) read ≡ map version_said packages.now) }
     ensures rust_versions { IfOk result (λ read.
         map (λ v. option_map parts_of v.rust_version) read ≡ map rust_version_said packages.now) }
@@ -51,7 +51,7 @@ pub fn versions_of(
 // A package's versions, or the fault that one is none.
 #[tactic(auto, unfolding(crate::specs::Checked::version_reads, crate::specs::Checked::read_or))]
 fn read_versions(alloc: Global, listed: &Package) -> Result<PackageVersions, MetadataFault>
-    ensures faults { Passes result (version_reads listed.now) }
+    ensures faults { Passes MetadataFault.Memory (version_reads listed.now) result }
     ensures version { IfOk result (λ read. Some (parts_of read.version) ≡ version_said listed.now) }
     ensures rust_version { IfOk result (λ read. option_map parts_of read.rust_version ≡ rust_version_said listed.now) }
 {
@@ -68,8 +68,8 @@ fn read_versions(alloc: Global, listed: &Package) -> Result<PackageVersions, Met
 // A package's version of Rust, where it writes one, or the fault that it is none.
 #[tactic(auto, unfolding(crate::specs::Checked::read_or, crate::specs::Checked::optional_reads))]
 fn read_rust_version(listed: &Package) -> Result<Option<Version>, MetadataFault>
-    ensures faults { Passes result
-        (optional_reads (MetadataFault.Version listed.now.id) rust_version_of listed.now.rust_version) }
+    ensures faults { Passes MetadataFault.Memory
+        (optional_reads (MetadataFault.Version listed.now.id) rust_version_of listed.now.rust_version) result }
     ensures read { IfOk result (λ read. option_map parts_of read ≡ rust_version_said listed.now) }
 {
     match &listed.rust_version {
@@ -86,7 +86,7 @@ pub fn requirements_of(
     alloc: Global,
     packages: &[Package],
 ) -> Result<List<List<VersionReq>>, MetadataFault>
-    ensures faults { Passes result (each_passes requirements_read packages.now) }
+    ensures faults { Passes MetadataFault.Memory (each_passes requirements_read packages.now) result }
     ensures read { IfOk result (λ read. map (map requirement_view) read ≡ map requirements_said packages.now) }
 {
     let mut read = List::new(alloc);
@@ -102,7 +102,7 @@ fn read_requirements(
     id: &Text,
     declarations: &[Declaration],
 ) -> Result<List<VersionReq>, MetadataFault>
-    ensures faults { Passes result (each_passes (requirement_reads id.now) declarations.now) }
+    ensures faults { Passes MetadataFault.Memory (each_passes (requirement_reads id.now) declarations.now) result }
     ensures read { IfOk result (λ read. map requirement_view read ≡ map requirement_said declarations.now) }
 {
     let mut read = List::new(alloc);
@@ -119,7 +119,7 @@ fn read_requirement(
     id: &Text,
     declaration: &Declaration,
 ) -> Result<VersionReq, MetadataFault>
-    ensures faults { Passes result (requirement_reads id.now declaration.now) }
+    ensures faults { Passes MetadataFault.Memory (requirement_reads id.now declaration.now) result }
     ensures read { IfOk result (λ read. requirement_view read ≡ requirement_said declaration.now) }
 {
     match requirement_in(alloc, declaration.req.as_str())? {
@@ -133,7 +133,7 @@ pub fn sources_of(
     alloc: Global,
     packages: &[Package],
 ) -> Result<List<Option<Source>>, MetadataFault>
-    ensures faults { Passes result (each_passes source_reads packages.now) }
+    ensures faults { Passes MetadataFault.Memory (each_passes source_reads packages.now) result }
     ensures read { IfOk result (λ read. read ≡ map source_said packages.now) }
 {
     let mut read = List::new(alloc);
@@ -146,7 +146,7 @@ pub fn sources_of(
 // A package's source, where it writes one, or the fault that it is none.
 #[tactic(auto, unfolding(crate::specs::Checked::source_reads, crate::specs::Checked::read_or, crate::specs::Checked::optional_reads))]
 fn read_source(alloc: Global, listed: &Package) -> Result<Option<Source>, MetadataFault>
-    ensures faults { Passes result (source_reads listed.now) }
+    ensures faults { Passes MetadataFault.Memory (source_reads listed.now) result }
     ensures read { IfOk result (λ read. read ≡ source_said listed.now) }
 {
     match &listed.source {

@@ -3,7 +3,8 @@ ghost use Rattle.std.specs.Result.{result_ok};
 ghost use Rattle.form_urlencoded.specs.Form.{split};
 ghost use Rattle.semver.specs.Parse.{memory_error, req_of, version_parts};
 ghost use Rattle.semver.specs.Identifiers.{comparator_view, parts_of};
-ghost use Rattle.deny_resolve.specs.Versions.{number_of, pieces_of, rust_version_of, whole_release};
+ghost use Rattle.deny_resolve.specs.Versions.{number_of, rust_version_of, whole_release};
+ghost use Rattle.deny_resolve.specs.private.Versions.{pieces_of};
 
 use deny_lists::NoMemory;
 use semver::{Error, Version, VersionReq};
@@ -49,7 +50,7 @@ pub fn requirement_in(alloc: Global, text: &str) -> Result<Option<VersionReq>, N
 
 // The number that digits write.
 #[tactic(auto, unfolding(crate::specs::Versions::number_of))]
-fn number_in(digits: &[u8]) -> Option<u64>
+fn written_number(digits: &[u8]) -> Option<u64>
     ensures { result ≡ number_of digits.now }
 {
     if digits.is_empty() {
@@ -93,13 +94,13 @@ pub fn rust_version_in(text: &str) -> Option<Version>
 {
     let (major, rest) = cut(text);
     let Some(rest) = rest else {
-        return release(number_in(major.as_bytes()), Some(0), Some(0));
+        return release(written_number(major.as_bytes()), Some(0), Some(0));
     };
     let (minor, rest) = cut(rest);
     let Some(rest) = rest else {
         return release(
-            number_in(major.as_bytes()),
-            number_in(minor.as_bytes()),
+            written_number(major.as_bytes()),
+            written_number(minor.as_bytes()),
             Some(0),
         );
     };
@@ -108,8 +109,8 @@ pub fn rust_version_in(text: &str) -> Option<Version>
         return None;
     }
     release(
-        number_in(major.as_bytes()),
-        number_in(minor.as_bytes()),
-        number_in(patch.as_bytes()),
+        written_number(major.as_bytes()),
+        written_number(minor.as_bytes()),
+        written_number(patch.as_bytes()),
     )
 }

@@ -58,7 +58,7 @@ pub fn looked_at<D: PackageFiles>(
 {
     let reached = reached_in(alloc, krates)?;
     match &cfg.build {
-        Some(config) => looked_by(alloc, config, krates, home, reached, disk),
+        Some(config) => looked_by_config(alloc, config, krates, home, reached, disk),
         None => Ok(Looked {
             reached,
             packages: List::new(alloc),
@@ -68,7 +68,7 @@ pub fn looked_at<D: PackageFiles>(
 }
 
 /// The same, where the policy does speak of builds.
-fn looked_by<D: PackageFiles>(
+fn looked_by_config<D: PackageFiles>(
     alloc: Global,
     config: &ValidBuildConfig,
     krates: &Krates,

@@ -25,7 +25,7 @@ use Rattle.deny_spans.specs.Look.{home_in, tree_of, workspace_look}
 use Rattle.deny_spans.specs.Paths.{workspace_path}
 use Rattle.deny_spans.specs.private.Workspace.{AreSharedIf, AreSharedIn, AreSharedOf, home_file, is_home}
 use Rattle.deny_spans.specs.private.Workspace.{text_at}
-use Rattle.deny_toml.specs.declared.value.Value.{Value}
+use Rattle.deny_toml.specs.value.Value.{Value}
 use Rattle.deny_workspace.specs.declared.registries.Registry.{Registry}
 use Rattle.deny_workspace.specs.declared.workspace.WorkspaceDeps.{WorkspaceDeps}
 

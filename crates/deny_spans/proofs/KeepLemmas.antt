@@ -19,7 +19,7 @@ use Rattle.deny_spans.proofs.LookLemmas.{file_of, kept_text}
 use Rattle.deny_spans.specs.Look.{kept_as, number_of}
 use Rattle.deny_spans.specs.private.Gathered.{IsKept, IsManifestRead, reading}
 use Rattle.deny_spans.specs.private.Workspace.{AreSharedIn, IsKeptAlone}
-use Rattle.deny_toml.specs.declared.value.Value.{Value}
+use Rattle.deny_toml.specs.value.Value.{Value}
 use Rattle.deny_workspace.specs.declared.registries.Registry.{Registry}
 use Rattle.deny_workspace.specs.declared.workspace.WorkspaceDeps.{WorkspaceDeps}
 

@@ -8,7 +8,7 @@ use Rattle.deny_base.specs.declared.files.File.{File}
 use Rattle.deny_krates.proofs.NumberLemmas.{slice_get-right}
 use Rattle.deny_lists.proofs.Members.{Contains-by_cases, no_member}
 use Rattle.deny_spans.specs.Look.{AreNumbered, Look, ReadsAs, Reading, kept_as, kept_of}
-use Rattle.deny_toml.specs.declared.value.Value.{Value}
+use Rattle.deny_toml.specs.value.Value.{Value}
 use Rattle.deny_toml.proofs.ParserLaws.{one_tree}
 
 -- ---- trees

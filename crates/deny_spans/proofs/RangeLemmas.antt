@@ -26,7 +26,7 @@ use Rattle.deny_spans.specs.Seen.{IsSeen, entries_by, manifest_by, manifest_in, 
 use Rattle.deny_toml.proofs.ParserLaws.{tree_stands}
 use Rattle.deny_toml.specs.Parser.{IsTreeOf, whole}
 use Rattle.deny_toml.specs.Ranges.{StandsIn}
-use Rattle.deny_toml.specs.declared.value.Value.{Value}
+use Rattle.deny_toml.specs.value.Value.{Value}
 use Rattle.deny_unread.specs.declared.unread.Unread.{Unread}
 use Rattle.deny_workspace.specs.Workspace.{resolves_to, span_of}
 use Rattle.deny_workspace.specs.declared.registries.Registry.{Registry}

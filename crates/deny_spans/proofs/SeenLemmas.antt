@@ -38,7 +38,7 @@ use Rattle.deny_spans.specs.Wanted.{AreWanted, IsWanted, by_crate, by_workspace}
 use Rattle.deny_spans.specs.private.Found.{IsFound, IsPutTogether, broken_alone, missing_alone}
 use Rattle.deny_spans.specs.private.Gathered.{broken_if, broken_of, is_broken, missing_of}
 use Rattle.deny_spans.specs.private.Workspace.{AreShared}
-use Rattle.deny_toml.specs.declared.value.Value.{Value}
+use Rattle.deny_toml.specs.value.Value.{Value}
 use Rattle.deny_unread.specs.Unread.{asked, if_unread, unread_cmp}
 use Rattle.deny_unread.specs.declared.purpose.Purpose.TheVariants as purpose
 use Rattle.deny_unread.specs.declared.unread.Unread.{Unread}

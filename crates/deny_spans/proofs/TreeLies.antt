@@ -17,8 +17,8 @@ use Rattle.deny_toml.specs.Calls.{Layer, below_name, bool_in, entry_at, has_name
 use Rattle.deny_toml.specs.Key.{Key}
 use Rattle.deny_toml.specs.Ranges.{AllOfContent, AllOfEntries, AllOfValue, IsRange, KeyStands, StandsIn, ValueStands}
 use Rattle.deny_toml.specs.Value.{entries_in, span_in}
-use Rattle.deny_toml.specs.declared.value.Table.{Table}
-use Rattle.deny_toml.specs.declared.value.Value.{Value}
+use Rattle.deny_toml.specs.value.Table.{Table}
+use Rattle.deny_toml.specs.value.Value.{Value}
 use Rattle.deny_workspace.specs.Entries.{Entry, dependencies_in, entries_of, entry_of, keys_in, may_be_patched}
 use Rattle.deny_workspace.specs.Entries.{patch_from, patch_of, patched_entry, patches_in, replaced_by, table_below}
 use Rattle.deny_workspace.specs.EntryKey.{name_of}

@@ -10,7 +10,7 @@ use Rattle.deny_model.specs.Graph.{Crate, Graph}
 use Rattle.deny_model.specs.Text.{same_text}
 use Rattle.deny_spans.specs.Paths.{workspace_path}
 use Rattle.deny_toml.specs.Parser.{IsTreeOf}
-use Rattle.deny_toml.specs.declared.value.Value.{Value}
+use Rattle.deny_toml.specs.value.Value.{Value}
 
 -- a text that was read of a manifest
 pub record Reading : Type 0 where

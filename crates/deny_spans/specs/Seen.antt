@@ -17,7 +17,7 @@ use Rattle.deny_model.specs.View.{Manifest, View, WorkspaceEntry}
 use Rattle.deny_spans.specs.Look.{AreNumbered, IsBroken, IsLook, IsReadAt, Look, Reading, kept_as, kept_of, number_of}
 use Rattle.deny_spans.specs.Look.{tree_of, workspace_look, workspace_reading}
 use Rattle.deny_spans.specs.Paths.{lock_path, workspace_path}
-use Rattle.deny_toml.specs.declared.value.Value.{Value}
+use Rattle.deny_toml.specs.value.Value.{Value}
 use Rattle.deny_unread.specs.Unread.{asked, unread_cmp}
 use Rattle.deny_unread.specs.declared.purpose.Purpose.TheVariants as purpose
 use Rattle.deny_unread.specs.declared.unread.Unread.{Unread}

@@ -169,7 +169,7 @@ fn keep<'k>(
     match str::from_utf8(bytes) {
         Ok(text) => {
             let number = files.add(krate.manifest_path.as_str(), text)?;
-            let manifest = manifest_in(alloc, krates, place, krate, text, number)?;
+            let manifest = parsed_manifest(alloc, krates, place, krate, text, number)?;
             Ok(ReadManifest {
                 number: Some(number),
                 manifest,
@@ -183,7 +183,7 @@ fn keep<'k>(
 }
 
 /// The manifest of the crate at a place with this text, which is the file of this number.
-fn manifest_in<'k>(
+fn parsed_manifest<'k>(
     alloc: Global,
     krates: &'k Krates,
     place: u32,

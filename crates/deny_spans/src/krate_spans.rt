@@ -21,7 +21,7 @@ ghost use Rattle.deny_workspace.specs.Workspace.{span_view};
 use crate::gathered::{Gathered, gather};
 use crate::missed::Missed;
 use crate::paths::lock_path;
-use crate::workspace::{Workspace, shared_of, workspace_of};
+use crate::workspace::{Workspace, shared_or_none, workspace_of};
 use deny_base::{FileId, Files, Kid};
 use deny_krates::Krates;
 use deny_lists::{List, NoMemory, Text};
@@ -87,7 +87,7 @@ impl<'k> KrateSpans<'k> {
     {
         let _krates = krates.krates();
         let lock = add_lock(alloc, krates, lock_name, files)?;
-        let found = look_around(alloc, krates, registries, disk, files)?;
+        let found = find_manifests(alloc, krates, registries, disk, files)?;
         let spans = put_together(alloc, krates, lock, found)?;
         Ok(spans)
     }
@@ -196,7 +196,7 @@ struct Found<'k> {
 }
 
 /// Looks at the manifests of crates, and at that of the workspace.
-fn look_around<'k, D: PackageFiles>(
+fn find_manifests<'k, D: PackageFiles>(
     alloc: Global,
     krates: &'k Krates,
     registries: &[Registry],
@@ -255,7 +255,7 @@ fn put_together<'k>(
     let mut missed = missed;
     missed.put_in_order()?;
     let Missed { unread, malformed } = missed;
-    let WorkspaceDeps { spans, unused } = shared_of(alloc, krates, deps)?;
+    let WorkspaceDeps { spans, unused } = shared_or_none(alloc, krates, deps)?;
     Ok(KrateSpans {
         workspace_id: id,
         lock_id,

@@ -9,7 +9,7 @@ ghost use Rattle.deny_spans.specs.private.Gathered.{broken_if};
 ghost use Rattle.deny_spans.specs.private.Workspace.{AreShared, AreSharedIf, AreSharedIn, AreSharedOf, IsKeptAlone};
 ghost use Rattle.deny_spans.specs.private.Workspace.{IsReadAlone, IsShortAt, IsWorkspaceIn, is_home, text_at};
 ghost use Rattle.deny_spans.specs.Wanted.{bytes_alone};
-ghost use Rattle.deny_toml.specs.declared.value.Value.{Value};
+ghost use Rattle.deny_toml.specs.value.Value.{Value};
 ghost use Rattle.deny_unread.specs.Added.{added};
 ghost use Rattle.deny_unread.specs.Bound.{Folders};
 ghost use Rattle.deny_unread.specs.Causes.{AreCaused};
@@ -212,7 +212,7 @@ fn keep_alone<'k>(
 }
 
 /// What a workspace's dependencies resolve to; where there are none, nothing stands for any crate.
-pub fn shared_of<'k>(
+pub fn shared_or_none<'k>(
     alloc: Global,
     krates: &'k Krates,
     deps: Option<WorkspaceDeps<'k>>,

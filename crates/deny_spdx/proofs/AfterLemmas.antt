@@ -18,7 +18,8 @@ use Rattle.deny_spdx.specs.Grammar.{and, IsOr, alternative, or, IsExpression}
 use Rattle.deny_spdx.specs.Reader.{empty_level, start, with_part, all_alternatives, with_requirement, settled}
 use Rattle.deny_spdx.specs.Reader.{settled_at, with_phase, word_step, word_step_at, with_step, with_step_at, open_step}
 use Rattle.deny_spdx.specs.Reader.{open_step_at, opened, and_step, or_step, next_alternative, close_step, closed}
-use Rattle.deny_spdx.specs.Reader.{closed_to, split_last, step, run, whole, whole_at, expression_of, if_operator}
+use Rattle.deny_spdx.specs.Reader.{closed_to, split_last, step, whole, whole_at, expression_of, if_operator}
+use Rattle.deny_spdx.specs.private.Reader.{run}
 use Rattle.deny_spdx.specs.Reader.{if_closed}
 use Rattle.deny_spdx.specs.Bad.{AreWhole, Begin}
 use Rattle.deny_spdx.proofs.RunLemmas.{reader, level, split_last-snoc}

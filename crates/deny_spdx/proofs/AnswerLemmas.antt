@@ -4,10 +4,11 @@ use Rattle.std.proofs.Common.{arith}
 use Rattle.deny_spdx.specs.declared.error.SpdxError.{SpdxError}
 use Rattle.deny_spdx.specs.declared.error.SpdxError.TheVariants.{Bad, Memory}
 use Rattle.deny_spdx.specs.declared.token.Token.{Token}
-use Rattle.deny_spdx.specs.Reader.{run_by}
-use Rattle.deny_spdx.specs.Bad.{Spells, AreWhole, Begin, GoesWrong, ends, no_token, token, IsBadAt, IsAnswer}
-use Rattle.deny_spdx.specs.Reading as reading
-use Rattle.deny_spdx.specs.Reading.{IsRead, IsStuck, StopsAt, Stops, NoBlankFirst}
+use Rattle.deny_spdx.specs.private.Reader.{run_by}
+use Rattle.deny_spdx.specs.Bad.{Spells, AreWhole, Begin, GoesWrong, ends, no_token, token, IsBadAt}
+use Rattle.deny_spdx.specs.private.Bad.{IsAnswer}
+use Rattle.deny_spdx.specs.private.Reading as reading
+use Rattle.deny_spdx.specs.private.Reading.{IsRead, IsStuck, StopsAt, Stops, NoBlankFirst}
 use Rattle.deny_spdx.proofs.StepsLemmas.{LeadsTo, run_by-stuck}
 use Rattle.deny_spdx.proofs.BadLemmas.{IsClear}
 

@@ -6,7 +6,8 @@ use Rattle.deny_spdx.specs.declared.token.Token.{Token}
 use Rattle.deny_spdx.specs.declared.error.SpdxError.{SpdxError}
 use Rattle.deny_spdx.specs.declared.error.SpdxError.TheVariants.{Bad, Memory}
 use Rattle.deny_spdx.specs.Tokens.{is_blank, begins_token, HasTokens, none, blank, more}
-use Rattle.deny_spdx.specs.Bad.{Spells, AreWhole, Begin, GoesWrong, ends, no_token, token, IsBadAt, IsAnswer}
+use Rattle.deny_spdx.specs.Bad.{Spells, AreWhole, Begin, GoesWrong, ends, no_token, token, IsBadAt}
+use Rattle.deny_spdx.specs.private.Bad.{IsAnswer}
 use Rattle.deny_spdx.proofs.TokenLemmas.{begins_same, begins_first, begins_some, begins_from, not_blank, GoesOn}
 use Rattle.deny_spdx.proofs.TokenLemmas.{tokens_meet}
 

@@ -10,10 +10,12 @@ use Rattle.deny_spdx.specs.Grammar.{IsRequirement, plain, excepted, IsExpression
 use Rattle.deny_spdx.specs.declared.expression.Expression.{Expression}
 use Rattle.deny_spdx.specs.declared.reader.Reader.{Reader}
 use Rattle.deny_spdx.specs.declared.error.SpdxError.{SpdxError}
-use Rattle.deny_spdx.specs.Bad.{Begin, Spells, IsBadAt, IsAnswer}
-use Rattle.deny_spdx.specs.Reading.{IsRead, Stops}
-use Rattle.deny_spdx.specs.Reader.{step, start, settled, whole, run_by}
-use Rattle.deny_spdx.specs.RequirementReader.{requirement_step, behind_word, behind_with, whole_requirement}
+use Rattle.deny_spdx.specs.Bad.{Begin, Spells, IsBadAt}
+use Rattle.deny_spdx.specs.private.Bad.{IsAnswer}
+use Rattle.deny_spdx.specs.private.Reading.{IsRead, Stops}
+use Rattle.deny_spdx.specs.Reader.{step, start, settled, whole}
+use Rattle.deny_spdx.specs.private.Reader.{run_by}
+use Rattle.deny_spdx.specs.private.RequirementReader.{requirement_step, behind_word, behind_with, whole_requirement}
 use Rattle.deny_spdx.proofs.RunLemmas.{reads}
 use Rattle.deny_spdx.proofs.AfterLemmas.{whole_after, begin_after}
 use Rattle.deny_spdx.proofs.StepsLemmas.{LeadsTo}

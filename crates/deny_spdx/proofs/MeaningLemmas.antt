@@ -16,7 +16,8 @@ use Rattle.deny_spdx.specs.declared.error.SpdxError.TheVariants.{Bad, Memory}
 use Rattle.deny_spdx.specs.Tokens.{is_blank, is_word_byte, IsWord, EndsWord, BeginsWith, word, plus, slash, opening}
 use Rattle.deny_spdx.specs.Tokens.{closing, token_of, HasTokens, none, blank, more}
 use Rattle.deny_spdx.specs.Grammar.{IsRequirement, plain, excepted}
-use Rattle.deny_spdx.specs.Bad.{Spells, IsAnswer}
+use Rattle.deny_spdx.specs.Bad.{Spells}
+use Rattle.deny_spdx.specs.private.Bad.{IsAnswer}
 use Rattle.deny_spdx.specs.Meaning.{spaced, parts_of, is_word, without_plus, part_token, requirement_of, requirement_in}
 use Rattle.deny_spdx.specs.Meaning.{IsMeaning}
 use Rattle.deny_spdx.proofs.BadLemmas.{bad_spells}

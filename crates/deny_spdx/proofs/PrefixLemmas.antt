@@ -15,7 +15,7 @@ use Rattle.deny_spdx.specs.declared.token.Prefix.TheVariants as prefix
 use Rattle.deny_lists.proofs.Texts.{prefix_within, prefix_passes, first_byte}
 use Rattle.deny_spdx.specs.Tokens.{is_word_byte, begins_token, IsWord, EndsWord, BeginsWith, word, plus, slash, opening}
 use Rattle.deny_spdx.specs.Tokens.{closing, token_of}
-use Rattle.deny_spdx.specs.Prefix.{HasTokenPrefix, HasPrefix, mark_of, is_plus}
+use Rattle.deny_spdx.specs.private.Prefix.{HasTokenPrefix, HasPrefix, mark_of, is_plus}
 
 word_ascii : (b : ℕ) → is_word_byte b ≡ true → b < 128
 unfolding is_word_byte

@@ -6,10 +6,11 @@ use Rattle.deny_spdx.specs.declared.token.Token.{Token}
 use Rattle.deny_spdx.specs.declared.token.Prefix.{Prefix}
 use Rattle.deny_spdx.specs.declared.token.Prefix.TheVariants as prefix
 use Rattle.deny_spdx.specs.Tokens.{is_blank, HasTokens, none, blank, more}
-use Rattle.deny_spdx.specs.Prefix.{HasTokenPrefix, HasPrefix}
+use Rattle.deny_spdx.specs.private.Prefix.{HasTokenPrefix, HasPrefix}
 use Rattle.deny_spdx.specs.declared.reading.Turn.{Turn}
 use Rattle.deny_spdx.specs.declared.reading.Turn.TheVariants.{On, Wrong}
-use Rattle.deny_spdx.specs.Reading.{NoBlankFirst, IsTurn, IsStuck, no_token, token, StepsOn, IsReadTo, StopsAt, IsRead}
+use Rattle.deny_spdx.specs.private.Reading.{no_token, token}
+use Rattle.deny_spdx.specs.private.Reading.{NoBlankFirst, IsTurn, IsStuck, StepsOn, IsReadTo, StopsAt, IsRead}
 use Rattle.deny_spdx.proofs.StepsLemmas.{run_by-append}
 use Rattle.deny_spdx.proofs.TokenLemmas.{tokens_then, rest_shorter, begins_shorter}
 

@@ -14,10 +14,12 @@ use Rattle.deny_spdx.specs.declared.reader.Reader.{Reader}
 use Rattle.deny_spdx.specs.Tokens.{is_blank, is_word_byte, begins_token, IsWord, EndsWord, BeginsWith, word, plus}
 use Rattle.deny_spdx.specs.Tokens.{slash, opening, closing, token_of, HasTokens, none, blank, more}
 use Rattle.deny_spdx.specs.Grammar.{IsExpression}
-use Rattle.deny_spdx.specs.Bad.{Spells, IsBadAt, IsAnswer}
-use Rattle.deny_spdx.specs.Reader.{start, settled, step, whole, run_by}
-use Rattle.deny_spdx.specs.Reading as reading
-use Rattle.deny_spdx.specs.Reading.{IsStuck, NoBlankFirst}
+use Rattle.deny_spdx.specs.Bad.{Spells, IsBadAt}
+use Rattle.deny_spdx.specs.private.Bad.{IsAnswer}
+use Rattle.deny_spdx.specs.Reader.{start, settled, step, whole}
+use Rattle.deny_spdx.specs.private.Reader.{run_by}
+use Rattle.deny_spdx.specs.private.Reading as reading
+use Rattle.deny_spdx.specs.private.Reading.{IsStuck, NoBlankFirst}
 use Rattle.deny_spdx.specs.Reads.{Reading, Read, BadAt, Progress, On, Bad, taken, and_on, word_ended, plus_ended}
 use Rattle.deny_spdx.specs.Reads.{mark_taken, byte_taken, read_as, at_end, then_read, read_from, reading_in, IsReading}
 use Rattle.deny_spdx.proofs.TokenLemmas.{not_blank, tokens_then, rest_shorter}

@@ -16,7 +16,8 @@ use Rattle.deny_spdx.specs.Grammar.{all_of, any_of, IsRequirement, plain, except
 use Rattle.deny_spdx.specs.Grammar.{unit, and, IsOr, alternative, or, IsExpression}
 use Rattle.deny_spdx.specs.Reader.{empty_level, start, with_part, all_alternatives, settled, word_step, with_step}
 use Rattle.deny_spdx.specs.Reader.{open_step, opened, and_step, or_step, close_step, closed, split_last, with_first}
-use Rattle.deny_spdx.specs.Reader.{step, run, whole, if_operator}
+use Rattle.deny_spdx.specs.Reader.{step, whole, if_operator}
+use Rattle.deny_spdx.specs.private.Reader.{run}
 use Rattle.deny_spdx.proofs.StepsLemmas.{LeadsTo, run_by-append}
 
 abbrev pub reader : List Requirement → List Level → Level → Phase → Reader

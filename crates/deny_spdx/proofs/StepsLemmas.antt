@@ -1,7 +1,7 @@
 -- The steps of a reader along tokens.
 use Rattle.std.proofs.Common.{◌≡◌, List, [], ◌∷◌, ◌++◌, Option, Some, None, ap, ◌∙◌, append_assoc, option_and_then}
 use Rattle.deny_spdx.specs.declared.token.Token.{Token}
-use Rattle.deny_spdx.specs.Reader.{run_by}
+use Rattle.deny_spdx.specs.private.Reader.{run_by}
 
 -- the rest of the tokens goes on from where the first led
 pub run_by-append : {R : Type 0} (step : R → Token → Option R) (s r : R) (tokens more : List Token)

@@ -1,9 +1,7 @@
 -- What a text spells, and the offset where a text stops to be the begin of anything that is spelled.
 -- S says which tokens spell what.
-use Rattle.std.specs.Prelude.{◌≡◌, ◌+◌, ℕ, false, List, [], ◌∷◌, ◌++◌, length, Result, Ok, Err}
+use Rattle.std.specs.Prelude.{◌≡◌, ◌+◌, ℕ, false, List, [], ◌∷◌, ◌++◌, length}
 use Rattle.deny_spdx.specs.declared.token.Token.{Token}
-use Rattle.deny_spdx.specs.declared.error.SpdxError.{SpdxError}
-use Rattle.deny_spdx.specs.declared.error.SpdxError.TheVariants.{Bad, Memory}
 use Rattle.deny_spdx.specs.Tokens.{is_blank, begins_token, BeginsWith, HasTokens}
 
 -- the tokens of the text, to its end, spell x
@@ -39,9 +37,3 @@ pub record IsBadAt {A : Type 0} (S : List Token → A → Type 0) (text : List �
   pub begins : Begin S tokens
   pub wrong : GoesWrong S tokens rest
   pub at : offset + length rest ≡ length text
-
--- what is read is spelled, and what is refused goes wrong there
-abbrev pub IsAnswer : {A : Type 0} → (List Token → A → Type 0) → List ℕ → Result A SpdxError → Type 0
-IsAnswer S text (Ok x) = Spells S text x
-IsAnswer S text (Err (Bad offset)) = IsBadAt S text offset
-IsAnswer S text (Err Memory) = Unit {0}

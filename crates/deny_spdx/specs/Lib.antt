@@ -1,10 +1,8 @@
 pub mod Bad
 pub mod Grammar
 pub mod Meaning
-pub mod Prefix
 pub mod Reader
-pub mod Reading
 pub mod Reads
-pub mod RequirementReader
 pub mod Tokens
 pub mod Truth
+pub mod private

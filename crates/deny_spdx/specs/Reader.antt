@@ -1,6 +1,5 @@
 -- What each token makes of a reader.
 use Rattle.std.specs.Prelude.{ℕ, nat_lt, if◌then◌else◌, List, [], ◌∷◌, ◌++◌, length, Option, Some, None}
-use Rattle.std.specs.Prelude.{option_and_then}
 use Rattle.deny_spdx.specs.declared.token.Token.{Token}
 use Rattle.deny_spdx.specs.declared.token.Token.TheVariants.{Word, And, Or, With, Open, Close}
 use Rattle.deny_spdx.specs.declared.requirement.Requirement.{Requirement}
@@ -139,14 +138,6 @@ step s Or = or_step (settled s)
 step s With = with_step s
 step s Open = open_step s
 step s Close = close_step (settled s)
-
--- the reader behind these tokens, or none where one of them can't stand there
-abbrev pub run_by : {R : Type 0} → (R → Token → Option R) → R → List Token → Option R
-run_by step s [] = Some s
-run_by step s (t ∷ tokens) = option_and_then (λ after. run_by step after tokens) (step s t)
-
-abbrev pub run : Reader → List Token → Option Reader
-run = run_by step
 
 abbrev pub expression_of : Reader → Expression
 expression_of s = record { requirements = s.requirements; tree = any_of (all_alternatives s.level) }

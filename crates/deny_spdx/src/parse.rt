@@ -1,5 +1,5 @@
 ghost use Rattle.deny_spdx.specs.Grammar.{IsExpression, IsRequirement};
-ghost use Rattle.deny_spdx.specs.Bad.{IsAnswer};
+ghost use Rattle.deny_spdx.specs.private.Bad.{IsAnswer};
 
 use crate::error::SpdxError;
 use crate::expression::Expression;

@@ -1,5 +1,5 @@
 ghost use Rattle.std.specs.Prelude.{MatchResult, IfOk};
-ghost use Rattle.deny_spdx.specs.Reading.{IsTurn, IsRead, Stops};
+ghost use Rattle.deny_spdx.specs.private.Reading.{IsTurn, IsRead, Stops};
 
 use crate::error::SpdxError;
 use crate::token::{Prefix, read_prefix, skip_blanks, split};

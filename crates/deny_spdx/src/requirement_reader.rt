@@ -1,5 +1,5 @@
 ghost use Rattle.std.specs.Prelude.{◌≡◌};
-ghost use Rattle.deny_spdx.specs.RequirementReader.{requirement_step, whole_requirement};
+ghost use Rattle.deny_spdx.specs.private.RequirementReader.{requirement_step, whole_requirement};
 
 use crate::requirement::Requirement;
 use crate::token::Token;

@@ -1,7 +1,7 @@
 ghost use Rattle.std.specs.Prelude.{◌≡◌, ◌<◌, ◌≤◌, ℕ, take, drop, length, slice_index, slice_get, IfOk};
 ghost use Rattle.std.specs.List.{prefix_len};
 ghost use Rattle.deny_spdx.specs.Tokens.{is_blank, is_word_byte, token_of};
-ghost use Rattle.deny_spdx.specs.Prefix.{HasPrefix, is_plus, mark_of};
+ghost use Rattle.deny_spdx.specs.private.Prefix.{HasPrefix, is_plus, mark_of};
 
 use deny_lists::{NoMemory, Text};
 use std::alloc::Global;
@@ -61,7 +61,7 @@ fn word(alloc: Global, text: &str) -> Result<Prefix, NoMemory>
 }
 
 /// What a text begins with whose first byte is in no word.
-#[tactic(auto, unfolding(crate::specs::Prefix::mark_of))]
+#[tactic(auto, unfolding(crate::specs::private::Prefix::mark_of))]
 fn mark(byte: u8) -> Prefix
     ensures { result ≡ mark_of byte }
 {

@@ -17,7 +17,9 @@ use Rattle.deny_lists.proofs.Indices.{slice_get-push_cases, slice_get-push_left,
 use Rattle.deny_lists.proofs.Indices.{slice_get-set_same}
 use Rattle.deny_lists.proofs.Indices.{slice_get-set_cases, slice_get-set_other}
 use Rattle.deny_spec_index.specs.declared.bucket.Named.{Named}
-use Rattle.deny_spec_index.specs.Bucket.{name_of, Ascend, IsNamedAt, IsGap, IsNumbered, IsExtended, numbered, inserted}
+use Rattle.deny_spec_index.specs.Bucket.{name_of, Ascend, IsNamedAt}
+use Rattle.deny_spec_index.specs.private.Bucket.{numbered, inserted}
+use Rattle.deny_spec_index.specs.private.Bucket.{IsGap, IsNumbered, IsExtended}
 use Rattle.deny_spec_index.specs.Hash.{hash_of}
 use Rattle.deny_spec_index.specs.Index.{IsEntry, IsBucket}
 use Rattle.deny_spec_index.specs.Names.{HasNumber, AreNumbers}

@@ -12,7 +12,8 @@ use Rattle.deny_lists.proofs.Orders.{text_cmp-exact}
 use Rattle.deny_lists.proofs.Sorted.{ascends_at}
 use Rattle.deny_lists.proofs.Options.{some_inj}
 use Rattle.deny_spec_index.specs.declared.bucket.Named.{Named}
-use Rattle.deny_spec_index.specs.Bucket.{name_of, Ascend, IsNamedAt, IsBetween, IsGap}
+use Rattle.deny_spec_index.specs.Bucket.{name_of, Ascend, IsNamedAt}
+use Rattle.deny_spec_index.specs.private.Bucket.{IsBetween, IsGap}
 
 pub between_all : (bucket : List Named) (name : List ℕ) → IsBetween bucket name 0 (length bucket)
 between_all bucket name = record {

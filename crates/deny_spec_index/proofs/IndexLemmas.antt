@@ -16,10 +16,12 @@ use Rattle.deny_lists.proofs.Sorted.{length-ascending}
 use Rattle.deny_lists.specs.Prefix.{IsPrefix}
 use Rattle.deny_lists.proofs.Options.{some_inj, none_is_no_some}
 use Rattle.deny_spec_index.specs.declared.bucket.Named.{Named}
-use Rattle.deny_spec_index.specs.Bucket.{name_of, IsNamedAt, IsGap, IsExtended}
+use Rattle.deny_spec_index.specs.Bucket.{name_of, IsNamedAt}
+use Rattle.deny_spec_index.specs.private.Bucket.{IsGap, IsExtended}
 use Rattle.deny_spec_index.specs.Hash.{hash_of}
-use Rattle.deny_spec_index.specs.Index.{bucket_at, IsBucket, IsIndexed, Extends, Stays, GivesNumbers, GivesFirst}
-use Rattle.deny_spec_index.specs.Index.{BoundsSteps}
+use Rattle.deny_spec_index.specs.Index.{bucket_at, IsBucket, IsIndexed}
+use Rattle.deny_spec_index.specs.private.Index.{Extends, Stays, GivesNumbers, GivesFirst}
+use Rattle.deny_spec_index.specs.private.Index.{BoundsSteps}
 use Rattle.deny_spec_index.specs.Names.{HasNumber, AreNumbers, HasNames}
 use Rattle.deny_spec_index.proofs.BucketLemmas.{ascend_none, bucket_kept, bucket_extended, gap_numbers}
 

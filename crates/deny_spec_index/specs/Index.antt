@@ -1,12 +1,12 @@
 -- Names by their hashes.
-use Rattle.std.specs.Prelude.{ℕ, ◌≡◌, ◌≢◌, List, [], Some, Contains, slice_get, unwrap_or}
+use Rattle.std.specs.Prelude.{ℕ, ◌≡◌, List, [], Some, Contains, slice_get, unwrap_or}
 use Rattle.std.specs.BTreeMap as tree
 use Rattle.std.specs.BTreeMap.{BTreeMap}
 use Rattle.std.specs.Ordering.{nat_cmp}
 use Rattle.deny_spec_index.specs.declared.bucket.Named.{Named}
-use Rattle.deny_spec_index.specs.Bucket.{Ascend, IsNamedAt, IsExtended}
+use Rattle.deny_spec_index.specs.Bucket.{Ascend, IsNamedAt}
 use Rattle.deny_spec_index.specs.Hash.{hash_of}
-use Rattle.deny_spec_index.specs.Names.{HasNumber, AreNumbers, AreFirstNumbers, KeepsBound}
+use Rattle.deny_spec_index.specs.Names.{HasNumber, AreNumbers}
 
 -- the names of a hash
 abbrev pub bucket_at : BTreeMap ℕ (List Named) → ℕ → List Named
@@ -27,25 +27,3 @@ pub record IsBucket (names : List (List ℕ)) (hash : ℕ) (bucket : List Named)
 
 abbrev pub IsIndexed : List (List ℕ) → (ℕ → List Named) → Type 0
 IsIndexed names buckets = (hash : ℕ) → IsBucket names hash (buckets hash)
-
--- the number has come to its name among those of its hash, and the others stay
-pub record Extends (old : ℕ → List Named) (name : List ℕ) (number : ℕ) (new : ℕ → List Named) : Type 0 where
-  pub own : IsExtended (old (hash_of name)) name number (new (hash_of name))
-  pub others : (hash : ℕ) → hash ≢ hash_of name → new hash ≡ old hash
-
-abbrev pub Stays : (ℕ → List Named) → (ℕ → List Named) → Type 0
-Stays old new = (hash : ℕ) → new hash ≡ old hash
-
--- the numbers are those of the name, whatever names the bucket is of; or they are the first of those
-abbrev pub GivesNumbers : List Named → List ℕ → List ℕ → Type 0
-GivesNumbers bucket name numbers = (names : List (List ℕ)) → IsBucket names (hash_of name) bucket
-    → AreNumbers names name numbers
-
-abbrev pub GivesFirst : List Named → List ℕ → List ℕ → Type 0
-GivesFirst bucket name numbers = (names : List (List ℕ)) → IsBucket names (hash_of name) bucket
-    → AreFirstNumbers names name numbers
-
--- that takes a comparison for each halving of the names, and a step for each number
-abbrev pub BoundsSteps : List Named → List ℕ → ℕ → ℕ → Type 0
-BoundsSteps bucket name old new = (names : List (List ℕ)) → IsBucket names (hash_of name) bucket
-    → KeepsBound names name old new

@@ -4,8 +4,9 @@ ghost use Rattle.std.specs.Prelude.{length, insert, OnOk, OnErr, IfOk, IfErr};
 ghost use Rattle.std.specs.Cmp.Lexicographic.{slice_cmp};
 ghost use Rattle.std.specs.Ordering.{nat_cmp};
 ghost use Rattle.deny_lists.specs.Prefix.{IsPrefix};
-ghost use Rattle.deny_spec_index.specs.Bucket.{Ascend, IsNamedAt, IsBetween, IsGap, IsHalved, IsNumbered, IsExtended};
-ghost use Rattle.deny_spec_index.specs.Index.{GivesNumbers, GivesFirst, BoundsSteps};
+ghost use Rattle.deny_spec_index.specs.Bucket.{Ascend, IsNamedAt};
+ghost use Rattle.deny_spec_index.specs.private.Bucket.{IsBetween, IsGap, IsHalved, IsNumbered, IsExtended};
+ghost use Rattle.deny_spec_index.specs.private.Index.{GivesNumbers, GivesFirst, BoundsSteps};
 
 use deny_lists::{List, NoMemory, Steps};
 use std::alloc::Global;

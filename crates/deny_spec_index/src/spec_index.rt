@@ -1,7 +1,8 @@
 ghost use Rattle.std.specs.Prelude.{ℕ, List, ◌≡◌, ◌↔◌, ◌<◌, ◌∷◌, ◌++◌, [], OnOk, OnErr, Contains, Some, slice_get};
 ghost use Rattle.std.specs.List.Sorted.{IsStrictlyIncreasing};
 ghost use Rattle.deny_spec_index.specs.Bucket.{Ascend};
-ghost use Rattle.deny_spec_index.specs.Index.{bucket_at, Extends, Stays};
+ghost use Rattle.deny_spec_index.specs.Index.{bucket_at};
+ghost use Rattle.deny_spec_index.specs.private.Index.{Extends, Stays};
 ghost use Rattle.deny_spec_index.specs.Names.{AreNumbers, AreFirstNumbers, KeepsBound};
 
 use crate::bucket::{Named, add_name, give_numbers};

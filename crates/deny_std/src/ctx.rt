@@ -9,7 +9,7 @@ ghost use Rattle.deny_std.specs.private.FirstWitnesses.{place_in, same_range};
 ghost use Rattle.deny_std.specs.private.Sorted.{passed_at, replaced_in, told_at};
 
 use crate::dependents::Asked;
-use crate::hits::{hits_of, unmatched_of};
+use crate::hits::{first_hits, unmatched_of};
 use crate::ignored::Ignored;
 use crate::places::are_placed;
 use crate::replaced::replaced_places;
@@ -86,7 +86,7 @@ fn found_in<'d>(
 {
     are_placed(krates);
     let sorted = sorted_in(alloc, cfg, krates, &table)?;
-    let hits = hits_of(alloc, krates, cfg.ignore.as_slice(), &sorted.passed)?;
+    let hits = first_hits(alloc, krates, cfg.ignore.as_slice(), &sorted.passed)?;
     let unmatched = unmatched_of(alloc, cfg.ignore.as_slice(), &sorted.passed)?;
     Ok(Replacements {
         table,

@@ -20,7 +20,7 @@ use deny_lists::{List, NoMemory, Text, put_records_in_order};
 use std::alloc::Global;
 
 /// The hit of each entry that passed a crate over, by the first.
-pub fn hits_of(
+pub fn first_hits(
     alloc: Global,
     krates: &Krates,
     entries: &[SpecAndReason],

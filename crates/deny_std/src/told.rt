@@ -83,7 +83,7 @@ pub fn tell_replaced(
 fn unmatched_pack(alloc: Global, entry: &Unmatched, id: FileId) -> Result<Pack, NoMemory>
     ensures { IfOk result (λ pack. pack ≡ unmatched_pack id entry.now) }
 {
-    let key = key_of(
+    let key = std_key(
         alloc,
         Section::Unused,
         Code::UnmatchedReplacementIgnore,
@@ -105,13 +105,13 @@ fn replaced_pack(
         (said_in table.now) place) }
 {
     let nowhere = Span { start: 0, end: 0 };
-    let key = key_of(alloc, Section::Std, Code::ReplacedInStd, place, nowhere);
+    let key = std_key(alloc, Section::Std, Code::ReplacedInStd, place, nowhere);
     let words = replaced_words(alloc, table, level, krates, place)?;
     pack_of(alloc, key, words)
 }
 
 #[tactic(auto, unfolding(deny_model::specs::Keys::key_of))]
-fn key_of(alloc: Global, section: Section, code: Code, place: u32, entry: Span) -> Key
+fn std_key(alloc: Global, section: Section, code: Code, place: u32, entry: Span) -> Key
     ensures { result ≡ key_of section code place entry 0 }
 {
     Key {

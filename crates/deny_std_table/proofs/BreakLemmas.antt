@@ -5,7 +5,8 @@ use Rattle.deny_std_table.specs.declared.error.ReplacementError.{ReplacementErro
 use Rattle.deny_std_table.specs.declared.error.ReplacementError.TheVariants.{Bad, Memory}
 use Rattle.deny_std_table.specs.declared.spans.TextSpan.{TextSpan}
 use Rattle.deny_std_table.specs.declared.spans.Read.{Read}
-use Rattle.deny_std_table.specs.Reading.{◌>>=◌, ◌>>◌, unless_bad, many, number}
+use Rattle.deny_lists.specs.Reader.{◌>>=◌}
+use Rattle.deny_std_table.specs.Reading.{◌>>◌, unless_bad, many, number}
 use Rattle.deny_std_table.specs.Region.{Bounds, byte, text, api, replacement, group_head, group, counts, counted_items}
 use Rattle.deny_std_table.specs.Region.{items}
 use Rattle.deny_std_table.specs.Head.{has_byte, header, version, count_of, offsets, is_offset, start_of}

@@ -10,13 +10,14 @@ use Rattle.deny_std_table.specs.declared.spans.Counts.{Counts}
 use Rattle.deny_std_table.specs.declared.spans.GroupHead.{GroupHead}
 use Rattle.deny_std_table.specs.declared.draft.Draft.{Draft}
 use Rattle.deny_std_table.specs.Spans.{contents}
-use Rattle.deny_std_table.specs.Reading.{read, many, next_of}
+use Rattle.deny_std_table.specs.Reading.{read, many}
+use Rattle.deny_std_table.specs.private.Reading.{next_of}
 use Rattle.deny_std_table.specs.Region.{Bounds, Group, Items, text, api, replacement, group_head, group, counts}
 use Rattle.deny_std_table.specs.Region.{counted_items, items}
 use Rattle.deny_std_table.specs.Entries.{Entry, entry}
 use Rattle.deny_std_table.specs.Spelling.{api_text, replacement_text, group_text, items_text, entry_text, text_bytes}
 use Rattle.deny_std_table.specs.Spelling.{api_bytes, replacement_bytes, group_bytes, items_bytes, entry_bytes}
-use Rattle.deny_std_table.specs.Draft.{Writes}
+use Rattle.deny_std_table.specs.private.Draft.{Writes}
 use Rattle.deny_std_table.proofs.LayoutLemmas.{bind-ok, many-sound}
 use Rattle.deny_std_table.proofs.DraftLemmas.{writes-then, writes-same}
 

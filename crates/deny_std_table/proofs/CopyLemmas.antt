@@ -5,8 +5,9 @@ use Rattle.std.specs.Prelude.{flat_map}
 use Rattle.deny_std_table.specs.declared.error.ReplacementError.{ReplacementError}
 use Rattle.deny_std_table.specs.declared.spans.Read.{Read}
 use Rattle.deny_std_table.specs.declared.draft.Draft.{Draft}
-use Rattle.deny_std_table.specs.Reading.{read, many, next_of}
-use Rattle.deny_std_table.specs.Draft.{Writes}
+use Rattle.deny_std_table.specs.Reading.{read, many}
+use Rattle.deny_std_table.specs.private.Reading.{next_of}
+use Rattle.deny_std_table.specs.private.Draft.{Writes}
 use Rattle.deny_std_table.proofs.LayoutLemmas.{bind-ok}
 use Rattle.deny_std_table.proofs.ReadingLemmas.{next_of-many_more, next_of-many_break, next_of-many_none}
 use Rattle.deny_std_table.proofs.DraftLemmas.{writes-none, writes-then, writes-same}

@@ -1,6 +1,6 @@
 -- On the items that are still to come.
 use Rattle.std.proofs.Common.{◌≡◌, ℕ, zero, suc, ◌-◌, ◌<◌, List, [], ◌∷◌, ◌++◌, map, Result, Ok, refl, sym, ap, ◌∙◌}
-use Rattle.std.proofs.Common.{arith, subst, append_assoc}
+use Rattle.std.proofs.Common.{arith, subst, subst₂, append_assoc}
 use Rattle.std.specs.Prelude.{flat_map}
 use Rattle.deny_std_table.specs.declared.error.ReplacementError.{ReplacementError}
 use Rattle.deny_std_table.specs.declared.spans.ApiSpans.{ApiSpans}
@@ -15,6 +15,7 @@ use Rattle.deny_std_table.specs.Region.{Bounds, Group, Items, api, replacement, 
 use Rattle.deny_std_table.specs.Item.{group_items, items_of}
 use Rattle.deny_std_table.specs.Cursor.{coming}
 use Rattle.deny_std_table.proofs.LayoutLemmas.{bind-ok}
+use Rattle.deny_lists.proofs.Equalities.{subst₃}
 
 -- a reading of several, the first of which is there: the first and the others
 many-first : {A : Type 0} (reader : ℕ → Result (Read A) ReplacementError) (left at : ℕ) (all : Read (List A))
@@ -335,21 +336,14 @@ unavailable_gives b minor stable counts at items none groups unstable some is =
     let e : counts.unavailable ≡ suc (counts.unavailable - 1) = omega arith in
     let whole : coming b minor 0 (record { groups = 0; unstable = 0; unavailable = suc (counts.unavailable - 1) }) at
     ≡ Ok items =
-    subst (λ n. coming b minor 0 (record { groups = 0; unstable = 0; unavailable = n }) at ≡ Ok items) e
-    (subst (λ c. coming b minor 0 c at ≡ Ok items) (counts_are counts 0 0 counts.unavailable groups unstable refl)
-    (subst (λ n. coming b minor n counts at ≡ Ok items) none is)) in
+    subst₂ (λ (n : ℕ) (c : Counts). coming b minor n c at ≡ Ok items) none
+    (counts_are counts 0 0 (suc (counts.unavailable - 1)) groups unstable e) is in
     let step = unavailable_step b minor (counts.unavailable - 1) at items (coming-parts b minor 0 _ at items whole) in (
       step.0,
       step.1,
-      subst (λ n. IsStep b minor n (record counts { unavailable = counts.unavailable - 1 }) step.0.next items
-          (Unavailable step.0.value)) (sym none)
-          (subst (λ g. IsStep b minor 0
-          (record { groups = g; unstable = counts.unstable; unavailable = counts.unavailable - 1 }) step.0.next
-          items (Unavailable step.0.value))
-          (sym groups)
-          (subst (λ u. IsStep b minor 0 (record { groups = 0; unstable = u; unavailable = counts.unavailable - 1 })
-          step.0.next items (Unavailable step.0.value))
-          (sym unstable) step.2)),
+      subst₃ (λ (n g u : ℕ). IsStep b minor n
+          (record { groups = g; unstable = u; unavailable = counts.unavailable - 1 }) step.0.next items
+          (Unavailable step.0.value)) (sym none) (sym groups) (sym unstable) step.2,
     )
 
 pub group_gives : (b : Bounds) (minor stable : ℕ) (counts : Counts) (at : ℕ) (items : List ItemSpans) → stable ≡ 0

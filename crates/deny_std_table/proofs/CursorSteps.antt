@@ -12,11 +12,12 @@ use Rattle.deny_std_table.specs.declared.spans.ItemSpans.TheVariants.{Stable, Un
 use Rattle.deny_std_table.specs.declared.spans.GroupHead.{GroupHead}
 use Rattle.deny_std_table.specs.declared.spans.Read.{Read}
 use Rattle.deny_std_table.specs.declared.cursor.Cursor.{Cursor}
-use Rattle.deny_std_table.specs.Spans.{IsTextIn, IsApiIn, IsReplacementIn, IsItemIn}
+use Rattle.deny_std_table.specs.private.Spans.{IsTextIn, IsApiIn, IsReplacementIn, IsItemIn}
 use Rattle.deny_std_table.specs.Width.{width_of}
-use Rattle.deny_std_table.specs.Region.{Bounds, bounds, api, replacement, group_head, note_of}
+use Rattle.deny_std_table.specs.Region.{Bounds, bounds, api, replacement, group_head, nonempty_note}
 use Rattle.deny_std_table.specs.Layout.{IsText, IsApi}
-use Rattle.deny_std_table.specs.Cursor.{coming, coming_of, left_of, Gives, Ends}
+use Rattle.deny_std_table.specs.Cursor.{coming, coming_of, left_of}
+use Rattle.deny_std_table.specs.private.Cursor.{GivesItem, Ends}
 use Rattle.deny_std_table.proofs.LayoutLemmas.{api-sound, replacement-sound, group_head-sound}
 use Rattle.deny_std_table.proofs.CursorLemmas.{ok-is, counts_are, none_left, IsStep, stable_gives, unstable_gives}
 use Rattle.deny_std_table.proofs.CursorLemmas.{unavailable_gives, group_gives}
@@ -37,11 +38,11 @@ api-in b at spans next within is = record {
 
 note-in : (b : Bounds) (at : ℕ) (span : TextSpan) (next : ℕ) (said : Option TextSpan) → b.stop ≤ length b.bytes
     → IsText b at span next
-    → said ≡ note_of span → (t : TextSpan) → said ≡ Some t → IsTextIn b.bytes t
+    → said ≡ nonempty_note span → (t : TextSpan) → said ≡ Some t → IsTextIn b.bytes t
 note-in b at span next said within is noted t some = picked span (text-in b at span next within is) t (sym noted
     ∙ some)
   where
-    picked : (p : TextSpan) → IsTextIn b.bytes p → (t : TextSpan) → note_of p ≡ Some t → IsTextIn b.bytes t
+    picked : (p : TextSpan) → IsTextIn b.bytes p → (t : TextSpan) → nonempty_note p ≡ Some t → IsTextIn b.bytes t
     picked p here t is_t = grind arith
 
 pub replacement-in : (b : Bounds) (at : ℕ) (r : Read ReplacementSpans) → b.stop ≤ length b.bytes
@@ -68,7 +69,7 @@ left-is r x other is = sym (ap (λ t. result_unwrap_or t other) is)
 gives : (old new : Cursor) (spans : ItemSpans) → new.region ≡ old.region
     → IsStep (bounds (width_of new.region.width) new.region.bytes.now new.region.stop) new.minor new.stable new.counts
     new.at (left_of old) spans
-    → IsItemIn old.region.bytes.now spans → Gives old new spans
+    → IsItemIn old.region.bytes.now spans → GivesItem old new spans
 gives old new spans same step texts =
     let rest_is : step.rest ≡ left_of new = left-is (coming_of new) step.rest [] step.reads in
     record {
@@ -80,7 +81,7 @@ gives old new spans same step texts =
 
 pub stable_answer : (old : Cursor) (got : Read ReplacementSpans) → 0 < old.stable → coming_of old ≡ Ok (left_of old)
     → replacement (bounds (width_of old.region.width) old.region.bytes.now old.region.stop) old.at ≡ Ok got
-    → Gives old (record old { at = got.next; stable = old.stable - 1 }) (Stable got.value old.minor)
+    → GivesItem old (record old { at = got.next; stable = old.stable - 1 }) (Stable got.value old.minor)
 stable_answer old got some reads is =
     let b = bounds (width_of old.region.width) old.region.bytes.now old.region.stop in
     let step = stable_gives b old.minor old.stable old.counts old.at (left_of old) some reads in
@@ -94,7 +95,7 @@ pub unstable_answer : (old : Cursor) (got : Read ReplacementSpans) → old.stabl
     → 0 < old.counts.unstable
     → coming_of old ≡ Ok (left_of old)
     → replacement (bounds (width_of old.region.width) old.region.bytes.now old.region.stop) old.at ≡ Ok got
-    → Gives old (record old { at = got.next; counts = record old.counts { unstable = old.counts.unstable - 1 } })
+    → GivesItem old (record old { at = got.next; counts = record old.counts { unstable = old.counts.unstable - 1 } })
     (Unstable got.value)
 unstable_answer old got none groups some reads is =
     let b = bounds (width_of old.region.width) old.region.bytes.now old.region.stop in
@@ -110,7 +111,8 @@ pub unavailable_answer : (old : Cursor) (got : Read ApiSpans) → old.stable ≡
     → old.counts.unstable ≡ 0
     → 0 < old.counts.unavailable → coming_of old ≡ Ok (left_of old)
     → api (bounds (width_of old.region.width) old.region.bytes.now old.region.stop) old.at ≡ Ok got
-    → Gives old (record old { at = got.next; counts = record old.counts { unavailable = old.counts.unavailable - 1 } })
+    → GivesItem old
+    (record old { at = got.next; counts = record old.counts { unavailable = old.counts.unavailable - 1 } })
     (Unavailable got.value)
 unavailable_answer old got none groups unstable some reads is =
     let b = bounds (width_of old.region.width) old.region.bytes.now old.region.stop in

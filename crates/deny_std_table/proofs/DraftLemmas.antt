@@ -2,7 +2,7 @@
 use Rattle.std.proofs.Common.{◌≡◌, ℕ, List, [], ◌++◌, sym, subst, append_assoc, append-nil}
 use Rattle.deny_std_table.specs.declared.draft.Draft.{Draft}
 use Rattle.deny_std_table.specs.Spelling.{text_bytes}
-use Rattle.deny_std_table.specs.Draft.{IsDraft, Writes}
+use Rattle.deny_std_table.specs.private.Draft.{IsDraft, Writes}
 
 -- nothing was written yet
 pub writes-none : (d : Draft) → Writes d d []

@@ -16,7 +16,7 @@ use Rattle.deny_std_table.specs.Region.{Items, bounds}
 use Rattle.deny_std_table.specs.Head.{start_of, HasOffsets}
 use Rattle.deny_std_table.specs.Entries.{Entry, stop_of, bounds_of, entry}
 use Rattle.deny_std_table.specs.Layout.{IsEntry}
-use Rattle.deny_std_table.specs.Names.{name_span, name_at, HasNames}
+use Rattle.deny_std_table.specs.private.Names.{name_span, name_at, HasNames}
 use Rattle.deny_std_table.specs.Table.{Table, IsRead, read_entries, entry_named, items_in}
 use Rattle.deny_std_table.specs.Replacement.{EntryItems}
 use Rattle.deny_lists.proofs.Members.{some_at}

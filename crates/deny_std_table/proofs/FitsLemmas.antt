@@ -14,7 +14,7 @@ use Rattle.deny_std_table.specs.declared.spans.ApiSpans.{ApiSpans}
 use Rattle.deny_std_table.specs.declared.spans.ReplacementSpans.{ReplacementSpans}
 use Rattle.deny_std_table.specs.Spans.{contents}
 use Rattle.deny_std_table.specs.Reading.{number}
-use Rattle.deny_std_table.specs.Region.{Bounds, Group, Items, note_of}
+use Rattle.deny_std_table.specs.Region.{Bounds, Group, Items, nonempty_note}
 use Rattle.deny_std_table.specs.Head.{start_of}
 use Rattle.deny_std_table.specs.Entries.{Entry, bounds_of}
 use Rattle.deny_std_table.specs.Layout.{IsText, IsApi, IsReplacement, IsRow, ended, more, IsGroup, IsItems, IsEntry}
@@ -63,7 +63,7 @@ api-fits b at next spans sound is = record {
 }
 
 note-fits : (b : Bounds) (at next : ℕ) (span : TextSpan) → IsSound b → IsText b at span next
-    → (n : List ℕ) → option_map (contents b.bytes) (note_of span) ≡ Some n → TextFits n × (0 < length n)
+    → (n : List ℕ) → option_map (contents b.bytes) (nonempty_note span) ≡ Some n → TextFits n × (0 < length n)
 note-fits b at next span sound is n some =
     let fits = text-fits b at next span sound is in
     let within = sound.within in

@@ -14,8 +14,9 @@ use Rattle.deny_std_table.specs.declared.spans.GroupHead.{GroupHead}
 use Rattle.deny_std_table.specs.declared.spans.Counts.{Counts}
 use Rattle.deny_std_table.specs.declared.spans.Read.{Read}
 use Rattle.deny_std_table.specs.Spans.{contents}
-use Rattle.deny_std_table.specs.Reading.{◌>>=◌, ◌>>◌, unless_bad, read, number, many}
-use Rattle.deny_std_table.specs.Region.{Bounds, Group, Items, note_of, text_span, byte, text, api, replacement}
+use Rattle.deny_lists.specs.Reader.{◌>>=◌}
+use Rattle.deny_std_table.specs.Reading.{◌>>◌, unless_bad, read, number, many}
+use Rattle.deny_std_table.specs.Region.{Bounds, Group, Items, nonempty_note, text_span, byte, text, api, replacement}
 use Rattle.deny_std_table.specs.Region.{group_head, group, counts, counted_items, items}
 use Rattle.deny_std_table.specs.Layout.{IsByte, IsText, IsApi, IsReplacement, IsRow, ended, more, IsGroup, IsItems}
 
@@ -90,7 +91,7 @@ replacement-sound b at r is =
     let krate = bind-ok (api b at) _ r is in
     let std = bind-ok (api b krate.0.next) _ r krate.2 in
     let note = bind-ok (text b std.0.next) _ r std.2 in
-    let same : read (record { krate = krate.0.value; std = std.0.value; note = note_of note.0.value }) note.0.next
+    let same : read (record { krate = krate.0.value; std = std.0.value; note = nonempty_note note.0.value }) note.0.next
     ≡ r = cc in
     subst (λ t. IsReplacement b at t.value t.next) same (record {
       after_krate = krate.0.next;

@@ -9,7 +9,7 @@ use Rattle.std.proofs.lemmas.Slice.Eq.{bytes_eq-Decides}
 use Rattle.std.specs.Cmp.Lexicographic.{slice_cmp, nat_list_cmp_total}
 use Rattle.std.specs.Ordering.{nat_cmp, ordering_reverse, is_eq}
 use Rattle.std.specs.declared.cmp.Ordering.TheVariants.{Less, Equal, Greater}
-use Rattle.deny_std_table.specs.Names.{name_at, HasNames}
+use Rattle.deny_std_table.specs.private.Names.{name_at, HasNames}
 
 -- a later name is above an earlier one
 rising_by : (names : ℕ → List ℕ) (count : ℕ)

@@ -2,7 +2,9 @@
 use Rattle.std.proofs.Common.{◌≡◌, ℕ, suc, ◌+◌, Result, Ok, Err, refl, sym, ap, ◌∙◌, arith, subst}
 use Rattle.deny_std_table.specs.declared.error.ReplacementError.{ReplacementError}
 use Rattle.deny_std_table.specs.declared.spans.Read.{Read}
-use Rattle.deny_std_table.specs.Reading.{◌>>=◌, read, many, next_of}
+use Rattle.deny_lists.specs.Reader.{◌>>=◌}
+use Rattle.deny_std_table.specs.Reading.{read, many}
+use Rattle.deny_std_table.specs.private.Reading.{next_of}
 
 -- a last step that reads nothing moves nothing
 pub next_of-last : {A B : Type 0} (r : Result (Read A) ReplacementError) (f : Read A → B)

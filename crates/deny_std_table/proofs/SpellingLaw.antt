@@ -11,7 +11,7 @@ use Rattle.std.proofs.lemmas.Str.{IsUtf8-nil}
 use Rattle.deny_std_table.specs.declared.spans.TextSpan.{TextSpan}
 use Rattle.deny_std_table.specs.Spans.{contents}
 use Rattle.deny_std_table.specs.Reading.{number}
-use Rattle.deny_std_table.specs.Region.{Bounds, note_of}
+use Rattle.deny_std_table.specs.Region.{Bounds, nonempty_note}
 use Rattle.deny_std_table.specs.Entries.{Entry}
 use Rattle.deny_std_table.specs.Layout.{IsByte, IsText, IsApi, IsReplacement, IsRow, ended, more, IsGroup, IsItems}
 use Rattle.deny_std_table.specs.Layout.{IsEntry}
@@ -148,7 +148,7 @@ pub record ReplacementFits (r : ReplacementText) : Type 0 where
 record NoteThere (b : Bounds) (at : ℕ) (note : Option (List ℕ)) : Type 0 where
   pub span : TextSpan
   pub layout : IsText b at span (at + length (note_bytes note))
-  pub says : option_map (contents b.bytes) (note_of span) ≡ note
+  pub says : option_map (contents b.bytes) (nonempty_note span) ≡ note
 
 note-there : (b : Bounds) (at : ℕ) (note : Option (List ℕ)) → b.width ≡ 2
     → ((n : List ℕ) → note ≡ Some n → TextFits n × (0 < length n)) → Stands b at (note_bytes note) → NoteThere b at note
@@ -160,7 +160,7 @@ note-there b at None wide fits is =
       says = no_note one.it one.layout;
     }
   where
-    no_note : (span : TextSpan) → IsText b at span (at + 2) → option_map (contents b.bytes) (note_of span) ≡ None
+    no_note : (span : TextSpan) → IsText b at span (at + 2) → option_map (contents b.bytes) (nonempty_note span) ≡ None
     no_note span layout =
         let ends = layout.after in
         let begins = layout.after_length in
@@ -175,7 +175,7 @@ note-there b at (Some n) wide fits is =
     }
   where
     some_note : (span : TextSpan) → IsText b at span (at + length (text_bytes n)) → contents b.bytes span ≡ n
-        → option_map (contents b.bytes) (note_of span) ≡ Some n
+        → option_map (contents b.bytes) (nonempty_note span) ≡ Some n
     some_note span layout says =
         let ends = layout.after in
         let begins = layout.after_length in
@@ -201,7 +201,7 @@ replacement-there b at r wide fits is =
     let all = length-append (api_bytes r.krate) (api_bytes r.std ++ note_bytes r.note) in
     let some = length-append (api_bytes r.std) (note_bytes r.note) in
     there-to (IsReplacement b) (replacement_text b.bytes) at _ _ r (omega arith) (record {
-      it = record { krate = krate.it; std = std.it; note = note_of note.span };
+      it = record { krate = krate.it; std = std.it; note = nonempty_note note.span };
       layout = record {
         after_krate = after_krate;
         after_std = after_std;

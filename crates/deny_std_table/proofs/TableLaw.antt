@@ -15,7 +15,8 @@ use Rattle.deny_std_table.specs.declared.error.ReplacementError.{ReplacementErro
 use Rattle.deny_std_table.specs.declared.error.ReplacementError.TheVariants.{Bad}
 use Rattle.deny_std_table.specs.declared.spans.TextSpan.{TextSpan}
 use Rattle.deny_std_table.specs.Spans.{contents}
-use Rattle.deny_std_table.specs.Reading.{◌>>=◌, ◌>>◌, number}
+use Rattle.deny_lists.specs.Reader.{◌>>=◌}
+use Rattle.deny_std_table.specs.Reading.{◌>>◌, number}
 use Rattle.deny_std_table.specs.Region.{Bounds, text, items}
 use Rattle.deny_std_table.specs.Head.{header, version, has_byte, count_of, start_of, is_offset, IsOffset, HasOffsets}
 use Rattle.deny_std_table.specs.Head.{offsets}

@@ -8,10 +8,13 @@ use Rattle.std.proofs.lemmas.Bool.{ltb-true}
 use Rattle.std.proofs.lemmas.Bool.Decides.{nat_tests}
 use Rattle.deny_std_table.specs.declared.error.ReplacementError.{ReplacementError}
 use Rattle.deny_std_table.specs.declared.spans.TextSpan.{TextSpan}
-use Rattle.deny_std_table.specs.Reading.{◌>>=◌, ◌>>◌, unless_bad, done_of}
+use Rattle.deny_lists.specs.Reader.{◌>>=◌}
+use Rattle.deny_std_table.specs.Reading.{◌>>◌, unless_bad}
+use Rattle.deny_std_table.specs.private.Reading.{done_of}
 use Rattle.deny_std_table.specs.Region.{bounds}
 use Rattle.deny_std_table.specs.Head.{start_of, is_offset, IsOffset, HasOffsets, offsets, header, count_of}
-use Rattle.deny_std_table.specs.Entries.{stop_of, Entry, entry, name_of, bounds_of, entries}
+use Rattle.deny_std_table.specs.Entries.{stop_of, Entry, entry, bounds_of, entries}
+use Rattle.deny_std_table.specs.private.Entries.{name_of}
 use Rattle.deny_std_table.specs.Table.{table, IsRead}
 
 -- a test that breaks nothing holds

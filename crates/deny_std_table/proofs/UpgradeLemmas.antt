@@ -15,7 +15,7 @@ use Rattle.deny_std_table.specs.Region.{bounds}
 use Rattle.deny_std_table.specs.Table.{IsRead, read_entries}
 use Rattle.deny_std_table.specs.Spelling.{EntryText, entry_text, texts_of, number_bytes, entry_bytes, offset_bytes}
 use Rattle.deny_std_table.specs.Spelling.{table_bytes}
-use Rattle.deny_std_table.specs.Draft.{IsDraft, Writes}
+use Rattle.deny_std_table.specs.private.Draft.{IsDraft, Writes}
 use Rattle.deny_std_table.proofs.EntryLemmas.{named, all-entries, opened}
 
 -- the mark, the version and the number of entries

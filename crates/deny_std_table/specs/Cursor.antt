@@ -1,15 +1,15 @@
 -- The items of an entry that are still to come.
-use Rattle.std.specs.Prelude.{◌≡◌, ℕ, List, [], ◌∷◌, ◌++◌, map, Result, Ok}
+use Rattle.std.specs.Prelude.{ℕ, List, [], ◌++◌, map, Result, Ok}
 use Rattle.std.specs.Result.{result_unwrap_or}
 use Rattle.deny_std_table.specs.declared.error.ReplacementError.{ReplacementError}
 use Rattle.deny_std_table.specs.declared.spans.ItemSpans.{ItemSpans}
 use Rattle.deny_std_table.specs.declared.spans.ItemSpans.TheVariants.{Stable}
 use Rattle.deny_std_table.specs.declared.spans.Counts.{Counts}
-use Rattle.deny_std_table.specs.Reading.{◌>>=◌, many}
+use Rattle.deny_lists.specs.Reader.{◌>>=◌}
+use Rattle.deny_std_table.specs.Reading.{many}
 use Rattle.deny_std_table.specs.declared.cursor.Cursor.{Cursor}
 use Rattle.deny_std_table.specs.Width.{width_of}
 use Rattle.deny_std_table.specs.Region.{Bounds, bounds, replacement, counted_items}
-use Rattle.deny_std_table.specs.Spans.{IsItemIn}
 use Rattle.deny_std_table.specs.Item.{items_of}
 
 -- The items from an offset on, in a group of this minor version with so many replacements left, and
@@ -26,17 +26,3 @@ coming_of c = coming (bounds (width_of c.region.width) c.region.bytes.now c.regi
 
 abbrev pub left_of : Cursor → List ItemSpans
 left_of c = result_unwrap_or (coming_of c) []
-
--- One item was given: the first of those to come, and the others come after it.
-pub record Gives (old new : Cursor) (spans : ItemSpans) : Type 0 where
-  pub same : new.region ≡ old.region
-  pub reads : coming_of new ≡ Ok (left_of new)
-  pub item : left_of old ≡ spans ∷ left_of new
-  pub texts : IsItemIn old.region.bytes.now spans
-
--- No item is left, now and later.
-pub record Ends (old new : Cursor) : Type 0 where
-  pub same : new.region ≡ old.region
-  pub reads : coming_of new ≡ Ok (left_of new)
-  pub before : left_of old ≡ []
-  pub after : left_of new ≡ []

@@ -1,12 +1,13 @@
 -- The entries of a table, in the order in which they are tested.
 use Rattle.std.specs.Prelude.{ℕ, zero, suc, ◌+◌, Bool, true, nat_lt, List, [], ◌∷◌, length, Option, Some, None, Result}
-use Rattle.std.specs.Prelude.{Ok, Err, if◌then◌else◌}
+use Rattle.std.specs.Prelude.{Ok, if◌then◌else◌}
 use Rattle.std.specs.Cmp.Lexicographic.{slice_cmp}
 use Rattle.std.specs.Ordering.{nat_cmp, is_lt}
 use Rattle.deny_std_table.specs.declared.error.ReplacementError.{ReplacementError}
 use Rattle.deny_std_table.specs.declared.spans.TextSpan.{TextSpan}
 use Rattle.deny_std_table.specs.Spans.{contents}
-use Rattle.deny_std_table.specs.Reading.{◌>>=◌, ◌>>◌, unless_bad}
+use Rattle.deny_lists.specs.Reader.{◌>>=◌}
+use Rattle.deny_std_table.specs.Reading.{◌>>◌, unless_bad}
 use Rattle.deny_std_table.specs.Region.{Bounds, Items, text, items}
 use Rattle.deny_std_table.specs.Head.{start_of}
 
@@ -27,11 +28,6 @@ entry b before start = do
   unless_bad (is_above b.bytes before name.value) start
   rest ← items b name.next
   Ok (record { name = name.value; items = rest.value })
-
--- its name, or its break
-abbrev pub name_of : Result Entry ReplacementError → Result TextSpan ReplacementError
-name_of (Ok e) = Ok e.name
-name_of (Err e) = Err e
 
 -- the offset where it ends: where the next one begins, or the end of the bytes
 unfoldable pub stop_of : List ℕ → ℕ → ℕ → ℕ

@@ -9,7 +9,7 @@ use Rattle.deny_std_table.specs.declared.spans.ApiSpans.{ApiSpans}
 use Rattle.deny_std_table.specs.declared.spans.ReplacementSpans.{ReplacementSpans}
 use Rattle.deny_std_table.specs.Spans.{contents}
 use Rattle.deny_std_table.specs.Reading.{number}
-use Rattle.deny_std_table.specs.Region.{Bounds, Group, Items, note_of}
+use Rattle.deny_std_table.specs.Region.{Bounds, Group, Items, nonempty_note}
 use Rattle.deny_std_table.specs.Head.{HasOffsets, start_of}
 use Rattle.deny_std_table.specs.Entries.{Entry, bounds_of}
 
@@ -41,7 +41,7 @@ pub record IsReplacement (b : Bounds) (at : ℕ) (spans : ReplacementSpans) (nex
   pub krate : IsApi b at spans.krate after_krate
   pub std : IsApi b after_krate spans.std after_std
   pub note_text : IsText b after_std note_span next
-  pub note : spans.note ≡ note_of note_span
+  pub note : spans.note ≡ nonempty_note note_span
 
 -- Several of a kind, one right after the other.
 pub data IsRow {A : Type 0} (IsOne : ℕ → A → ℕ → Type 0) : ℕ → List A → ℕ → Type 0 where

@@ -3,7 +3,6 @@ pub mod Entries
 pub mod Head
 pub mod Item
 pub mod Layout
-pub mod Names
 pub mod Reading
 pub mod Region
 pub mod Replacement
@@ -12,4 +11,4 @@ pub mod Spelling
 pub mod Table
 pub mod Width
 pub mod Texts
-pub mod Draft
+pub mod private

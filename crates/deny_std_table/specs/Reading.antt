@@ -1,21 +1,15 @@
 -- How the bytes of a table are read: each reader starts at an offset, and answers what stands there
 -- with the offset right after it, or the first break.
 use Rattle.std.specs.Prelude.{ℕ, zero, suc, ◌+◌, ◌*◌, Bool, Result, Ok, Err, List, [], ◌∷◌, slice_index, if◌then◌else◌}
+use Rattle.deny_lists.specs.Reader.{◌>>=◌}
 use Rattle.deny_std_table.specs.declared.error.ReplacementError.{ReplacementError}
 use Rattle.deny_std_table.specs.declared.error.ReplacementError.TheVariants.{Bad}
 use Rattle.deny_std_table.specs.declared.spans.Read.{Read}
 
-infixl 10 ◌>>=◌
--- the first break ends the reading
-abbrev pub ◌>>=◌ : {A B : Type 0} → Result A ReplacementError → (A → Result B ReplacementError)
-    → Result B ReplacementError
-Ok x >>= rest = rest x
-Err e >>= rest = Err e
-
+-- the same where the first step gives nothing that the second needs
 infixl 10 ◌>>◌
 abbrev pub ◌>>◌ : {A B : Type 0} → Result A ReplacementError → Result B ReplacementError → Result B ReplacementError
-Ok x >> rest = rest
-Err e >> rest = Err e
+first >> rest = first >>= (λ _. rest)
 
 -- the bytes break at this offset unless the test holds
 abbrev pub unless_bad : Bool → ℕ → Result (Unit {0}) ReplacementError
@@ -37,13 +31,3 @@ many reader (suc count) at = do
   first ← reader at
   others ← many reader count first.next
   Ok (read (first.value ∷ others.value) others.next)
-
--- where a reading stops, or its break
-abbrev pub next_of : {A : Type 0} → Result (Read A) ReplacementError → Result ℕ ReplacementError
-next_of (Ok given) = Ok given.next
-next_of (Err e) = Err e
-
--- whether a reading breaks, and where
-abbrev pub done_of : {A : Type 0} → Result A ReplacementError → Result (Unit {0}) ReplacementError
-done_of (Ok given) = Ok tt
-done_of (Err e) = Err e

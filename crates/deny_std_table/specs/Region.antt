@@ -12,7 +12,8 @@ use Rattle.deny_std_table.specs.declared.spans.Counts.{Counts}
 use Rattle.deny_std_table.specs.declared.spans.GroupHead.{GroupHead}
 use Rattle.deny_std_table.specs.declared.spans.Read.{Read}
 use Rattle.deny_std_table.specs.Spans.{contents}
-use Rattle.deny_std_table.specs.Reading.{◌>>=◌, ◌>>◌, unless_bad, read, number, many}
+use Rattle.deny_lists.specs.Reader.{◌>>=◌}
+use Rattle.deny_std_table.specs.Reading.{◌>>◌, unless_bad, read, number, many}
 
 -- The bytes of a table, the offset where the entry at hand ends, and how many bytes a text's length has.
 pub record Bounds : Type 0 where
@@ -48,8 +49,8 @@ api b at = do
   Ok (read (record { name = name.value; url = url.value }) url.next)
 
 -- an empty note is none
-abbrev pub note_of : TextSpan → Option TextSpan
-note_of span = if span.size == 0 then None else Some span
+abbrev pub nonempty_note : TextSpan → Option TextSpan
+nonempty_note span = if span.size == 0 then None else Some span
 
 -- a replacement: the API of the crate, the API of std, a note
 unfoldable pub replacement : Bounds → ℕ → Result (Read ReplacementSpans) ReplacementError
@@ -57,7 +58,7 @@ replacement b at = do
   krate ← api b at
   std ← api b krate.next
   note ← text b std.next
-  Ok (read (record { krate = krate.value; std = std.value; note = note_of note.value }) note.next)
+  Ok (read (record { krate = krate.value; std = std.value; note = nonempty_note note.value }) note.next)
 
 -- Replacements that are stable since one minor version.
 pub record Group : Type 0 where

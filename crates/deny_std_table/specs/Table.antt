@@ -3,7 +3,8 @@ use Rattle.std.specs.Prelude.{◌≡◌, ℕ, List, [], Option, None, Result, Ok
 use Rattle.std.specs.Result.{result_unwrap_or}
 use Rattle.deny_std_table.specs.declared.error.ReplacementError.{ReplacementError}
 use Rattle.deny_std_table.specs.Spans.{contents}
-use Rattle.deny_std_table.specs.Reading.{◌>>=◌, ◌>>◌}
+use Rattle.deny_lists.specs.Reader.{◌>>=◌}
+use Rattle.deny_std_table.specs.Reading.{◌>>◌}
 use Rattle.deny_std_table.specs.Head.{header, count_of, HasOffsets, offsets}
 use Rattle.deny_std_table.specs.Entries.{Entry, entries}
 use Rattle.deny_std_table.specs.Replacement.{EntryItems}

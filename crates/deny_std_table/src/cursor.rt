@@ -1,7 +1,8 @@
 //! A point between two items of an entry.
 
 ghost use Rattle.std.specs.Prelude.{◌≡◌, ◌<◌, Ok, MatchOption};
-ghost use Rattle.deny_std_table.specs.Cursor.{coming_of, left_of, Gives, Ends};
+ghost use Rattle.deny_std_table.specs.Cursor.{coming_of, left_of};
+ghost use Rattle.deny_std_table.specs.private.Cursor.{GivesItem, Ends};
 
 use crate::region::Region;
 use crate::spans::{Counts, ItemSpans};
@@ -22,7 +23,7 @@ impl<'d> Cursor<'d> {
     fn next_stable(&mut self) -> ItemSpans
         requires some { 0 < self.old.stable }
         requires reads { coming_of self.old ≡ Ok (left_of self.old) }
-        ensures { Gives self.old self.new result }
+        ensures { GivesItem self.old self.new result }
     {
         let read = self.region.replacement(self.at).unwrap();
         self.at = read.next;
@@ -39,7 +40,7 @@ impl<'d> Cursor<'d> {
         requires groups { self.old.counts.groups ≡ 0 }
         requires some { 0 < self.old.counts.unstable }
         requires reads { coming_of self.old ≡ Ok (left_of self.old) }
-        ensures { Gives self.old self.new result }
+        ensures { GivesItem self.old self.new result }
     {
         let read = self.region.replacement(self.at).unwrap();
         self.at = read.next;
@@ -56,7 +57,7 @@ impl<'d> Cursor<'d> {
         requires unstable { self.old.counts.unstable ≡ 0 }
         requires some { 0 < self.old.counts.unavailable }
         requires reads { coming_of self.old ≡ Ok (left_of self.old) }
-        ensures { Gives self.old self.new result }
+        ensures { GivesItem self.old self.new result }
     {
         let read = self.region.api(self.at).unwrap();
         self.at = read.next;
@@ -96,7 +97,7 @@ impl<'d> Cursor<'d> {
     fn next_settled(&mut self) -> Option<ItemSpans>
         requires settled { self.old.stable ≡ 0 → self.old.counts.groups ≡ 0 }
         requires reads { coming_of self.old ≡ Ok (left_of self.old) }
-        ensures { MatchOption result (Ends self.old self.new) (λ spans. Gives self.old self.new spans) }
+        ensures { MatchOption result (Ends self.old self.new) (λ spans. GivesItem self.old self.new spans) }
     {
         if self.stable > 0 {
             Some(self.next_stable())
@@ -112,7 +113,7 @@ impl<'d> Cursor<'d> {
     /// The next item.
     pub fn next(&mut self) -> Option<ItemSpans>
         requires { coming_of self.old ≡ Ok (left_of self.old) }
-        ensures { MatchOption result (Ends self.old self.new) (λ spans. Gives self.old self.new spans) }
+        ensures { MatchOption result (Ends self.old self.new) (λ spans. GivesItem self.old self.new spans) }
     {
         self.settle();
         self.next_settled()

@@ -3,7 +3,7 @@
 
 ghost use Rattle.std.specs.Prelude.{◌≡◌, ◌≤◌, ◌<◌, ◌++◌, ◌↔◌, ℕ, nat_le, List, [], ◌∷◌, length, Err, IfOk};
 ghost use Rattle.deny_std_table.specs.Spelling.{number_bytes, text_bytes};
-ghost use Rattle.deny_std_table.specs.Draft.{IsDraft, Writes};
+ghost use Rattle.deny_std_table.specs.private.Draft.{IsDraft, Writes};
 
 use crate::error::UpgradeError;
 use std::alloc::Global;

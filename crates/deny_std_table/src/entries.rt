@@ -2,11 +2,12 @@
 
 ghost use Rattle.std.specs.Prelude.{◌≡◌, ◌+◌, ◌≤◌, ◌<◌, None, length, IfOk};
 ghost use Rattle.std.specs.Option.{ForSome};
-ghost use Rattle.deny_std_table.specs.Reading.{done_of};
+ghost use Rattle.deny_std_table.specs.private.Reading.{done_of};
 ghost use Rattle.deny_std_table.specs.Width.{width_of};
 ghost use Rattle.deny_std_table.specs.Region.{bounds};
 ghost use Rattle.deny_std_table.specs.Head.{start_of, HasOffsets};
-ghost use Rattle.deny_std_table.specs.Entries.{is_above, entry, name_of, stop_of, entries};
+ghost use Rattle.deny_std_table.specs.Entries.{is_above, entry, stop_of, entries};
+ghost use Rattle.deny_std_table.specs.private.Entries.{name_of};
 
 use crate::error::ReplacementError;
 use crate::head::start_of;

@@ -1,6 +1,7 @@
 //! The head of a table: its mark and version, the number of its entries, and their offsets.
 
-ghost use Rattle.std.specs.Prelude.{◌≡◌, ◌+◌, ◌*◌, ◌≤◌, ◌<◌, ◌==◌, ◌||◌, ◌-◌, nat_lt, Ok, Err, length, MatchResult};
+ghost use Rattle.std.specs.Prelude.{◌≡◌, ◌+◌, ◌*◌, ◌≤◌, ◌<◌, ◌==◌, ◌||◌, ◌-◌, nat_lt, length, MatchResult};
+ghost use Rattle.deny_lists.specs.Reader.{IsFault, IsValue};
 ghost use Rattle.deny_std_table.specs.Reading.{unless_bad, number};
 ghost use Rattle.deny_std_table.specs.Width.{width_of};
 ghost use Rattle.deny_std_table.specs.Head.{has_byte, version, header, count_of, start_of, is_offset, offsets};
@@ -31,7 +32,7 @@ fn check_byte(bytes: &[u8], at: usize, value: u8) -> Result<(), ReplacementError
 /// The version, in the fourth byte.
 #[tactic(auto, unfolding(crate::specs::Head::version))]
 fn version(bytes: &[u8]) -> Result<Width, ReplacementError>
-    ensures { MatchResult result (λ width. version bytes.now ≡ Ok (width_of width)) (λ e. version bytes.now ≡ Err e) }
+    ensures { MatchResult result (λ width. IsValue (version bytes.now) (width_of width)) (IsFault (version bytes.now)) }
 {
     if has_byte(bytes, 3, 1) {
         Ok(Width::One)
@@ -45,7 +46,7 @@ fn version(bytes: &[u8]) -> Result<Width, ReplacementError>
 /// The first four bytes are the mark three times, and the version: how many bytes the length of a text has.
 #[tactic(auto, unfolding(crate::specs::Head::header))]
 pub(crate) fn check_header(bytes: &[u8]) -> Result<Width, ReplacementError>
-    ensures { MatchResult result (λ width. header bytes.now ≡ Ok (width_of width)) (λ e. header bytes.now ≡ Err e) }
+    ensures { MatchResult result (λ width. IsValue (header bytes.now) (width_of width)) (IsFault (header bytes.now)) }
 {
     check_byte(bytes, 0, MARK)?;
     check_byte(bytes, 1, MARK)?;

@@ -2,10 +2,11 @@
 
 ghost use Rattle.std.specs.Prelude.{◌≡◌, option_map, option_copied, Some};
 ghost use Rattle.deny_std_table.specs.declared.spans.TextSpan.{TextSpan};
-ghost use Rattle.deny_std_table.specs.Spans.{contents, IsTextIn, IsApiIn, IsReplacementIn, IsItemIn};
+ghost use Rattle.deny_std_table.specs.Spans.{contents};
+ghost use Rattle.deny_std_table.specs.private.Spans.{IsTextIn, IsApiIn, IsReplacementIn, IsItemIn};
 ghost use Rattle.deny_std_table.specs.Item.{IsApiAt, IsReplacementAt, IsItemAt};
 
-use crate::spans::{ApiSpans, ItemSpans, ReplacementSpans, TextSpan, text_at};
+use crate::spans::{ApiSpans, ItemSpans, ReplacementSpans, TextSpan, borrow_text};
 
 /// An API.
 #[derive(Clone, Copy)]
@@ -45,34 +46,34 @@ pub enum ReplacementItem<'d> {
     },
 }
 
-fn api_at(bytes: &[u8], spans: ApiSpans) -> Api
+fn borrow_api(bytes: &[u8], spans: ApiSpans) -> Api
     requires { IsApiIn bytes.now spans }
     ensures { IsApiAt bytes.now spans result }
 {
     Api {
-        name: text_at(bytes, spans.name),
-        url: text_at(bytes, spans.url),
+        name: borrow_text(bytes, spans.name),
+        url: borrow_text(bytes, spans.url),
     }
 }
 
-fn note_at(bytes: &[u8], span: Option<TextSpan>) -> Option<&str>
+fn borrow_note(bytes: &[u8], span: Option<TextSpan>) -> Option<&str>
     requires { (t : TextSpan) → span ≡ Some t → IsTextIn bytes.now t }
     ensures { option_copied result ≡ option_map (contents bytes.now) span }
 {
     match span {
         None => None,
-        Some(span) => Some(text_at(bytes, span)),
+        Some(span) => Some(borrow_text(bytes, span)),
     }
 }
 
-fn replacement_at(bytes: &[u8], spans: ReplacementSpans) -> ApiReplacement
+fn borrow_replacement(bytes: &[u8], spans: ReplacementSpans) -> ApiReplacement
     requires { IsReplacementIn bytes.now spans }
     ensures { IsReplacementAt bytes.now spans result }
 {
     ApiReplacement {
-        krate: api_at(bytes, spans.krate),
-        std: api_at(bytes, spans.std),
-        note: note_at(bytes, spans.note),
+        krate: borrow_api(bytes, spans.krate),
+        std: borrow_api(bytes, spans.std),
+        note: borrow_note(bytes, spans.note),
     }
 }
 
@@ -83,14 +84,14 @@ pub(crate) fn item_at(bytes: &[u8], spans: ItemSpans) -> ReplacementItem
 {
     match spans {
         ItemSpans::Stable { replacement, minor } => ReplacementItem::Stable {
-            replacement: replacement_at(bytes, replacement),
+            replacement: borrow_replacement(bytes, replacement),
             minor,
         },
         ItemSpans::Unstable { replacement } => ReplacementItem::Unstable {
-            replacement: replacement_at(bytes, replacement),
+            replacement: borrow_replacement(bytes, replacement),
         },
         ItemSpans::Unavailable { api } => ReplacementItem::Unavailable {
-            api: api_at(bytes, api),
+            api: borrow_api(bytes, api),
         },
     }
 }

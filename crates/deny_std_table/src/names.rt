@@ -2,7 +2,7 @@
 
 ghost use Rattle.std.specs.Prelude.{◌≡◌, ◌≢◌, ℕ, ◌<◌, MatchOption};
 ghost use Rattle.deny_std_table.specs.Width.{width_of};
-ghost use Rattle.deny_std_table.specs.Names.{name_span, name_at, HasNames};
+ghost use Rattle.deny_std_table.specs.private.Names.{name_span, name_at, HasNames};
 
 use crate::head::start_of;
 use crate::spans::{TextSpan, slice_at};
@@ -10,7 +10,7 @@ use crate::width::Width;
 use std::cmp::Ordering;
 
 /// The bytes of an entry's name.
-#[tactic(auto, unfolding(crate::specs::Names::name_at))]
+#[tactic(auto, unfolding(crate::specs::private::Names::name_at))]
 fn name_at(width: Width, bytes: &[u8], count: u32, i: u32) -> &[u8]
     requires names { HasNames (width_of width) bytes.now count }
     requires entry { i < count }

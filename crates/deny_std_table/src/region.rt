@@ -3,9 +3,10 @@
 ghost use Rattle.std.specs.Prelude.{◌≡◌, ◌+◌, ◌≤◌, length, IfOk};
 ghost use Rattle.std.specs.Str.{is_utf8};
 ghost use Rattle.deny_std_table.specs.Spans.{contents};
-ghost use Rattle.deny_std_table.specs.Reading.{next_of, many};
+ghost use Rattle.deny_std_table.specs.Reading.{many};
+ghost use Rattle.deny_std_table.specs.private.Reading.{next_of};
 ghost use Rattle.deny_std_table.specs.Width.{width_of};
-ghost use Rattle.deny_std_table.specs.Region.{bounds, byte, text, api, replacement, note_of};
+ghost use Rattle.deny_std_table.specs.Region.{bounds, byte, text, api, replacement, nonempty_note};
 ghost use Rattle.deny_std_table.specs.Region.{group_head, group, counts, counted_items, items};
 
 use crate::error::ReplacementError;
@@ -85,7 +86,7 @@ impl<'d> Region<'d> {
             value: ReplacementSpans {
                 krate: krate.value,
                 std: std.value,
-                note: note_of(note.value),
+                note: nonempty_note(note.value),
             },
             next: note.next,
         })
@@ -183,8 +184,8 @@ impl<'d> Region<'d> {
 }
 
 /// An empty note is none.
-fn note_of(span: TextSpan) -> Option<TextSpan>
-    ensures { result ≡ note_of span }
+fn nonempty_note(span: TextSpan) -> Option<TextSpan>
+    ensures { result ≡ nonempty_note span }
 {
     if span.size == 0 { None } else { Some(span) }
 }

@@ -1,7 +1,8 @@
 //! Where the texts of a table stand in its bytes.
 
 ghost use Rattle.std.specs.Prelude.{◌≡◌, ◌+◌, ◌≤◌, length};
-ghost use Rattle.deny_std_table.specs.Spans.{contents, IsTextIn};
+ghost use Rattle.deny_std_table.specs.Spans.{contents};
+ghost use Rattle.deny_std_table.specs.private.Spans.{IsTextIn};
 
 use std::str;
 
@@ -71,7 +72,7 @@ pub(crate) fn slice_at(bytes: &[u8], span: TextSpan) -> &[u8]
 }
 
 /// The text of a span.
-pub(crate) fn text_at(bytes: &[u8], span: TextSpan) -> &str
+pub(crate) fn borrow_text(bytes: &[u8], span: TextSpan) -> &str
     requires { IsTextIn bytes.now span }
     ensures { result.now ≡ contents bytes.now span }
 {

@@ -1,7 +1,8 @@
 //! The replacement table.
 
-ghost use Rattle.std.specs.Prelude.{◌≡◌, ◌≢◌, ◌↔◌, ◌≤◌, ◌^◌, ℕ, List, length, Ok};
+ghost use Rattle.std.specs.Prelude.{◌≡◌, ◌≢◌, ◌↔◌, ◌≤◌, ◌^◌, ℕ, List, length};
 ghost use Rattle.std.specs.Prelude.{Err, IfOk, IfErr, OnErr, MatchResult, option_map};
+ghost use Rattle.deny_lists.specs.Reader.{IsFault, IsValue};
 ghost use Rattle.deny_std_table.specs.Entries.{Entry};
 ghost use Rattle.deny_std_table.specs.Width.{width_of};
 ghost use Rattle.deny_std_table.specs.Layout.{IsTable};
@@ -48,10 +49,10 @@ impl<'d> ReplacementData<'d> {
         bytes: &'d [u8],
     ) -> Result<ReplacementData<'d>, ReplacementError>
         ensures bytes { IfOk result (λ t. t.bytes ≡ bytes.now) }
-        ensures entries { IfOk result (λ t. table bytes.now ≡ Ok t.entries) }
+        ensures entries { IfOk result (λ t. IsValue (table bytes.now) t.entries) }
         ensures table { IfOk result (λ t. IsTable bytes.now t.entries) }
 
-        ensures first_break { IfErr result (λ e. table bytes.now ≡ Err e) }
+        ensures first_break { IfErr result (IsFault (table bytes.now)) }
         ensures bad { (offset : ℕ) → (result ≡ Err (ReplacementError.Bad offset))
             ↔ (table bytes.now ≡ Err (ReplacementError.Bad offset)) }
         ensures no_table { OnErr result ((es : List Entry) → IsTable bytes.now es → ⊥) }
@@ -92,7 +93,7 @@ impl<'d> ReplacementData<'d> {
 fn check(bytes: &[u8]) -> Result<(Width, u32), ReplacementError>
     ensures { MatchResult result
         (λ r. IsRead (width_of r.0) bytes.now r.1)
-        (λ e. table bytes.now ≡ Err e) }
+        (IsFault (table bytes.now)) }
 {
     let width = check_header(bytes)?;
     let count = count(bytes)?;

@@ -14,7 +14,8 @@ use Rattle.hex.specs.declared.error.FromHexError.TheVariants as hex
 use Rattle.hex.proofs.Pairs.{decode_sized-pairs}
 use Rattle.deny_tables.specs.declared.bans.cfg.checksum.ChecksumParseError.{ChecksumParseError}
 use Rattle.deny_tables.specs.declared.bans.cfg.checksum.ChecksumParseError.TheVariants.{InvalidLength, InvalidValue}
-use Rattle.deny_tables.specs.Checksum.{NamesCharacter, character_of, bytes_of, bytes_or, not_hex, checksum_in}
+use Rattle.deny_tables.specs.Checksum.{bytes_of, bytes_or, not_hex, checksum_in}
+use Rattle.deny_tables.specs.private.Checksum.{NamesCharacter, character_of}
 
 -- what was decoded is what is read
 pub Decoded : Result (List ℕ) FromHexError → Result (List ℕ) ChecksumParseError → Type 0

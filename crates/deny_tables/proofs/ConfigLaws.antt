@@ -6,7 +6,7 @@ use Rattle.semver.specs.Identifiers.{parts_of}
 use Rattle.semver.specs.declared.Version.{Version}
 use Rattle.deny_base.specs.declared.level.LintLevel.TheVariants as level
 use Rattle.deny_toml.specs.Calls.{text_in}
-use Rattle.deny_toml.specs.declared.value.Value.{Value}
+use Rattle.deny_toml.specs.value.Value.{Value}
 use Rattle.deny_entries.specs.RustVersion.{rust_version_in}
 use Rattle.deny_entries.specs.Reasons.{ReadsReason, ReadsReasonKey, ReadsReasoned}
 use Rattle.deny_tables.specs.Bans.{ReadsBan, ReadsBanEntry, ReadsTreeSkip, ReadsTreeSkipEntry, ban_fields}

@@ -1,7 +1,7 @@
 -- Entries of `deny` and of `skip-tree`.
 use Rattle.std.specs.Prelude.{Bool, ◌&&◌, is_none, List, [], ◌∷◌}
 use Rattle.deny_toml.specs.declared.error.ConfigFault.{ConfigFault}
-use Rattle.deny_toml.specs.declared.value.Value.{Value}
+use Rattle.deny_toml.specs.value.Value.{Value}
 use Rattle.deny_entries.specs.declared.policy_key.PolicyKey.TheVariants as key
 use Rattle.deny_entries.specs.declared.spec_or_extended.PackageSpecOrExtended.{PackageSpecOrExtended}
 use Rattle.deny_entries.specs.Entry.{ReadsSome, ReadsEntry, faults_of_entry}

@@ -3,7 +3,7 @@ use Rattle.std.specs.Prelude.{List, [], ◌∷◌, false}
 use Rattle.deny_base.specs.declared.span.Spanned.{Spanned}
 use Rattle.deny_model.specs.Keys.{no_span}
 use Rattle.deny_toml.specs.declared.error.ConfigFault.{ConfigFault}
-use Rattle.deny_toml.specs.declared.value.Value.{Value}
+use Rattle.deny_toml.specs.value.Value.{Value}
 use Rattle.deny_entries.specs.declared.policy_key.PolicyKey.TheVariants as key
 use Rattle.deny_entries.specs.Entry.{ReadsEntryKeys, entry_fields}
 use Rattle.deny_entries.specs.Reasons.{a_reason}

@@ -9,3 +9,4 @@ pub mod Highlight
 pub mod Licenses
 pub mod StdReplacements
 pub mod Workspace
+pub mod private

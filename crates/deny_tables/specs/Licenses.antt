@@ -2,7 +2,7 @@
 use Rattle.std.specs.Prelude.{List, [], ◌∷◌, false}
 use Rattle.deny_base.specs.declared.level.LintLevel.TheVariants as level
 use Rattle.deny_toml.specs.declared.error.ConfigFault.{ConfigFault}
-use Rattle.deny_toml.specs.declared.value.Value.{Value}
+use Rattle.deny_toml.specs.value.Value.{Value}
 use Rattle.deny_entries.specs.Entry.{ReadsEntryKeys, entry_fields}
 use Rattle.deny_entries.specs.Licence.{some_licences}
 use Rattle.deny_entries.specs.Table.{Entries, Field, ReadsKeys, ReadsTable, TableKey, a_table, faults_of_table}

@@ -4,7 +4,7 @@ use Rattle.semver.specs.Identifiers.{parts_of}
 use Rattle.semver.specs.declared.Version.{Version}
 use Rattle.deny_base.specs.declared.level.LintLevel.TheVariants as level
 use Rattle.deny_toml.specs.declared.error.ConfigFault.{ConfigFault}
-use Rattle.deny_toml.specs.declared.value.Value.{Value}
+use Rattle.deny_toml.specs.value.Value.{Value}
 use Rattle.deny_entries.specs.declared.policy_key.PolicyKey.TheVariants as key
 use Rattle.deny_entries.specs.declared.scope.Scope.TheVariants as word
 use Rattle.deny_entries.specs.Reasons.{a_reasoned_entry}

@@ -42,7 +42,7 @@ fn edges_in(alloc: Global, cfg: &ValidConfig, krates: &Krates) -> Result<List<Du
     dup_edges_of(alloc, cfg, krates, &keys)
 }
 
-fn edges_by(alloc: Global, cfg: &ValidConfig) -> Result<List<DupEdges>, NoMemory> {
+fn edges_by_policy(alloc: Global, cfg: &ValidConfig) -> Result<List<DupEdges>, NoMemory> {
     match built(alloc, GRAPH) {
         Ok(krates) => edges_in(alloc, cfg, &krates),
         Err(_) => Ok(List::new(alloc)),
@@ -53,7 +53,7 @@ fn edges_by(alloc: Global, cfg: &ValidConfig) -> Result<List<DupEdges>, NoMemory
 fn edges_shown(alloc: Global) -> Result<List<DupEdges>, NoMemory> {
     let mut files = Files::new(alloc);
     match read_policy(alloc, POLICY, &mut files) {
-        Ok(policy) => edges_by(alloc, &policy.bans),
+        Ok(policy) => edges_by_policy(alloc, &policy.bans),
         Err(_) => Ok(List::new(alloc)),
     }
 }

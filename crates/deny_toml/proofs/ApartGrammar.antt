@@ -6,14 +6,14 @@ use Rattle.std.proofs.lemmas.Bool.Decides.{nat_tests}
 use Rattle.deny_base.specs.declared.span.Span.{Span}
 use Rattle.deny_toml_grammar.specs.declared.parts.Key.{Key}
 use Rattle.deny_toml_grammar.specs.declared.parts.Scalar.{Scalar}
-use Rattle.deny_toml.specs.declared.value.Value.{Value}
+use Rattle.deny_toml_tree.specs.declared.value.Value.{Value}
 use Rattle.deny_toml_grammar.specs.declared.expression.Written.{Written}
 use Rattle.deny_toml_grammar.specs.declared.expression.WrittenContent.{WrittenContent, the_lemmas}
 use Rattle.deny_toml_grammar.specs.declared.expression.WrittenContent.TheVariants as content
 use Rattle.deny_toml_grammar.specs.declared.expression.Assignment.{Assignment}
 use Rattle.deny_toml_grammar.specs.declared.expression.Expression.{Expression}
 use Rattle.deny_toml_grammar.specs.Expression.{span_of}
-use Rattle.deny_toml.specs.Value.{value_with}
+use Rattle.deny_toml_tree.specs.Value.{value_with}
 use Rattle.deny_toml_grammar.specs.Expression.{written_with, assignment_with, assigned_value}
 use Rattle.deny_toml_grammar.specs.Expression.{depth_limit}
 use Rattle.deny_toml_grammar.specs.GrammarStrings.{IsText}
@@ -21,14 +21,14 @@ use Rattle.deny_toml_grammar.specs.GrammarStrings as strings
 use Rattle.deny_toml_grammar.specs.Grammar.{IsValue, IsElements, IsMembers, IsAssignment, IsExpression, IsLine}
 use Rattle.deny_toml_grammar.specs.Grammar.{AreLines}
 use Rattle.deny_toml_grammar.specs.Grammar as grammar
-use Rattle.deny_toml.specs.Tree.{written_value, written_in, written_member, table_of_members, tree}
-use Rattle.deny_toml.specs.Apart.{AreApart}
+use Rattle.deny_toml_tree.specs.Tree.{written_value, written_in, written_member, table_of_members, tree}
+use Rattle.deny_toml_tree.specs.Apart.{AreApart}
 use Rattle.deny_toml.specs.Parser.{IsDocumentOf}
 use Rattle.deny_toml_grammar.proofs.ValuesComplete.{some_bytes}
-use Rattle.deny_toml.proofs.TreeValues.{scalar_in, elements_in, members_in}
-use Rattle.deny_toml.proofs.ApartLaws.{times, apart_from_times, starts_of_scalar}
-use Rattle.deny_toml.proofs.ApartTree.{weight, values_weight, members_weight, array_weight, table_value_weight}
-use Rattle.deny_toml.proofs.ApartTree.{members_no_more, assigned_weight, document_weight, tree_no_more}
+use Rattle.deny_toml_tree.proofs.TreeValues.{scalar_in, elements_in, members_in}
+use Rattle.deny_toml_tree.proofs.ApartLaws.{times, apart_from_times, starts_of_scalar}
+use Rattle.deny_toml_tree.proofs.ApartTree.{weight, values_weight, members_weight, array_weight, table_value_weight}
+use Rattle.deny_toml_tree.proofs.ApartTree.{members_no_more, assigned_weight, document_weight, tree_no_more}
 
 -- a value that is made of its range and what it is
 value_made : (span : Span) (what : WrittenContent) → written_value (written_with span what) ≡ value_with span

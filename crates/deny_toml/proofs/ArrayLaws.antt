@@ -3,9 +3,10 @@ use Rattle.std.proofs.Common.{◌≡◌, ℕ, suc, ◌+◌, List, [], ◌∷◌,
 use Rattle.std.proofs.Common.{subst, ◌∙◌, arith}
 use Rattle.std.specs.Fmt.{decimal}
 use Rattle.deny_toml.specs.declared.error.ConfigFault.{ConfigFault}
-use Rattle.deny_toml.specs.declared.value.Value.{Value}
+use Rattle.deny_toml_tree.specs.declared.value.Value.{Value}
 use Rattle.deny_toml.specs.Faults.{under}
-use Rattle.deny_toml.specs.Deserialize.{faults_from, ReadsEach, Adds}
+use Rattle.deny_toml.specs.Deserialize.{faults_from, ReadsEach}
+use Rattle.deny_toml.specs.private.Deserialize.{Adds}
 
 pub faults_from-push : (faults_of : Value → List ConfigFault) (vs : List Value) (v : Value) (index : ℕ)
     → faults_from faults_of index (vs ++ v ∷ []) ≡ faults_from faults_of index vs ++ under (decimal (index + length vs))

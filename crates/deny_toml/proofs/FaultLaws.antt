@@ -22,7 +22,7 @@ use Rattle.deny_toml.specs.declared.error.FaultKind.{FaultKind}
 use Rattle.deny_toml.specs.declared.error.FaultKind.TheVariants as kind
 use Rattle.deny_toml.specs.declared.error.ConfigFault.{ConfigFault}
 use Rattle.deny_toml.specs.Faults.{kind_number, kind_cmp, fault_cmp, in_order, is_empty, is_of_itself, is_own_path}
-use Rattle.deny_toml.specs.Faults.{path_of, path_under, fault_under, under, names_key, Reports}
+use Rattle.deny_toml.specs.Faults.{path_of, path_under, fault_under, under, names_key, IsListOf, Reports}
 use Rattle.deny_toml.specs.declared.error.DeserError.{DeserError}
 use Rattle.deny_toml.specs.declared.error.DeserError.TheVariants.{Faults}
 
@@ -308,10 +308,17 @@ pub under-some : (name : List ℕ) (fs : List ConfigFault) → fs ≢ [] → und
 under-some name [] some e = some refl
 under-some name (f ∷ fs) some e = cc e
 
+-- what an error that lists faults reports
+pub reports_these : (fs listed : List ConfigFault) → Reports fs (Faults listed) → IsListOf fs (Faults listed)
+reports_these fs listed reported = elim reported [
+  | inl is ↦ absurd (cc is)
+  | inr these ↦ these
+]
+
 -- an error whose faults are put under a name
 pub reports_under : (name : List ℕ) (fs listed named : List ConfigFault) (e : DeserError) → Reports fs e
     → e ≡ Faults listed → named ≡ under name listed
     → Reports (under name fs) (Faults named)
 reports_under name fs listed named e reported is put =
-    let r : Reports fs (Faults listed) = subst (λ d. Reports fs d) is reported in
-    (put ∙ ap (under name) r.0, under-some name fs r.1, under_ascends name fs r.2)
+    let r = reports_these fs listed (subst (λ d. Reports fs d) is reported) in
+    inr (put ∙ ap (under name) r.0, under-some name fs r.1, under_ascends name fs r.2)

@@ -1,10 +1,10 @@
 -- What is read from a value, and the faults of a value that is read as one type or another.
-use Rattle.std.specs.Prelude.{◌≡◌, ℕ, ◌+◌, ◌^◌, ℤ, pos, negsuc, List, [], ◌∷◌, ◌++◌, Option, None, Some, nat_lt, ⊤}
+use Rattle.std.specs.Prelude.{ℕ, ◌+◌, ◌^◌, ℤ, pos, negsuc, List, [], ◌∷◌, ◌++◌, Option, None, Some, nat_lt, ⊤}
 use Rattle.std.specs.Prelude.{if◌then◌else◌}
 use Rattle.std.specs.Fmt.{decimal}
 use Rattle.deny_toml.specs.declared.error.ConfigFault.{ConfigFault}
-use Rattle.deny_toml.specs.declared.value.Value.{Value}
-use Rattle.deny_toml.specs.Value.{span_in}
+use Rattle.deny_toml_tree.specs.declared.value.Value.{Value}
+use Rattle.deny_toml_tree.specs.Value.{span_in}
 use Rattle.deny_toml.specs.Faults.{wrong_kind, unreadable, under, in_order}
 
 -- a value of the kind that is read has no fault
@@ -44,7 +44,3 @@ ReadsEach Reads (v ∷ vs) (x ∷ xs) = Reads v x × ReadsEach Reads vs xs
 abbrev pub ReadsArray : {T : Type 0} → (Value → T → Type 0) → Option (List Value) → List T → Type 0
 ReadsArray Reads None xs = ⊥
 ReadsArray Reads (Some vs) xs = ReadsEach Reads vs xs
-
--- the list has gained, at its end, what is read from the value
-abbrev pub Adds : {T : Type 0} → (Value → T → Type 0) → Value → List T → List T → Type 0
-Adds {T} Reads v old new = (x : T) × (new ≡ old ++ x ∷ []) × Reads v x

@@ -1,10 +1,11 @@
 -- The faults of a value: how they are named, how they are listed, and in which order.
-use Rattle.std.specs.Prelude.{◌≡◌, ◌≢◌, ℕ, Bool, true, false, not, ◌&&◌, ◌||◌, List, [], ◌∷◌, ◌++◌, map, ⊤}
+use Rattle.std.specs.Prelude.{◌≡◌, ◌≢◌, ℕ, Bool, true, false, not, ◌&&◌, ◌||◌, List, [], ◌∷◌, ◌++◌, map}
 use Rattle.std.specs.Cmp.Lexicographic.{slice_cmp}
 use Rattle.std.specs.BTreeSet.{insert_key}
 use Rattle.std.specs.List.Sorted.{IsStrictlySortedBy}
 use Rattle.std.specs.Ordering.{bool_cmp, nat_cmp, on, then_cmp}
 use Rattle.std.specs.declared.cmp.Ordering.{Ordering}
+use Rattle.deny_lists.specs.Reader.{Fails}
 use Rattle.deny_base.specs.KeyOrder.{span_cmp}
 use Rattle.deny_base.specs.declared.span.Span.{Span}
 use Rattle.deny_toml.specs.declared.error.FaultKind.{FaultKind}
@@ -88,7 +89,11 @@ fault_under name f = record {
 abbrev pub under : List ℕ → List ConfigFault → List ConfigFault
 under name faults = map (fault_under name) faults
 
--- an error that lists these faults: there are some, and they ascend. Where memory is wanting, it lists none
+-- an error that lists these faults: there are some, and they ascend
+abbrev pub IsListOf : List ConfigFault → DeserError → Type 0
+IsListOf faults (Faults listed) = (listed ≡ faults) × (faults ≢ []) × IsStrictlySortedBy fault_cmp faults
+IsListOf faults Memory = ⊥
+
+-- how a value with these faults is refused
 abbrev pub Reports : List ConfigFault → DeserError → Type 0
-Reports faults (Faults listed) = (listed ≡ faults) × (faults ≢ []) × IsStrictlySortedBy fault_cmp faults
-Reports faults Memory = ⊤
+Reports faults e = Fails Memory (IsListOf faults) e

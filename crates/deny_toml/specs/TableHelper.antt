@@ -4,7 +4,7 @@ use Rattle.deny_base.specs.declared.span.Span.{Span}
 use Rattle.deny_toml.specs.declared.error.FaultKind.TheVariants as kind
 use Rattle.deny_toml.specs.declared.error.ConfigFault.{ConfigFault}
 use Rattle.deny_toml_grammar.specs.declared.parts.Key.{Key}
-use Rattle.deny_toml.specs.declared.value.Value.{Value}
+use Rattle.deny_toml_tree.specs.declared.value.Value.{Value}
 use Rattle.deny_toml.specs.Faults.{fault_at, under, in_order}
 
 -- the faults of a key that has to be there: the missing key at the table, or else those of its value

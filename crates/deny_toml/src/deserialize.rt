@@ -1,19 +1,21 @@
 //! What can be read from a value of a TOML text.
 ghost use Rattle.std.specs.Prelude.{◌≡◌, ◌∷◌, ◌++◌, [], IfOk, IfErr, OnOk, List, None, Some, option_and_then};
 ghost use Rattle.deny_toml.specs.declared.error.ConfigFault.{ConfigFault};
-ghost use Rattle.deny_toml.specs.declared.value.Value.{Value};
-ghost use Rattle.deny_toml.specs.Value.{span_in};
-ghost use Rattle.deny_toml.specs.Calls.{array_in, text_in, bool_in, integer_in};
+ghost use Rattle.deny_toml_tree.specs.declared.value.Value.{Value};
+ghost use Rattle.deny_toml_tree.specs.Value.{span_in};
+ghost use Rattle.deny_toml_tree.specs.Calls.{array_in, text_in, bool_in, integer_in};
 ghost use Rattle.deny_toml.specs.Faults.{Reports, under, in_order};
 ghost use Rattle.std.specs.Fmt.{decimal};
 ghost use Rattle.deny_toml.specs.Deserialize.{faults_of_kind, faults_of_small, faults_of_array};
-ghost use Rattle.deny_toml.specs.Deserialize.{small_number, ReadsArray, ReadsEach, Adds, faults_from};
+ghost use Rattle.deny_toml.specs.Deserialize.{small_number, ReadsArray, ReadsEach, faults_from};
+ghost use Rattle.deny_toml.specs.private.Deserialize.{Adds};
 
 use crate::error::{ConfigFault, DeserError};
 use crate::faults::{keep_faults, put_faults_in_order, put_under};
-use crate::value::{Content, Value};
 use deny_base::Spanned;
 use deny_lists::{List, NoMemory, Text};
+use deny_toml_grammar::{CowStr, Scalar};
+use deny_toml_tree::{Content, Value};
 use std::alloc::Global;
 use std::mem;
 
@@ -39,7 +41,22 @@ impl Deserialize for Text {
     ghost faults_of = { λ v. faults_of_kind v (text_in v) };
 
     fn deserialize(alloc: Global, value: &mut Value<'_>) -> Result<Text, DeserError> {
-        value.take_string(alloc)
+        take_string(alloc, value)
+    }
+}
+
+/// Takes the string out of a value. A value of another kind stays as it is, and is the one fault.
+pub fn take_string(alloc: Global, value: &mut Value<'_>) -> Result<Text, DeserError>
+    ensures ok { IfOk result (λ text. text_in value.old ≡ Some text) }
+    ensures faults { IfErr result (Reports (faults_of_kind value.old (text_in value.old))) }
+    ensures stays { text_in value.old ≡ None → value.new ≡ value.old }
+{
+    match &mut value.content {
+        Content::Scalar(Scalar::Text(text) | Scalar::Multiline(text)) => {
+            let text = mem::replace(text, CowStr::borrowed(""));
+            Ok(text.into_text(alloc)?)
+        }
+        _ => Err(DeserError::wrong_kind(alloc, value.span)),
     }
 }
 

@@ -19,22 +19,18 @@
 //! ```
 #![tactic(auto)]
 
-mod calls;
-mod clash;
 mod deserialize;
 mod error;
 mod faults;
 mod parser;
 mod table_helper;
-mod tree;
-mod value;
 
 pub use deny_toml_grammar::{
     Assignment, CowStr, Expression, Header, Key, Scalar, Written, WrittenContent,
 };
-pub use deserialize::Deserialize;
+pub use deny_toml_tree::{Content, Table, Value};
+pub use deserialize::{Deserialize, take_string};
 pub use error::{ConfigFault, DeserError, FaultKind, TomlError, TomlKind};
 pub use faults::put_faults_in_order;
 pub use parser::parse;
 pub use table_helper::TableHelper;
-pub use value::{Content, Table, Value};

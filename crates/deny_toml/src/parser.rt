@@ -1,19 +1,17 @@
 //! The reader of whole texts.
 ghost use Rattle.std.specs.Prelude.{◌≡◌, ◌^◌, ◌<◌, ◌≤◌, length, IfOk, IfErr};
 ghost use Rattle.std.specs.Str.{IsCharBoundary};
-ghost use Rattle.deny_toml.specs.Ranges.{IsRange, StandsIn};
-ghost use Rattle.deny_toml.specs.TreeOrder.{IsOrderly};
-ghost use Rattle.deny_toml.specs.Apart.{AreApart};
+ghost use Rattle.deny_toml_tree.specs.Ranges.{IsRange, StandsIn};
+ghost use Rattle.deny_toml_tree.specs.TreeOrder.{IsOrderly};
+ghost use Rattle.deny_toml_tree.specs.Apart.{AreApart};
 ghost use Rattle.deny_toml.specs.Parser.{IsDocumentOf, IsTreeOf, IsCauseOf, LiesIn};
 ghost use Rattle.deny_toml.specs.Parser as spec;
 
-use crate::clash::first_clash;
 use crate::error::{TomlError, TomlKind};
-use crate::tree::{names_of_trees_ascend, tree};
-use crate::value::Value;
 use deny_base::Span;
 use deny_lists::List;
 use deny_toml_grammar::{Expression, ReadError, read_document};
+use deny_toml_tree::{Value, first_clash, tree_of};
 use std::alloc::Global;
 
 /// The tree of a text.
@@ -38,8 +36,7 @@ pub fn parse<'t>(alloc: Global, text: &'t str) -> Result<Value<'t>, TomlError>
             span,
         });
     }
-    names_of_trees_ascend();
-    Ok(tree(alloc, whole(text), expressions)?)
+    Ok(tree_of(alloc, whole(text), expressions)?)
 }
 
 /// The headers and assignments of a text.

@@ -1,19 +1,18 @@
 ghost use Rattle.std.specs.Prelude.{◌≡◌, ◌++◌, ◌∷◌, [], IfOk, IfErr, OnOk, Some, None, map};
-ghost use Rattle.deny_toml.specs.Value.{span_in, table_with};
-ghost use Rattle.deny_toml.specs.Calls.{table_in, entry_at, value_at, without};
+ghost use Rattle.deny_toml_tree.specs.Value.{span_in, table_with};
+ghost use Rattle.deny_toml_tree.specs.Calls.{table_in, entry_at, value_at, without};
 ghost use Rattle.deny_toml.specs.Faults.{Reports, under, fault_at};
 ghost use Rattle.deny_toml.specs.Deserialize.{faults_of_kind};
 ghost use Rattle.deny_toml.specs.TableHelper.{required_faults, optional_faults, ReadsRequired};
 ghost use Rattle.deny_toml.specs.TableHelper.{ReadsOptional, table_faults, unknown};
 
-use crate::calls::index_of;
 use crate::deserialize::Deserialize;
 use crate::error::{ConfigFault, DeserError, FaultKind};
 use crate::faults::{keep_faults, put_faults_in_order, put_under};
-use crate::value::{Content, Value};
 use deny_base::{Span, Spanned};
 use deny_lists::{List, NoMemory, Text};
 use deny_toml_grammar::Key;
+use deny_toml_tree::{Content, Value, index_named};
 use std::alloc::Global;
 use std::mem;
 
@@ -149,7 +148,7 @@ fn take_entry<'t>(
     ensures taken { result ≡ entry_at name.now entries.old }
     ensures left { entries.new ≡ without name.now entries.old }
 {
-    let index = index_of(entries.as_slice(), name)?;
+    let index = index_named(entries.as_slice(), name)?;
     Some(entries.vec.remove(index))
 }
 

@@ -13,7 +13,8 @@ use Rattle.deny_toml_grammar.specs.declared.parts.Key.{Key}
 use Rattle.deny_toml_grammar.specs.Expression.{span_of}
 use Rattle.deny_toml_grammar.specs.Lexical.{Read, first, is_space, is_bare, skip_spaces, between}
 use Rattle.deny_toml_grammar.specs.private.Reading.{read_map}
-use Rattle.deny_toml_grammar.specs.Strings.{one_line, starts_string}
+use Rattle.deny_toml_grammar.specs.Strings.{one_line}
+use Rattle.deny_toml_grammar.specs.private.Strings.{starts_string}
 use Rattle.deny_toml_grammar.specs.private.Keys.{simple_key, key_after, quoted_key, bare_with, bare_key}
 use Rattle.deny_toml_grammar.specs.GrammarStrings.{AreSpaces, is_delimiter}
 use Rattle.deny_toml_grammar.specs.GrammarStrings as strings

@@ -13,7 +13,8 @@ use Rattle.std.specs.Char.{is_ascii_digit}
 use Rattle.std.specs.Str.{IsCharBoundary}
 use Rattle.deny_toml_grammar.specs.declared.lexical.Class.{Class}
 use Rattle.deny_toml_grammar.specs.declared.lexical.Class.TheVariants.{Space, Bare, Word, Digit, Grouped, Byte, Plain}
-use Rattle.deny_toml_grammar.specs.Lexical.{first, class_test, EndsAtBoundary, is_plain, is_space, is_bare, is_word}
+use Rattle.deny_toml_grammar.specs.Lexical.{first, is_plain, is_space, is_bare, is_word}
+use Rattle.deny_toml_grammar.specs.private.Lexical.{class_test, EndsAtBoundary}
 use Rattle.deny_toml_grammar.specs.Lexical.{is_grouped, split_while, skip_turn, skip_from}
 
 -- a byte that is not 0 was read inside the text

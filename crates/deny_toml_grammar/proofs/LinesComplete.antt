@@ -9,7 +9,8 @@ use Rattle.deny_toml_grammar.specs.declared.parts.Key.{Key}
 use Rattle.deny_toml_grammar.specs.declared.expression.Assignment.{Assignment}
 use Rattle.deny_toml_grammar.specs.declared.expression.Expression.{Expression}
 use Rattle.deny_toml_grammar.specs.declared.expression.Expression.TheVariants as expression
-use Rattle.deny_toml_grammar.specs.Lexical.{first, is_space, is_bare, skip_spaces, skip_turn, skip_from, skip_blank}
+use Rattle.deny_toml_grammar.specs.Lexical.{first, is_space, is_bare, skip_spaces, skip_turn, skip_from}
+use Rattle.deny_toml_grammar.specs.private.Lexical.{skip_blank}
 use Rattle.deny_toml_grammar.specs.Expression.{depth_limit}
 use Rattle.deny_toml_grammar.specs.private.Keys.{key}
 use Rattle.deny_toml_grammar.specs.private.Values.{assignment, value}

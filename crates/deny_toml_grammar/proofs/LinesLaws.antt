@@ -2,7 +2,7 @@
 use Rattle.std.proofs.Common.{◌≡◌, ℕ, zero, suc, ◌-◌, ◌<◌, ◌==◌, true, false, List, [], ◌∷◌, ◌++◌, length, Some, None}
 use Rattle.std.proofs.Common.{refl, arith}
 use Rattle.deny_toml_grammar.specs.declared.expression.Expression.{Expression}
-use Rattle.deny_toml_grammar.specs.Lexical.{skip_blank}
+use Rattle.deny_toml_grammar.specs.private.Lexical.{skip_blank}
 use Rattle.deny_toml_grammar.specs.private.Lines.{line, lines}
 
 pub lines_zero : (total : ℕ) (found : List Expression) (text : List ℕ) → lines 0 total found text ≡ None

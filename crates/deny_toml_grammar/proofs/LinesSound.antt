@@ -10,7 +10,8 @@ use Rattle.deny_toml_grammar.specs.declared.parts.Key.{Key}
 use Rattle.deny_toml_grammar.specs.declared.expression.Assignment.{Assignment}
 use Rattle.deny_toml_grammar.specs.declared.expression.Expression.{Expression}
 use Rattle.deny_toml_grammar.specs.declared.expression.Expression.TheVariants as expression
-use Rattle.deny_toml_grammar.specs.Lexical.{Read, first, is_space, is_comment_byte, skip_spaces, skip_blank}
+use Rattle.deny_toml_grammar.specs.Lexical.{Read, first, is_space, is_comment_byte, skip_spaces}
+use Rattle.deny_toml_grammar.specs.private.Lexical.{skip_blank}
 use Rattle.deny_toml_grammar.specs.private.Reading.{read_map}
 use Rattle.deny_toml_grammar.specs.Expression.{depth_limit}
 use Rattle.deny_toml_grammar.specs.private.Keys.{key}

@@ -14,7 +14,7 @@ use Rattle.deny_toml_grammar.specs.Expression.{span_of}
 use Rattle.deny_toml_grammar.specs.Lexical.{Read, first, starts_newline}
 use Rattle.deny_toml_grammar.specs.private.Reading.{read_map}
 use Rattle.deny_toml_grammar.specs.Strings.{content, trim_newline, spanned, one_line, multi_line, string_of, quoted}
-use Rattle.deny_toml_grammar.specs.Strings.{starts_string}
+use Rattle.deny_toml_grammar.specs.private.Strings.{starts_string}
 use Rattle.deny_toml_grammar.specs.GrammarStrings.{IsNewline, IsContent, IsOneLine, IsOpening, IsMultiLine, IsText}
 use Rattle.deny_toml_grammar.specs.GrammarStrings.{is_delimiter}
 use Rattle.deny_toml_grammar.specs.GrammarStrings as grammar

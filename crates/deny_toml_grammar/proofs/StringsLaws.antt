@@ -1,36 +1,18 @@
 -- The loop over the pieces of a string, a turn at a time.
 use Rattle.std.proofs.Common.{◌≡◌, ℕ, zero, suc, ◌+◌, ◌<◌, ◌≤◌, Bool, true, false, List, [], ◌∷◌, ◌++◌, length, Option}
-use Rattle.std.proofs.Common.{Some, None, is_some, option_and_then, String, Result, Ok, Err, refl, sym, ap, ◌∙◌, inl}
-use Rattle.std.proofs.Common.{inr, arith, append_assoc, append-nil}
+use Rattle.std.proofs.Common.{Some, None, is_some, option_and_then, Result, refl, sym, ap, ◌∙◌, inl, inr, arith}
+use Rattle.std.proofs.Common.{append_assoc, append-nil}
 use Rattle.std.proofs.lemmas.Bool.{cases_Bool, true≢false, false≢true}
 use Rattle.std.proofs.lemmas.Bool.Decides.{nat_tests}
 use Rattle.std.specs.List.{prefix_len}
-use Rattle.std.specs.Result.{IsErrAnd}
 use Rattle.std.specs.Borrow.{Bor}
-use Rattle.std.specs.declared.alloc.Global.{Global}
+use Rattle.deny_lists.specs.Reader.{Fails}
+use Rattle.deny_lists.proofs.ReaderLemmas.{fails_weaker}
 use Rattle.deny_toml_grammar.specs.declared.read_error.ReadError.{ReadError}
-use Rattle.deny_toml_grammar.specs.declared.read_error.ReadError.TheVariants.{Grammar, Memory}
+use Rattle.deny_toml_grammar.specs.declared.read_error.ReadError.TheVariants.{Memory}
 use Rattle.deny_toml_grammar.specs.Lexical.{Read, first, is_plain, split_while}
-use Rattle.deny_toml_grammar.specs.private.Reading.{Fails, Gives, Reads, piece_bytes}
-use Rattle.deny_toml_grammar.specs.Strings.{special, prepend, after_piece, content, ReadsBytes}
-
--- a failure that a `?` passes on
-pub reads_err : {A : Type 0} (r : Result (A × Bor (List ℕ)) ReadError) (expected : Read A) (e : ReadError)
-    (Q : ReadError → Type 0)
-    → IsErrAnd r Q → ((y : ReadError) → Q y → y ≡ e) → Fails e expected → Reads r expected
-reads_err (Ok a) expected e Q h same fails = absurd h
-reads_err (Err y) expected e Q h same fails = rw (same y h) fails
-
-pub gives_err : {A : Type 0} (r : Result A ReadError) (expected : Option A) (e : ReadError) (Q : ReadError → Type 0)
-    → IsErrAnd r Q → ((y : ReadError) → Q y → y ≡ e) → Fails e expected → Gives r expected
-gives_err (Ok a) expected e Q h same fails = absurd h
-gives_err (Err y) expected e Q h same fails = rw (same y h) fails
-
-pub reads_bytes_err : (r : Result (String Global × Bor (List ℕ)) ReadError) (expected : Read (List ℕ)) (e : ReadError)
-    (Q : ReadError → Type 0)
-    → IsErrAnd r Q → ((y : ReadError) → Q y → y ≡ e) → Fails e expected → ReadsBytes r expected
-reads_bytes_err (Ok a) expected e Q h same fails = absurd h
-reads_bytes_err (Err y) expected e Q h same fails = rw (same y h) fails
+use Rattle.deny_toml_grammar.specs.private.Reading.{Reads, piece_bytes}
+use Rattle.deny_toml_grammar.specs.Strings.{special, prepend, after_piece, content}
 
 -- a reader's result, where another reader is expected that gives the same
 pub reads_same : {A : Type 0} (r : Result (A × Bor (List ℕ)) ReadError) (one other : Read A) → one ≡ other
@@ -39,9 +21,8 @@ reads_same r one other same reads = rw same reads
 
 -- where one reader fails, so does another that gives nothing where the first gives nothing
 pub fails_with : {A B : Type 0} (e : ReadError) (one : Option A) (other : Option B) → (one ≡ None → other ≡ None)
-    → Fails e one → Fails e other
-fails_with (Grammar left) one other then fails = then fails
-fails_with Memory one other then fails = tt
+    → Fails Memory (λ _. one ≡ None) e → Fails Memory (λ _. other ≡ None) e
+fails_with e one other then fails = fails_weaker Memory (λ _. one ≡ None) (λ _. other ≡ None) e (λ _. then) fails
 
 pub prepend-nil : (r : Read (List ℕ)) → prepend [] r ≡ r
 prepend-nil None = refl

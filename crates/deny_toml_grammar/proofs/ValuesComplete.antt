@@ -12,8 +12,8 @@ use Rattle.deny_toml_grammar.specs.declared.expression.WrittenContent.TheVariant
 use Rattle.deny_toml_grammar.specs.declared.expression.Assignment.{Assignment}
 use Rattle.deny_toml_grammar.specs.Expression.{span_of, written_with, assignment_with}
 use Rattle.deny_toml_grammar.specs.Lexical.{Read, first, is_space, is_bare, is_word, skip_spaces, skip_turn, skip_from}
-use Rattle.deny_toml_grammar.specs.Lexical.{skip_blank}
-use Rattle.deny_toml_grammar.specs.Strings.{starts_string}
+use Rattle.deny_toml_grammar.specs.private.Lexical.{skip_blank}
+use Rattle.deny_toml_grammar.specs.private.Strings.{starts_string}
 use Rattle.deny_toml_grammar.specs.Expression.{depth_limit}
 use Rattle.deny_toml_grammar.specs.private.Keys.{key}
 use Rattle.deny_toml_grammar.specs.private.Values.{scalar, after_element, elements, assignment, members, inline_table}

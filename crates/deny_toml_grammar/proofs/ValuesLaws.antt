@@ -8,7 +8,8 @@ use Rattle.deny_toml_grammar.specs.declared.expression.Written.{Written}
 use Rattle.deny_toml_grammar.specs.declared.expression.WrittenContent.TheVariants as written
 use Rattle.deny_toml_grammar.specs.declared.expression.Assignment.{Assignment}
 use Rattle.deny_toml_grammar.specs.Expression.{assignment_with}
-use Rattle.deny_toml_grammar.specs.Lexical.{Read, first, is_word, skip_spaces, skip_from, skip_blank}
+use Rattle.deny_toml_grammar.specs.Lexical.{Read, first, is_word, skip_spaces, skip_from}
+use Rattle.deny_toml_grammar.specs.private.Lexical.{skip_blank}
 use Rattle.deny_toml_grammar.specs.private.Words.{unquoted, word_len}
 use Rattle.deny_toml_grammar.specs.private.Keys.{key}
 use Rattle.deny_toml_grammar.specs.private.Values.{scalar, after_element, elements, assigned, assignment, members}

@@ -1,6 +1,7 @@
 -- What is read as a value is in the grammar.
 use Rattle.std.proofs.Common.{◌≡◌, ℕ, zero, suc, ◌+◌, ◌-◌, ◌≤◌, true, false, ◌==◌, List, [], ◌∷◌, ◌++◌, length, drop}
-use Rattle.std.proofs.Common.{Option, Some, None, option_map, refl, sym, subst, ◌∙◌, inl, inr, arith, le_trans}
+use Rattle.std.proofs.Common.{Option, Some, None, option_map, ap, refl, sym, subst}
+use Rattle.std.proofs.Common.{subst₂, ◌∙◌, inl, inr, arith, le_trans}
 use Rattle.std.proofs.Common.{append_assoc, append-nil, length-append}
 use Rattle.std.proofs.lemmas.Option.{none-some, same_Some}
 use Rattle.std.proofs.lemmas.Bool.{cases_Bool, true≢false, false≢true}
@@ -12,9 +13,11 @@ use Rattle.deny_toml_grammar.specs.declared.expression.Written.{Written}
 use Rattle.deny_toml_grammar.specs.declared.expression.WrittenContent.TheVariants as written
 use Rattle.deny_toml_grammar.specs.declared.expression.Assignment.{Assignment}
 use Rattle.deny_toml_grammar.specs.Expression.{span_of, written_with, assignment_with}
-use Rattle.deny_toml_grammar.specs.Lexical.{Read, first, is_comment_byte, skip_spaces, skip_blank}
+use Rattle.deny_toml_grammar.specs.Lexical.{Read, first, is_comment_byte, skip_spaces}
+use Rattle.deny_toml_grammar.specs.private.Lexical.{skip_blank}
 use Rattle.deny_toml_grammar.specs.private.Reading.{read_map}
-use Rattle.deny_toml_grammar.specs.Strings.{quoted, starts_string}
+use Rattle.deny_toml_grammar.specs.Strings.{quoted}
+use Rattle.deny_toml_grammar.specs.private.Strings.{starts_string}
 use Rattle.deny_toml_grammar.specs.private.Words.{unquoted}
 use Rattle.deny_toml_grammar.specs.Expression.{depth_limit}
 use Rattle.deny_toml_grammar.specs.private.Keys.{key}
@@ -141,10 +144,9 @@ closed_prefix : (depth at : ℕ) (found : List Written) (start text : List ℕ) 
 closed_prefix depth at found [] text e is = absurd (false≢true e)
 closed_prefix depth at found (c ∷ rest) text e (blank_prefix blank is) =
     let c_is : 93 ≡ c = grind (arith, nat_tests) in
-    subst (λ x. ElementsPrefix depth at found rest (blank ++ (x ∷ rest)) found) c_is
-    (subst (λ t. ElementsPrefix depth at found rest t found) (append_assoc blank (93 ∷ []) rest)
-    (subst (ElementsPrefix depth at found rest ((blank ++ 93 ∷ []) ++ rest)) (append-nil found)
-    (elements_prefix (blank ++ 93 ∷ []) [] (grammar.closed depth at blank is))))
+    subst₂ (ElementsPrefix depth at found rest)
+    (append_assoc blank (93 ∷ []) rest ∙ ap (λ (x : ℕ). blank ++ (x ∷ rest)) c_is) (append-nil found)
+    (elements_prefix (blank ++ 93 ∷ []) [] (grammar.closed depth at blank is))
 
 -- the last element, where no comma follows
 last_element_prefix : (n depth total : ℕ) (found : List Written) (blank cs more tail rest : List ℕ) (v : Written)

@@ -1,11 +1,9 @@
 -- The bytes of TOML and their classes, and what stands between its parts.
 use Rattle.std.specs.Prelude.{ℕ, Bool, true, false, not, ◌&&◌, ◌||◌, ◌==◌, ◌-◌, length, nat_le, if◌then◌else◌, List, []}
-use Rattle.std.specs.Prelude.{◌∷◌, take, drop, slice_index, Option, Some, None, is_some, unwrap_or, ⊤, ◌<◌}
+use Rattle.std.specs.Prelude.{◌∷◌, take, drop, slice_index, Option, Some, None, is_some, unwrap_or}
 use Rattle.std.specs.List.{prefix_len}
 use Rattle.std.specs.Char.{is_ascii_alphanumeric, is_ascii_digit}
 use Rattle.deny_base.specs.declared.span.Span.{Span}
-use Rattle.deny_toml_grammar.specs.declared.lexical.Class.{Class}
-use Rattle.deny_toml_grammar.specs.declared.lexical.Class.TheVariants.{Space, Bare, Word, Digit, Grouped, Byte, Plain}
 
 -- what a reader gives: what it has read and the text after it, or that the text does not begin so
 abbrev pub Read : Type 0 → Type 0
@@ -100,22 +98,6 @@ is_plain delimiter multi c =
     (not (c == delimiter) && not (c == backslash && delimiter == quote)) &&
     (is_comment_byte c || (multi && c == line_feed))
 
--- the bytes of a class
-abbrev pub class_test : Class → ℕ → Bool
-class_test Space = is_space
-class_test Bare = is_bare
-class_test Word = is_word
-class_test Digit = is_ascii_digit
-class_test Grouped = is_grouped
-class_test (Byte b) = λ c. c == b
-class_test (Plain delimiter multi) = is_plain delimiter multi
-
--- a run of the class ends where a character does
-abbrev pub EndsAtBoundary : Class → Type 0
-EndsAtBoundary (Byte b) = b < 128
-EndsAtBoundary (Plain delimiter multi) = delimiter < 128
-EndsAtBoundary _ = ⊤
-
 -- the text begins with a line end
 abbrev pub starts_newline : List ℕ → Bool
 starts_newline text = first text == line_feed || (first text == carriage_return && slice_index text 1 == line_feed)
@@ -142,10 +124,6 @@ skip_from comments inside [] = []
 skip_from comments inside (c ∷ cs) =
     if is_some (skip_turn comments inside c (first cs))
     then skip_from comments (unwrap_or (skip_turn comments inside c (first cs)) false) cs else c ∷ cs
-
--- after spaces, tabs, line ends and comments
-abbrev pub skip_blank : List ℕ → List ℕ
-skip_blank text = skip_from true false text
 
 -- after spaces, tabs and line ends
 abbrev pub skip_lines : List ℕ → List ℕ

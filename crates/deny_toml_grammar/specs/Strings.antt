@@ -1,19 +1,18 @@
 -- Readers of strings.
-use Rattle.std.specs.Prelude.{ℕ, ◌+◌, ◌-◌, ◌^◌, ◌≤◌, ◌≡◌, string_bytes, String, Result, IfOk, zero, suc, Bool, true}
+use Rattle.std.specs.Prelude.{ℕ, ◌+◌, ◌-◌, ◌≤◌, Result, IfOk, zero, suc, Bool, true}
 use Rattle.std.specs.Prelude.{false, ◌&&◌, ◌||◌, ◌==◌, nat_lt, nat_le, if◌then◌else◌, List, [], ◌∷◌, ◌++◌, length, take}
-use Rattle.std.specs.Prelude.{drop, slice_index, encode_utf8, Option, Some, None, Ok, Err, option_map}
+use Rattle.std.specs.Prelude.{drop, slice_index, encode_utf8, Option, Some, None, option_map}
 use Rattle.std.specs.List.{prefix_len, list_all}
 use Rattle.std.specs.Char.{is_digit}
 use Rattle.std.specs.Str.Parse.{digits_value}
 use Rattle.deny_base.specs.declared.span.Spanned.{Spanned}
 use Rattle.deny_toml_grammar.specs.declared.parts.Scalar.{Scalar}
 use Rattle.deny_toml_grammar.specs.declared.parts.Scalar.TheVariants.{Text, Multiline}
-use Rattle.deny_toml_grammar.specs.Lexical.{Read, line_feed, carriage_return, tab, quote, apostrophe, backslash, first}
+use Rattle.deny_toml_grammar.specs.Lexical.{Read, line_feed, carriage_return, tab, quote, backslash, first}
 use Rattle.deny_toml_grammar.specs.Lexical.{is_plain, starts_newline, skip_spaces, skip_lines}
 use Rattle.std.specs.Borrow.{Bor}
-use Rattle.std.specs.declared.alloc.Global.{Global}
 use Rattle.deny_toml_grammar.specs.declared.read_error.ReadError.{ReadError}
-use Rattle.deny_toml_grammar.specs.private.Reading.{◌>>=◌, read_map, Fails}
+use Rattle.deny_toml_grammar.specs.private.Reading.{◌>>=◌, read_map}
 
 -- the character that a letter stands for after a backslash
 abbrev pub letter_escape : ℕ → Option ℕ
@@ -37,12 +36,6 @@ is_scalar c = nat_lt c 0xD800 || (nat_le 0xE000 c && nat_le c 0x10_FFFF)
 -- hex digits that write a character
 abbrev pub writes_scalar : List ℕ → Bool
 writes_scalar digits = list_all (λ c. is_digit c 16) digits && is_scalar (digits_value 16 digits)
-
--- the number that hex digits write, if it fits an `i64`
-abbrev pub hex_value : List ℕ → Option ℕ
-hex_value digits =
-    if list_all (λ c. is_digit c 16) digits && nat_lt (digits_value 16 digits) (2 ^ 63) then Some
-    (digits_value 16 digits) else None
 
 -- n hex digits that write a character
 unfoldable pub hex_escape : ℕ → List ℕ → Read ℕ
@@ -133,15 +126,6 @@ quoted total text =
     (multi_line total text)
     else read_map (string_of Text) (one_line total text)
 
--- the text begins with the delimiter of a string
-abbrev pub starts_string : List ℕ → Bool
-starts_string text = first text == quote || first text == apostrophe
-
 -- At least the closing delimiters were read.
 abbrev pub Closes : {A : Type 0} → Bool → List ℕ → Result (A × Bor (List ℕ)) ReadError → Type 0
 Closes multi text r = IfOk r (λ p. length p.1.now + (if multi then 3 else 1) ≤ length text)
-
--- the same for the bytes of a string
-abbrev pub ReadsBytes : Result (String Global × Bor (List ℕ)) ReadError → Read (List ℕ) → Type 0
-ReadsBytes (Ok p) expected = expected ≡ Some (string_bytes p.0, p.1.now)
-ReadsBytes (Err e) expected = Fails e expected

@@ -1,4 +1,6 @@
 pub mod Reading
+pub mod Lexical
+pub mod Strings
 pub mod Dates
 pub mod Words
 pub mod Keys

@@ -1,4 +1,5 @@
-ghost use Rattle.std.specs.Prelude.{◌≡◌, ℕ, ◌^◌, ◌<◌, List, length, IfOk, Err};
+ghost use Rattle.std.specs.Prelude.{◌≡◌, ◌^◌, ◌<◌, List, length, IfOk, IfErr};
+ghost use Rattle.deny_lists.specs.Reader.{Fails};
 ghost use Rattle.deny_toml_grammar.specs.declared.expression.Expression.{Expression};
 ghost use Rattle.deny_toml_grammar.specs.Grammar.{IsDocument};
 ghost use Rattle.deny_toml_grammar.specs.Ranges.{AllStand};
@@ -15,8 +16,8 @@ pub fn read_document<'t>(alloc: Global, text: &'t str) -> Result<List<Expression
     ensures found { IfOk result (λ es. IsDocument text.now es) }
     ensures only { IfOk result (λ es. (others : List Expression) → IsDocument text.now others → others ≡ es) }
     ensures stand { IfOk result (AllStand text.now) }
-    ensures refused { (left : ℕ) → result ≡ Err (ReadError.Grammar left) → (es : List Expression)
-        → IsDocument text.now es → ⊥ }
+    ensures refused { IfErr result
+        (Fails ReadError.Memory (λ _. (es : List Expression) → IsDocument text.now es → ⊥)) }
 {
     expressions(alloc, text)
 }

@@ -4,6 +4,7 @@ ghost use Rattle.deny_toml_grammar.specs.private.Keys as spec;
 ghost use Rattle.deny_toml_grammar.specs.private.Reading.{Reads, Shortens, read_map};
 ghost use Rattle.deny_toml_grammar.specs.Lexical as bytes;
 ghost use Rattle.deny_toml_grammar.specs.Strings as strings;
+ghost use Rattle.deny_toml_grammar.specs.private.Strings as own;
 
 use crate::cow_str::CowStr;
 use crate::lexical::{Class, between, first, is_bare, skip, skip_spaces, split_run};
@@ -66,7 +67,7 @@ fn quoted_key<'t>(
     total: usize,
     text: &'t str,
 ) -> Result<(Key<'t>, &'t str), ReadError>
-    requires here { strings.starts_string text.now ≡ true }
+    requires here { own.starts_string text.now ≡ true }
     requires within { length text.now ≤ total }
     requires small { total < 2 ^ 28 }
     ensures value { Reads result (read_map spec.quoted_key (strings.one_line total text.now)) }

@@ -2,6 +2,7 @@
 ghost use Rattle.std.specs.Prelude.{◌≡◌, ◌+◌, ◌-◌, ◌<◌, ◌≤◌, ◌^◌, false, length, drop, slice_index};
 ghost use Rattle.std.specs.List.{prefix_len};
 ghost use Rattle.deny_toml_grammar.specs.Lexical as spec;
+ghost use Rattle.deny_toml_grammar.specs.private.Lexical as own;
 
 use deny_base::Span;
 
@@ -146,7 +147,7 @@ pub(crate) enum Class {
 
 #[inline(always)]
 fn is_in(class: Class, byte: u8) -> bool
-    ensures { result ≡ spec.class_test class byte }
+    ensures { result ≡ own.class_test class byte }
 {
     match class {
         Class::Space => is_space(byte),
@@ -166,7 +167,7 @@ fn is_in(class: Class, byte: u8) -> bool
 /// How many bytes at the start are of the class.
 #[inline(always)]
 pub(crate) fn run_len(bytes: &[u8], class: Class) -> usize
-    ensures len { result ≡ prefix_len (spec.class_test class) bytes.now }
+    ensures len { result ≡ prefix_len (own.class_test class) bytes.now }
     ensures within { result ≤ length bytes.now }
 {
     bytes.iter().take_while(|byte| is_in(class, **byte)).count()
@@ -175,8 +176,8 @@ pub(crate) fn run_len(bytes: &[u8], class: Class) -> usize
 /// The run of the class at the start, and what follows it.
 #[inline(always)]
 pub(crate) fn split_run(text: &str, class: Class) -> (&str, &str)
-    requires { spec.EndsAtBoundary class }
-    ensures parts { (result.0.now, result.1.now) ≡ spec.split_while (spec.class_test class) text.now }
+    requires { own.EndsAtBoundary class }
+    ensures parts { (result.0.now, result.1.now) ≡ spec.split_while (own.class_test class) text.now }
     ensures lens { length result.0.now + length result.1.now ≡ length text.now }
 {
     text.split_at(run_len(text.as_bytes(), class))

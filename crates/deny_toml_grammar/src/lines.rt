@@ -1,6 +1,6 @@
 //! Headers, lines and the whole text.
 ghost use Rattle.std.specs.Prelude.{◌≡◌, ◌^◌, ◌<◌, ◌≤◌, length, IfOk};
-ghost use Rattle.deny_toml_grammar.specs.private.Reading.{Gives, Reads, Shortens};
+ghost use Rattle.deny_toml_grammar.specs.private.Reading.{GivesAs, Reads, Shortens};
 ghost use Rattle.deny_toml_grammar.specs.private.Lines as spec;
 
 use crate::expression::{Expression, Header};
@@ -19,7 +19,7 @@ pub(crate) fn expressions<'t>(
     text: &'t str,
 ) -> Result<List<Expression<'t>>, ReadError>
     requires small { length text.now < 2 ^ 28 }
-    ensures { Gives result (spec.expressions text.now) }
+    ensures { GivesAs (λ es. es) result (spec.expressions text.now) }
 {
     let total = text.len();
     let mut found = List::new(alloc);

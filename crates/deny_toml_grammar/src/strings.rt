@@ -5,6 +5,7 @@ ghost use Rattle.std.specs.List.{list_all};
 ghost use Rattle.std.specs.Char.{is_digit};
 ghost use Rattle.std.specs.Str.Parse.{digits_value};
 ghost use Rattle.deny_toml_grammar.specs.Strings as spec;
+ghost use Rattle.deny_toml_grammar.specs.private.Strings as own;
 ghost use Rattle.deny_toml_grammar.specs.private.Reading.{Reads, Shortens, ReadsPiece, read_map};
 
 use crate::cow_str::CowStr;
@@ -20,7 +21,7 @@ use std::alloc::Global;
 /// Whether a quote or an apostrophe comes next.
 #[inline]
 pub(crate) fn starts_string(text: &str) -> bool
-    ensures { result ≡ spec.starts_string text.now }
+    ensures { result ≡ own.starts_string text.now }
 {
     first(text) == b'"' || first(text) == b'\''
 }
@@ -33,7 +34,7 @@ pub(crate) fn quoted<'t>(
     total: usize,
     text: &'t str,
 ) -> Result<(Spanned<Scalar<'t>>, &'t str), ReadError>
-    requires here { spec.starts_string text.now ≡ true }
+    requires here { own.starts_string text.now ≡ true }
     requires within { length text.now ≤ total }
     requires small { total < 2 ^ 28 }
     ensures value { Reads result (spec.quoted total text.now) }
@@ -58,7 +59,7 @@ pub(crate) fn one_line<'t>(
     total: usize,
     text: &'t str,
 ) -> Result<(Spanned<CowStr<'t>>, &'t str), ReadError>
-    requires here { spec.starts_string text.now ≡ true }
+    requires here { own.starts_string text.now ≡ true }
     requires within { length text.now ≤ total }
     requires small { total < 2 ^ 28 }
     ensures value { Reads result (spec.one_line total text.now) }
@@ -79,7 +80,7 @@ fn multi_line<'t>(
     total: usize,
     text: &'t str,
 ) -> Result<(Spanned<CowStr<'t>>, &'t str), ReadError>
-    requires here { spec.starts_string text.now ≡ true }
+    requires here { own.starts_string text.now ≡ true }
     requires second { slice_index text.now 1 ≡ slice_index text.now 0 }
     requires third { slice_index text.now 2 ≡ slice_index text.now 0 }
     requires within { length text.now ≤ total }
@@ -158,7 +159,7 @@ fn owned_content(
 ) -> Result<(String, &str), ReadError>
     requires some { 0 < delimiter }
     requires ascii { delimiter < 128 }
-    ensures value { (n : ℕ) → length text.now < n → spec.ReadsBytes result (spec.content delimiter multi n text.now) }
+    ensures value { (n : ℕ) → length text.now < n → own.ReadsBytes result (spec.content delimiter multi n text.now) }
     ensures shorter { spec.Closes multi text.now result }
 {
     let mut bytes = String::new(alloc);
@@ -283,7 +284,7 @@ fn hex_escape(text: &str, len: usize) -> Option<(char, &str)>
 
 /// The number that the hex digits write, if all are hex digits and it fits an `i64`.
 fn hex_value(digits: &[u8]) -> Option<u64>
-    ensures value { result ≡ spec.hex_value digits.now }
+    ensures value { result ≡ own.hex_value digits.now }
     ensures fits { IfSome result (λ n. n < 2 ^ 63) }
 {
     let mut value = 0u64;

@@ -1,6 +1,6 @@
 //! Values: scalars, arrays and inline tables, in a text of `total` bytes.
 ghost use Rattle.std.specs.Prelude.{◌≡◌, ℕ, ◌^◌, ◌<◌, ◌≤◌, [], length, IfOk};
-ghost use Rattle.deny_toml_grammar.specs.private.Reading.{Gives, Reads, Shortens};
+ghost use Rattle.deny_toml_grammar.specs.private.Reading.{Reads, Shortens};
 ghost use Rattle.deny_toml_grammar.specs.private.Values as spec;
 
 use crate::expression::{Assignment, Written, WrittenContent};

@@ -18,7 +18,7 @@ use Rattle.deny_model.specs.Graph.{Crate, Graph}
 use Rattle.deny_trees.specs.Once.{ExpandsOnce, HeadsOne, ShowsOnce, bare_step, expanded_in, expanded_step}
 use Rattle.deny_trees.specs.Once.{repeats_are_bare}
 use Rattle.deny_trees.specs.Parents.{parents_in, same_node}
-use Rattle.deny_trees.specs.Tree.{GrownTrees, all_levels, graph_at, graph_of, grow, grow_each, grow_one, inner_at}
+use Rattle.deny_trees.specs.Tree.{GrownTrees, all_levels, graph_of, grow, grow_each, grow_one, headed_tree, inner_at}
 use Rattle.deny_trees.specs.Tree.{inner_of, is_met, node_with, start, tree_of}
 use Rattle.deny_trees.specs.declared.node.GraphNode.{GraphNode, fold-roll-GraphNode}
 use Rattle.deny_trees.specs.declared.node.NodeInner.{NodeInner}
@@ -243,23 +243,23 @@ expands_once g most node =
 -- what is shown of a node is the tree of a crate, or that of a feature under a heading
 pub shows_once : (g : Graph) (most : Option ℕ) (shown : base.GraphNode) (tree : GraphNode)
     → Some tree ≡ graph_of g most shown → ShowsOnce g shown.feature tree
-unfolding graph_of graph_at node_named node_in
+unfolding graph_of headed_tree node_named node_in
 shows_once g most shown tree is = by_crate shown.feature (crate_of g shown.kid.0) is
   where
     by_test : (c : Crate) (f : List ℕ) (b : Bool)
-        → Some tree ≡ option_map (graph_at g most) (cond b (Some (feature_node c f)) None) → HeadsOne g tree
+        → Some tree ≡ option_map (headed_tree g most) (cond b (Some (feature_node c f)) None) → HeadsOne g tree
     by_test c f true e = record {
       heading = inner_at g c.place None None;
       below = tree_of g most (feature_node c f);
-      is = same_Some tree (graph_at g most (feature_node c f)) e;
+      is = same_Some tree (headed_tree g most (feature_node c f)) e;
       once = expands_once g most (feature_node c f);
     }
     by_test c f false e = cc
 
     by_crate : (feature : Option (List ℕ)) (o : Option Crate)
-        → Some tree ≡ option_map (graph_at g most) (option_and_then (node_in feature) o) → ShowsOnce g feature tree
+        → Some tree ≡ option_map (headed_tree g most) (option_and_then (node_in feature) o) → ShowsOnce g feature tree
     by_crate None None e = cc
     by_crate (Some f) None e = cc
-    by_crate None (Some c) e = subst (ExpandsOnce g) (sym (same_Some tree (graph_at g most (crate_node c)) e))
+    by_crate None (Some c) e = subst (ExpandsOnce g) (sym (same_Some tree (headed_tree g most (crate_node c)) e))
         (expands_once g most (crate_node c))
     by_crate (Some f) (Some c) e = by_test c f (is_enabled c f) e

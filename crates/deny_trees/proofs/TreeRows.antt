@@ -21,7 +21,7 @@ use Rattle.deny_model.specs.Groups.{has_name}
 use Rattle.deny_model.specs.Resolution.{agreeing, resolution, suits}
 use Rattle.deny_trees.specs.Parents.{dependents_in, dependents_of, least_kind, parents_in, same_node}
 use Rattle.deny_trees.specs.Text.{parents_text, tree_text}
-use Rattle.deny_trees.specs.Tree.{graph_at, graph_of, grow, grow_each, inner_of, is_met, node_with, tree_of}
+use Rattle.deny_trees.specs.Tree.{graph_of, grow, grow_each, headed_tree, inner_of, is_met, node_with, tree_of}
 use Rattle.deny_trees.specs.declared.node.GraphNode.{GraphNode}
 use Rattle.deny_trees.specs.declared.node.NodeInner.TheVariants.{Krate, Feature}
 use Rattle.deny_trees.proofs.LevelLemmas.{text-node}
@@ -66,11 +66,11 @@ again name kind = node_with (Krate name (codes "1.0.0") kind) true []
 
 unfoldable on_cases : ⊤
 unfolding crate plain edge graph named shown again
-    graph_of graph_at tree_of grow grow_each is_met inner_of same_node parents_in dependents_in dependents_of least_kind
-    node_named node_in nodes_of in_order incoming_cmp incoming_in sources_at own_features own_leading of_parents
-    sources_of_crate sources_of_feature leads_by_asking leads_in_vain leads_undeclared feature_leads declares declared
-    resolves_to has_edge asks_for asks_in_vain asked leads_over is_called manifest_name holds_plain is_plain entries_of
-    is_enabled dependents leads resolution agreeing suits has_name kind_number digits
+    graph_of headed_tree tree_of grow grow_each is_met inner_of same_node parents_in dependents_in dependents_of
+    least_kind node_named node_in nodes_of in_order incoming_cmp incoming_in sources_at own_features own_leading
+    of_parents sources_of_crate sources_of_feature leads_by_asking leads_in_vain leads_undeclared feature_leads declares
+    declared resolves_to has_edge asks_for asks_in_vain asked leads_over is_called manifest_name holds_plain is_plain
+    entries_of is_enabled dependents leads resolution agreeing suits has_name kind_number digits
 on_cases = tt
 
 -- ---- crates alone

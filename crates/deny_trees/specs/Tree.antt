@@ -106,9 +106,9 @@ abbrev pub headed : Graph → ℕ → Option (List ℕ) → GraphNode → GraphN
 headed g place None tree = tree
 headed g place (Some feature) tree = node_with (inner_at g place None None) false (tree ∷ [])
 
-unfoldable pub graph_at : Graph → Option ℕ → Node → GraphNode
-graph_at g most node = headed g node.place node.feature (tree_of g most node)
+unfoldable pub headed_tree : Graph → Option ℕ → Node → GraphNode
+headed_tree g most node = headed g node.place node.feature (tree_of g most node)
 
 -- what is shown of a crate or of an enabled feature, if the graph has it
 unfoldable pub graph_of : Graph → Option ℕ → base.GraphNode → Option GraphNode
-graph_of g most shown = option_map (graph_at g most) (node_named g shown.kid.0 shown.feature)
+graph_of g most shown = option_map (headed_tree g most) (node_named g shown.kid.0 shown.feature)

@@ -6,7 +6,7 @@ ghost use Rattle.deny_lists.specs.Reader.{Answers};
 ghost use Rattle.deny_krates.specs.Nodes.{node_at, nodes_of};
 ghost use Rattle.deny_trees.specs.Once.{ShowsOnce};
 ghost use Rattle.deny_trees.specs.Shown.{crate_shown, depth_shown, graphs_shown};
-ghost use Rattle.deny_trees.specs.Tree.{graph_at, graph_of};
+ghost use Rattle.deny_trees.specs.Tree.{graph_of, headed_tree};
 
 use crate::apart::{let_go, push_tree};
 use crate::build::tree_of;
@@ -143,7 +143,7 @@ fn graph_of(
     ensures { IfOk result (λ tree. tree ≡ graph_of krates.now most shown.now) }
 {
     match krates.get_node(&shown.kid, feature_of(shown)) {
-        Some(node) => Ok(Some(graph_at(alloc, krates, most, node)?)),
+        Some(node) => Ok(Some(headed_tree(alloc, krates, most, node)?)),
         None => Ok(None),
     }
 }
@@ -158,7 +158,7 @@ fn feature_of(shown: &deny_base::GraphNode) -> Option<&str>
 }
 
 // The tree of a node; that of a feature stands under its crate, as under a heading.
-fn graph_at(
+fn headed_tree(
     alloc: Global,
     krates: &Krates,
     most: Option<usize>,
@@ -166,7 +166,7 @@ fn graph_at(
 ) -> Result<GraphNode, NoMemory>
     requires inside { node.0 < length (nodes_of krates.now) }
     requires own { AllPairs (λ a b. a ≢ b) (nodes_of krates.now) }
-    ensures { IfOk result (λ tree. tree ≡ graph_at krates.now most (node_at krates.now node.0)) }
+    ensures { IfOk result (λ tree. tree ≡ headed_tree krates.now most (node_at krates.now node.0)) }
 {
     if krates.node_feature(node).is_none() {
         return tree_of(alloc, krates, most, node);

@@ -4,3 +4,4 @@ pub mod Causes
 pub mod Purpose
 pub mod Unread
 pub mod View
+pub mod private

@@ -1,5 +1,5 @@
 -- What was read of a crate: what the disk tells, but for what entries say was not read.
-use Rattle.std.specs.Prelude.{ℕ, Bool, true, false, List, Option, None, Some, option_map}
+use Rattle.std.specs.Prelude.{ℕ, Bool, true, false, List, Option, None, Some}
 use Rattle.deny_outside.specs.Children.{children}
 use Rattle.deny_outside.specs.Disk.{Files, bytes_at}
 use Rattle.deny_outside.specs.declared.disk.Entry.{Entry}
@@ -29,7 +29,3 @@ view_by files unread = record {
 -- the view of one crate, or of a workspace that is none, by the entries of all
 unfoldable pub view_of : Files → List Unread → Option Kid → View
 view_of files us krate = view_by files (is_unread us krate)
-
--- the same where the disk tells its files
-abbrev pub view_told : Option Files → List Unread → Option Kid → Option View
-view_told told us krate = option_map (λ files. view_of files us krate) told

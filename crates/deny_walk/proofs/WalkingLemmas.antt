@@ -13,6 +13,7 @@ use Rattle.std.specs.List.{filter_map}
 use Rattle.std.proofs.lemmas.List.{append-nil, map_push}
 use Rattle.std.proofs.lemmas.List.Elements.{All-contains, Contains-push_cases}
 use Rattle.deny_lists.proofs.Members.{Contains-by_cases, Contains-first, Contains-rest, no_member}
+use Rattle.deny_lists.proofs.Equalities.{subst₃}
 use Rattle.deny_outside.specs.Children.{AreListed, children}
 use Rattle.deny_outside.specs.Count.{RoseBy}
 use Rattle.deny_outside.specs.Disk.{Disk, Files, IsLater}
@@ -112,10 +113,8 @@ pub walking_start : (krate : Kid) (root : List ℕ) (by_git : Bool) (disk : Disk
     (pending found : List (List ℕ)) (count : ℕ) → pending ≡ root ∷ [] → found ≡ [] → count ≡ 0
     → Walking krate root by_git disk unread disk unread pending found count
 walking_start krate root by_git disk unread pending found count only none zero_yet =
-    subst (λ (ps : List (List ℕ)). Walking krate root by_git disk unread disk unread ps found count) (sym only)
-    (subst (λ (fs : List (List ℕ)). Walking krate root by_git disk unread disk unread (root ∷ []) fs count) (sym none)
-    (subst (λ (n : ℕ). Walking krate root by_git disk unread disk unread (root ∷ []) [] n) (sym zero_yet)
-    (start_here krate root by_git disk unread)))
+    subst₃ (Walking krate root by_git disk unread disk unread) (sym only) (sym none) (sym zero_yet)
+    (start_here krate root by_git disk unread)
 
 -- a cause is one in a longer time
 cause_wider : (folder : Folders) (start old new : Disk) (krate : Kid) (why : NoList) (path : List ℕ) → IsLater old new
@@ -185,12 +184,9 @@ module _ (krate : Kid) (root : List ℕ) (by_git : Bool) (start : Disk) (first :
     walking_taken entries items more ps fs n names are rose same none ps_are fs_are n_is =
         subst (λ (us : List Unread). Walking krate root by_git start first new us ps fs n)
         (sym (none ∙ append-nil unread))
-        (subst (λ (xs : List (List ℕ)). Walking krate root by_git start first new unread xs fs n)
-        (sym (ps_are ∙ ap now_pending same))
-        (subst (λ (xs : List (List ℕ)). Walking krate root by_git start first new unread (now_pending entries) xs n)
-        (sym (fs_are ∙ ap now_found same))
-        (subst (λ (m : ℕ). Walking krate root by_git start first new unread (now_pending entries) (now_found entries) m)
-        (sym (n_is ∙ ap (λ (es : List Entry). count + length es) same)) (walking_listed entries names are rose))))
+        (subst₃ (Walking krate root by_git start first new unread) (sym (ps_are ∙ ap now_pending same))
+        (sym (fs_are ∙ ap now_found same)) (sym (n_is ∙ ap (λ (es : List Entry). count + length es) same))
+        (walking_listed entries names are rose))
 
     abbrev entry : Unread
     entry = asked (Some krate) purpose.List next

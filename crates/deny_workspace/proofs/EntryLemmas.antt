@@ -21,9 +21,10 @@ use Rattle.deny_toml.specs.Calls.{Layer, below_name, entry_at, has_name, layer_i
 use Rattle.deny_toml.specs.Key.{Key}
 use Rattle.deny_toml.specs.TreeOrder.{AreOrderly, IsOrderly, IsOrderlyLayer, NamesAscend}
 use Rattle.deny_toml.specs.Value.{entries_in}
-use Rattle.deny_toml.specs.declared.value.Table.{Table}
-use Rattle.deny_toml.specs.declared.value.Value.{Value}
-use Rattle.deny_workspace.specs.Entries.{Ascends, Entry, may_be_patched, patch_of, patched_entry, replaced_by}
+use Rattle.deny_toml.specs.value.Table.{Table}
+use Rattle.deny_toml.specs.value.Value.{Value}
+use Rattle.deny_workspace.specs.Entries.{Entry, may_be_patched, patch_of, patched_entry, replaced_by}
+use Rattle.deny_workspace.specs.private.Entries.{Ascends}
 use Rattle.deny_workspace.specs.Entries.{table_below}
 use Rattle.deny_workspace.specs.EntryKey.{name_of}
 use Rattle.deny_workspace.specs.Origin.{value_at_key}

@@ -4,8 +4,8 @@ use Rattle.semver.proofs.OnLiterals.{semver_on_literals}
 use Rattle.deny_manifests.specs.Found.{rename_of, requirement_in, version_of, versioned}
 use Rattle.deny_manifests.proofs.Cases.{entry, range, table, text}
 use Rattle.deny_toml.specs.Key.{Key}
-use Rattle.deny_toml.specs.declared.value.Content.{the_lemmas}
-use Rattle.deny_toml.specs.declared.value.Value.{Value}
+use Rattle.deny_toml.specs.value.Content.{the_lemmas}
+use Rattle.deny_toml.specs.value.Value.{Value}
 use Rattle.deny_workspace.proofs.Cases.{at, from_major}
 use Rattle.deny_workspace.specs.Entries.{entries_of, patch_of, patched_entry}
 use Rattle.deny_workspace.specs.EntryKey.{name_of}

@@ -4,7 +4,7 @@ use Rattle.semver.proofs.OnLiterals.{semver_on_literals}
 use Rattle.deny_manifests.specs.Found.{rename_of, requirement_in, version_of, versioned}
 use Rattle.deny_manifests.proofs.Cases.{entry, flag, table, text}
 use Rattle.deny_krates.specs.source.GitSpec.TheVariants as spec
-use Rattle.deny_toml.specs.declared.value.Content.{the_lemmas}
+use Rattle.deny_toml.specs.value.Content.{the_lemmas}
 use Rattle.deny_workspace.proofs.Cases.{at, from_major}
 use Rattle.deny_workspace.specs.EntryKey.{name_of}
 use Rattle.deny_workspace.specs.Origin.{origin_in, reference_in}

@@ -12,9 +12,11 @@ use Rattle.std.proofs.lemmas.List.Elements.{filter-append}
 use Rattle.deny_krates.specs.Crates.{crate_view}
 use Rattle.deny_model.specs.View.{WorkspaceEntry}
 use Rattle.deny_model.specs.Graph.{Graph}
-use Rattle.deny_toml.specs.declared.value.Value.{Value}
-use Rattle.deny_workspace.specs.Entries.{dependencies_in, entries_of, entry_view, patches_in}
-use Rattle.deny_workspace.specs.Workspace.{AreSpans, IsPut, dep_view, entries_in, resolved_entry, resolves_to, span_at}
+use Rattle.deny_toml.specs.value.Value.{Value}
+use Rattle.deny_workspace.specs.Entries.{dependencies_in, entries_of, patches_in}
+use Rattle.deny_workspace.specs.private.Entries.{entry_view}
+use Rattle.deny_workspace.specs.Workspace.{AreSpans, dep_view, entries_in, resolved_entry, resolves_to, span_at}
+use Rattle.deny_workspace.specs.private.Workspace.{IsPut}
 use Rattle.deny_workspace.specs.Workspace.{span_of, span_view, unused_in}
 use Rattle.deny_workspace.specs.declared.entries.Entry.{Entry as Read}
 use Rattle.deny_workspace.specs.declared.registries.Registry.{Registry}

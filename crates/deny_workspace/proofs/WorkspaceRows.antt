@@ -13,7 +13,7 @@ use Rattle.deny_model.specs.Crates.{folder_of}
 use Rattle.deny_model.specs.View.{WorkspaceEntry}
 use Rattle.deny_model.specs.Graph.{Graph}
 use Rattle.deny_model.specs.Groups.{has_name}
-use Rattle.deny_toml.specs.declared.value.Content.{the_lemmas}
+use Rattle.deny_toml.specs.value.Content.{the_lemmas}
 use Rattle.deny_workspace.proofs.Cases.{at, from_major, graph, manifest, of_branch, of_crates_io, of_folder}
 use Rattle.deny_workspace.specs.Agreement.{comes_from, fits, home_of, place_of}
 use Rattle.deny_workspace.specs.Entries.{entries_of, patch_of, patched_entry}

@@ -1,21 +1,18 @@
 -- The entries of a workspace's dependencies, with the patches that stand in their places.
-use Rattle.std.specs.Prelude.{⊤, ℕ, Bool, true, false, List, [], Option, Some, None, filter_map, option_and_then}
+use Rattle.std.specs.Prelude.{ℕ, Bool, true, false, List, [], Option, Some, None, filter_map, option_and_then}
 use Rattle.std.specs.Prelude.{option_map, if◌then◌else◌}
 use Rattle.std.specs.Option.{option_map_or}
 use Rattle.deny_base.specs.declared.span.Span.{Span}
 use Rattle.deny_toml.specs.Key.{Key}
-use Rattle.deny_toml.specs.declared.value.Table.{Table}
-use Rattle.deny_toml.specs.declared.value.Value.{Value}
+use Rattle.deny_toml.specs.value.Table.{Table}
+use Rattle.deny_toml.specs.value.Value.{Value}
 use Rattle.deny_toml.specs.Value.{entries_in, span_in}
 use Rattle.deny_toml.specs.Calls.{entry_at, table_in}
-use Rattle.deny_toml.specs.TreeOrder.{NamesAscend}
 use Rattle.deny_workspace.specs.Origin.{value_at_key}
-use Rattle.deny_workspace.specs.Wanted.{Wanted, wanted_in, wanted_view}
-use Rattle.deny_workspace.specs.declared.entries.Entry.{Entry as Read}
+use Rattle.deny_workspace.specs.Wanted.{Wanted, wanted_in}
 use Rattle.deny_workspace.specs.declared.entry_key.EntryKey.{EntryKey}
 use Rattle.deny_workspace.specs.declared.entry_key.EntryKey.TheVariants as key
 use Rattle.deny_workspace.specs.declared.origin.Origin.{Origin}
-use Rattle.deny_workspace.specs.declared.wanted.Wanted.{Wanted as AskedFor}
 use Rattle.deny_workspace.specs.declared.origin.Origin.TheVariants.{Git, Path, Registry}
 
 -- an entry by what stands for it
@@ -37,11 +34,6 @@ table_below outer inner tree = option_and_then table_in (option_and_then (value_
 -- the keys of a table with their values; none where there is no table
 abbrev pub keys_in : Option Table → List (Key × Value)
 keys_in table = option_map_or entries_in table []
-
--- the names of the keys ascend
-abbrev pub Ascends : Option Table → Type 0
-Ascends None = ⊤
-Ascends (Some table) = NamesAscend table
 
 -- the entries of `workspace.dependencies`, in byte order of their keys
 abbrev pub dependencies_in : Value → List (Key × Value)
@@ -91,17 +83,3 @@ entry_of patches e = option_map (patched_entry patches e.0 (span_in e.1)) (wante
 
 unfoldable pub entries_of : List (Key × Value) → List (Key × Value) → List Entry
 entries_of patches dependencies = filter_map (entry_of patches) dependencies
-
--- a patch that was read
-abbrev pub patch_view : Span × AskedFor → Span × Wanted
-patch_view patch = (patch.0, wanted_view patch.1)
-
--- an entry that was read
-abbrev pub entry_view : Read → Entry
-entry_view e = record {
-  name = e.name;
-  key = e.key;
-  value = e.value;
-  wanted = wanted_view e.wanted;
-  patched = e.patched;
-}

@@ -7,3 +7,4 @@ pub mod Registries
 pub mod Repositories
 pub mod Wanted
 pub mod Workspace
+pub mod private

@@ -5,7 +5,7 @@ use Rattle.url.specs.Parser.{parse_url}
 use Rattle.url.specs.Parts.{Parts}
 use Rattle.deny_krates.specs.source.GitSpec.{GitSpec}
 use Rattle.deny_krates.specs.source.GitSpec.TheVariants as spec
-use Rattle.deny_toml.specs.declared.value.Value.{Value}
+use Rattle.deny_toml.specs.value.Value.{Value}
 use Rattle.deny_toml.specs.Calls.{below_name, text_in}
 use Rattle.deny_workspace.specs.EntryKey.{name_of}
 use Rattle.deny_workspace.specs.declared.entry_key.EntryKey.{EntryKey}

@@ -2,13 +2,12 @@
 use Rattle.std.specs.Prelude.{ℕ, ◌||◌, Bool, not, List, Option, None, is_some, option_map, if◌then◌else◌}
 use Rattle.semver.specs.Parse.{Held}
 use Rattle.deny_base.specs.declared.span.Spanned.{Spanned}
-use Rattle.deny_toml.specs.declared.value.Value.{Value}
+use Rattle.deny_toml.specs.value.Value.{Value}
 use Rattle.deny_toml.specs.Calls.{text_in}
-use Rattle.deny_manifests.specs.Found.{held_spanned, rename_of, version_of}
+use Rattle.deny_manifests.specs.Found.{rename_of, version_of}
 use Rattle.deny_workspace.specs.Origin.{has, origin_in}
 use Rattle.deny_workspace.specs.declared.entry_key.EntryKey.TheVariants as key
 use Rattle.deny_workspace.specs.declared.origin.Origin.{Origin}
-use Rattle.deny_workspace.specs.declared.wanted.Wanted.{Wanted as Read}
 
 pub record Wanted : Type 0 where
   pub origin : Origin
@@ -27,7 +26,3 @@ wanted_from v origin = record { origin = origin; version = version_of v; rename 
 -- kind or does not read
 unfoldable pub wanted_in : Value → Option Wanted
 wanted_in v = if is_readable v then option_map (wanted_from v) (origin_in v) else None
-
--- what was read, with the comparators of its requirement
-abbrev pub wanted_view : Read → Wanted
-wanted_view w = record { origin = w.origin; version = option_map held_spanned w.version; rename = w.rename }

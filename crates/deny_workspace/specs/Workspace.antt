@@ -1,6 +1,6 @@
 -- What the entries of a workspace's dependencies resolve to, by the tree of its manifest.
 use Rattle.std.specs.Prelude.{◌≡◌, ℕ, ◌==◌, Bool, false, IfSome, List, Option, Some, filter, find, is_none, length, map}
-use Rattle.std.specs.Prelude.{option_map, reverse, slice_get, slice_set}
+use Rattle.std.specs.Prelude.{option_map, reverse, slice_get}
 use Rattle.std.specs.Option.{option_flatten, option_map_or}
 use Rattle.semver.specs.Parse.{Held}
 use Rattle.deny_base.specs.declared.span.Span.{Span}
@@ -8,7 +8,7 @@ use Rattle.deny_base.specs.declared.span.Spanned.{Spanned}
 use Rattle.deny_krates.specs.Crates.{crate_view}
 use Rattle.deny_model.specs.Graph.{Graph}
 use Rattle.deny_model.specs.View.{WorkspaceEntry}
-use Rattle.deny_toml.specs.declared.value.Value.{Value}
+use Rattle.deny_toml.specs.value.Value.{Value}
 use Rattle.deny_workspace.specs.Agreement.{place_of}
 use Rattle.deny_workspace.specs.Entries.{Entry, dependencies_in, entries_of, patches_in}
 use Rattle.deny_manifests.specs.Found.{held_spanned}
@@ -72,10 +72,3 @@ pub record AreSpans (g : Graph) (entries : List WorkspaceEntry) (spans : List (O
   pub at : (place : ℕ) → option_map (span_view place) (span_at spans place) ≡ span_of entries place
   pub krates : (place : ℕ) → IfSome (span_at spans place)
       (λ s. slice_get g.crates place ≡ Some (crate_view place s.krate.now))
-
--- an entry was put to the crate at a place, over what was there
-pub record IsPut (g : Graph) (place : ℕ) (entry : WorkspaceEntry) (old new : List (Option WorkspaceSpan)) : Type 0 where
-  pub span : WorkspaceSpan
-  pub is : new ≡ slice_set old place (Some span)
-  pub says : span_view place span ≡ entry
-  pub of : slice_get g.crates place ≡ Some (crate_view place span.krate.now)

@@ -3,10 +3,12 @@ ghost use Rattle.std.specs.Prelude.{◌≡◌, IfOk, None, map, option_copied, o
 ghost use Rattle.deny_toml.specs.Calls.{entry_at};
 ghost use Rattle.deny_toml.specs.TreeOrder.{NamesAscend};
 ghost use Rattle.deny_toml.specs.Value.{entries_in};
-ghost use Rattle.deny_workspace.specs.Entries.{Ascends, entries_of, entry_of, entry_view, keys_in};
-ghost use Rattle.deny_workspace.specs.Entries.{may_be_patched, patch_of, patch_view, patched_entry};
+ghost use Rattle.deny_workspace.specs.Entries.{entries_of, entry_of, keys_in};
+ghost use Rattle.deny_workspace.specs.private.Entries.{Ascends, entry_view};
+ghost use Rattle.deny_workspace.specs.Entries.{may_be_patched, patch_of, patched_entry};
+ghost use Rattle.deny_workspace.specs.private.Entries.{patch_view};
 ghost use Rattle.deny_workspace.specs.Entries.{replaced_by, table_below};
-ghost use Rattle.deny_workspace.specs.Wanted.{wanted_view};
+ghost use Rattle.deny_workspace.specs.private.Wanted.{wanted_view};
 
 use crate::entry_key::EntryKey;
 use crate::origin::{Origin, value_at};
@@ -42,7 +44,7 @@ pub fn table_below<'v, 't>(
 }
 
 // The entry of a name.
-fn entry_in<'v, 't>(table: &'v Table<'t>, name: &str) -> Option<&'v (Key<'t>, Value<'t>)>
+fn named_entry<'v, 't>(table: &'v Table<'t>, name: &str) -> Option<&'v (Key<'t>, Value<'t>)>
     requires { NamesAscend table.now }
     ensures { option_copied result ≡ entry_at name.now (entries_in table.now) }
 {
@@ -76,7 +78,7 @@ fn patch_of<'t>(
     let Some(table) = patches else {
         return Ok(None);
     };
-    let Some((key, value)) = entry_in(table, name) else {
+    let Some((key, value)) = named_entry(table, name) else {
         return Ok(None);
     };
     match wanted_in(alloc, value)? {
@@ -115,12 +117,12 @@ fn patched_entry<'t>(
         key.now value (wanted_view wanted)) }
 {
     let name = Text::from_str(alloc, key.name.as_str())?;
-    let patch = patch_for(alloc, patches, &wanted.origin, key.name.as_str())?;
-    Ok(entry_with(patch, name, key.span, value, wanted))
+    let patch = allowed_patch(alloc, patches, &wanted.origin, key.name.as_str())?;
+    Ok(entry_or_patch(patch, name, key.span, value, wanted))
 }
 
 // The patch of a name, where an entry from there may be patched.
-fn patch_for<'t>(
+fn allowed_patch<'t>(
     alloc: Global,
     patches: Option<&Table<'t>>,
     origin: &Origin,
@@ -138,7 +140,7 @@ fn patch_for<'t>(
 }
 
 // The entry of a key, or the patch in its place.
-fn entry_with(
+fn entry_or_patch(
     patch: Option<(Span, Wanted)>,
     name: Text,
     key: Span,

@@ -60,7 +60,7 @@ fn owned(alloc: Global, text: Option<&str>) -> Result<Option<Text>, NoMemory>
 }
 
 // The reference of a kind that the text at a key names.
-fn reference_at(
+fn reference_of_kind(
     alloc: Global,
     value: &Value<'_>,
     key: EntryKey,
@@ -82,13 +82,13 @@ fn reference_in(alloc: Global, value: &Value<'_>) -> Result<Option<Reference>, N
     ensures { IfOk result (λ reference. reference ≡ reference_in value.now) }
 {
     if has(value, EntryKey::Rev) {
-        return reference_at(alloc, value, EntryKey::Rev, GitSpec::Rev);
+        return reference_of_kind(alloc, value, EntryKey::Rev, GitSpec::Rev);
     }
     if has(value, EntryKey::Branch) {
-        return reference_at(alloc, value, EntryKey::Branch, GitSpec::Branch);
+        return reference_of_kind(alloc, value, EntryKey::Branch, GitSpec::Branch);
     }
     if has(value, EntryKey::Tag) {
-        return reference_at(alloc, value, EntryKey::Tag, GitSpec::Tag);
+        return reference_of_kind(alloc, value, EntryKey::Tag, GitSpec::Tag);
     }
     Ok(Some(Reference {
         spec: GitSpec::Any,

@@ -1,6 +1,7 @@
 //! What the value of an entry, or of a patch, asks for.
 ghost use Rattle.std.specs.Prelude.{◌≡◌, IfOk, is_some, option_map};
-ghost use Rattle.deny_workspace.specs.Wanted.{is_readable, wanted_in, wanted_view};
+ghost use Rattle.deny_workspace.specs.Wanted.{is_readable, wanted_in};
+ghost use Rattle.deny_workspace.specs.private.Wanted.{wanted_view};
 ghost use Rattle.deny_manifests.specs.Found.{version_of};
 
 use crate::entry_key::EntryKey;

@@ -4,9 +4,11 @@ ghost use Rattle.std.specs.Option.{option_map_or};
 ghost use Rattle.deny_toml.specs.TreeOrder.{IsOrderly};
 ghost use Rattle.deny_model.specs.Groups.{has_name};
 ghost use Rattle.deny_workspace.specs.Agreement.{counting, fits, home_of, is_of_registry};
-ghost use Rattle.deny_workspace.specs.Entries.{dependencies_in, entries_of, entry_view, patches_in};
+ghost use Rattle.deny_workspace.specs.Entries.{dependencies_in, entries_of, patches_in};
+ghost use Rattle.deny_workspace.specs.private.Entries.{entry_view};
 ghost use Rattle.deny_manifests.specs.Found.{held_spanned, requirement_read};
-ghost use Rattle.deny_workspace.specs.Workspace.{AreSpans, IsPut, dep_view, entries_in, resolved_entry, unused_in};
+ghost use Rattle.deny_workspace.specs.Workspace.{AreSpans, dep_view, entries_in, resolved_entry, unused_in};
+ghost use Rattle.deny_workspace.specs.private.Workspace.{IsPut};
 
 use crate::agreement::{home_of, is_of_registry, place_of};
 use crate::entries::{Entry, entries_of, table_below};

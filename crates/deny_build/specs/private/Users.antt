@@ -15,9 +15,9 @@ is_user y at = checks at.0 at.1 && uses at.0.building y at.1
 unfoldable pub met_walked : Bypass → Looking × Crate → List MetFile
 met_walked y at = if walks at.0 at.1 then all_met (Some y) (kid_of at.1) (package_of at.0 at.1).files else []
 
-unfoldable pub met_at : Bypass → Looking × Crate → List MetFile
-met_at y at = if walks at.0 at.1 && is_user y at
+unfoldable pub met_of_user : Bypass → Looking × Crate → List MetFile
+met_of_user y at = if walks at.0 at.1 && is_user y at
     then all_met (Some y) (kid_of at.1) (package_of at.0 at.1).files else []
 
-unfoldable pub met_in : Looking → Bypass → List MetFile
-met_in l y = flat_map (λ c. met_at y (l, c)) l.graph.crates
+unfoldable pub met_of_users : Looking → Bypass → List MetFile
+met_of_users l y = flat_map (λ c. met_of_user y (l, c)) l.graph.crates

@@ -38,13 +38,13 @@ pub record LeadToFirsts (edges : List WrappedEdge) (firsts : BTreeMap Span Wrapp
   pub at : (range : Span) → tree.get span_cmp firsts range ≡ first_wrapped_edge edges range
 
 -- what a wrapped edge hits
-unfoldable pub hit_by : Graph → WrappedEdge → Option Hit
-hit_by g m = option_and_then (λ c. option_map (λ d. hit_of Wrapper m.range (Parent (kid_of c) (kid_of d)))
+unfoldable pub hit_by_edge : Graph → WrappedEdge → Option Hit
+hit_by_edge g m = option_and_then (λ c. option_map (λ d. hit_of Wrapper m.range (Parent (kid_of c) (kid_of d)))
     (crate_at g m.parent)) (crate_at g m.place)
 
 -- the hit of a wrapper by the wrapped edge that its range leads to
 unfoldable pub hit_at : Graph → BTreeMap Span WrappedEdge → Words → Option Hit
-hit_at g firsts w = option_and_then (hit_by g) (tree.get span_cmp firsts w.span)
+hit_at g firsts w = option_and_then (hit_by_edge g) (tree.get span_cmp firsts w.span)
 
 -- the hits of a ban's wrappers, in their order
 abbrev pub wrapper_hits : Policy → Graph → Ban → List Hit

@@ -16,7 +16,8 @@ use Rattle.deny_model.specs.Text.{same_text}
 use Rattle.deny_model.specs.Told.{crate_at}
 use Rattle.deny_codes.specs.Features.{IsNotAllowedOf, Reaches, default_feature, names_feature, not_allowed_feature_key}
 use Rattle.deny_facts.specs.Marks.{mark_at}
-use Rattle.deny_features.specs.Crates.{default_level_at, enabled_at, has_feature_at}
+use Rattle.deny_features.specs.Crates.{default_level_at, enabled_at}
+use Rattle.deny_features.specs.private.Crates.{has_feature_at}
 use Rattle.deny_features.specs.Listed.{unlisted_at}
 use Rattle.deny_features.specs.private.Listed.{is_among, is_mismatched_at}
 

@@ -5,7 +5,7 @@ use Rattle.deny_base.specs.declared.edge.DepKind.{DepKind}
 use Rattle.deny_manifests.specs.Ignored.{kind_word}
 use Rattle.deny_model.specs.Text.{same_text}
 use Rattle.deny_toml.specs.Calls.{text_in}
-use Rattle.deny_toml.specs.declared.value.Value.{Value}
+use Rattle.deny_toml.specs.value.Value.{Value}
 
 -- an element that is no text names none
 abbrev pub names_kind : DepKind → Value → Bool

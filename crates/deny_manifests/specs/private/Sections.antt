@@ -17,7 +17,7 @@ use Rattle.deny_manifests.specs.declared.sections.Sections.{Sections}
 use Rattle.deny_manifests.specs.private.Firsts.{first_at}
 use Rattle.deny_manifests.specs.private.Targets.{NumbersTargets, number_of}
 use Rattle.deny_toml.specs.Key.{Key}
-use Rattle.deny_toml.specs.declared.value.Value.{Value}
+use Rattle.deny_toml.specs.value.Value.{Value}
 
 -- an entry with where it stands
 abbrev pub KeyedEntry : Type 0

@@ -4,7 +4,7 @@ use Rattle.serde_json.specs.Data.{Data, Items}
 use Rattle.deny_metadata.specs.Document.{declaration_at, features_member, kind_member, node_at, package_at, target_at}
 use Rattle.deny_metadata.specs.Elements.{path_to, object_at, text_at, text_member, optional_text, optional_texts}
 use Rattle.deny_metadata.specs.Elements.{flag_member, object_member, elements_from, each_member, each_optional}
-use Rattle.deny_metadata.specs.Reading.{◌>>=◌}
+use Rattle.deny_lists.specs.Reader.{◌>>=◌}
 use Rattle.deny_metadata.specs.declared.document.Contents.{Contents}
 use Rattle.deny_metadata.specs.declared.document.Document.{Document}
 use Rattle.deny_metadata.specs.declared.document.Identity.{Identity}
@@ -66,8 +66,8 @@ contents_at path d = do
   Ok (record { features = features; targets = targets; dependencies = dependencies })
 
 -- the document of a workspace, with its packages and with the nodes of what is resolved
-unfoldable pub document_with : List (List ℕ) → List ℕ → Items → Data → Result Document MetadataFault
-document_with members workspace_root packages resolve = do
+unfoldable pub document_of_workspace : List (List ℕ) → List ℕ → Items → Data → Result Document MetadataFault
+document_of_workspace members workspace_root packages resolve = do
   read_packages ← elements_from package_at (path_to [] Packages) 0 packages
   nodes ← each_member node_at (path_to [] Resolve) Nodes resolve
   Ok (record { packages = read_packages; members = members; workspace_root = workspace_root; nodes = nodes })
@@ -78,4 +78,4 @@ document_of_packages d packages = do
   members ← each_member text_at [] WorkspaceMembers d
   workspace_root ← text_member [] WorkspaceRoot d
   resolve ← object_member [] Resolve d
-  document_with members workspace_root packages resolve
+  document_of_workspace members workspace_root packages resolve

@@ -20,7 +20,7 @@ use Rattle.deny_spans.specs.declared.krate_spans.KrateSpans.{KrateSpans}
 use Rattle.deny_spans.specs.declared.krate_spans.Lock.{Lock}
 use Rattle.deny_spans.specs.private.Gathered.{broken_if, broken_of, is_broken, missing_of}
 use Rattle.deny_spans.specs.private.Workspace.{AreShared, AreSharedIf, IsWorkspaceBy}
-use Rattle.deny_toml.specs.declared.value.Value.{Value}
+use Rattle.deny_toml.specs.value.Value.{Value}
 use Rattle.deny_unread.specs.Unread.{asked, if_unread, unread_cmp}
 use Rattle.deny_unread.specs.declared.purpose.Purpose.TheVariants as purpose
 use Rattle.deny_unread.specs.declared.unread.Unread.{Unread}

@@ -13,7 +13,7 @@ use Rattle.deny_spans.specs.Seen.{manifest_by, manifest_in, manifest_read}
 use Rattle.deny_spans.specs.SpansView.{IsManifestAt, manifest_view}
 use Rattle.deny_spans.specs.declared.gathered.Gathered.{Gathered}
 use Rattle.deny_spans.specs.declared.gathered.ReadManifest.{ReadManifest}
-use Rattle.deny_toml.specs.declared.value.Value.{Value}
+use Rattle.deny_toml.specs.value.Value.{Value}
 use Rattle.deny_unread.specs.Unread.{asked, if_unread}
 use Rattle.deny_unread.specs.declared.purpose.Purpose.TheVariants as purpose
 use Rattle.deny_unread.specs.declared.unread.Unread.{Unread}

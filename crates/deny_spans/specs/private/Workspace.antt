@@ -13,7 +13,7 @@ use Rattle.deny_spans.specs.Seen.{entries_by}
 use Rattle.deny_spans.specs.declared.missed.Missed.{Missed}
 use Rattle.deny_spans.specs.declared.workspace.Workspace.{Workspace}
 use Rattle.deny_spans.specs.private.Gathered.{broken_if, is_broken, reading}
-use Rattle.deny_toml.specs.declared.value.Value.{Value}
+use Rattle.deny_toml.specs.value.Value.{Value}
 use Rattle.deny_unread.specs.Unread.{asked, if_unread}
 use Rattle.deny_unread.specs.declared.purpose.Purpose.TheVariants as purpose
 use Rattle.deny_workspace.specs.Workspace.{AreSpans, dep_view, unused_in}

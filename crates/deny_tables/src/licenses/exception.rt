@@ -1,4 +1,4 @@
-ghost use Rattle.deny_entries.specs.Table.{Gives};
+ghost use Rattle.std.specs.Prelude.{IsSomeAnd};
 ghost use Rattle.deny_tables.specs.Apart.{exception_entry-apart};
 ghost use Rattle.deny_tables.specs.Depends.{exception-depends};
 ghost use Rattle.deny_tables.specs.Licenses.{ReadsException, ReadsExceptionKeys, exception_fields, faults_of_exception};
@@ -29,7 +29,7 @@ pub(crate) struct ExceptionKeys {
 impl Extension for ExceptionKeys {
     ghost fields = { exception_fields };
 
-    ghost reads_in = { λ entries said. Gives (ReadsExceptionKeys entries) said };
+    ghost reads_in = { λ entries said. IsSomeAnd said (ReadsExceptionKeys entries) };
 
     fn read_keys(
         alloc: Global,

@@ -5,7 +5,8 @@ use Rattle.deny_toml_grammar.specs.declared.parts.Key.{Key}
 use Rattle.deny_toml_grammar.specs.Expression.{depth_limit}
 use Rattle.deny_toml_grammar.specs.Lexical.{Read, dot, first, is_bare, split_while, skip_spaces, between}
 use Rattle.deny_toml_grammar.specs.private.Reading.{◌>>=◌, read_map}
-use Rattle.deny_toml_grammar.specs.Strings.{one_line, starts_string}
+use Rattle.deny_toml_grammar.specs.Strings.{one_line}
+use Rattle.deny_toml_grammar.specs.private.Strings.{starts_string}
 
 -- a key of which the name and the range are known
 abbrev pub quoted_key : Spanned (List ℕ) → Key

@@ -6,7 +6,8 @@ use Rattle.deny_toml_grammar.specs.declared.expression.Header.{Header}
 use Rattle.deny_toml_grammar.specs.declared.expression.Expression.{Expression}
 use Rattle.deny_toml_grammar.specs.declared.expression.Expression.TheVariants as expression
 use Rattle.deny_toml_grammar.specs.Lexical.{Read, hash, line_feed, carriage_return, left_bracket, right_bracket, first}
-use Rattle.deny_toml_grammar.specs.Lexical.{skip_spaces, skip_blank}
+use Rattle.deny_toml_grammar.specs.Lexical.{skip_spaces}
+use Rattle.deny_toml_grammar.specs.private.Lexical.{skip_blank}
 use Rattle.deny_toml_grammar.specs.private.Reading.{◌>>=◌, read_map}
 use Rattle.deny_toml_grammar.specs.Expression.{depth_limit, header_with}
 use Rattle.deny_toml_grammar.specs.private.Keys.{key}

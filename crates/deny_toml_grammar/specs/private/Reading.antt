@@ -1,10 +1,11 @@
 -- How the result of a reader stands to what the text says.
 use Rattle.std.specs.Prelude.{◌≡◌, ℕ, ◌<◌, Bool, List, [], ◌++◌, length, String, string_bytes, Option, Some, None}
-use Rattle.std.specs.Prelude.{is_some, unwrap_or, Result, Ok, Err, MatchResult, IfOk, option_map, option_and_then}
+use Rattle.std.specs.Prelude.{is_some, unwrap_or, Result, IfOk, option_map, option_and_then}
 use Rattle.std.specs.Borrow.{Bor}
 use Rattle.std.specs.declared.alloc.Global.{Global}
+use Rattle.deny_lists.specs.Reader.{Gives}
 use Rattle.deny_toml_grammar.specs.declared.read_error.ReadError.{ReadError}
-use Rattle.deny_toml_grammar.specs.declared.read_error.ReadError.TheVariants.{Grammar, Memory}
+use Rattle.deny_toml_grammar.specs.declared.read_error.ReadError.TheVariants.{Memory}
 use Rattle.deny_toml_grammar.specs.Lexical.{Read}
 
 infixl 10 ◌>>=◌
@@ -15,20 +16,14 @@ o >>= f = option_and_then f o
 abbrev pub read_map : {A B : Type 0} → (A → B) → Read A → Read B
 read_map f r = option_map (λ p. (f p.0, p.1)) r
 
--- A reader fails where the text does not begin so. Want of memory says nothing of the text.
-abbrev pub Fails : {A : Type 0} → ReadError → Option A → Type 0
-Fails (Grammar left) expected = expected ≡ None
-Fails Memory expected = Unit {0}
-
--- the result is what is expected
-abbrev pub Gives : {A : Type 0} → Result A ReadError → Option A → Type 0
-Gives (Ok a) expected = expected ≡ Some a
-Gives (Err e) expected = Fails e expected
+-- What was read, as it is seen, is what is expected; a reader fails where the text does not begin so. Want of memory
+-- says nothing of the text.
+abbrev pub GivesAs : {A B : Type 0} → (A → B) → Result A ReadError → Option B → Type 0
+GivesAs seen r expected = Gives Memory (λ a. expected ≡ Some (seen a)) (λ _. expected ≡ None) r
 
 -- the result is the value and the rest that are expected
 abbrev pub Reads : {A : Type 0} → Result (A × Bor (List ℕ)) ReadError → Read A → Type 0
-Reads (Ok p) expected = expected ≡ Some (p.0, p.1.now)
-Reads (Err e) expected = Fails e expected
+Reads r expected = GivesAs (λ p. (p.0, p.1.now)) r expected
 
 -- less text is left
 abbrev pub Shortens : {A : Type 0} → List ℕ → Result (A × Bor (List ℕ)) ReadError → Type 0
@@ -42,7 +37,7 @@ piece_bytes piece = unwrap_or piece []
 abbrev pub ReadsPiece : String Global → String Global → Result (Bool × Bor (List ℕ)) ReadError → Read (Option (List ℕ))
     → Type 0
 ReadsPiece old new r expected =
-    MatchResult r
+    Gives Memory
     (λ p. (piece : Option (List ℕ)) × (expected ≡ Some (piece, p.1.now)) × (p.0 ≡ is_some piece)
     × (string_bytes new ≡ string_bytes old ++ piece_bytes piece))
-    (λ e. Fails e expected)
+    (λ _. expected ≡ None) r

@@ -1,6 +1,6 @@
 -- Readers of values, in a text of `total` bytes.
 use Rattle.std.specs.Prelude.{ℕ, zero, suc, ◌==◌, if◌then◌else◌, List, [], ◌∷◌, ◌++◌, length, drop, Option, Some, None}
-use Rattle.std.specs.Prelude.{option_map, Result, Ok, Err, ◌≡◌}
+use Rattle.std.specs.Prelude.{option_map, Result}
 use Rattle.std.specs.Borrow.{Bor}
 use Rattle.deny_toml_grammar.specs.declared.read_error.ReadError.{ReadError}
 use Rattle.deny_base.specs.declared.span.Spanned.{Spanned}
@@ -12,9 +12,11 @@ use Rattle.deny_toml_grammar.specs.declared.expression.WrittenContent.{WrittenCo
 use Rattle.deny_toml_grammar.specs.declared.expression.WrittenContent.TheVariants as written
 use Rattle.deny_toml_grammar.specs.Expression.{written_with, assignment_with}
 use Rattle.deny_toml_grammar.specs.Lexical.{Read, comma, equals, left_bracket, right_bracket, left_brace, right_brace}
-use Rattle.deny_toml_grammar.specs.Lexical.{first, skip_spaces, skip_blank, between}
-use Rattle.deny_toml_grammar.specs.private.Reading.{◌>>=◌, read_map, Fails}
-use Rattle.deny_toml_grammar.specs.Strings.{quoted, starts_string}
+use Rattle.deny_toml_grammar.specs.Lexical.{first, skip_spaces, between}
+use Rattle.deny_toml_grammar.specs.private.Lexical.{skip_blank}
+use Rattle.deny_toml_grammar.specs.private.Reading.{◌>>=◌, read_map, GivesAs}
+use Rattle.deny_toml_grammar.specs.Strings.{quoted}
+use Rattle.deny_toml_grammar.specs.private.Strings.{starts_string}
 use Rattle.deny_toml_grammar.specs.private.Words.{unquoted}
 use Rattle.deny_toml_grammar.specs.private.Keys.{key}
 
@@ -86,5 +88,4 @@ value (suc depth) total text =
 
 -- the result is the rest that is expected
 abbrev pub GivesRest : Result (Bor (List ℕ)) ReadError → Option (List ℕ) → Type 0
-GivesRest (Ok rest) expected = expected ≡ Some rest.now
-GivesRest (Err e) expected = Fails e expected
+GivesRest r expected = GivesAs (λ rest. rest.now) r expected

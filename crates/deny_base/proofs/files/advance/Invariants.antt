@@ -1,5 +1,5 @@
 use Rattle.std.proofs.Common.{◌≡◌, ◌+◌, take}
-use Rattle.deny_base.specs.Marks.{location_after}
+use Rattle.deny_base.specs.private.Marks.{location_after}
 use Rattle.deny_base.proofs.files.advance.Given as goal
 
 abbrev pub invariant-loop-byte : goal.invariant-loop-byte

@@ -1,5 +1,5 @@
 use Rattle.std.proofs.Common.{◌≡◌, ◌*◌, take}
-use Rattle.deny_base.specs.Marks.{AreMarks, location_after}
+use Rattle.deny_base.specs.private.Marks.{AreMarks, location_after}
 use Rattle.deny_base.proofs.files.marks_of.Given as goal
 
 abbrev pub invariant-loop-mark : goal.invariant-loop-mark

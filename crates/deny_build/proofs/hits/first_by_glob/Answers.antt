@@ -10,7 +10,7 @@ returns-in-Some c =
     let glob = c.args.glob.now in
     let got = ap (λ (t : List ℕ). finite.get c.args.firsts.now t) (sym c.as_str.ensures)
     ∙ (sym c.get.ensures ∙ ap option_copied c.in-Some.is) in
-    found_at (meets_glob glob) c.args.met.now c.in-Some.number.now (option_copied c.met_at.result) c.met_at.ensures
+    found_at (meets_glob glob) c.args.met.now c.in-Some.number.now (option_copied c.nth_met.result) c.nth_met.ensures
     (subst (IsFirstAt (meets_glob glob) (map met_view c.args.met.now)) got c.requires)
 
 pub returns-in-None : goal.returns-in-None

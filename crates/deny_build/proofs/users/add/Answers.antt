@@ -10,11 +10,11 @@ use Rattle.deny_build.proofs.users.add.Goals as goal
 pub returns-in-Some : goal.returns-in-Some
 returns-in-Some c =
     let at = c.args.at.now in
-    on_ok_weaker c.add_to.result
+    on_ok_weaker c.add_ranged.result
     (λ is asked. is asked ∙ ap (λ (o : Option Span). users_at c.args.groups.now asked
     ++ cond (option_map_or (λ own. same_span own asked) o false) (at ∷ []) [])
     (sym c.in-Some.is ∙ c.range_used.ensures))
-    c.add_to.ensures
+    c.add_ranged.ensures
 
 pub returns-in-None : goal.returns-in-None
 returns-in-None c = λ asked.

@@ -1,5 +1,5 @@
 use Rattle.std.proofs.Common.{append-nil, arith, subst, sym}
-use Rattle.deny_build_cfg.specs.Builtin.{builtin_of}
+use Rattle.deny_build_cfg.specs.private.Builtin.{builtin_of}
 use Rattle.deny_build_cfg.specs.Globs.{AreGlobsOf, extension_text}
 use Rattle.deny_build_cfg.proofs.GlobLaws.{more_all, more_next, same_gathered}
 use Rattle.deny_build_cfg.proofs.builtin.gather_some.Goals as goal

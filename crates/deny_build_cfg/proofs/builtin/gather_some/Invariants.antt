@@ -1,6 +1,7 @@
 use Rattle.std.proofs.Common.{map, take}
-use Rattle.deny_build_cfg.specs.Builtin.{builtin_of}
-use Rattle.deny_build_cfg.specs.Globs.{GathersMore, extension_text}
+use Rattle.deny_build_cfg.specs.private.Builtin.{builtin_of}
+use Rattle.deny_build_cfg.specs.Globs.{extension_text}
+use Rattle.deny_build_cfg.specs.private.Globs.{GathersMore}
 use Rattle.deny_build_cfg.proofs.builtin.gather_some.Given as goal
 
 abbrev pub invariant-loop-glob : goal.invariant-loop-glob

@@ -1,5 +1,6 @@
 use Rattle.std.proofs.Common.{◌∙◌, ◌∷◌, ap, subst}
-use Rattle.deny_build_cfg.specs.Globs.{Gathers, extension_text}
+use Rattle.deny_build_cfg.specs.Globs.{extension_text}
+use Rattle.deny_build_cfg.specs.private.Globs.{Gathers}
 use Rattle.deny_build_cfg.specs.declared.pattern.GlobPattern.TheVariants.{User}
 use Rattle.deny_build_cfg.proofs.GlobLaws.{mapped_next, none_wanted}
 use Rattle.deny_build_cfg.proofs.gathered.extension_globs.Goals as goal

@@ -1,5 +1,5 @@
 use Rattle.std.proofs.Common.{◌≡◌, ◌++◌, drop, map}
-use Rattle.deny_bypasses.specs.Paths.{spelled}
+use Rattle.deny_bypasses.specs.private.Paths.{spelled}
 use Rattle.deny_bypasses.proofs.paths.spelled.Given as goal
 
 abbrev pub invariant-loop-name : goal.invariant-loop-name

@@ -1,5 +1,5 @@
 use Rattle.std.proofs.Common.{◌≡◌, map, take}
-use Rattle.deny_bypasses.specs.Paths.{spelling_of}
+use Rattle.deny_bypasses.specs.private.Paths.{spelling_of}
 use Rattle.deny_bypasses.proofs.paths.spellings_of.Given as goal
 
 abbrev pub invariant-loop-file : goal.invariant-loop-file

@@ -1,7 +1,7 @@
 use Rattle.std.proofs.Common.{List, arith, map, subst, ◌∙◌}
 use Rattle.deny_lists.specs.First.{FindsFirst}
 use Rattle.deny_cfg.specs.Clashes.{feature_clash}
-use Rattle.deny_cfg.specs.FirstSpans.{first_span, same_wording, word_span}
+use Rattle.deny_cfg.specs.private.FirstSpans.{first_span, same_wording, word_span}
 use Rattle.deny_cfg.proofs.ClashLaws.{gathers_next}
 use Rattle.deny_cfg.proofs.FirstSpansLaws.{feature_found}
 use Rattle.deny_model.specs.Policy.{Words}

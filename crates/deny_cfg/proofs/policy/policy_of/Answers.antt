@@ -2,8 +2,10 @@ use Rattle.std.proofs.Common.{List, ◌++◌, ◌-◌, ap, arith, length, subst,
 use Rattle.std.proofs.lemmas.List.{length-append}
 use Rattle.deny_base.specs.declared.finding.Diagnostic.{Diagnostic}
 use Rattle.deny_cfg.specs.Clashes.{AreClashes}
-use Rattle.deny_cfg.specs.Deprecated.{AreTold, warnings_of}
-use Rattle.deny_cfg.specs.PolicyText.{AddsOnError, IsNoPolicy, ListsFaults}
+use Rattle.deny_cfg.specs.Deprecated.{warnings_of}
+use Rattle.deny_cfg.specs.private.Deprecated.{AreTold}
+use Rattle.deny_cfg.specs.PolicyText.{IsNoPolicy, ListsFaults}
+use Rattle.deny_cfg.specs.private.PolicyText.{AddsOnError}
 use Rattle.deny_cfg.specs.Valid.{IsValidOf}
 use Rattle.deny_cfg.specs.Validating.{source_in}
 use Rattle.deny_cfg.specs.declared.policy.PolicyError.TheVariants as error

@@ -5,13 +5,13 @@ ghost use Rattle.deny_build_cfg.specs.Build.{HasFiles, IsBuildOf, files_of};
 ghost use Rattle.deny_build_cfg.specs.Globs.{OfBoth};
 ghost use Rattle.deny_lists.specs.Prefix.{Gains, GainsPrefixOf};
 ghost use Rattle.deny_cfg.specs.Clashes.{is_ban};
-ghost use Rattle.deny_cfg.specs.Deprecated.{AreTold};
+ghost use Rattle.deny_cfg.specs.private.Deprecated.{AreTold};
 ghost use Rattle.deny_cfg.specs.Valid.{IsValidOf, ban_of, features_of, files_asked, is_multiple, krate_ban};
 ghost use Rattle.deny_cfg.specs.Validating.{source_in};
 
 use crate::bans::cfg::ValidTreeSkip;
 use crate::clash_told::tell_clashes;
-use crate::clashes::{clashes_of, is_ban};
+use crate::clashes::{is_ban, ordered_clashes};
 use crate::deprecated::tell_deprecated;
 use crate::validate::{UnvalidatedConfig, ValidationContext};
 use deny_base::{Diagnostic, FileId, Files, LintLevel, Span, Spanned};
@@ -305,7 +305,7 @@ fn tell(
     ensures ok { OnOk result (Gains (AreTold source.now config.now file) told.old told.new) }
     ensures err { OnErr result (GainsPrefixOf (AreTold source.now config.now file) told.old told.new) }
 {
-    let clashes = clashes_of(alloc, source, config)?;
+    let clashes = ordered_clashes(alloc, source, config)?;
     tell_clashes(alloc, file, clashes.as_slice(), told)?;
     tell_deprecated(
         alloc,

@@ -3,7 +3,8 @@ use Rattle.std.specs.Prelude.{All}
 use Rattle.deny_base.specs.declared.entry.EntryId.{EntryId}
 use Rattle.deny_gate.specs.declared.report.Finding.{Finding}
 use Rattle.deny_lists.proofs.Results.{on_ok_then}
-use Rattle.deny_cli.specs.Told.{HasNumbers, IsCounted}
+use Rattle.deny_cli.specs.Told.{HasNumbers}
+use Rattle.deny_cli.specs.private.Told.{IsCounted}
 use Rattle.deny_cli.proofs.ToldLemmas.{told_plain}
 use Rattle.deny_cli.proofs.lines.push_lines.Goals as goal
 

@@ -1,4 +1,4 @@
-use Rattle.deny_cli.specs.Commands.{command_view}
+use Rattle.deny_cli.specs.private.Commands.{command_view}
 use Rattle.deny_cli.specs.Words.{texts}
 use Rattle.deny_cli.proofs.WordsLemmas.{asks_for_few}
 use Rattle.deny_cli.proofs.program.answer_to.Goals as goal

@@ -2,7 +2,7 @@ use Rattle.std.proofs.Common.{refl, subst, sym}
 use Rattle.deny_base.specs.declared.check.Which.TheVariants.{Policy, Metadata, Replacements}
 use Rattle.deny_gate.specs.Gating.{Texts}
 use Rattle.deny_cli.specs.Causes.{AreTextsOf}
-use Rattle.deny_cli.specs.Commands.{asked_view}
+use Rattle.deny_cli.specs.private.Commands.{asked_view}
 use Rattle.deny_cli.specs.Words.{check}
 use Rattle.deny_cli.proofs.ReadingLemmas.{handed_on, metadata_asked_for, policy_asked_for, read_if_named_since}
 use Rattle.deny_cli.proofs.ReadingLemmas.{read_since, replacements_asked_for}

@@ -1,6 +1,6 @@
 use Rattle.std.proofs.Common.{ap}
 use Rattle.deny_gate.specs.Gating.{texts_in}
-use Rattle.deny_cli.specs.Commands.{asked_view, command_view}
+use Rattle.deny_cli.specs.private.Commands.{asked_view, command_view}
 use Rattle.deny_cli.proofs.ReportLemmas.{caused_there, made_there, report_there}
 use Rattle.deny_cli.proofs.program.report_for_command.Goals as goal
 

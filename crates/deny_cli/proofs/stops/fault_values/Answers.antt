@@ -3,7 +3,7 @@ use Rattle.std.specs.Prelude.{All}
 use Rattle.std.proofs.lemmas.Grind.{common_steps}
 use Rattle.std.proofs.lemmas.List.{take_all}
 use Rattle.std.proofs.lemmas.List.Elements.{All-more}
-use Rattle.deny_cli.specs.Stops.{HasSpan}
+use Rattle.deny_cli.specs.private.Stops.{HasSpan}
 use Rattle.deny_cli.proofs.stops.fault_values.Goals as goal
 
 pub loop-fault-preserved : goal.loop-fault-preserved

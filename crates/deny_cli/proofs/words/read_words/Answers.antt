@@ -1,7 +1,7 @@
 use Rattle.std.proofs.Common.{◌∙◌, ℕ, Option, Some, ap, sym, subst, take, arith}
 use Rattle.std.specs.Prelude.{option_map, string_bytes}
 use Rattle.std.proofs.lemmas.List.{length-map, take_all}
-use Rattle.deny_cli.specs.Commands.{command_view, form_view}
+use Rattle.deny_cli.specs.private.Commands.{command_view, form_view}
 use Rattle.deny_cli.specs.Words.{IsUsageAt, filled, nothing, step, texts}
 use Rattle.deny_cli.specs.declared.words.Command.{Command}
 use Rattle.deny_cli.specs.declared.words.Form.{Form}

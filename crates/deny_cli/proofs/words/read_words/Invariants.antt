@@ -1,5 +1,5 @@
 use Rattle.std.proofs.Common.{◌≡◌, Some, take}
-use Rattle.deny_cli.specs.Commands.{form_view}
+use Rattle.deny_cli.specs.private.Commands.{form_view}
 use Rattle.deny_cli.specs.Words.{filled, nothing, texts}
 use Rattle.deny_cli.proofs.words.read_words.Given as goal
 

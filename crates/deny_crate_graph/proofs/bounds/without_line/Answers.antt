@@ -1,12 +1,12 @@
 use Rattle.std.proofs.Common.{◌≡◌, ◌+◌, ap, ℕ, List, length, arith}
 use Rattle.deny_crate_graph.specs.Bounds.{lock_line_length}
 use Rattle.deny_crate_graph.specs.Crates.{crate_view}
-use Rattle.deny_metadata.proofs.ReadingLemmas.{if_ok_then}
+use Rattle.deny_lists.proofs.Results.{if_ok_then}
 use Rattle.deny_crate_graph.proofs.bounds.without_line.Goals as goal
 
 pub returns : goal.returns
 returns c =
-    if_ok_then _ (λ left. left + lock_line_length (crate_view 0 c.args.krate.now) ≡ c.args.room) c.without.result
+    if_ok_then {Q = λ left. left + lock_line_length (crate_view 0 c.args.krate.now) ≡ c.args.room} c.without.result
     c.without.ensures
     (λ left is. omega (
       arith,

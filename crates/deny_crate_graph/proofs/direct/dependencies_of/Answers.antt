@@ -4,7 +4,7 @@ use Rattle.std.proofs.lemmas.List.Elements.{All-map}
 use Rattle.deny_base.specs.declared.edge.Edge.{Edge}
 use Rattle.deny_crate_graph.specs.private.Direct.{AreDependencies, AreDependents, reversed}
 use Rattle.deny_crate_graph.proofs.DirectLemmas.{rows_reversed}
-use Rattle.deny_metadata.proofs.ReadingLemmas.{if_ok_then}
+use Rattle.deny_lists.proofs.Results.{if_ok_then}
 use Rattle.deny_crate_graph.proofs.direct.dependencies_of.Goals as goal
 
 pub dependents_of-requires-clause-parents : goal.dependents_of-requires-clause-parents
@@ -21,7 +21,7 @@ dependents_of-requires-clause-children c =
 
 pub returns : goal.returns
 returns c =
-    if_ok_then _ (AreDependencies c.args.krates.now c.args.edges.now) c.dependents_of.result c.dependents_of.ensures
+    if_ok_then {Q = AreDependencies c.args.krates.now c.args.edges.now} c.dependents_of.result c.dependents_of.ensures
     (λ rows are targeted root members. rows_reversed targeted root c.args.krates.now members c.args.edges.now rows
     (subst (λ (es : List Edge). AreDependents c.args.krates.now es rows) (c.as_slice.ensures ∙ c.in_ok-others.ensures)
     are targeted root members))

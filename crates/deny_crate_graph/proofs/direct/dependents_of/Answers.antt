@@ -3,7 +3,7 @@ use Rattle.std.specs.Prelude.{All, fold}
 use Rattle.deny_crate_graph.specs.private.Direct.{AreDependents, with_incoming}
 use Rattle.deny_crate_graph.specs.declared.direct.IncomingEdge.{IncomingEdge}
 use Rattle.deny_crate_graph.proofs.DirectLemmas.{children_inside, rows_are_kept}
-use Rattle.deny_metadata.proofs.ReadingLemmas.{if_ok_both}
+use Rattle.deny_lists.proofs.Results.{if_ok_both}
 use Rattle.deny_crate_graph.proofs.direct.dependents_of.Goals as goal
 
 pub direct_of-requires : goal.direct_of-requires
@@ -18,7 +18,7 @@ incoming_edges-requires c = subst (λ (n : ℕ). All (λ e. e.parent < n) c.args
 
 pub returns : goal.returns
 returns c =
-    if_ok_both _ _ (AreDependents c.args.krates.now c.args.edges.now) c.direct_of.result c.direct_of.ensures.long
+    if_ok_both {R = AreDependents c.args.krates.now c.args.edges.now} c.direct_of.result c.direct_of.ensures.long
     c.direct_of.ensures.rows
     (λ rows long are. rows_are_kept c.args.krates.now c.args.ranks.now c.args.edges.now c.in_ok-incoming.incoming rows
     c.requires.ranks

@@ -5,7 +5,7 @@ use Rattle.deny_crate_graph.specs.private.OtherLinks.{AreWays}
 use Rattle.deny_crate_graph.specs.private.Reach.{AreReached, links_at}
 use Rattle.deny_resolve.specs.declared.checked.ResolvedNode.{ResolvedNode}
 use Rattle.deny_crate_graph.proofs.FilteredLemmas.{marks_are, ways_inside}
-use Rattle.deny_metadata.proofs.ReadingLemmas.{if_ok_then}
+use Rattle.deny_lists.proofs.Results.{if_ok_then}
 use Rattle.deny_crate_graph.proofs.filtered.reached_without.Goals as goal
 
 pub reach-requires-clause-few : goal.reach-requires-clause-few
@@ -21,7 +21,7 @@ reach-requires-clause-links c node =
 
 pub returns : goal.returns
 returns c =
-    if_ok_then _ _ c.reach.result c.reach.ensures (λ marks reached g members edges long.
+    if_ok_then c.reach.result c.reach.ensures (λ marks reached g members edges long.
     marks_are c.args.kind g c.in_ok-rows.rows
     (subst (λ (n : ℕ). AreWays c.args.kind g.edges n c.in_ok-rows.rows) (sym long)
     (subst (λ (es : List Edge). AreWays c.args.kind es c.args.crates c.in_ok-rows.rows) (sym edges)

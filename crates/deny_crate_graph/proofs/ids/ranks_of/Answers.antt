@@ -5,7 +5,7 @@ use Rattle.deny_crate_graph.specs.private.Direct.{AreRanks}
 use Rattle.deny_crate_graph.specs.private.Graph.{IsInverse}
 use Rattle.deny_crate_graph.specs.declared.ids.Entry.{Entry}
 use Rattle.deny_crate_graph.proofs.IdsLemmas.{few_entries, places_apart, places_inside, ranks_are}
-use Rattle.deny_metadata.proofs.ReadingLemmas.{if_ok_then}
+use Rattle.deny_lists.proofs.Results.{if_ok_then}
 use Rattle.deny_crate_graph.proofs.ids.ranks_of.Goals as goal
 
 pub inverse_of-requires-clause-few : goal.inverse_of-requires-clause-few
@@ -28,7 +28,7 @@ inverse_of-requires-clause-apart c =
 
 pub returns : goal.returns
 returns c =
-    if_ok_then _ (AreRanks c.args.krates.now) c.inverse_of.result c.inverse_of.ensures
+    if_ok_then {Q = AreRanks c.args.krates.now} c.inverse_of.result c.inverse_of.ensures
     (λ ranks is. ranks_are c.args.krates.now c.args.entries.now c.requires.apart c.requires.ids ranks
     (subst (λ (ps : List ℕ). IsInverse ps (length c.args.krates.now) ranks)
     (c.as_slice.ensures ∙ c.in_ok-places.ensures) is))

@@ -1,4 +1,4 @@
-use Rattle.deny_metadata.proofs.ReadingLemmas.{if_ok_then}
+use Rattle.deny_lists.proofs.Results.{if_ok_then}
 use Rattle.deny_crate_graph.proofs.ReachLemmas.{link_stays, reached_are}
 use Rattle.deny_crate_graph.proofs.reach.reach.Goals as goal
 
@@ -6,5 +6,5 @@ pub reach-requires-clause-inside : goal.reach-requires-clause-inside
 reach-requires-clause-inside c = link_stays c.args.rows.now c.args.starts.now c.requires.links
 
 pub returns : goal.returns
-returns c = if_ok_then _ _ c.reach.result c.reach.ensures
+returns c = if_ok_then c.reach.result c.reach.ensures
     (λ marks are. reached_are c.args.rows.now c.args.starts.now marks are)

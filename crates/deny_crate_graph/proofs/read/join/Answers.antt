@@ -9,7 +9,7 @@ use Rattle.deny_metadata.specs.declared.document.Node.{Node}
 use Rattle.deny_crate_graph.specs.declared.graph.KeptPackage.{KeptPackage}
 use Rattle.deny_crate_graph.specs.declared.krate.Krate.{Krate}
 use Rattle.deny_crate_graph.proofs.GraphIs.{kept_inside, owners_apart, owners_kept}
-use Rattle.deny_metadata.proofs.ReadingLemmas.{if_ok_then}
+use Rattle.deny_lists.proofs.Results.{if_ok_then}
 use Rattle.deny_crate_graph.proofs.OrderlyLemmas.{joined, joined_names, joined_orderly}
 use Rattle.deny_crate_graph.proofs.ResolvedLemmas.{rows_long, zip_long}
 use Rattle.deny_crate_graph.proofs.read.join.Goals as goal
@@ -68,5 +68,5 @@ returns-clause-graph c =
     let graph = joined c.args.document c.args.starts.now c.args.rows.now c.requires.numbered.0 c.args.kept.now
     c.requires.numbered.1 are.places are.inverse r.members are.members r.target_edges are.target_edges r.edges are.edges
     c.args.document.workspace_root c.in_ok-krates.krates refl zip in
-    if_ok_then _ (λ g. IsGraph c.args.document (graph_read g)) c.with_neighbours.result c.with_neighbours.ensures.graph
-    (λ g is. subst (λ (h : Graph). IsGraph c.args.document h) (sym is) graph)
+    if_ok_then {Q = λ g. IsGraph c.args.document (graph_read g)} c.with_neighbours.result
+    c.with_neighbours.ensures.graph (λ g is. subst (λ (h : Graph). IsGraph c.args.document h) (sym is) graph)

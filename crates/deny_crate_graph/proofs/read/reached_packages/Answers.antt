@@ -4,7 +4,7 @@ use Rattle.deny_lists.specs.Ascending.{Lists}
 use Rattle.deny_crate_graph.specs.private.Graph.{IsKeptNode, kept_cmp}
 use Rattle.deny_crate_graph.specs.private.Numbered.{IsNumbered}
 use Rattle.deny_metadata.specs.declared.document.Package.{Package}
-use Rattle.deny_metadata.proofs.ReadingLemmas.{if_ok_then}
+use Rattle.deny_lists.proofs.Results.{if_ok_then}
 use Rattle.deny_crate_graph.proofs.ResolvedLemmas.{links_inside, owners_inside, rows_long, starts_inside}
 use Rattle.deny_crate_graph.proofs.read.reached_packages.Goals as goal
 
@@ -33,7 +33,7 @@ pub returns-clause-numbered : goal.returns-clause-numbered
 returns-clause-numbered c =
     let rows = c.args.rows.now in
     let packages = c.args.document.now.packages in
-    if_ok_then _ (λ kept. (marks : List Bool) × IsNumbered c.args.document.now c.args.starts.now rows marks kept)
+    if_ok_then {Q = λ kept. (marks : List Bool) × IsNumbered c.args.document.now c.args.starts.now rows marks kept}
     c.kept_of.result c.kept_of.ensures.lists (λ kept lists. (
       c.in_ok-marks.marks,
       record {
@@ -49,4 +49,4 @@ pub returns-clause-few : goal.returns-clause-few
 returns-clause-few c =
     let rows_few : length c.args.rows.now < 2 ^ 28 = subst (λ (n : ℕ). n < 2 ^ 28)
     (rows_long c.args.document.now c.args.starts.now c.args.rows.now c.requires.resolved) c.requires.few in
-    if_ok_then _ (λ kept. length kept < 2 ^ 28) c.kept_of.result c.kept_of.ensures.few (λ kept few. omega arith)
+    if_ok_then {Q = λ kept. length kept < 2 ^ 28} c.kept_of.result c.kept_of.ensures.few (λ kept few. omega arith)

@@ -11,12 +11,12 @@ use Rattle.deny_crate_graph.proofs.GraphIs.{nodes_apart, nodes_inside, kept_insi
 use Rattle.deny_crate_graph.proofs.ResolvedLemmas.{links_inside, starts_inside}
 use Rattle.deny_crate_graph.proofs.read.relations_of.Goals as goal
 
-pub places_in-requires-clause-inside : goal.places_in-requires-clause-inside
-places_in-requires-clause-inside c = nodes_inside c.requires.numbered.0 c.args.starts.now c.args.rows.now
+pub places_by_node-requires-clause-inside : goal.places_by_node-requires-clause-inside
+places_by_node-requires-clause-inside c = nodes_inside c.requires.numbered.0 c.args.starts.now c.args.rows.now
     c.requires.numbered.1 c.args.kept.now c.requires.numbered.2
 
-pub places_in-requires-clause-apart : goal.places_in-requires-clause-apart
-places_in-requires-clause-apart c = nodes_apart c.requires.numbered.0 c.args.starts.now c.args.rows.now
+pub places_by_node-requires-clause-apart : goal.places_by_node-requires-clause-apart
+places_by_node-requires-clause-apart c = nodes_apart c.requires.numbered.0 c.args.starts.now c.args.rows.now
     c.requires.numbered.1 c.args.kept.now c.requires.numbered.2
 
 pub members_of-requires : goal.members_of-requires

@@ -3,7 +3,7 @@ use Rattle.std.specs.Prelude.{All, nat_lt}
 use Rattle.deny_lists.specs.Walk as walk
 use Rattle.deny_facts.specs.Steps.{HasEdgeFrom}
 use Rattle.deny_krates.proofs.PlaceLemmas.{length_of}
-use Rattle.deny_dup_edges.specs.Above.{AreAbove}
+use Rattle.deny_dup_edges.specs.private.Above.{AreAbove}
 use Rattle.deny_dup_edges.proofs.AboveLemmas.{are_above}
 use Rattle.deny_dup_edges.proofs.above.reach_above.Goals as goal
 

@@ -1,6 +1,7 @@
 use Rattle.std.proofs.Common.{◌≡◌, ◌∙◌, sym, subst, rules, ap}
+use Rattle.std.specs.Prelude.{IsSomeAnd}
 use Rattle.deny_toml.specs.TableHelper.{table_faults}
-use Rattle.deny_entries.specs.Table.{Gives, State, after_all, faults_of_table, state_of}
+use Rattle.deny_entries.specs.Table.{State, after_all, faults_of_table, state_of}
 use Rattle.deny_entries.specs.Spec.{spec_fields, ReadsSpecKeys}
 use Rattle.deny_entries.specs.Entry.{ReadsPair, entry_fields}
 use Rattle.deny_entries.proofs.TableLaws.{all_faults, no_field_faults, read_in, reports_same, after_all-append}
@@ -44,7 +45,7 @@ unreachable-requires g c =
     let none =
     no_field_faults (entry_fields g.T.Extension.fields) c.args.value.now c.in_ok-helper.helper.entries
     c.in_ok-helper.helper.span h.table h.span (sym same ∙ c.in_ok-finalize.ensures.ok) in
-    subst (Gives (ReadsSpecKeys c.in_ok-helper.helper.entries)) c.in-None.is
+    subst (λ o. IsSomeAnd o (ReadsSpecKeys c.in_ok-helper.helper.entries)) c.in-None.is
     (c.in_ok-spec.ensures.read (none_before fs g.T.Extension.fields start.span start.entries none))
 
 pub returns-clause-ok : goal.returns-clause-ok
@@ -66,7 +67,7 @@ returns-clause-ok g c =
     no_field_faults (entry_fields g.T.Extension.fields) c.args.value.now c.in_ok-helper.helper.entries
     c.in_ok-helper.helper.span h.table h.span clean in
     let spec =
-    subst (Gives (ReadsSpecKeys c.in_ok-helper.helper.entries)) c.in-Some.is
+    subst (λ o. IsSomeAnd o (ReadsSpecKeys c.in_ok-helper.helper.entries)) c.in-Some.is
     (c.in_ok-spec.ensures.read (none_before fs g.T.Extension.fields start.span start.entries none)) in
     let said =
     c.in_ok-said.ensures.read

@@ -1,6 +1,7 @@
 use Rattle.std.proofs.Common.{sym, ◌∙◌, subst, rules}
+use Rattle.std.specs.Prelude.{IsSomeAnd}
 use Rattle.deny_toml.specs.TableHelper.{table_faults}
-use Rattle.deny_entries.specs.Table.{Gives, faults_of_table, state_of}
+use Rattle.deny_entries.specs.Table.{faults_of_table, state_of}
 use Rattle.deny_entries.proofs.TableLaws.{all_faults, no_field_faults, read_in, reports_same}
 use Rattle.deny_entries.proofs.keyed.read_table.Goals as goal
 
@@ -27,7 +28,8 @@ unreachable-requires g c =
     let none =
     no_field_faults (λ entries. g.T.Keyed.fields) c.args.value.now c.in_ok-helper.helper.entries
     c.in_ok-helper.helper.span h.table h.span (sym same ∙ c.in_ok-finalize.ensures.ok) in
-    subst (Gives (g.T.Keyed.reads_in c.in_ok-helper.helper.entries)) c.in-None.is (c.in_ok-read.ensures.read none)
+    subst (λ o. IsSomeAnd o (g.T.Keyed.reads_in c.in_ok-helper.helper.entries)) c.in-None.is
+    (c.in_ok-read.ensures.read none)
 
 pub returns-clause-ok : goal.returns-clause-ok
 returns-clause-ok g c =
@@ -41,6 +43,6 @@ returns-clause-ok g c =
     c.in_ok-helper.helper.span h.table h.span clean in (
       clean,
       read_in g.T.Keyed.reads_in c.args.value.now c.in_ok-helper.helper.entries c.in-Some.read h.table
-          (subst (Gives (g.T.Keyed.reads_in c.in_ok-helper.helper.entries)) c.in-Some.is
+          (subst (λ o. IsSomeAnd o (g.T.Keyed.reads_in c.in_ok-helper.helper.entries)) c.in-Some.is
           (c.in_ok-read.ensures.read none)),
     )

@@ -1,6 +1,7 @@
 use Rattle.std.proofs.Common.{◌∙◌, sym, subst, rules}
+use Rattle.std.specs.Prelude.{IsSomeAnd}
 use Rattle.deny_toml.specs.TableHelper.{table_faults}
-use Rattle.deny_entries.specs.Table.{Gives, faults_of_table, state_of}
+use Rattle.deny_entries.specs.Table.{faults_of_table, state_of}
 use Rattle.deny_entries.specs.Spec.{spec_fields, ReadsSpecKeys}
 use Rattle.deny_entries.specs.Apart.{spec-apart}
 use Rattle.deny_entries.proofs.TableLaws.{all_faults, no_field_faults, read_in, reports_same}
@@ -27,7 +28,7 @@ unreachable-requires c =
     let none =
     no_field_faults spec_fields c.args.value.now c.in_ok-helper.helper.entries c.in_ok-helper.helper.span h.table
     h.span (sym same ∙ c.in_ok-finalize.ensures.ok) in
-    subst (Gives (ReadsSpecKeys c.in_ok-helper.helper.entries)) c.in-None.is (c.in_ok-spec.ensures.read none)
+    subst (λ o. IsSomeAnd o (ReadsSpecKeys c.in_ok-helper.helper.entries)) c.in-None.is (c.in_ok-spec.ensures.read none)
 
 pub returns-clause-ok : goal.returns-clause-ok
 returns-clause-ok c =
@@ -40,5 +41,6 @@ returns-clause-ok c =
     h.table h.span clean in (
       clean,
       read_in ReadsSpecKeys c.args.value.now c.in_ok-helper.helper.entries c.in-Some.spec h.table
-          (subst (Gives (ReadsSpecKeys c.in_ok-helper.helper.entries)) c.in-Some.is (c.in_ok-spec.ensures.read none)),
+          (subst (λ o. IsSomeAnd o (ReadsSpecKeys c.in_ok-helper.helper.entries)) c.in-Some.is
+          (c.in_ok-spec.ensures.read none)),
     )

@@ -1,7 +1,7 @@
 use Rattle.std.proofs.Common.{◌++◌, List, map, ap, ◌∙◌, subst}
 use Rattle.std.specs.List.{AllZip}
 use Rattle.deny_cfg.specs.SpecView.{spec_view}
-use Rattle.deny_facts.specs.Marks.{IsTreeOf}
+use Rattle.deny_facts.specs.private.Marks.{IsTreeOf}
 use Rattle.deny_facts.specs.Matches.{spec_match}
 use Rattle.deny_facts.specs.declared.entry_match.EntryMatch.{EntryMatch}
 use Rattle.deny_facts.proofs.FactLemmas.{in_trees}

@@ -1,5 +1,5 @@
 use Rattle.std.proofs.Common.{◌≡◌, ◌++◌, drop, map}
-use Rattle.deny_facts.specs.Marks.{is_near}
+use Rattle.deny_facts.specs.private.Marks.{is_near}
 use Rattle.deny_facts.proofs.facts.near.Given as goal
 
 abbrev pub invariant-loop-distance : goal.invariant-loop-distance

@@ -2,7 +2,7 @@ use Rattle.std.proofs.Common.{◌≡◌, List, Bool, length, map, sym, ap, ◌�
 use Rattle.std.specs.Prelude.{option_and_then}
 use Rattle.std.proofs.lemmas.Bool.{eqb-true}
 use Rattle.std.proofs.lemmas.Result.{IfOk-weaker}
-use Rattle.deny_facts.specs.Marks.{IsTreeOf, is_near}
+use Rattle.deny_facts.specs.private.Marks.{IsTreeOf, is_near}
 use Rattle.deny_facts.proofs.FactLemmas.{roots_within, tree_by_distances, tree_of_none}
 use Rattle.deny_facts.proofs.facts.tree_of.Goals as goal
 

@@ -2,7 +2,7 @@ use Rattle.std.proofs.Common.{◌+◌, ◌++◌, ◌∷◌, [], List, Bool, take
 use Rattle.std.specs.List.{AllZip}
 use Rattle.deny_cfg.specs.SpecView.{spec_view}
 use Rattle.deny_krates.proofs.GraphLemmas.{zip_more}
-use Rattle.deny_facts.specs.Marks.{IsTreeOf}
+use Rattle.deny_facts.specs.private.Marks.{IsTreeOf}
 use Rattle.deny_facts.specs.Matches.{spec_match}
 use Rattle.deny_facts.specs.declared.entry_match.EntryMatch.{EntryMatch}
 use Rattle.deny_facts.proofs.MatchLemmas.{map-step}

@@ -1,7 +1,7 @@
 use Rattle.std.proofs.Common.{◌≡◌, ◌++◌, drop, map, take}
 use Rattle.std.specs.List.{AllZip}
 use Rattle.deny_cfg.specs.SpecView.{spec_view}
-use Rattle.deny_facts.specs.Marks.{IsTreeOf}
+use Rattle.deny_facts.specs.private.Marks.{IsTreeOf}
 use Rattle.deny_facts.specs.Matches.{spec_match}
 use Rattle.deny_facts.proofs.facts.trees_of.Given as goal
 

@@ -1,5 +1,5 @@
 use Rattle.std.proofs.Common.{◌≡◌, drop}
-use Rattle.deny_facts.specs.Groups.{all_bear}
+use Rattle.deny_facts.specs.private.Groups.{all_bear}
 use Rattle.deny_facts.proofs.groups.all_bear.Given as goal
 
 abbrev pub invariant-loop-dependent : goal.invariant-loop-dependent

@@ -1,4 +1,4 @@
-use Rattle.deny_facts.specs.Groups.{is_left_at}
+use Rattle.deny_facts.specs.private.Groups.{is_left_at}
 use Rattle.deny_facts.proofs.RunLemmas.{pushed-run}
 use Rattle.deny_facts.proofs.groups.reduce_run.Goals as goal
 

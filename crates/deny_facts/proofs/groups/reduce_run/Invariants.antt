@@ -1,6 +1,6 @@
 use Rattle.std.proofs.Common.{◌≡◌, ◌++◌, ◌-◌, map}
 use Rattle.std.specs.List.{range_with_len}
-use Rattle.deny_facts.specs.Groups.{is_left_at}
+use Rattle.deny_facts.specs.private.Groups.{is_left_at}
 use Rattle.deny_facts.proofs.groups.reduce_run.Given as goal
 
 abbrev pub invariant-loop-place : goal.invariant-loop-place

@@ -2,7 +2,7 @@ use Rattle.std.proofs.Common.{◌≡◌, ◌++◌, ℕ, List, length, map, sym, 
 use Rattle.std.specs.List.{range_with_len}
 use Rattle.std.proofs.lemmas.List.{append-nil}
 use Rattle.std.proofs.lemmas.Simd.{map-map}
-use Rattle.deny_facts.specs.Groups.{may_stand_at}
+use Rattle.deny_facts.specs.private.Groups.{may_stand_at}
 use Rattle.deny_krates.proofs.PlaceLemmas.{are_placed, length_of, place_of}
 use Rattle.deny_facts.proofs.RunLemmas.{no_range, pushed-run}
 use Rattle.deny_facts.proofs.groups.standing_of.Goals as goal

@@ -1,6 +1,6 @@
 use Rattle.std.proofs.Common.{◌≡◌, ◌++◌, ◌-◌, map}
 use Rattle.std.specs.List.{range_with_len}
-use Rattle.deny_facts.specs.Groups.{may_stand_at}
+use Rattle.deny_facts.specs.private.Groups.{may_stand_at}
 use Rattle.deny_facts.proofs.groups.standing_of.Given as goal
 
 abbrev pub invariant-loop-place : goal.invariant-loop-place

@@ -19,7 +19,7 @@ returns-in-Some-clause-enabled c =
     let krate = crate_view c.args.place c.in-Some.krate.now in
     let at = sym c.krate_at.ensures
     ∙ ap (option_map (λ (k : Bor Krate). crate_view c.args.place k.now)) c.in-Some.is in
-    c.enabled_of.ensures ∙ enabled_there g c.args.place krate c.krates-orderly.ensures.orderly at
+    c.enabled_of_kid.ensures ∙ enabled_there g c.args.place krate c.krates-orderly.ensures.orderly at
 
 pub returns-in-Some-clause-ascending : goal.returns-in-Some-clause-ascending
 returns-in-Some-clause-ascending c =
@@ -27,8 +27,8 @@ returns-in-Some-clause-ascending c =
     let krate = crate_view c.args.place c.in-Some.krate.now in
     let at = sym c.krate_at.ensures
     ∙ ap (option_map (λ (k : Bor Krate). crate_view c.args.place k.now)) c.in-Some.is in
-    ascends c.enabled_of.result.now (enabled_at g c.args.place)
-    (c.enabled_of.ensures ∙ enabled_there g c.args.place krate c.krates-orderly.ensures.orderly at)
+    ascends c.enabled_of_kid.result.now (enabled_at g c.args.place)
+    (c.enabled_of_kid.ensures ∙ enabled_there g c.args.place krate c.krates-orderly.ensures.orderly at)
     (ascending_at g c.args.place c.krates-orderly.ensures.orderly)
 
 pub returns-in-None-clause-ascending : goal.returns-in-None-clause-ascending

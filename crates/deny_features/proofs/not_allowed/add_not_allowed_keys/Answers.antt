@@ -17,8 +17,8 @@ pub loop-entry-preserved : goal.loop-entry-preserved
 loop-entry-preserved c =
     adds_one_more (λ (m : FeatureMatch). IsNotAllowedBy (policy_view c.args.cfg.now) c.args.krates.now (said_of m))
     c.args.found.now c.entry-item.result c.loop-entry.entry-index c.args.keys.now c.loop-entry.keys
-    c.add_not_allowed_of.new.keys c.loop-entry-test.true c.entry-item.is c.loop-entry.invariant
-    c.in_ok-add_not_allowed_of.ensures
+    c.add_not_allowed_of_entry.new.keys c.loop-entry-test.true c.entry-item.is c.loop-entry.invariant
+    c.in_ok-add_not_allowed_of_entry.ensures
 
 pub returns : goal.returns
 returns c =

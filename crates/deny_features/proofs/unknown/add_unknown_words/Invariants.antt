@@ -1,7 +1,7 @@
 use Rattle.std.proofs.Common.{◌≡◌, ◌++◌, drop, filter, map, not}
 use Rattle.deny_base.specs.declared.code.Code.TheVariants.{UnknownFeature}
 use Rattle.deny_model.specs.Keys.{crate_key}
-use Rattle.deny_features.specs.Crates.{has_feature_at}
+use Rattle.deny_features.specs.private.Crates.{has_feature_at}
 use Rattle.deny_features.proofs.unknown.add_unknown_words.Given as goal
 
 abbrev pub invariant-loop-word : goal.invariant-loop-word

@@ -1,6 +1,6 @@
 use Rattle.std.proofs.Common.{◌≡◌, ◌++◌, drop}
 use Rattle.std.specs.Prelude.{filter_map}
-use Rattle.deny_gate.specs.Dead.{dead_entry}
+use Rattle.deny_gate.specs.private.Dead.{dead_entry}
 use Rattle.deny_gate.specs.declared.report.Finding.{Finding}
 use Rattle.deny_gate.proofs.dead.dead_entries.Given as goal
 

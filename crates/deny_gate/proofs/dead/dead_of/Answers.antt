@@ -4,7 +4,7 @@ use Rattle.std.specs.List.Sorted.{IsStrictlySortedBy}
 use Rattle.deny_lists.proofs.Filters.{filter_map-map}
 use Rattle.deny_base.specs.Entry.{entry_cmp}
 use Rattle.deny_base.specs.declared.entry.EntryId.{EntryId}
-use Rattle.deny_gate.specs.Dead.{dead_entry}
+use Rattle.deny_gate.specs.private.Dead.{dead_entry}
 use Rattle.deny_gate.specs.Report.{keys_in}
 use Rattle.deny_gate.specs.declared.report.Finding.{Finding}
 use Rattle.deny_gate.proofs.DeadEntries.{dead_listed}

@@ -4,7 +4,8 @@ use Rattle.deny_spans.specs.Seen.{lock_file}
 use Rattle.deny_spans.specs.Wanted.{AreWanted}
 use Rattle.deny_unread.specs.Bound.{Folders}
 use Rattle.deny_unread.specs.Causes.{AreCaused}
-use Rattle.deny_gate.specs.Gating.{IsPolicyReport, extras_of, report_with, texts_in}
+use Rattle.deny_gate.specs.Gating.{texts_in}
+use Rattle.deny_gate.specs.private.Gating.{IsPolicyReport, extras_of, report_with}
 use Rattle.deny_gate.specs.Unread.{of_manifests}
 use Rattle.deny_gate.specs.declared.report.Report.{Report}
 use Rattle.deny_gate.proofs.FindingLaws.{report_by_texts, seen_report}
@@ -16,9 +17,9 @@ returns-clause-report g c =
     let texts = texts_in c.args.inputs.now in
     let policy = c.args.policy.now in
     let old = g.D.PackageFiles.seen c.args.disk.now in
-    let new = g.D.PackageFiles.seen c.judged_for.new.disk in
+    let new = g.D.PackageFiles.seen c.judged_with_inputs.new.disk in
     let first = c.args.files ++ lock_file krates.root krates ∷ [] in
-    let files = c.judged_for.new.files in
+    let files = c.judged_with_inputs.new.files in
     let judged = c.in_ok-judged.judged in
     let is = c.in_ok-judged.ensures.judged in
     let report = report_with files krates judged in
@@ -36,6 +37,6 @@ returns-clause-wanted g c =
 pub returns-clause-caused : goal.returns-clause-caused
 returns-clause-caused g c =
     let old = g.D.PackageFiles.seen c.args.disk.now in
-    let new = g.D.PackageFiles.seen c.judged_for.new.disk in
+    let new = g.D.PackageFiles.seen c.judged_with_inputs.new.disk in
     subst (λ (report : Report). (folder : Folders) → AreFoldersOf report.krates folder →
     AreCaused folder old new report.unread) (sym c.report_with.ensures) c.in_ok-judged.ensures.caused

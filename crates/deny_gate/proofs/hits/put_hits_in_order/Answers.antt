@@ -4,7 +4,8 @@ use Rattle.std.proofs.lemmas.Fn.{always_returns_same, dedup_same}
 use Rattle.std.proofs.lemmas.List.Sorted.{ranks_by}
 use Rattle.deny_base.specs.Entry.{entry_cmp}
 use Rattle.deny_base.specs.declared.entry.Hit.{Hit}
-use Rattle.deny_gate.specs.Hits.{IsOneEach, entry_of}
+use Rattle.deny_gate.specs.Hits.{entry_of}
+use Rattle.deny_gate.specs.private.Hits.{IsOneEach}
 use Rattle.deny_gate.proofs.HitOrder.{hits_from_sort, same_entry}
 use Rattle.deny_gate.proofs.hits.put_hits_in_order.Goals as goal
 

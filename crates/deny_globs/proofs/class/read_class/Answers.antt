@@ -1,7 +1,7 @@
 use Rattle.std.proofs.Common.{[], ◌∷◌, ◌+◌, true, false, sym, subst, arith, drop}
 use Rattle.std.proofs.lemmas.List.{take_rest}
 use Rattle.std.proofs.lemmas.Result.{err_from_is_err_and}
-use Rattle.deny_globs.specs.Steps.{IsPieceOf}
+use Rattle.deny_globs.specs.private.Steps.{IsPieceOf}
 use Rattle.deny_globs.proofs.PieceLemmas.{class_closed, class_stops, negated_class, plain_class, plain_mark}
 use Rattle.deny_globs.proofs.class.read_class.Goals as goal
 

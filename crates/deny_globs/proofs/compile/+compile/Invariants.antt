@@ -1,6 +1,6 @@
 use Rattle.std.proofs.Common.{◌+◌, ◌*◌, take}
 use Rattle.std.specs.Slice.Iter.{iter_rest}
-use Rattle.deny_globs.specs.Compiled.{IsBuiltOver}
+use Rattle.deny_globs.specs.private.Compiled.{IsBuiltOver}
 use Rattle.deny_globs.proofs.BuildLemmas.{IsBuiltBackTo}
 use Rattle.deny_globs.proofs.compile.+compile.Given as goal
 

@@ -1,7 +1,7 @@
 use Rattle.std.proofs.Common.{subst}
 use Rattle.std.proofs.lemmas.Result.{IfOk-weaker, on_err_weaker}
 use Rattle.deny_globs.specs.declared.token.Token.TheVariants.{OneOf}
-use Rattle.deny_globs.specs.Compiled.{IsBuilt}
+use Rattle.deny_globs.specs.private.Compiled.{IsBuilt}
 use Rattle.std.specs.Prelude.{[], ◌∷◌}
 use Rattle.deny_globs.proofs.BuildLemmas.{built_class, grows_same}
 use Rattle.deny_globs.proofs.compile.push_class.Goals as goal

@@ -1,7 +1,9 @@
 use Rattle.std.proofs.Common.{arith, ap, subst, length}
 use Rattle.std.proofs.lemmas.Result.{on_ok_weaker}
 use Rattle.std.proofs.lemmas.Option.{slice_get_within}
-use Rattle.deny_globs.specs.Index.{IsNamedAt, IsGap, numbered, inserted}
+use Rattle.deny_globs.specs.Index.{IsNamedAt}
+use Rattle.deny_globs.specs.private.Index.{numbered, inserted}
+use Rattle.deny_globs.specs.private.Index.{IsGap}
 use Rattle.deny_globs.proofs.extensions.add_extension.Goals as goal
 
 pub find_uncounted-requires-clause-whole : goal.find_uncounted-requires-clause-whole

@@ -1,5 +1,5 @@
 use Rattle.std.proofs.Common.{ℕ, ◌<◌, ◌^◌, ◌-◌, length}
-use Rattle.deny_globs.specs.Index.{IsBetween}
+use Rattle.deny_globs.specs.private.Index.{IsBetween}
 use Rattle.deny_lists.proofs.Fuel.{Fuel}
 use Rattle.deny_globs.proofs.extensions.find_extension.Given as goal
 

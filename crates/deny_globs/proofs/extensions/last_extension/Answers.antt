@@ -1,5 +1,5 @@
 use Rattle.std.proofs.Common.{◌-◌, arith, sym, ◌∙◌, subst, None, ◌≡◌, drop}
-use Rattle.deny_globs.specs.Index.{behind_last_dot}
+use Rattle.deny_globs.specs.private.Index.{behind_last_dot}
 use Rattle.deny_globs.proofs.SimpleLemmas.{found_dot, no_dot_yet, no_dot_at_end}
 use Rattle.deny_globs.proofs.extensions.last_extension.Goals as goal
 

@@ -1,5 +1,5 @@
 use Rattle.std.proofs.Common.{◌≡◌, ◌≤◌, length, drop, None}
-use Rattle.deny_globs.specs.Index.{behind_last_dot}
+use Rattle.deny_globs.specs.private.Index.{behind_last_dot}
 use Rattle.deny_globs.proofs.extensions.last_extension.Given as goal
 
 abbrev pub invariant-loop-index : goal.invariant-loop-index

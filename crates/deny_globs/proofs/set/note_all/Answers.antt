@@ -1,6 +1,6 @@
 use Rattle.std.proofs.Common.{arith, refl, subst}
 use Rattle.std.specs.Prelude.{Contains}
-use Rattle.deny_globs.specs.Walk.{Notes}
+use Rattle.deny_globs.specs.private.Walk.{Notes}
 use Rattle.deny_globs.proofs.MarkedLemmas.{take_all}
 use Rattle.deny_globs.proofs.WalkLemmas.{notes_unlisted, notes_listed, notes_one}
 use Rattle.deny_globs.proofs.set.note_all.Goals as goal

@@ -1,6 +1,6 @@
 use Rattle.std.proofs.Common.{◌≡◌, ◌+◌, take}
 use Rattle.std.specs.Prelude.{Contains}
-use Rattle.deny_globs.specs.Walk.{Notes}
+use Rattle.deny_globs.specs.private.Walk.{Notes}
 use Rattle.deny_globs.proofs.set.note_all.Given as goal
 
 abbrev pub invariant-loop-glob : goal.invariant-loop-glob

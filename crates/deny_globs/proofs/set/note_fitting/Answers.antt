@@ -1,9 +1,9 @@
 use Rattle.std.proofs.Common.{arith, ap, subst, length, ◌≤◌, ◌+◌, ◌*◌}
 use Rattle.std.proofs.lemmas.Result.{on_ok_weaker}
-use Rattle.deny_globs.specs.Index.{BoundsSimple, NotesSimple}
-use Rattle.deny_globs.specs.States.{SomeLeads}
+use Rattle.deny_globs.specs.private.Index.{BoundsSimple, NotesSimple}
+use Rattle.deny_globs.specs.private.States.{SomeLeads}
 use Rattle.deny_globs.specs.Sets.{FitsAt, KeepsBound}
-use Rattle.deny_globs.specs.Walk.{Notes}
+use Rattle.deny_globs.specs.private.Walk.{Notes}
 use Rattle.deny_globs.proofs.MarkedLemmas.{contains_in}
 use Rattle.deny_globs.proofs.SetLemmas.{noted_fit, total_bound, simple_bound}
 use Rattle.deny_globs.proofs.StartLemmas.{leads_from_starts}

@@ -1,6 +1,6 @@
 use Rattle.std.proofs.Common.{arith, refl, subst}
 use Rattle.std.proofs.lemmas.List.Elements.{Contains-get_or}
-use Rattle.deny_globs.specs.Walk.{HasEnd, Notes}
+use Rattle.deny_globs.specs.private.Walk.{HasEnd, Notes}
 use Rattle.deny_globs.proofs.MarkedLemmas.{take_all}
 use Rattle.deny_globs.proofs.WalkLemmas.{notes_start, notes_more}
 use Rattle.deny_globs.proofs.walk.note_ends.Goals as goal

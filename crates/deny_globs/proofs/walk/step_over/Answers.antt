@@ -1,7 +1,7 @@
 use Rattle.std.proofs.Common.{true, arith, ap, ◌<◌, ◌∙◌}
 use Rattle.std.specs.Prelude.{nat_eq}
 use Rattle.deny_globs.specs.Class.{class_takes}
-use Rattle.deny_globs.specs.Walk.{first_passes}
+use Rattle.deny_globs.specs.private.Walk.{first_passes}
 use Rattle.std.proofs.lemmas.Result.{on_ok_weaker}
 use Rattle.deny_globs.specs.declared.state.State.TheVariants.{End, Character, AnyCharacter, OneOf, AnyText, Either}
 use Rattle.deny_globs.specs.declared.state.State.TheVariants.{Never}

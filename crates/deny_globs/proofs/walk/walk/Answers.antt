@@ -2,7 +2,7 @@ use Rattle.std.proofs.Common.{arith, ap, refl, sym, subst, length, drop, length-
 use Rattle.std.proofs.Common.{◌+◌, ◌-◌, ◌*◌}
 use Rattle.std.specs.Prelude.{Contains}
 use Rattle.std.proofs.lemmas.Result.{on_ok_weaker}
-use Rattle.deny_globs.specs.Walk.{HasEnd, Notes}
+use Rattle.deny_globs.specs.private.Walk.{HasEnd, Notes}
 use Rattle.deny_globs.proofs.MarkedLemmas.{take_all}
 use Rattle.deny_globs.proofs.WalkLemmas.{IsAtIndex, at_next_index, at_last_index, rest_at_end, notes_back, notes_none}
 use Rattle.deny_globs.proofs.WalkLemmas.{no_more, nothing_starts, times}

@@ -1,5 +1,5 @@
 use Rattle.std.proofs.Common.{◌<◌, length, take}
-use Rattle.deny_globs.specs.Words.{Keeps}
+use Rattle.deny_globs.specs.private.Words.{Keeps}
 use Rattle.deny_globs.proofs.WordLemmas.{Along}
 use Rattle.deny_globs.proofs.words.add_word.Given as goal
 

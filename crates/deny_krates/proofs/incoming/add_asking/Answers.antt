@@ -3,9 +3,9 @@ use Rattle.std.specs.Prelude.{cond}
 use Rattle.deny_krates.specs.private.Sources.{parent_in}
 use Rattle.deny_krates.proofs.incoming.add_asking.Goals as goal
 
-pub returns-in_ok-add_crate : goal.returns-in_ok-add_crate
-returns-in_ok-add_crate c x p x_at p_at =
-    c.in_ok-add_crate.ensures p p_at
+pub returns-in_ok-push_crate : goal.returns-in_ok-push_crate
+returns-in_ok-push_crate c x p x_at p_at =
+    c.in_ok-push_crate.ensures p p_at
     ∙ ap (λ b. c.args.parents.now ++ cond b (parent_in p (Some c.args.kind) None ∷ []) [])
     (sym c.if-leads_by_asking.true ∙ c.leads_by_asking.ensures x p x_at p_at)
 

@@ -30,8 +30,8 @@ loop-direct-init c x x_at =
     (own_first g x place k (placed ks g c.krates.ensures.crates) here x_at c.new-parents.result c.add_own.new.parents
     c.new-parents.ensures c.in_ok-add_own.ensures)
 
-pub add_to_crate-requires-clause-parent : goal.add_to_crate-requires-clause-parent
-add_to_crate-requires-clause-parent c =
+pub add_crate_edges-requires-clause-parent : goal.add_crate_edges-requires-clause-parent
+add_crate_edges-requires-clause-parent c =
     let g = c.args.krates.now in
     let ds = c.direct_dependents-dependents.result.now in
     let d = slice_index_or ds c.loop-direct.direct-index (record { place = 0; kind = Normal }) in
@@ -49,10 +49,10 @@ loop-direct-preserved c x x_at =
     let d = slice_index_or ds i none in
     let p = row_inside g (placed c.krates.result.now g c.krates.ensures.crates) c.args.place ds d
     c.direct_dependents-dependents.ensures (from_there ds i d (slice_get-get_or ds i none c.loop-direct-test.true)) in
-    row_more g (sources_of_crate g x) ds d p.0 i c.loop-direct.parents c.add_to_crate.new.parents
+    row_more g (sources_of_crate g x) ds d p.0 i c.loop-direct.parents c.add_crate_edges.new.parents
     (map (parent_of g) (own_features x) ++ flat_map (row_parents g (sources_of_crate g x)) ds)
     c.loop-direct-test.true (get_or_default ds i none d c.loop-direct-test.true) p.1
-    (c.in_ok-add_to_crate.ensures x p.0 x_at p.1) (c.loop-direct.invariant x x_at)
+    (c.in_ok-add_crate_edges.ensures x p.0 x_at p.1) (c.loop-direct.invariant x x_at)
 
 pub returns : goal.returns
 unfolding sources_at

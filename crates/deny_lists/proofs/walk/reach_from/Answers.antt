@@ -26,9 +26,9 @@ reach_row-requires g c =
     let count = graph.count c.args.graph.now in
     let s : State = (c.loop-next.distances, c.loop-next.order) in
     let so_far = c.loop-next.invariant.spreading in
-    let place = c.place_at-place.result in
+    let place = c.nth_place-place.result in
     let more : c.loop-next.next < length c.loop-next.order = omega (arith, c.loop-next-test.true, c.len.ensures) in
-    let here = next_is leads count c.args.roots.now s c.loop-next.next place so_far more c.place_at-place.ensures in
+    let here = next_is leads count c.args.roots.now s c.loop-next.next place so_far more c.nth_place-place.ensures in
     let inside : place < count = omega (arith, here.inside, so_far.good.long) in
     let row = map graph.place_of c.neighbours.result.now in
     All-weaker (λ n. n < count) (λ n. n < length c.loop-next.distances)
@@ -51,9 +51,9 @@ returns-in_err-reach_row-clause-err g c =
     steps_reached (graph.leads c.args.graph.now) (graph.count c.args.graph.now) c.args.roots.now degree s (next + 1)
     c.args.steps.now c.reach_row.new.steps
     so_far.good (omega (arith, more))
-    (steps_more degree c.loop-next.order next c.place_at-place.result c.args.steps.now c.loop-next.steps
+    (steps_more degree c.loop-next.order next c.nth_place-place.result c.args.steps.now c.loop-next.steps
     c.reach_row.new.steps (length c.neighbours.result.now)
-    more c.place_at-place.ensures c.loop-next.invariant.steps added c.neighbours.ensures.few)
+    more c.nth_place-place.ensures c.loop-next.invariant.steps added c.neighbours.ensures.few)
 
 pub loop-next-preserved : goal.loop-next-preserved
 loop-next-preserved g c =
@@ -65,10 +65,10 @@ loop-next-preserved g c =
     let s : State = (c.loop-next.distances, c.loop-next.order) in
     let next = c.loop-next.next in
     let so_far = c.loop-next.invariant.spreading in
-    let place = c.place_at-place.result in
+    let place = c.nth_place-place.result in
     let row = map graph.place_of c.neighbours.result.now in
     let more : next < length c.loop-next.order = omega (arith, c.loop-next-test.true, c.len.ensures) in
-    let here = next_is leads count roots s next place so_far more c.place_at-place.ensures in
+    let here = next_is leads count roots s next place so_far more c.nth_place-place.ensures in
     let inside : place < count = omega (arith, here.inside, so_far.good.long) in
     let distance : c.distance_of-distance.result ≡ here.distance = c.distance_of-distance.ensures
     ∙ ap (λ (d : Option ℕ). unwrap_or d 0) here.is in
@@ -85,10 +85,10 @@ loop-next-preserved g c =
     ) in
     let steps = steps_more degree c.loop-next.order next place c.args.steps.now c.loop-next.steps c.reach_row.new.steps
     (length c.neighbours.result.now)
-    more c.place_at-place.ensures c.loop-next.invariant.steps added c.neighbours.ensures.few in
+    more c.nth_place-place.ensures c.loop-next.invariant.steps added c.neighbours.ensures.few in
     record {
       spreading = subst (λ (u : State). IsSpreading leads count roots u (next + 1)) (sym after)
-          (spreading_more leads count roots s next place here.distance row so_far more c.place_at-place.ensures here.is
+          (spreading_more leads count roots s next place here.distance row so_far more c.nth_place-place.ensures here.is
           below c.neighbours.ensures.each);
       steps = subst (λ (u : State). TakesInStep degree (take (next + 1) u.1) c.args.steps.now c.reach_row.new.steps)
           (sym after)

@@ -7,6 +7,6 @@ use Rattle.deny_manifest_rules.proofs.asked.asked_of.Goals as goal
 pub returns : goal.returns
 returns c =
     let found = c.args.found.now in
-    IfOk-weaker c.asked_by.result _ _
+    IfOk-weaker c.asked_by_marks.result _ _
     (λ (asked : List Bool) is. asked_are (policy_view found.cfg.now) found.krates.now found.marks found.groups
-    c.are_placed.ensures found.grouped asked is) c.asked_by.ensures
+    c.are_placed.ensures found.grouped asked is) c.asked_by_marks.ensures

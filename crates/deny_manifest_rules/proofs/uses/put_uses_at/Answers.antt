@@ -8,8 +8,8 @@ use Rattle.deny_manifest_rules.specs.private.Rows.{AreRowsOf}
 use Rattle.deny_manifest_rules.proofs.UseLemmas.{member_uses, no_uses, of_graph}
 use Rattle.deny_manifest_rules.proofs.uses.put_uses_at.Goals as goal
 
-pub put_uses_in-requires : goal.put_uses_in-requires
-put_uses_in-requires c =
+pub put_manifest_uses-requires : goal.put_manifest_uses-requires
+put_manifest_uses-requires c =
     let g = c.args.krates.now in
     of_graph g (length c.args.rows.now.items) (deps_in c.in-Some.manifest.now) c.requires.long
     (c.in-Some.ensures.of g c.requires.spans).krates
@@ -22,9 +22,9 @@ returns-in-Some c =
     let crates = length g.crates in
     let is = member_uses s g view c.args.member c.in-Some.manifest.now (c.in-Some.ensures.of g c.requires.spans).crate
     c.in-Some.ensures.is in
-    on_ok_weaker c.put_uses_in.result
-    (λ puts uses are. subst (λ (us : List Use). AreRowsOf crates (uses ++ us) c.put_uses_in.new.rows.items) (sym is)
-    (puts uses crates are)) c.put_uses_in.ensures
+    on_ok_weaker c.put_manifest_uses.result
+    (λ puts uses are. subst (λ (us : List Use). AreRowsOf crates (uses ++ us) c.put_manifest_uses.new.rows.items)
+    (sym is) (puts uses crates are)) c.put_manifest_uses.ensures
 
 pub returns-in-None : goal.returns-in-None
 returns-in-None c =

@@ -18,11 +18,11 @@ returns-in_default-manifest_at c =
     ∙ append-nil c.args.keys.now)
 
 pub returns : goal.returns
-returns c = on_ok_weaker c.add_in.result
+returns c = on_ok_weaker c.add_minded.result
     (λ added. added ∙ ap (λ (keys : List Key). c.args.keys.now ++ keys)
     (sym (found_there (policy_view c.args.cfg.now) c.args.krates.now (spans_view c.args.spans.now) c.args.asked.now
     c.args.place
     (crate_view c.args.place c.in-Some.krate.now) (sym c.mark_at.ensures ∙ c.if-not-mark_at.false)
     (sym c.in-Some.ensures)
     (manifest_view c.in-Some-manifest_at.manifest.now)
-    (sym c.in-Some-manifest_at.ensures.is)))) c.add_in.ensures
+    (sym c.in-Some-manifest_at.ensures.is)))) c.add_minded.ensures

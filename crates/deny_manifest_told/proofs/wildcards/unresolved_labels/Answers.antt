@@ -29,7 +29,7 @@ returns c =
     let g = told.krates.now in
     let view = spans_view told.spans.now in
     let manifest = manifest_view c.in-Some-manifest_at.manifest.now in
-    IfOk-weaker c.unresolved_labels_in.result (λ labels. labels ≡ unresolved_labels_in key.entry manifest)
+    IfOk-weaker c.unresolved_manifest_labels.result (λ labels. labels ≡ unresolved_labels_in key.entry manifest)
     (λ labels. labels ≡ unresolved_labels g view key)
     (λ labels is. is ∙ sym (manifests_unresolved g view key (crate_view key.place c.in-Some._krate.now) manifest
-    (sym c.in-Some.ensures) (sym c.in-Some-manifest_at.ensures.is))) c.unresolved_labels_in.ensures
+    (sym c.in-Some.ensures) (sym c.in-Some-manifest_at.ensures.is))) c.unresolved_manifest_labels.ensures

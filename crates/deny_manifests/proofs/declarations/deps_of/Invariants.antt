@@ -7,7 +7,7 @@ use Rattle.deny_manifests.specs.Declarations.{declared_at, declared_in}
 use Rattle.deny_manifests.specs.Manifest.{IsOfGraph, dep_view}
 use Rattle.deny_manifests.specs.private.Sections.{IsIndexOf}
 use Rattle.deny_manifests.proofs.declarations.deps_of.Given as goal
-use Rattle.deny_toml.specs.declared.value.Value.{Value}
+use Rattle.deny_toml.specs.value.Value.{Value}
 
 abbrev pub invariant-loop-index : goal.invariant-loop-index
 invariant-loop-index l = record {

@@ -7,5 +7,5 @@ returns-clause-manifest c = λ text reads. record {
   tree = c.args.tree.now;
   stands = c.in-Some.ensures.some;
   reads = reads;
-  is = c.in_ok-manifest_of.ensures.is;
+  is = c.in_ok-manifest_at_place.ensures.is;
 }

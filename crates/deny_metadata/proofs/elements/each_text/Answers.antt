@@ -3,7 +3,8 @@ use Rattle.std.specs.Fmt.{decimal}
 use Rattle.deny_metadata.specs.private.Borrowed.{view}
 use Rattle.deny_metadata.specs.Elements.{part_of, text_at}
 use Rattle.deny_metadata.proofs.ElementsLemmas.{next_element, no_more_elements}
-use Rattle.deny_metadata.proofs.ReadingLemmas.{with_prefix, goes_on, fails_here, handed_on}
+use Rattle.deny_metadata.specs.declared.fault.MetadataFault.TheVariants.{Memory}
+use Rattle.deny_lists.proofs.ReaderLemmas.{with_prefix, goes_on, fails_here, handed_on}
 use Rattle.deny_metadata.proofs.elements.each_text.Goals as goal
 
 pub returns-in_err-element_text : goal.returns-in_err-element_text
@@ -13,8 +14,8 @@ returns-in_err-element_text c =
     let fault = c.in_err-element_text.field-0.0 in
     let step = next_element text_at array c.args.items.now c.loop-index.index c.index-items-index.result
     (omega (arith, c.loop-index-test.true)) c.index-items-index.is in
-    handed_on _ fault _ c.from_residual.ensures.1
-    (fails_here _ _ _ (text_at (part_of array (decimal c.loop-index.index)) value) c.loop-index.list fault
+    handed_on Memory _ _ _ fault c.from_residual.ensures.1
+    (fails_here Memory _ _ _ (text_at (part_of array (decimal c.loop-index.index)) value) c.loop-index.list fault
     c.loop-index.invariant step c.in_err-element_text.ensures)
 
 pub loop-index-preserved : goal.loop-index-preserved

@@ -2,9 +2,10 @@ use Rattle.std.proofs.Common.{◌≡◌, ◌∙◌, ap, arith, List, ℕ, Ok, su
 use Rattle.std.specs.Fmt.{decimal}
 use Rattle.deny_metadata.specs.private.Borrowed.{view}
 use Rattle.deny_metadata.specs.Elements.{part_of}
-use Rattle.deny_metadata.specs.Reading.{Fails}
+use Rattle.deny_metadata.specs.declared.fault.MetadataFault.TheVariants.{Memory}
 use Rattle.deny_metadata.proofs.ElementsLemmas.{next_element, no_more_elements}
-use Rattle.deny_metadata.proofs.ReadingLemmas.{with_prefix, goes_on, fails_here, handed_on}
+use Rattle.deny_lists.specs.Reader.{Fails, IsFault}
+use Rattle.deny_lists.proofs.ReaderLemmas.{with_prefix, goes_on, fails_here, handed_on}
 use Rattle.deny_metadata.proofs.elements.elements.Goals as goal
 
 pub returns-in_err-from_value : goal.returns-in_err-from_value
@@ -16,10 +17,11 @@ returns-in_err-from_value g c =
     let step = next_element read path c.args.items.now c.loop-index.index c.index-items-index.result
     (omega (arith, c.loop-index-test.true)) c.index-items-index.is in
     let here = part_of path (decimal c.loop-index.index) in
-    let fails : Fails fault (read here value) = subst (λ (p : List ℕ). Fails fault (read p value))
+    let fails : Fails Memory (IsFault (read here value)) fault = subst
+    (λ (p : List ℕ). Fails Memory (IsFault (read p value)) fault)
     (c.as_str.ensures ∙ c.in_ok-write_element_path.ensures) c.in_err-from_value.ensures in
-    handed_on _ fault _ c.from_residual-in_err-from_value.ensures.1
-    (fails_here _ _ _ (read here value) c.loop-index.list fault c.loop-index.invariant step fails)
+    handed_on Memory _ _ _ fault c.from_residual-in_err-from_value.ensures.1
+    (fails_here Memory _ _ _ (read here value) c.loop-index.list fault c.loop-index.invariant step fails)
 
 pub loop-index-preserved : goal.loop-index-preserved
 loop-index-preserved g c =

@@ -1,7 +1,7 @@
 use Rattle.std.proofs.Common.{◌≡◌, drop}
 use Rattle.deny_metadata.specs.private.Borrowed.{items_view}
 use Rattle.deny_metadata.specs.Elements.{elements_from}
-use Rattle.deny_metadata.proofs.ReadingLemmas.{with_prefix}
+use Rattle.deny_lists.proofs.ReaderLemmas.{with_prefix}
 use Rattle.deny_metadata.proofs.elements.elements.Given as goal
 
 abbrev pub invariant-loop-index : goal.invariant-loop-index

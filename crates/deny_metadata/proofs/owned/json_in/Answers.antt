@@ -1,5 +1,5 @@
-use Rattle.std.proofs.Common.{◌≡◌, ◌⊎◌, inl, inr, ◌∙◌, ap, sym, Ok, Err, Some, None, Result, List, ℕ, true, false}
-use Rattle.std.proofs.Common.{MatchResult, refl, subst}
+use Rattle.std.proofs.Common.{◌≡◌, inl, inr, ◌∙◌, ap, sym, Ok, Err, Some, None, Result, List, ℕ, true, false}
+use Rattle.std.proofs.Common.{refl, subst}
 use Rattle.std.specs.Prelude.{IfOk, IfErr}
 use Rattle.std.specs.Str.{is_utf8}
 use Rattle.std.proofs.lemmas.Str.{is_utf8-from_IsUtf8}
@@ -7,7 +7,7 @@ use Rattle.serde_json.specs.Read.{read}
 use Rattle.serde_json.specs.View.{view}
 use Rattle.serde_json.specs.declared.value.Value.{Value}
 use Rattle.deny_metadata.specs.Document.{json_at, json_of}
-use Rattle.deny_metadata.specs.Reading.{Fails}
+use Rattle.deny_lists.specs.Reader.{Fails, Gives, IsFault}
 use Rattle.deny_metadata.specs.declared.fault.MetadataFault.{MetadataFault}
 use Rattle.deny_metadata.specs.declared.fault.MetadataFault.TheVariants.{Json, Memory}
 use Rattle.deny_lists.proofs.Texts.{is_utf8-false}
@@ -23,18 +23,16 @@ a_text bytes is = rw is refl
 
 answers : (bytes text : List ℕ) (result : Result Value MetadataFault) → is_utf8 bytes ≡ true → text ≡ bytes
     → IfOk result (λ v. read text ≡ Some (view v))
-    → IfErr result (λ e. (e ≡ Memory) ⊎ ((e ≡ Json) × (read text ≡ None)))
-    → MatchResult result (λ v. json_at bytes ≡ Ok (view v)) (λ e. Fails e (json_at bytes))
+    → IfErr result (Fails Memory (λ e. (e ≡ Json) × (read text ≡ None)))
+    → Gives Memory (λ v. json_at bytes ≡ Ok (view v)) (IsFault (json_at bytes)) result
 unfolding json_of
 answers bytes text (Ok v) utf8 same ok err = a_text bytes utf8 ∙ ap json_of (ap read (sym same) ∙ ok)
-answers bytes text (Err e) utf8 same ok (inl memory) =
-    subst (λ (d : MetadataFault). Fails d (json_at bytes)) (sym memory) tt
+answers bytes text (Err e) utf8 same ok (inl memory) = inl memory
 answers bytes text (Err e) utf8 same ok (inr (json, none)) =
-    subst (λ (d : MetadataFault). Fails d (json_at bytes)) (sym json)
-    (a_text bytes utf8 ∙ ap json_of (ap read (sym same) ∙ none))
+    inr (subst (IsFault (json_at bytes)) (sym json) (a_text bytes utf8 ∙ ap json_of (ap read (sym same) ∙ none)))
 
 pub returns-in-Err : goal.returns-in-Err
-returns-in-Err c = no_text _ (is_utf8-false _ c.in-Err.ensures.cases.0)
+returns-in-Err c = inr (no_text _ (is_utf8-false _ c.in-Err.ensures.cases.0))
 
 pub returns-in-Ok : goal.returns-in-Ok
 returns-in-Ok c = answers _ _ c.value_of_text.result (is_utf8-from_IsUtf8 _ c.in-Ok.ensures.cases.1)

@@ -1,13 +1,13 @@
-use Rattle.std.proofs.Common.{◌≤◌, ◌+◌, ◌++◌, ◌∷◌, [], List, Option, append-nil, length, subst, sym, take}
+use Rattle.std.proofs.Common.{◌≤◌, [], List, Option, append-nil, length, subst, sym, take}
 use Rattle.std.specs.Option.{option_copied}
 use Rattle.std.proofs.lemmas.List.{take_all}
 use Rattle.deny_build_cfg.specs.BuildingView.{building_view}
-use Rattle.deny_build_model.specs.declared.package.Package.{Package}
 use Rattle.deny_bypasses.specs.Marks.{reached_by}
 use Rattle.deny_krates.specs.Crates.{crate_view}
 use Rattle.deny_krates.proofs.PlaceLemmas.{krate_at}
 use Rattle.deny_lists.proofs.Members.{from_there}
 use Rattle.deny_lists.proofs.Indices.{take-next}
+use Rattle.deny_lists.proofs.Equalities.{subst₃}
 use Rattle.deny_model.specs.Graph.{Crate}
 use Rattle.deny_packages.proofs.GraphLemmas.{all_long, prefix_apart, prefix_long, prefix_places}
 use Rattle.deny_packages.proofs.PackagesLemmas.{AreSoFar, all_because, all_seen, all_wanted, caused_next}
@@ -22,7 +22,6 @@ use Rattle.deny_unread.proofs.CauseLemmas.{caused_none}
 use Rattle.deny_unread.proofs.ManifestLemmas.{caused_added}
 use Rattle.deny_outside.proofs.PieceLemmas.{later_same, later_then}
 use Rattle.deny_unread.specs.Added.{added}
-use Rattle.deny_unread.specs.declared.unread.Unread.{Unread}
 
 pub see_package-requires-clause-member : goal.see_package-requires-clause-member
 see_package-requires-clause-member g c =
@@ -77,15 +76,9 @@ loop-place-preserved g c =
     (prefix_apart graph ks same l.place inside c.krates-krate-items.ensures.orderly.ids here at)
     (prefix_places graph ks same l.place inside) (sym (prefix_long graph ks same l.place inside)) in
     record {
-      so_far = subst (λ (us : List Unread). AreSoFar start.files b reached home graph start end us
-          (take (l.place + 1) graph.crates) c.push.new.self)
+      so_far = subst₃ (AreSoFar start.files b reached home graph start end)
           (sym (added_then a.unread.now l.unread c.see_package.new.unread before.longer step.longer))
-          (subst (λ (cs : List Crate). AreSoFar start.files b reached home graph start end
-          (added a.unread.now l.unread ++ added l.unread c.see_package.new.unread) cs c.push.new.self)
-          (sym (take-next graph.crates l.place here at))
-          (subst (λ (ps : List Package). AreSoFar start.files b reached home graph start end
-          (added a.unread.now l.unread ++ added l.unread c.see_package.new.unread)
-          (take l.place graph.crates ++ here ∷ []) ps) (sym c.in_ok-push.ensures.ok) more));
+          (sym (take-next graph.crates l.place here at)) (sym c.in_ok-push.ensures.ok) more;
       longer = longer_then a.unread.now l.unread c.see_package.new.unread before.longer step.longer;
       caused = λ folder right. caused_next folder start mid end a.unread.now l.unread c.see_package.new.unread
           before.later later before.longer step.longer (before.caused folder right)

@@ -1,6 +1,6 @@
 use Rattle.std.proofs.Common.{◌≡◌, drop}
 use Rattle.deny_resolve.specs.Checked.{manifest_path_reads}
-use Rattle.deny_metadata.specs.Reading.{each_passes}
+use Rattle.deny_lists.specs.Reader.{each_passes}
 use Rattle.deny_resolve.proofs.checked.check_manifest_paths.Given as goal
 
 abbrev pub invariant-loop-listed : goal.invariant-loop-listed

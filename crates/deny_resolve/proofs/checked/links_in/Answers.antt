@@ -1,9 +1,10 @@
 use Rattle.std.proofs.Common.{◌≡◌, ℕ, List, Ok, subst, arith}
 use Rattle.deny_resolve.specs.Checked.{known, links_to}
 use Rattle.deny_resolve.specs.private.Index.{number_by}
-use Rattle.deny_metadata.specs.Reading.{Fails}
+use Rattle.deny_lists.specs.Reader.{Fails, IsFault}
 use Rattle.deny_resolve.proofs.CheckedLemmas.{next_links, no_more_links}
-use Rattle.deny_metadata.proofs.ReadingLemmas.{goes_on_by, fails_here_by, handed_on, all_read}
+use Rattle.deny_metadata.specs.declared.fault.MetadataFault.TheVariants.{Memory}
+use Rattle.deny_lists.proofs.ReaderLemmas.{goes_on_by, fails_here_by, handed_on, all_read}
 use Rattle.deny_resolve.proofs.checked.links_in.Goals as goal
 
 pub returns-in_err-node : goal.returns-in_err-node
@@ -14,10 +15,10 @@ returns-in_err-node c =
     let step = next_links packages nodes c.args.deps.now c.loop-dep.dep-index dep (omega (arith, c.loop-dep-test.true))
     c.dep-item.is in
     let fault = c.in_err-node.field-0.0 in
-    let fails : Fails fault (known packages nodes dep.pkg) = subst
-    (λ (t : List ℕ). Fails fault (known packages nodes t)) c.as_str.ensures c.in_err-node.ensures in
-    handed_on _ fault _ c.from_residual.ensures.1
-    (fails_here_by _ _ _ (known packages nodes dep.pkg) (λ node. links_to node dep.kinds) c.loop-dep.links fault
+    let fails : Fails Memory (IsFault (known packages nodes dep.pkg)) fault = subst
+    (λ (t : List ℕ). Fails Memory (IsFault (known packages nodes t)) fault) c.as_str.ensures c.in_err-node.ensures in
+    handed_on Memory _ _ _ fault c.from_residual.ensures.1
+    (fails_here_by Memory _ _ _ (known packages nodes dep.pkg) (λ node. links_to node dep.kinds) c.loop-dep.links fault
     c.loop-dep.invariant step fails)
 
 pub loop-dep-preserved : goal.loop-dep-preserved

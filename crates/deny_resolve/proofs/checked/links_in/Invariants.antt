@@ -1,7 +1,7 @@
 use Rattle.std.proofs.Common.{◌≡◌, drop}
 use Rattle.deny_resolve.specs.Checked.{links_of}
 use Rattle.deny_resolve.specs.private.Index.{number_by}
-use Rattle.deny_metadata.proofs.ReadingLemmas.{with_prefix}
+use Rattle.deny_lists.proofs.ReaderLemmas.{with_prefix}
 use Rattle.deny_resolve.proofs.checked.links_in.Given as goal
 
 abbrev pub invariant-loop-dep : goal.invariant-loop-dep

@@ -1,8 +1,9 @@
 use Rattle.std.proofs.Common.{◌≡◌, ℕ, List, Ok, subst, arith}
 use Rattle.deny_resolve.specs.Checked.{known}
 use Rattle.deny_resolve.specs.private.Index.{number_by}
-use Rattle.deny_metadata.specs.Reading.{Fails}
-use Rattle.deny_metadata.proofs.ReadingLemmas.{goes_on, fails_here, handed_on, next_each, no_more_each, all_read}
+use Rattle.deny_lists.specs.Reader.{Fails, IsFault}
+use Rattle.deny_metadata.specs.declared.fault.MetadataFault.TheVariants.{Memory}
+use Rattle.deny_lists.proofs.ReaderLemmas.{goes_on, fails_here, handed_on, next_each, no_more_each, all_read}
 use Rattle.deny_resolve.proofs.checked.numbers.Goals as goal
 
 pub returns-in_err-known_number : goal.returns-in_err-known_number
@@ -11,10 +12,10 @@ returns-in_err-known_number c =
     let step = next_each read c.args.members.now c.loop-member.member-index c.member-item.result
     (omega (arith, c.loop-member-test.true)) c.member-item.is in
     let fault = c.in_err-known_number.field-0.0 in
-    let fails : Fails fault (read c.member-item.result) = subst (λ (t : List ℕ). Fails fault (read t)) c.as_str.ensures
-    c.in_err-known_number.ensures in
-    handed_on _ fault _ c.from_residual.ensures.1
-    (fails_here _ _ _ (read c.member-item.result) c.loop-member.numbers fault c.loop-member.invariant step fails)
+    let fails : Fails Memory (IsFault (read c.member-item.result)) fault = subst
+    (λ (t : List ℕ). Fails Memory (IsFault (read t)) fault) c.as_str.ensures c.in_err-known_number.ensures in
+    handed_on Memory _ _ _ fault c.from_residual.ensures.1
+    (fails_here Memory _ _ _ (read c.member-item.result) c.loop-member.numbers fault c.loop-member.invariant step fails)
 
 pub loop-member-preserved : goal.loop-member-preserved
 loop-member-preserved c =

@@ -1,8 +1,8 @@
 use Rattle.std.proofs.Common.{◌≡◌, drop}
 use Rattle.deny_resolve.specs.Checked.{known}
 use Rattle.deny_resolve.specs.private.Index.{number_by}
-use Rattle.deny_metadata.specs.Reading.{each}
-use Rattle.deny_metadata.proofs.ReadingLemmas.{with_prefix}
+use Rattle.deny_lists.specs.Reader.{each}
+use Rattle.deny_lists.proofs.ReaderLemmas.{with_prefix}
 use Rattle.deny_resolve.proofs.checked.numbers.Given as goal
 
 abbrev pub invariant-loop-member : goal.invariant-loop-member

@@ -1,21 +1,23 @@
 use Rattle.std.proofs.Common.{◌≡◌, List, Ok, subst, map}
 use Rattle.deny_resolve.specs.Checked.{distinct, resolved}
 use Rattle.deny_resolve.specs.private.Index.{IsIndex}
-use Rattle.deny_metadata.specs.Reading.{Fails}
+use Rattle.deny_lists.specs.Reader.{Fails, IsFault}
 use Rattle.deny_metadata.specs.declared.document.Node.{Node}
 use Rattle.deny_metadata.specs.declared.document.Package.{Package}
 use Rattle.deny_resolve.proofs.CheckedLemmas.{first_fails, second_fails, resolved_by_indexes, resolves}
-use Rattle.deny_metadata.proofs.ReadingLemmas.{fails_through, handed_fault}
+use Rattle.deny_metadata.specs.declared.fault.MetadataFault.TheVariants.{Memory}
+use Rattle.deny_lists.proofs.ReaderLemmas.{fails_through, handed_on}
 use Rattle.deny_resolve.proofs.checked.resolve.Goals as goal
 
 pub returns-in_err-packages-clause-numbers : goal.returns-in_err-packages-clause-numbers
 returns-in_err-packages-clause-numbers c =
     let doc = c.args.document.now in
     let fault = c.in_err-packages.field-0.0 in
-    let fails = subst (λ (ps : List Package). Fails fault (distinct (map (λ p. p.id) ps))) c.as_slice.ensures
-    c.in_err-packages.ensures.distinct in
-    handed_fault _ _ fault (resolved doc) c.from_residual.ensures.1
-    (fails_through fault (distinct (map (λ p. p.id) doc.packages)) (resolved doc) (λ f is. first_fails doc f is) fails)
+    let fails = subst (λ (ps : List Package). Fails Memory (IsFault (distinct (map (λ p. p.id) ps))) fault)
+    c.as_slice.ensures c.in_err-packages.ensures.distinct in
+    handed_on Memory _ _ _ fault c.from_residual.ensures.1
+    (fails_through Memory fault (distinct (map (λ p. p.id) doc.packages)) (resolved doc)
+    (λ f is. first_fails doc f is) fails)
 
 pub returns-in_err-nodes-clause-numbers : goal.returns-in_err-nodes-clause-numbers
 returns-in_err-nodes-clause-numbers c =
@@ -23,11 +25,11 @@ returns-in_err-nodes-clause-numbers c =
     let fault = c.in_err-nodes.field-0.0 in
     let apart = subst (λ (ps : List Package). distinct (map (λ p. p.id) ps) ≡ Ok tt) c.as_slice.ensures
     c.in_ok-packages.ensures.distinct in
-    let fails = subst (λ (ns : List Node). Fails fault (distinct (map (λ n. n.id) ns))) c.as_slice-2.ensures
-    c.in_err-nodes.ensures.distinct in
-    handed_fault _ _ fault (resolved doc) c.from_residual-in_err-nodes.ensures.1
-    (fails_through fault (distinct (map (λ n. n.id) doc.nodes)) (resolved doc) (λ f is. second_fails doc f apart is)
-    fails)
+    let fails = subst (λ (ns : List Node). Fails Memory (IsFault (distinct (map (λ n. n.id) ns))) fault)
+    c.as_slice-2.ensures c.in_err-nodes.ensures.distinct in
+    handed_on Memory _ _ _ fault c.from_residual-in_err-nodes.ensures.1
+    (fails_through Memory fault (distinct (map (λ n. n.id) doc.nodes)) (resolved doc)
+    (λ f is. second_fails doc f apart is) fails)
 
 pub returns-clause-numbers : goal.returns-clause-numbers
 returns-clause-numbers c =
@@ -40,6 +42,6 @@ returns-clause-numbers c =
     c.as_slice.ensures c.in_ok-packages.ensures.index in
     let nodes = subst (λ (ns : List Node). IsIndex c.in_ok-nodes.nodes (map (λ n. n.id) ns)) c.as_slice-2.ensures
     c.in_ok-nodes.ensures.index in
-    resolves doc _ c.resolve_by.result
+    resolves doc _ c.resolve_indexed.result
     (resolved_by_indexes c.in_ok-packages.packages c.in_ok-nodes.nodes doc apart nodes_apart packages nodes)
-    c.resolve_by.ensures.numbers
+    c.resolve_indexed.ensures.numbers

@@ -1,8 +1,9 @@
 use Rattle.std.proofs.Common.{arith}
 use Rattle.deny_resolve.specs.Checked.{resolved_node}
 use Rattle.deny_resolve.specs.private.Index.{number_by}
-use Rattle.deny_metadata.specs.Reading.{Fails}
-use Rattle.deny_metadata.proofs.ReadingLemmas.{goes_on, fails_here, handed_on, next_each, no_more_each, all_read}
+use Rattle.deny_lists.specs.Reader.{Fails, IsFault}
+use Rattle.deny_metadata.specs.declared.fault.MetadataFault.TheVariants.{Memory}
+use Rattle.deny_lists.proofs.ReaderLemmas.{goes_on, fails_here, handed_on, next_each, no_more_each, all_read}
 use Rattle.deny_resolve.proofs.checked.resolve_nodes.Goals as goal
 
 pub returns-in_err-resolve_node : goal.returns-in_err-resolve_node
@@ -11,9 +12,9 @@ returns-in_err-resolve_node c =
     let step = next_each read c.args.nodes.now c.loop-node.node-index c.node-item.result
     (omega (arith, c.loop-node-test.true)) c.node-item.is in
     let fault = c.in_err-resolve_node.field-0.0 in
-    let fails : Fails fault (read c.node-item.result) = c.in_err-resolve_node.ensures in
-    handed_on _ fault _ c.from_residual.ensures.1
-    (fails_here _ _ _ (read c.node-item.result) c.loop-node.rows fault c.loop-node.invariant step fails)
+    let fails : Fails Memory (IsFault (read c.node-item.result)) fault = c.in_err-resolve_node.ensures in
+    handed_on Memory _ _ _ fault c.from_residual.ensures.1
+    (fails_here Memory _ _ _ (read c.node-item.result) c.loop-node.rows fault c.loop-node.invariant step fails)
 
 pub loop-node-preserved : goal.loop-node-preserved
 loop-node-preserved c =

@@ -1,4 +1,4 @@
-use Rattle.std.proofs.Common.{◌≡◌, ◌<◌, ◌∙◌, ap, sym, true, false, length, map, take, arith}
+use Rattle.std.proofs.Common.{◌≡◌, ◌<◌, ◌∙◌, ap, inr, sym, true, false, length, map, take, arith}
 use Rattle.std.specs.Prelude.{is_some}
 use Rattle.std.specs.List.{list_any}
 use Rattle.deny_model.specs.Text.{same_text}
@@ -23,7 +23,7 @@ returns-then-contains_key-clause-distinct g c =
     let stood : list_any (same_text id) before ≡ true = sym (any_numbered id 0 before)
     ∙ (ap is_some (sym (c.loop-number.invariant.index.at id)) ∙ asked) in
     rw (c.in_ok-from_str.ensures, c.id-id.ensures)
-    (c.loop-number.invariant.distinct ∙ (ap (distinct_after before) next ∙ stood_before before _ id stood))
+    (inr (c.loop-number.invariant.distinct ∙ (ap (distinct_after before) next ∙ stood_before before _ id stood)))
 
 pub loop-number-preserved : goal.loop-number-preserved
 loop-number-preserved g c =

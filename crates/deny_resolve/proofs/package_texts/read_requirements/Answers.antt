@@ -1,8 +1,9 @@
 use Rattle.std.proofs.Common.{◌∙◌, arith}
 use Rattle.deny_resolve.specs.Checked.{requirement_reads}
 use Rattle.deny_resolve.specs.PackageTexts.{requirement_said, requirement_view}
-use Rattle.deny_resolve.proofs.PackageTextsLemmas.{fault_handed, read_more}
-use Rattle.deny_metadata.proofs.ReadingLemmas.{next_passes, no_more_passes, passes_on, stops_here}
+use Rattle.deny_resolve.proofs.PackageTextsLemmas.{read_more}
+use Rattle.deny_metadata.specs.declared.fault.MetadataFault.TheVariants.{Memory}
+use Rattle.deny_lists.proofs.ReaderLemmas.{handed_on, next_passes, no_more_passes, passes_on, stops_here}
 use Rattle.deny_resolve.proofs.package_texts.read_requirements.Goals as goal
 
 pub returns-in_err-read_requirement-clause-faults : goal.returns-in_err-read_requirement-clause-faults
@@ -12,9 +13,9 @@ returns-in_err-read_requirement-clause-faults c =
     c.loop-declaration.declaration-index declaration
     (omega (arith, c.loop-declaration-test.true)) c.declaration-item.is in
     let fault = c.in_err-read_requirement.field-0.0 in
-    fault_handed _ fault _ c.from_residual.ensures.1
-    (stops_here _ _ _ (requirement_reads c.args.id.now declaration) fault c.loop-declaration.invariant.passes step
-    c.in_err-read_requirement.ensures.faults)
+    handed_on Memory _ _ _ fault c.from_residual.ensures.1
+    (stops_here Memory _ _ _ (requirement_reads c.args.id.now declaration) fault c.loop-declaration.invariant.passes
+    step c.in_err-read_requirement.ensures.faults)
 
 pub loop-declaration-preserved : goal.loop-declaration-preserved
 loop-declaration-preserved c =

@@ -1,7 +1,7 @@
 use Rattle.std.proofs.Common.{◌≡◌, drop, map, take}
 use Rattle.deny_resolve.specs.Checked.{requirement_reads}
 use Rattle.deny_resolve.specs.PackageTexts.{requirement_said, requirement_view}
-use Rattle.deny_metadata.specs.Reading.{each_passes}
+use Rattle.deny_lists.specs.Reader.{each_passes}
 use Rattle.deny_resolve.proofs.package_texts.read_requirements.Given as goal
 
 abbrev pub invariant-loop-declaration : goal.invariant-loop-declaration

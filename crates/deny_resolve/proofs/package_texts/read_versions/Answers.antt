@@ -1,9 +1,10 @@
 use Rattle.std.proofs.Common.{◌∙◌, Result, rules, subst, sym}
 use Rattle.semver.specs.Identifiers.{parts_of}
-use Rattle.deny_metadata.specs.Reading.{Fails}
+use Rattle.deny_lists.specs.Reader.{Fails, IsFault}
 use Rattle.deny_metadata.specs.declared.fault.MetadataFault.{MetadataFault}
-use Rattle.deny_resolve.specs.Checked.{version_reads}
-use Rattle.deny_resolve.proofs.PackageTextsLemmas.{fault_handed, version_left}
+use Rattle.deny_metadata.specs.declared.fault.MetadataFault.TheVariants.{Memory}
+use Rattle.deny_resolve.proofs.PackageTextsLemmas.{version_left}
+use Rattle.deny_lists.proofs.ReaderLemmas.{handed_on}
 use Rattle.deny_resolve.proofs.package_texts.read_versions.Goals as goal
 
 pub returns-in_err-rust_version-clause-faults : goal.returns-in_err-rust_version-clause-faults
@@ -11,8 +12,8 @@ returns-in_err-rust_version-clause-faults c =
     let listed = c.args.listed.now in
     let fault = c.in_err-rust_version.field-0.0 in
     let left = version_left listed (parts_of c.in-Some.version) (search rules) in
-    fault_handed _ fault (version_reads listed) c.from_residual-in_err-rust_version.ensures.1
-    (subst (λ (check : Result (Unit {0}) MetadataFault). Fails fault check) (sym left)
+    handed_on Memory _ _ _ fault c.from_residual-in_err-rust_version.ensures.1
+    (subst (λ (check : Result (Unit {0}) MetadataFault). Fails Memory (IsFault check) fault) (sym left)
     c.in_err-rust_version.ensures.faults)
 
 pub returns-clause-faults : goal.returns-clause-faults

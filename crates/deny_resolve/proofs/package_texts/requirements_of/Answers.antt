@@ -2,8 +2,9 @@ use Rattle.std.proofs.Common.{◌∙◌, arith, List, ap, map}
 use Rattle.deny_resolve.specs.Checked.{requirements_read}
 use Rattle.deny_resolve.specs.PackageTexts.{requirement_said, requirement_view, requirements_said}
 use Rattle.deny_metadata.specs.declared.document.Declaration.{Declaration}
-use Rattle.deny_resolve.proofs.PackageTextsLemmas.{fault_handed, read_more, requirements_fail, requirements_pass}
-use Rattle.deny_metadata.proofs.ReadingLemmas.{next_passes, no_more_passes, passes_on, stops_here}
+use Rattle.deny_resolve.proofs.PackageTextsLemmas.{read_more, requirements_fail, requirements_pass}
+use Rattle.deny_metadata.specs.declared.fault.MetadataFault.TheVariants.{Memory}
+use Rattle.deny_lists.proofs.ReaderLemmas.{handed_on, next_passes, no_more_passes, passes_on, stops_here}
 use Rattle.deny_resolve.proofs.package_texts.requirements_of.Goals as goal
 
 pub returns-in_err-read_requirements-clause-faults : goal.returns-in_err-read_requirements-clause-faults
@@ -12,10 +13,9 @@ returns-in_err-read_requirements-clause-faults c =
     let step = next_passes requirements_read c.args.packages.now c.loop-listed.listed-index listed
     (omega (arith, c.loop-listed-test.true)) c.listed-item.is in
     let fault = c.in_err-read_requirements.field-0.0 in
-    fault_handed _ fault _ c.from_residual.ensures.1
-    (stops_here _ _ _ (requirements_read listed) fault c.loop-listed.invariant.passes step (requirements_fail listed
-    _ fault
-    c.as_slice.ensures c.in_err-read_requirements.ensures.faults))
+    handed_on Memory _ _ _ fault c.from_residual.ensures.1
+    (stops_here Memory _ _ _ (requirements_read listed) fault c.loop-listed.invariant.passes step
+    (requirements_fail listed _ fault c.as_slice.ensures c.in_err-read_requirements.ensures.faults))
 
 pub loop-listed-preserved : goal.loop-listed-preserved
 loop-listed-preserved c =

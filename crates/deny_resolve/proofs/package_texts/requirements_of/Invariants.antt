@@ -1,7 +1,7 @@
 use Rattle.std.proofs.Common.{◌≡◌, drop, map, take}
 use Rattle.deny_resolve.specs.Checked.{requirements_read}
 use Rattle.deny_resolve.specs.PackageTexts.{requirement_view, requirements_said}
-use Rattle.deny_metadata.specs.Reading.{each_passes}
+use Rattle.deny_lists.specs.Reader.{each_passes}
 use Rattle.deny_resolve.proofs.package_texts.requirements_of.Given as goal
 
 abbrev pub invariant-loop-listed : goal.invariant-loop-listed

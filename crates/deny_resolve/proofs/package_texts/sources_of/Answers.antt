@@ -1,8 +1,9 @@
 use Rattle.std.proofs.Common.{◌∙◌, arith}
 use Rattle.deny_resolve.specs.Checked.{source_reads}
 use Rattle.deny_resolve.specs.PackageTexts.{source_said}
-use Rattle.deny_resolve.proofs.PackageTextsLemmas.{fault_handed, read_pushed}
-use Rattle.deny_metadata.proofs.ReadingLemmas.{next_passes, no_more_passes, passes_on, stops_here}
+use Rattle.deny_resolve.proofs.PackageTextsLemmas.{read_pushed}
+use Rattle.deny_metadata.specs.declared.fault.MetadataFault.TheVariants.{Memory}
+use Rattle.deny_lists.proofs.ReaderLemmas.{handed_on, next_passes, no_more_passes, passes_on, stops_here}
 use Rattle.deny_resolve.proofs.package_texts.sources_of.Goals as goal
 
 pub returns-in_err-read_source-clause-faults : goal.returns-in_err-read_source-clause-faults
@@ -11,8 +12,8 @@ returns-in_err-read_source-clause-faults c =
     let step = next_passes source_reads c.args.packages.now c.loop-listed.listed-index listed
     (omega (arith, c.loop-listed-test.true)) c.listed-item.is in
     let fault = c.in_err-read_source.field-0.0 in
-    fault_handed _ fault _ c.from_residual.ensures.1
-    (stops_here _ _ _ (source_reads listed) fault c.loop-listed.invariant.passes step
+    handed_on Memory _ _ _ fault c.from_residual.ensures.1
+    (stops_here Memory _ _ _ (source_reads listed) fault c.loop-listed.invariant.passes step
     c.in_err-read_source.ensures.faults)
 
 pub loop-listed-preserved : goal.loop-listed-preserved

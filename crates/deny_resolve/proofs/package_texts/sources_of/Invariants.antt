@@ -1,7 +1,7 @@
 use Rattle.std.proofs.Common.{◌≡◌, drop, map, take}
 use Rattle.deny_resolve.specs.Checked.{source_reads}
 use Rattle.deny_resolve.specs.PackageTexts.{source_said}
-use Rattle.deny_metadata.specs.Reading.{each_passes}
+use Rattle.deny_lists.specs.Reader.{each_passes}
 use Rattle.deny_resolve.proofs.package_texts.sources_of.Given as goal
 
 abbrev pub invariant-loop-listed : goal.invariant-loop-listed

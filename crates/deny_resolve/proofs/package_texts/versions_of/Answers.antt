@@ -4,8 +4,9 @@ use Rattle.semver.specs.Identifiers.{parts_of}
 use Rattle.deny_resolve.specs.Checked.{version_reads}
 use Rattle.deny_resolve.specs.PackageTexts.{rust_version_said, version_said}
 use Rattle.deny_resolve.specs.declared.package_texts.PackageVersions.{PackageVersions}
-use Rattle.deny_resolve.proofs.PackageTextsLemmas.{fault_handed, read_more}
-use Rattle.deny_metadata.proofs.ReadingLemmas.{next_passes, no_more_passes, passes_on, stops_here}
+use Rattle.deny_resolve.proofs.PackageTextsLemmas.{read_more}
+use Rattle.deny_metadata.specs.declared.fault.MetadataFault.TheVariants.{Memory}
+use Rattle.deny_lists.proofs.ReaderLemmas.{handed_on, next_passes, no_more_passes, passes_on, stops_here}
 use Rattle.deny_resolve.proofs.package_texts.versions_of.Goals as goal
 
 pub returns-in_err-read_versions-clause-faults : goal.returns-in_err-read_versions-clause-faults
@@ -14,8 +15,8 @@ returns-in_err-read_versions-clause-faults c =
     let step = next_passes version_reads c.args.packages.now c.loop-listed.listed-index listed
     (omega (arith, c.loop-listed-test.true)) c.listed-item.is in
     let fault = c.in_err-read_versions.field-0.0 in
-    fault_handed _ fault _ c.from_residual.ensures.1
-    (stops_here _ _ _ (version_reads listed) fault c.loop-listed.invariant.passes step
+    handed_on Memory _ _ _ fault c.from_residual.ensures.1
+    (stops_here Memory _ _ _ (version_reads listed) fault c.loop-listed.invariant.passes step
     c.in_err-read_versions.ensures.faults)
 
 pub loop-listed-preserved : goal.loop-listed-preserved

@@ -3,7 +3,7 @@ use Rattle.std.specs.Prelude.{option_map}
 use Rattle.semver.specs.Identifiers.{parts_of}
 use Rattle.deny_resolve.specs.Checked.{version_reads}
 use Rattle.deny_resolve.specs.PackageTexts.{rust_version_said, version_said}
-use Rattle.deny_metadata.specs.Reading.{each_passes}
+use Rattle.deny_lists.specs.Reader.{each_passes}
 use Rattle.deny_resolve.proofs.package_texts.versions_of.Given as goal
 
 abbrev pub invariant-loop-listed : goal.invariant-loop-listed

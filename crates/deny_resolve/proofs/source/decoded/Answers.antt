@@ -5,7 +5,7 @@ use Rattle.std.proofs.lemmas.Str.Ascii.{IsAscii-from_all}
 use Rattle.form_urlencoded.specs.Form.{decode}
 use Rattle.percent_encoding.specs.Iter.{decoded_bytes}
 use Rattle.percent_encoding.specs.Percent.{percent_decode}
-use Rattle.deny_metadata.proofs.ReadingLemmas.{if_ok_then}
+use Rattle.deny_lists.proofs.Results.{if_ok_then}
 use Rattle.deny_resolve.proofs.SourceLemmas.{decoded_is, written_is, no_memory}
 use Rattle.deny_resolve.proofs.source.decoded.Goals as goal
 
@@ -13,7 +13,7 @@ pub returns-in-Ok : goal.returns-in-Ok
 returns-in-Ok c =
     let same : decoded_bytes c.percent_decode.result ≡ decode c.args.part.now = c.percent_decode.ensures.bytes ∙ ap
     percent_decode (c.as_slice.ensures.value ∙ c.in_ok-bytes.ensures) in
-    if_ok_then _ _ c.from_str.result c.from_str.ensures
+    if_ok_then c.from_str.result c.from_str.ensures
     (λ text is. decoded_is c.args.part.now text (subst IsUtf8 same c.in-Ok.ensures.ok_only_if_utf8)
     (is ∙ (c.as_str.ensures.value ∙ (c.in-Ok.ensures.value ∙ same))))
 

@@ -1,7 +1,7 @@
 use Rattle.std.proofs.lemmas.Result.{err_from_is_err_and}
 use Rattle.deny_spdx.specs.declared.requirement_reader.RequirementReader.TheVariants.{Start}
 use Rattle.deny_spdx.specs.Grammar.{IsRequirement}
-use Rattle.deny_spdx.specs.RequirementReader.{requirement_step, whole_requirement}
+use Rattle.deny_spdx.specs.private.RequirementReader.{requirement_step, whole_requirement}
 use Rattle.deny_spdx.proofs.AnswerLemmas.{spells, ends_bad, stops_answer}
 use Rattle.deny_spdx.proofs.KeepsLemmas.{requirement_keeps}
 use Rattle.deny_spdx.proofs.parse.read_requirement.Goals as goal

@@ -1,7 +1,7 @@
 use Rattle.std.proofs.Common.{length}
 use denote.Text.{Utf8}
 use denote.Shadow.{shadow}
-use Rattle.deny_spdx.specs.Reading.{IsReadTo}
+use Rattle.deny_spdx.specs.private.Reading.{IsReadTo}
 use Rattle.deny_spdx.proofs.reading.read_tokens.Given as goal
 
 abbrev pub invariant-loop-after : goal.invariant-loop-after

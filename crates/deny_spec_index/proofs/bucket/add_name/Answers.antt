@@ -1,7 +1,9 @@
 use Rattle.std.proofs.Common.{arith, ap, subst, length}
 use Rattle.std.proofs.lemmas.Result.{on_ok_weaker}
 use Rattle.std.proofs.lemmas.Option.{slice_get_within}
-use Rattle.deny_spec_index.specs.Bucket.{IsNamedAt, IsGap, numbered, inserted}
+use Rattle.deny_spec_index.specs.Bucket.{IsNamedAt}
+use Rattle.deny_spec_index.specs.private.Bucket.{numbered, inserted}
+use Rattle.deny_spec_index.specs.private.Bucket.{IsGap}
 use Rattle.deny_spec_index.proofs.bucket.add_name.Goals as goal
 
 pub find_uncounted-requires-clause-whole : goal.find_uncounted-requires-clause-whole

@@ -1,5 +1,5 @@
 use Rattle.std.proofs.Common.{ℕ, ◌<◌, ◌^◌, ◌-◌, length}
-use Rattle.deny_spec_index.specs.Bucket.{IsBetween}
+use Rattle.deny_spec_index.specs.private.Bucket.{IsBetween}
 use Rattle.deny_lists.proofs.Fuel.{Fuel}
 use Rattle.deny_spec_index.proofs.bucket.find_name.Given as goal
 

@@ -1,8 +1,8 @@
 use Rattle.std.proofs.Common.{arith, ap, length, subst, sym, ◌∙◌}
 use Rattle.std.proofs.lemmas.Result.{on_ok_weaker, on_err_weaker}
 use Rattle.deny_lists.specs.Prefix.{IsPrefix}
-use Rattle.deny_spec_index.specs.Bucket.{numbers_of}
-use Rattle.deny_spec_index.specs.Index.{GivesNumbers}
+use Rattle.deny_spec_index.specs.private.Bucket.{numbers_of}
+use Rattle.deny_spec_index.specs.private.Index.{GivesNumbers}
 use Rattle.deny_spec_index.proofs.IndexLemmas.{named_at, gives_named, gives_first, gives_none, bound_named, bound_none}
 use Rattle.deny_spec_index.proofs.bucket.give_numbers.Goals as goal
 

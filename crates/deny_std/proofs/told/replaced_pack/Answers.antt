@@ -13,5 +13,5 @@ unfolding replaced_pack key_of
 returns c =
     subst (λ (words : Words). IfOk c.pack_of.result (λ pack. pack ≡ pack_of (replaced_key c.args.place) words))
     c.in_ok-words.ensures
-    (subst (λ (key : Key). IfOk c.pack_of.result (λ pack. pack ≡ pack_of key c.in_ok-words.words)) c.key_of-key.ensures
-    (c.pack_of.ensures ReplacedInStd (ap (λ (key : Key). key.code) c.key_of-key.ensures)))
+    (subst (λ (key : Key). IfOk c.pack_of.result (λ pack. pack ≡ pack_of key c.in_ok-words.words)) c.std_key-key.ensures
+    (c.pack_of.ensures ReplacedInStd (ap (λ (key : Key). key.code) c.std_key-key.ensures)))

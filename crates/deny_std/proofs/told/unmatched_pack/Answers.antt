@@ -13,5 +13,5 @@ returns c =
     let range = c.args.entry.now.range in
     subst (λ (words : Words). IfOk c.pack_of.result
     (λ pack. pack ≡ pack_of (unused_key UnmatchedReplacementIgnore range) words)) c.in_ok-words.ensures
-    (subst (λ (key : Key). IfOk c.pack_of.result (λ pack. pack ≡ pack_of key c.in_ok-words.words)) c.key_of-key.ensures
-    (c.pack_of.ensures UnmatchedReplacementIgnore (ap (λ (key : Key). key.code) c.key_of-key.ensures)))
+    (subst (λ (key : Key). IfOk c.pack_of.result (λ pack. pack ≡ pack_of key c.in_ok-words.words)) c.std_key-key.ensures
+    (c.pack_of.ensures UnmatchedReplacementIgnore (ap (λ (key : Key). key.code) c.std_key-key.ensures)))

@@ -1,6 +1,6 @@
 use Rattle.std.proofs.Common.{◌≡◌, ◌+◌, ◌-◌, ◌≤◌, None, length}
 use Rattle.std.specs.Option.{ForSome}
-use Rattle.deny_std_table.specs.Reading.{done_of}
+use Rattle.deny_std_table.specs.private.Reading.{done_of}
 use Rattle.deny_std_table.specs.Width.{width_of}
 use Rattle.deny_std_table.specs.Entries.{entries}
 use Rattle.deny_std_table.proofs.entries.check_entries.Given as goal

@@ -3,7 +3,7 @@ use Rattle.std.specs.Cmp.Lexicographic.{slice_cmp}
 use Rattle.std.specs.Ordering.{nat_cmp}
 use Rattle.std.specs.declared.cmp.Ordering.TheVariants.{Less, Greater}
 use Rattle.deny_std_table.specs.Width.{width_of}
-use Rattle.deny_std_table.specs.Names.{name_at}
+use Rattle.deny_std_table.specs.private.Names.{name_at}
 use Rattle.deny_std_table.proofs.names.find.Given as goal
 
 -- the names before `low` are below the one that is looked for, those from `high` on are above it

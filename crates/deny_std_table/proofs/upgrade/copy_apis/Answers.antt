@@ -1,5 +1,5 @@
 use Rattle.std.proofs.Common.{rules, ◌+◌, ◌-◌, arith, sym, ap}
-use Rattle.deny_std_table.specs.Reading.{next_of}
+use Rattle.deny_std_table.specs.private.Reading.{next_of}
 use Rattle.deny_std_table.specs.Width.{width_of}
 use Rattle.deny_std_table.specs.Region.{bounds, api}
 use Rattle.deny_std_table.specs.Spelling.{api_text, api_bytes}

@@ -4,7 +4,7 @@ use Rattle.std.proofs.lemmas.Bool.Decides.{nat_tests}
 use Rattle.deny_std_table.specs.declared.error.UpgradeError.TheVariants.{Long}
 use Rattle.deny_std_table.specs.Width.{width_of}
 use Rattle.deny_std_table.specs.Spelling.{entry_text, entry_bytes}
-use Rattle.deny_std_table.specs.Draft.{Writes}
+use Rattle.deny_std_table.specs.private.Draft.{Writes}
 use Rattle.deny_std_table.proofs.FitsLemmas.{if_ok-both, says-the-same}
 use Rattle.deny_std_table.proofs.UpgradeLemmas.{copied-start, copied-more, copied-long, copied-all, read_texts}
 use Rattle.deny_std_table.proofs.UpgradeLemmas.{texts-size, EntryRead, entry-read}

@@ -1,8 +1,9 @@
+ghost use Rattle.std.specs.Prelude.{IsSomeAnd};
 ghost use Rattle.deny_tables.specs.Apart.{bypass_path-apart, bypass_entry-apart};
 ghost use Rattle.deny_tables.specs.Build.{bypass_path_fields, ReadsBypassPath, faults_of_bypass_path};
 ghost use Rattle.deny_tables.specs.Build.{bypass_fields, ReadsBypassKeys, faults_of_bypass, ReadsBypass};
 ghost use Rattle.deny_tables.specs.Depends.{bypass-depends};
-ghost use Rattle.deny_entries.specs.Table.{Gives, ReadsTable};
+ghost use Rattle.deny_entries.specs.Table.{ReadsTable};
 
 use crate::bans::cfg::checksum::Checksum;
 use deny_base::Spanned;
@@ -82,7 +83,7 @@ pub(crate) struct BypassKeys {
 impl Extension for BypassKeys {
     ghost fields = { bypass_fields };
 
-    ghost reads_in = { λ entries said. Gives (ReadsBypassKeys entries) said };
+    ghost reads_in = { λ entries said. IsSomeAnd said (ReadsBypassKeys entries) };
 
     fn read_keys(
         alloc: Global,

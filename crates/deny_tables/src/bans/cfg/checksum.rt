@@ -1,6 +1,7 @@
 ghost use Rattle.std.specs.Prelude.{◌≡◌, Some, Ok, List, ℕ, length};
 ghost use Rattle.hex.specs.Hex.{IsBytes, encode_lower};
-ghost use Rattle.deny_tables.specs.Checksum.{NamesCharacter, character_of, checksum_in, checksum_of, checksum_view};
+ghost use Rattle.deny_tables.specs.Checksum.{checksum_in, checksum_of};
+ghost use Rattle.deny_tables.specs.private.Checksum.{NamesCharacter, character_of, checksum_view};
 ghost use Rattle.deny_entries.specs.Words.{faults_as, ReadsAs};
 
 use deny_toml::{DeserError, Deserialize, Value};

@@ -1,10 +1,10 @@
-ghost use Rattle.std.specs.Prelude.{◌≡◌, Some, None};
+ghost use Rattle.std.specs.Prelude.{◌≡◌, Some, None, IsSomeAnd};
 ghost use Rattle.deny_tables.specs.Apart.{feature_entry-apart};
 ghost use Rattle.deny_tables.specs.Depends.{feature_lists-depend};
 ghost use Rattle.deny_entries.specs.Entry.{entry_fields};
 ghost use Rattle.deny_tables.specs.Features.{feature_fields, ReadsFeatures, ReadsCrateFeatures, nowhere};
 ghost use Rattle.std.specs.Prelude.{[], false, IfOk, OnOk};
-ghost use Rattle.deny_entries.specs.Table.{Gives, ReadAt, ReadsOr, ReadsTable, after, faults_of_table, state_of};
+ghost use Rattle.deny_entries.specs.Table.{ReadAt, ReadsOr, ReadsTable, after, faults_of_table, state_of};
 ghost use Rattle.deny_entries.specs.Table as spec;
 ghost use Rattle.deny_entries.specs.Words.{faults_of_bool, faults_of_texts, ReadsBool, ReadsSpanned, ReadsTexts};
 ghost use Rattle.deny_entries.specs.declared.policy_key.PolicyKey.TheVariants as key;
@@ -86,7 +86,7 @@ fn exact(helper: &mut TableHelper<'_>) -> Result<Spanned<bool>, NoMemory>
 impl Extension for FeatureLists {
     ghost fields = { feature_fields };
 
-    ghost reads_in = { λ entries said. Gives (ReadsFeatures entries) said };
+    ghost reads_in = { λ entries said. IsSomeAnd said (ReadsFeatures entries) };
 
     fn read_keys(
         alloc: Global,

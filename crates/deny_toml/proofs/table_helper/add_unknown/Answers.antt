@@ -1,6 +1,6 @@
 use Rattle.std.proofs.Common.{[], ◌∷◌, ◌++◌, ◌+◌, append_assoc, append-nil, drop, map, sym, ap, ◌∙◌, arith}
 use Rattle.deny_toml.specs.TableHelper.{unknown}
-use Rattle.deny_toml.proofs.ClashLaws.{map_next, map_end}
+use Rattle.deny_toml_tree.proofs.ClashLaws.{map_next, map_end}
 use Rattle.deny_toml.proofs.table_helper.add_unknown.Goals as goal
 
 pub loop-entry-preserved : goal.loop-entry-preserved

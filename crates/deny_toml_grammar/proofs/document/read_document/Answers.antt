@@ -11,4 +11,4 @@ pub returns-clause-stand : goal.returns-clause-stand
 returns-clause-stand c = gives_standing c.args.text.now c.expressions.result c.utf8.text c.expressions.ensures
 
 pub returns-clause-refused : goal.returns-clause-refused
-returns-clause-refused c left = refuses_all c.args.text.now c.expressions.result left c.expressions.ensures
+returns-clause-refused c = refuses_all c.args.text.now c.expressions.result c.expressions.ensures

@@ -1,15 +1,17 @@
-use Rattle.std.proofs.Common.{◌≡◌, ◌+◌, ◌-◌, ◌==◌, true, false, ◌∙◌, rules, arith}
+use Rattle.std.proofs.Common.{◌≡◌, ◌+◌, ◌-◌, ◌==◌, true, false, ◌∙◌, inr, rules, arith}
 use Rattle.std.proofs.lemmas.Grind.{common_steps}
 use Rattle.std.proofs.lemmas.Bool.Decides.{nat_tests}
 use Rattle.deny_toml_grammar.specs.Lexical.{first, skip_spaces}
-use Rattle.deny_toml_grammar.proofs.StringsLaws.{reads_err, fails_with}
+use Rattle.deny_lists.proofs.ReaderLemmas.{handed_on}
+use Rattle.deny_toml_grammar.specs.declared.read_error.ReadError.TheVariants.{Memory}
+use Rattle.deny_toml_grammar.proofs.StringsLaws.{fails_with}
 use Rattle.deny_toml_grammar.proofs.KeysLaws.{key_after_zero, key_after_none, key_after_last, key_after_more}
 use Rattle.deny_toml_grammar.proofs.keys.key.Goals as goal
 
 pub returns-in_err-part-clause-value : goal.returns-in_err-part-clause-value
 returns-in_err-part-clause-value c =
     let l = c.parts in
-    reads_err c.from_residual.result _ c.in_err-part.field-0.0 _ c.from_residual.ensures.1 (λ y k. k)
+    handed_on Memory _ _ c.from_residual.result c.in_err-part.field-0.0 c.from_residual.ensures.1
     (fails_with c.in_err-part.field-0.0 _ _ (λ none. l.invariant.2
     ∙ key_after_none (64 - l._part) c.args.total l.path l.rest.now none) c.in_err-part.ensures.value)
 
@@ -52,7 +54,7 @@ pub returns-clause-value : goal.returns-clause-value
 returns-clause-value c =
     let l = c.parts in
     let none : 64 - l._part ≡ 0 = omega arith in
-    l.invariant.2 ∙ rw none (key_after_zero _ _ _)
+    inr (l.invariant.2 ∙ rw none (key_after_zero _ _ _))
 
 pub returns-in_err-push-clause-value : goal.returns-in_err-push-clause-value
 returns-in_err-push-clause-value c = search rules

@@ -1,9 +1,11 @@
 use Rattle.std.proofs.Common.{◌≡◌, ◌-◌, ◌==◌, true, false, length, ◌∙◌, rules, arith}
 use Rattle.std.proofs.lemmas.Grind.{common_steps}
 use Rattle.std.proofs.lemmas.Bool.Decides.{nat_tests}
-use Rattle.deny_toml_grammar.specs.Lexical.{skip_blank}
+use Rattle.deny_toml_grammar.specs.private.Lexical.{skip_blank}
 use Rattle.deny_toml_grammar.specs.private.Lines.{expressions}
-use Rattle.deny_toml_grammar.proofs.StringsLaws.{gives_err, fails_with}
+use Rattle.deny_lists.proofs.ReaderLemmas.{handed_on}
+use Rattle.deny_toml_grammar.specs.declared.read_error.ReadError.TheVariants.{Memory}
+use Rattle.deny_toml_grammar.proofs.StringsLaws.{fails_with}
 use Rattle.deny_toml_grammar.proofs.LinesLaws.{lines_end, lines_more, lines_bad}
 use Rattle.deny_toml_grammar.proofs.lines.expressions.Goals as goal
 
@@ -24,7 +26,7 @@ returns-in_err-expression c =
     let (m, room, loop) = l.invariant.3 in
     let start_is = c.skip_blank-start.ensures.rest in
     let other : (length (skip_blank l.rest.now) == 0) ≡ false = grind (arith, nat_tests, common_steps) in
-    gives_err c.from_residual.result _ c.in_err-expression.field-0.0 _ c.from_residual.ensures.1 (λ y p. p)
+    handed_on Memory _ _ c.from_residual.result c.in_err-expression.field-0.0 c.from_residual.ensures.1
     (fails_with c.in_err-expression.field-0.0 _ _ (λ none. loop
     ∙ lines_bad m total l.found l.rest.now other (rw start_is at none)) c.in_err-expression.ensures.value)
 

@@ -1,6 +1,8 @@
 use Rattle.std.proofs.Common.{sym, ◌∙◌, rules, arith, le_refl}
 use Rattle.std.proofs.lemmas.Grind.{common_steps}
-use Rattle.deny_toml_grammar.proofs.StringsLaws.{reads_bytes_err, fails_with, prepend-nil, turn_more, turn_done}
+use Rattle.deny_lists.proofs.ReaderLemmas.{handed_on}
+use Rattle.deny_toml_grammar.specs.declared.read_error.ReadError.TheVariants.{Memory}
+use Rattle.deny_toml_grammar.proofs.StringsLaws.{fails_with, prepend-nil, turn_more, turn_done}
 use Rattle.deny_toml_grammar.proofs.StringsLaws.{turn_none}
 use Rattle.deny_toml_grammar.proofs.strings.owned_content.Goals as goal
 
@@ -10,8 +12,8 @@ pieces-init c = (c.utf8.text, le_refl _, λ n h. (n, h, rw c.new-bytes.ensures.b
 pub returns-in_err-goes_on-clause-value : goal.returns-in_err-goes_on-clause-value
 returns-in_err-goes_on-clause-value c n h =
     let l = c.pieces in
-    reads_bytes_err c.from_residual-in_err-goes_on.result _ c.in_err-goes_on.field-0.0 _
-    c.from_residual-in_err-goes_on.ensures.1 (λ y k. k)
+    handed_on Memory _ _ c.from_residual-in_err-goes_on.result c.in_err-goes_on.field-0.0
+    c.from_residual-in_err-goes_on.ensures.1
     (fails_with c.in_err-goes_on.field-0.0 _ _ (turn_none c.args.delimiter c.args.multi n c.args.text.now _ l.rest.now
     c.split_run.result.0.now c.split_run.result.1.now (l.invariant.2 n h) c.split_run.ensures.parts)
     c.in_err-goes_on.ensures.value)

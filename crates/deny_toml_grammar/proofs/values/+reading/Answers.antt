@@ -1,8 +1,12 @@
-use Rattle.std.proofs.Common.{◌≡◌, ◌-◌, ◌<◌, ◌==◌, ◌||◌, true, false, suc, length, drop, le_refl, ◌∙◌, rules, arith}
+use Rattle.std.proofs.Common.{◌≡◌, ◌-◌, ◌<◌, ◌==◌, ◌||◌, true, false, suc, length, drop, le_refl, ◌∙◌, inr, rules}
+use Rattle.std.proofs.Common.{arith}
 use Rattle.std.proofs.lemmas.Grind.{common_steps}
-use Rattle.deny_toml_grammar.specs.Lexical.{first, skip_blank, skip_spaces}
+use Rattle.deny_toml_grammar.specs.Lexical.{first, skip_spaces}
+use Rattle.deny_toml_grammar.specs.private.Lexical.{skip_blank}
 use Rattle.deny_toml_grammar.specs.private.Values.{value}
-use Rattle.deny_toml_grammar.proofs.StringsLaws.{reads_err, fails_with, reads_same}
+use Rattle.deny_lists.proofs.ReaderLemmas.{handed_on}
+use Rattle.deny_toml_grammar.specs.declared.read_error.ReadError.TheVariants.{Memory}
+use Rattle.deny_toml_grammar.proofs.StringsLaws.{fails_with, reads_same}
 use Rattle.deny_toml_grammar.proofs.ValuesLaws as laws
 use Rattle.deny_toml_grammar.proofs.values.+reading.Goals as goal
 
@@ -23,7 +27,7 @@ array-returns-in_err-element-clause-value t c n h =
     let start_is = c.skip_blank-start.ensures.rest in
     let other : (first (skip_blank l.rest.now) == 93) ≡ false = grind (arith, common_steps) in
     let (m, room, loop) = l.invariant.2 n h in
-    reads_err c.from_residual.result _ c.in_err-element.field-0.0 _ c.from_residual.ensures.1 (λ y p. p)
+    handed_on Memory _ _ c.from_residual.result c.in_err-element.field-0.0 c.from_residual.ensures.1
     (fails_with c.in_err-element.field-0.0 _ _ (λ none. loop
     ∙ laws.elements_bad (value c.args.depth c.args.total) m _ l.rest.now other (rw start_is at none))
     c.in_err-element.ensures.value)
@@ -34,8 +38,8 @@ array-returns-in_err-rest-clause-value t c n h =
     let start_is = c.skip_blank-start.ensures.rest in
     let other : (first (skip_blank l.rest.now) == 93) ≡ false = grind (arith, common_steps) in
     let (m, room, loop) = l.invariant.2 n h in
-    reads_err c.from_residual-in_err-rest.result _ c.in_err-rest.field-0.0 _ c.from_residual-in_err-rest.ensures.1
-    (λ y p. p)
+    handed_on Memory _ _ c.from_residual-in_err-rest.result c.in_err-rest.field-0.0
+    c.from_residual-in_err-rest.ensures.1
     (fails_with c.in_err-rest.field-0.0 _ _ (λ none. loop ∙ laws.elements_bad_end (value c.args.depth c.args.total) m _
     l.rest.now _ _ other (rw start_is at c.in_ok-element.ensures.value) none) c.in_err-rest.ensures.value)
 
@@ -61,7 +65,7 @@ array-elements-preserved t c =
 
 pub assignment-returns-in_err-path-clause-value : goal.assignment-returns-in_err-path-clause-value
 assignment-returns-in_err-path-clause-value t c =
-    reads_err c.from_residual.result _ c.in_err-path.field-0.0 _ c.from_residual.ensures.1 (λ y p. p)
+    handed_on Memory _ _ c.from_residual.result c.in_err-path.field-0.0 c.from_residual.ensures.1
     (fails_with c.in_err-path.field-0.0 _ _ (laws.assignment_no_key (value c.args.depth c.args.total) c.args.total
     c.args.text.now) c.in_err-path.ensures.value)
 
@@ -69,9 +73,9 @@ pub assignment-returns-then-first-ne61-clause-value : goal.assignment-returns-th
 assignment-returns-then-first-ne61-clause-value t c =
     let after = c.in_ok-path.after.now in
     let none : (first after == 61) ≡ false = grind (arith, common_steps) in
-    laws.assignment_is (value c.args.depth c.args.total) c.args.total c.args.text.now after c.in_ok-path.path
+    inr (laws.assignment_is (value c.args.depth c.args.total) c.args.total c.args.text.now after c.in_ok-path.path
     c.in_ok-path.ensures.value
-    ∙ laws.assigned_no_equals (value c.args.depth c.args.total) c.in_ok-path.path after none
+    ∙ laws.assigned_no_equals (value c.args.depth c.args.total) c.in_ok-path.path after none)
 
 pub assignment-returns-in_err-value-clause-value : goal.assignment-returns-in_err-value-clause-value
 assignment-returns-in_err-value-clause-value t c =
@@ -80,8 +84,8 @@ assignment-returns-in_err-value-clause-value t c =
     rw (c.skip_spaces.ensures.rest, c.skip.ensures.rest) in
     let is = laws.assignment_is (value c.args.depth c.args.total) c.args.total c.args.text.now after c.in_ok-path.path
     c.in_ok-path.ensures.value in
-    reads_err c.from_residual-in_err-value.result _ c.in_err-value.field-0.0 _ c.from_residual-in_err-value.ensures.1
-    (λ y p. p)
+    handed_on Memory _ _ c.from_residual-in_err-value.result c.in_err-value.field-0.0
+    c.from_residual-in_err-value.ensures.1
     (fails_with c.in_err-value.field-0.0 _ _ (λ none. is ∙ laws.assigned_none (value c.args.depth c.args.total)
     c.in_ok-path.path after (rw start_is at none)) c.in_err-value.ensures.value)
 
@@ -119,7 +123,7 @@ pub members-returns-in_err-member-clause-value : goal.members-returns-in_err-mem
 members-returns-in_err-member-clause-value t c n h =
     let l = c.members in
     let (m, room, loop) = l.invariant.2 n h in
-    reads_err c.from_residual.result _ c.in_err-member.field-0.0 _ c.from_residual.ensures.1 (λ y p. p)
+    handed_on Memory _ _ c.from_residual.result c.in_err-member.field-0.0 c.from_residual.ensures.1
     (fails_with c.in_err-member.field-0.0 _ _ (λ none. loop ∙ laws.members_bad (value c.args.depth c.args.total) m
     c.args.total _ l.rest.now none) c.in_err-member.ensures.value)
 
@@ -141,8 +145,8 @@ members-returns-then-first-ne44-clause-value t c n h =
     let (m, room, loop) = l.invariant.2 n h in
     let last : (first (skip_spaces after) == 44) ≡ false = grind (arith, common_steps) in
     let open_still : (first (skip_spaces after) == 125) ≡ false = grind (arith, common_steps) in
-    loop ∙ laws.members_bad_end (value c.args.depth c.args.total) m c.args.total l.found l.rest.now
-    c.in_ok-member.member after c.in_ok-member.ensures.value last open_still
+    inr (loop ∙ laws.members_bad_end (value c.args.depth c.args.total) m c.args.total l.found l.rest.now
+    c.in_ok-member.member after c.in_ok-member.ensures.value last open_still)
 
 pub members-members-preserved : goal.members-members-preserved
 members-members-preserved t c =
@@ -182,7 +186,7 @@ value-returns-then-depth-eq0-clause-value t c =
     let text = c.args.text.now in
     let bracket : ((first text == 91) || (first text == 123)) ≡ true = grind (arith, common_steps) in
     let zero : c.args.depth ≡ 0 = omega arith in
-    rw zero (laws.value_deep c.args.total text bracket)
+    inr (rw zero (laws.value_deep c.args.total text bracket))
 
 pub value-returns-in_err-elements-clause-value : goal.value-returns-in_err-elements-clause-value
 value-returns-in_err-elements-clause-value t c =
@@ -190,7 +194,7 @@ value-returns-in_err-elements-clause-value t c =
     let some : 0 < c.args.depth = omega arith in
     let a : (first text == 91) ≡ true = grind (arith, common_steps) in
     let failed = rw c.skip.ensures.rest at (c.in_err-elements.ensures.value (length text) c.skip.ensures.shorter) in
-    reads_err c.from_residual.result _ c.in_err-elements.field-0.0 _ c.from_residual.ensures.1 (λ y p. p)
+    handed_on Memory _ _ c.from_residual.result c.in_err-elements.field-0.0 c.from_residual.ensures.1
     (fails_with c.in_err-elements.field-0.0 _ _ (λ none. laws.value_array c.args.depth c.args.total text some a
     ∙ rw none) failed)
 
@@ -201,8 +205,8 @@ value-returns-in_err-members-clause-value t c =
     let a : (first text == 91) ≡ false = grind (arith, common_steps) in
     let b : (first text == 123) ≡ true = grind (arith, common_steps) in
     let failed = rw c.skip-else-byte-eq91.ensures.rest at c.in_err-members.ensures.value in
-    reads_err c.from_residual-in_err-members.result _ c.in_err-members.field-0.0 _
-    c.from_residual-in_err-members.ensures.1 (λ y p. p)
+    handed_on Memory _ _ c.from_residual-in_err-members.result c.in_err-members.field-0.0
+    c.from_residual-in_err-members.ensures.1
     (fails_with c.in_err-members.field-0.0 _ _ (λ none. laws.value_table c.args.depth c.args.total text some a b
     ∙ rw none) failed)
 

@@ -2,11 +2,11 @@ use Rattle.std.specs.Prelude.{option_copied}
 use Rattle.deny_trees.proofs.GraphLemmas.{graph_found, no_graph}
 use Rattle.deny_trees.proofs.graphs.graph_of.Goals as goal
 
-pub returns-in_ok-graph_at-in-Some : goal.returns-in_ok-graph_at-in-Some
-returns-in_ok-graph_at-in-Some c =
+pub returns-in_ok-headed_tree-in-Some : goal.returns-in_ok-headed_tree-in-Some
+returns-in_ok-headed_tree-in-Some c =
     graph_found c.args.krates.now c.args.most c.args.shown.now c.in-Some.node.0 (option_copied c.feature_of.result)
-    c.in_ok-graph_at-in-Some.field-0 c.in-Some.ensures.within c.in-Some.ensures.found c.feature_of.ensures
-    c.in_ok-graph_at-in-Some.ensures
+    c.in_ok-headed_tree-in-Some.field-0 c.in-Some.ensures.within c.in-Some.ensures.found c.feature_of.ensures
+    c.in_ok-headed_tree-in-Some.ensures
 
 pub returns-in-None : goal.returns-in-None
 returns-in-None c =

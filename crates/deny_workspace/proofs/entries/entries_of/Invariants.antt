@@ -1,6 +1,7 @@
 use Rattle.std.proofs.Common.{◌≡◌, ◌++◌, drop, map}
 use Rattle.std.specs.Prelude.{filter_map, option_copied}
-use Rattle.deny_workspace.specs.Entries.{entry_of, entry_view, keys_in}
+use Rattle.deny_workspace.specs.Entries.{entry_of, keys_in}
+use Rattle.deny_workspace.specs.private.Entries.{entry_view}
 use Rattle.deny_workspace.proofs.entries.entries_of.Given as goal
 
 abbrev pub invariant-loop-key : goal.invariant-loop-key

@@ -1,5 +1,6 @@
 use Rattle.std.proofs.Common.{◌∙◌, ap, map, subst, sym}
-use Rattle.deny_workspace.specs.Entries.{Ascends, entries_of, entry_view, keys_in, patches_in}
+use Rattle.deny_workspace.specs.Entries.{entries_of, keys_in, patches_in}
+use Rattle.deny_workspace.specs.private.Entries.{Ascends, entry_view}
 use Rattle.deny_workspace.specs.declared.entry_key.EntryKey.TheVariants as key
 use Rattle.deny_workspace.proofs.EntryLemmas.{ascends_below}
 use Rattle.deny_workspace.proofs.workspace.all_entries.Goals as goal

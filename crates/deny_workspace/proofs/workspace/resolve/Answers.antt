@@ -1,6 +1,6 @@
 use Rattle.std.proofs.Common.{◌∙◌, ap, refl}
 use Rattle.deny_workspace.specs.Agreement.{home_of, requirement_of}
-use Rattle.deny_workspace.specs.Entries.{entry_view}
+use Rattle.deny_workspace.specs.private.Entries.{entry_view}
 use Rattle.deny_workspace.specs.Workspace.{dep_view}
 use Rattle.deny_workspace.proofs.AgreementLemmas.{led_to}
 use Rattle.deny_workspace.proofs.workspace.resolve.Goals as goal

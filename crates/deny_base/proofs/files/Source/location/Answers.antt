@@ -1,6 +1,6 @@
 use Rattle.std.proofs.Common.{List, ℕ, take, refl, ap, ◌∙◌}
 use Rattle.deny_base.specs.Files.{location_of}
-use Rattle.deny_base.specs.Marks.{location_after}
+use Rattle.deny_base.specs.private.Marks.{location_after}
 use Rattle.deny_base.proofs.LocationLemmas.{located}
 use Rattle.deny_base.proofs.files.Source.location.Goals as goal
 

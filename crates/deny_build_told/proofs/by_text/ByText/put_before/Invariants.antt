@@ -1,5 +1,5 @@
 use Rattle.std.proofs.Common.{drop}
-use Rattle.deny_build_told.specs.ByText.{PutsBefore}
+use Rattle.deny_build_told.specs.private.ByText.{PutsBefore}
 use Rattle.deny_build_told.proofs.by_text.ByText.put_before.Given as goal
 
 abbrev pub invariant-loop-number : goal.invariant-loop-number

@@ -5,7 +5,7 @@ use Rattle.std.proofs.lemmas.Result.{IfOk-weaker}
 use Rattle.deny_build_cfg.specs.BuildingView.{bypass_view, path_view}
 use Rattle.deny_codes.specs.PackageFiles.{path_of_used}
 use Rattle.deny_tables.specs.declared.bans.cfg.bypass.BypassPath.{BypassPath}
-use Rattle.deny_bypasses.specs.Paths.{spelled}
+use Rattle.deny_bypasses.specs.private.Paths.{spelled}
 use Rattle.deny_bypasses.specs.private.Components.{has_components_at}
 use Rattle.deny_bypasses.proofs.PathLemmas.{none_allowed, path_found}
 use Rattle.deny_bypasses.proofs.paths.Allowed.path_of.Goals as goal

@@ -1,6 +1,6 @@
 use Rattle.std.proofs.Common.{map, take}
 use Rattle.deny_lists.specs.First.{FindsFirst}
-use Rattle.deny_cfg.specs.FirstSpans.{entry_span, first_span, same_wording}
+use Rattle.deny_cfg.specs.private.FirstSpans.{entry_span, first_span, same_wording}
 use Rattle.deny_cfg.proofs.first_spans.FirstSpans.of_specs.Given as goal
 
 abbrev pub invariant-loop-entry : goal.invariant-loop-entry

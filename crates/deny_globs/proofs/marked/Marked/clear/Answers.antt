@@ -1,5 +1,5 @@
 use Rattle.std.proofs.Common.{sym, subst}
-use Rattle.deny_globs.specs.Marked.{IsMarked}
+use Rattle.deny_globs.specs.private.Marked.{IsMarked}
 use Rattle.deny_globs.proofs.MarkedLemmas.{contains_in, marked_inside, marked_cleared}
 use Rattle.deny_globs.proofs.marked.Marked.clear.Goals as goal
 

@@ -1,7 +1,7 @@
 use Rattle.std.proofs.Common.{false, true, arith, ap, sym, subst, ◌∙◌, ◌≡◌, ◌<◌, ◌++◌, ◌∷◌, [], length, get_or}
 use Rattle.std.specs.Prelude.{slice_set}
 use Rattle.std.proofs.lemmas.List.{get_or_default, length_push}
-use Rattle.deny_globs.specs.Marked.{IsMarked}
+use Rattle.deny_globs.specs.private.Marked.{IsMarked}
 use Rattle.deny_globs.proofs.MarkedLemmas.{marked_more, marks_new, marks_at_most}
 use Rattle.deny_globs.proofs.marked.Marked.mark.Goals as goal
 

@@ -1,6 +1,6 @@
 use Rattle.std.proofs.Common.{sym, subst, rules}
 use Rattle.std.proofs.Common.{[]}
-use Rattle.deny_globs.specs.Marked.{IsMarked}
+use Rattle.deny_globs.specs.private.Marked.{IsMarked}
 use Rattle.deny_globs.proofs.MarkedLemmas.{marked_none}
 use Rattle.deny_globs.proofs.marked.Marked.new.Goals as goal
 

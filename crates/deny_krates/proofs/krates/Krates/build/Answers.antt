@@ -1,13 +1,13 @@
 use Rattle.std.proofs.Common.{sym, subst}
 use Rattle.deny_crate_graph.specs.Read.{IsGraphOf}
-use Rattle.deny_metadata.proofs.ReadingLemmas.{if_err_handed}
+use Rattle.deny_lists.proofs.ReaderLemmas.{if_err_handed}
+use Rattle.deny_metadata.specs.declared.fault.MetadataFault.TheVariants.{Memory}
 use Rattle.deny_model.specs.Graph.{Graph}
-use Rattle.deny_resolve.specs.Checked.{checked}
 use Rattle.deny_krates.proofs.krates.Krates.build.Goals as goal
 
 pub returns-in_err-graph-clause-err : goal.returns-in_err-graph-clause-err
 returns-in_err-graph-clause-err c =
-    if_err_handed _ c.in_err-graph.field-0.0 (checked c.args.bytes.now) c.from_residual.ensures.1
+    if_err_handed Memory _ _ c.in_err-graph.field-0.0 c.from_residual.ensures.1
     c.in_err-graph.ensures.err
 
 pub returns-clause-ok : goal.returns-clause-ok

@@ -4,7 +4,8 @@ use Rattle.deny_metadata.specs.private.Borrowed.{view}
 use Rattle.deny_metadata.specs.private.Parts.{requested_at, usage_at}
 use Rattle.deny_metadata.proofs.PartsLemmas.{declaration_after, declaration_in_parts, declaration_of, fails_first}
 use Rattle.deny_metadata.proofs.PartsLemmas.{steps_on}
-use Rattle.deny_metadata.proofs.ReadingLemmas.{handed_on}
+use Rattle.deny_metadata.specs.declared.fault.MetadataFault.TheVariants.{Memory}
+use Rattle.deny_lists.proofs.ReaderLemmas.{handed_on}
 use Rattle.deny_metadata.proofs.document.DeclarationElement.from_value.Goals as goal
 
 pub returns-in_err-requested : goal.returns-in_err-requested
@@ -12,7 +13,7 @@ returns-in_err-requested c =
     let path = c.args.path.now in
     let d = view c.args.value.now in
     let fault = c.in_err-requested.field-0.0 in
-    handed_on _ fault (declaration_at path d) c.from_residual.ensures.1
+    handed_on Memory _ _ _ fault c.from_residual.ensures.1
     (fails_first (declaration_at path d) (requested_at path d) (declaration_after path d) fault
     (declaration_in_parts path d) c.in_err-requested.ensures)
 
@@ -22,7 +23,7 @@ returns-in_err-usage c =
     let d = view c.args.value.now in
     let fault = c.in_err-usage.field-0.0 in
     let requested = c.in_ok-requested.requested in
-    handed_on _ fault (declaration_at path d) c.from_residual-in_err-usage.ensures.1
+    handed_on Memory _ _ _ fault c.from_residual-in_err-usage.ensures.1
     (fails_first (declaration_at path d) (usage_at path d) (λ usage. Ok (declaration_of requested usage)) fault
     (steps_on (declaration_at path d) (requested_at path d) (declaration_after path d) requested
     (declaration_in_parts path d) c.in_ok-requested.ensures) c.in_err-usage.ensures)

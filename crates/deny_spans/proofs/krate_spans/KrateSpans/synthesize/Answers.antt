@@ -11,22 +11,23 @@ pub returns-clause-seen : goal.returns-clause-seen
 returns-clause-seen g c =
     let told = (g.D.PackageFiles.seen c.args.disk.now).files in
     let s = c.in_ok-spans.spans in
-    subst (λ (old : List File). IsSeen told c.args.krates.now c.args.registries.now old c.look_around.new.files s.unread
+    subst (λ (old : List File). IsSeen told c.args.krates.now c.args.registries.now old c.find_manifests.new.files
+    s.unread
     s.malformed (spans_view s)) c.in_ok-lock.ensures.files
     (seen_is told c.args.krates.now c.args.registries.now c.krates-krates.result.now c.add_lock.new.files
-    c.look_around.new.files c.in_ok-lock.lock c.in_ok-found.found s c.krates-krates.ensures.crates
+    c.find_manifests.new.files c.in_ok-lock.lock c.in_ok-found.found s c.krates-krates.ensures.crates
     c.in_ok-found.ensures.found c.in_ok-spans.ensures)
 
 pub returns-clause-spans : goal.returns-clause-spans
 returns-clause-spans g c =
     spans_are (g.D.PackageFiles.seen c.args.disk.now).files c.args.krates.now c.args.registries.now
-    c.krates-krates.result.now c.add_lock.new.files c.look_around.new.files c.in_ok-lock.lock c.in_ok-found.found
+    c.krates-krates.result.now c.add_lock.new.files c.find_manifests.new.files c.in_ok-lock.lock c.in_ok-found.found
     c.in_ok-spans.spans c.krates-krates.ensures.crates c.in_ok-found.ensures.found c.in_ok-spans.ensures
     c.in_ok-lock.ensures.spans c.in_ok-lock.ensures.lines
 
 pub returns-clause-locked : goal.returns-clause-locked
 returns-clause-locked g c =
-    lock_at c.args.files.now c.add_lock.new.files c.look_around.new.files _ _ c.in_ok-spans.spans.lock_id
+    lock_at c.args.files.now c.add_lock.new.files c.find_manifests.new.files _ _ c.in_ok-spans.spans.lock_id
     c.in_ok-lock.ensures.files c.in_ok-found.ensures.found.files (c.in_ok-spans.ensures.lock_id
     ∙ c.in_ok-lock.ensures.id)
 
@@ -34,15 +35,15 @@ pub returns-clause-ranges : goal.returns-clause-ranges
 returns-clause-ranges g c =
     let told = (g.D.PackageFiles.seen c.args.disk.now).files in
     let s = c.in_ok-spans.spans in
-    view_lies told c.args.krates.now c.args.registries.now c.add_lock.new.files c.look_around.new.files s.unread
+    view_lies told c.args.krates.now c.args.registries.now c.add_lock.new.files c.find_manifests.new.files s.unread
     s.malformed (spans_view s)
     (seen_is told c.args.krates.now c.args.registries.now c.krates-krates.result.now c.add_lock.new.files
-    c.look_around.new.files c.in_ok-lock.lock c.in_ok-found.found s c.krates-krates.ensures.crates
+    c.find_manifests.new.files c.in_ok-lock.lock c.in_ok-found.found s c.krates-krates.ensures.crates
     c.in_ok-found.ensures.found c.in_ok-spans.ensures)
 
 pub returns-clause-caused : goal.returns-clause-caused
 returns-clause-caused g c = λ folder.
-    caused_listed folder (g.D.PackageFiles.seen c.args.disk.now) (g.D.PackageFiles.seen c.look_around.new.disk)
+    caused_listed folder (g.D.PackageFiles.seen c.args.disk.now) (g.D.PackageFiles.seen c.find_manifests.new.disk)
     c.in_ok-found.found.missed.unread c.in_ok-spans.spans.unread c.in_ok-spans.ensures.unread
     (c.in_ok-found.ensures.caused folder)
 
@@ -50,8 +51,8 @@ pub returns-clause-wanted : goal.returns-clause-wanted
 returns-clause-wanted g c =
     let told = (g.D.PackageFiles.seen c.args.disk.now).files in
     let s = c.in_ok-spans.spans in
-    wanted_are told c.args.krates.now c.args.registries.now c.add_lock.new.files c.look_around.new.files s.unread
+    wanted_are told c.args.krates.now c.args.registries.now c.add_lock.new.files c.find_manifests.new.files s.unread
     s.malformed (spans_view s)
     (seen_is told c.args.krates.now c.args.registries.now c.krates-krates.result.now c.add_lock.new.files
-    c.look_around.new.files c.in_ok-lock.lock c.in_ok-found.found s c.krates-krates.ensures.crates
+    c.find_manifests.new.files c.in_ok-lock.lock c.in_ok-found.found s c.krates-krates.ensures.crates
     c.in_ok-found.ensures.found c.in_ok-spans.ensures)

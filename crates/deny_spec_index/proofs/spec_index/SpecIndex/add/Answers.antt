@@ -1,5 +1,6 @@
 use Rattle.std.proofs.Common.{rules, ◌≡◌, ◌++◌, ◌∷◌, [], subst, sym}
-use Rattle.deny_spec_index.specs.Index.{IsBucket, Extends, bucket_at}
+use Rattle.deny_spec_index.specs.Index.{IsBucket, bucket_at}
+use Rattle.deny_spec_index.specs.private.Index.{Extends}
 use Rattle.deny_spec_index.proofs.IndexLemmas.{indexed_more}
 use Rattle.deny_spec_index.proofs.spec_index.SpecIndex.add.Goals as goal
 

@@ -1,5 +1,5 @@
 use Rattle.std.proofs.Common.{take}
-use Rattle.deny_std_table.specs.Draft.{Writes}
+use Rattle.deny_std_table.specs.private.Draft.{Writes}
 use Rattle.deny_std_table.proofs.draft.Draft.put_all.Given as goal
 
 -- the bytes so far were written

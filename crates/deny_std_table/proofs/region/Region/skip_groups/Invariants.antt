@@ -1,5 +1,6 @@
 use Rattle.std.proofs.Common.{◌≡◌, ◌-◌}
-use Rattle.deny_std_table.specs.Reading.{next_of, many}
+use Rattle.deny_std_table.specs.Reading.{many}
+use Rattle.deny_std_table.specs.private.Reading.{next_of}
 use Rattle.deny_std_table.specs.Width.{width_of}
 use Rattle.deny_std_table.specs.Region.{bounds, group}
 use Rattle.deny_std_table.proofs.region.Region.skip_groups.Given as goal

@@ -1,5 +1,5 @@
 use Rattle.std.proofs.Common.{rules, ◌∙◌, ◌+◌, ◌-◌, ap, arith, sym}
-use Rattle.deny_std_table.specs.Reading.{next_of}
+use Rattle.deny_std_table.specs.private.Reading.{next_of}
 use Rattle.deny_std_table.specs.Width.{width_of}
 use Rattle.deny_std_table.specs.Region.{bounds, replacement}
 use Rattle.deny_std_table.proofs.ReadingLemmas.{next_of-many_more, next_of-many_break, next_of-many_none}

@@ -1,0 +1,3 @@
+pub mod BuildingView
+pub mod Builtin
+pub mod Globs

@@ -1,0 +1,4 @@
+pub mod Deprecated
+pub mod FirstSpans
+pub mod LabelRanges
+pub mod PolicyText

@@ -1,0 +1,5 @@
+pub mod Dead
+pub mod Gating
+pub mod Hits
+pub mod Labels
+pub mod Report

@@ -1,0 +1,7 @@
+-- Hits while they are gathered.
+use Rattle.std.specs.Prelude.{◌≡◌, List, Contains}
+use Rattle.deny_base.specs.declared.entry.Hit.{Hit}
+
+-- two hits of one entry are one hit
+abbrev pub IsOneEach : List Hit → Type 0
+IsOneEach hits = (one other : Hit) → Contains hits one → Contains hits other → one.entry ≡ other.entry → one ≡ other

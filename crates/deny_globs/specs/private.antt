@@ -1,0 +1,12 @@
+pub mod Compiled
+pub mod Index
+pub mod Literals
+pub mod Marked
+pub mod Reading
+pub mod Sets
+pub mod Sizes
+pub mod Starts
+pub mod States
+pub mod Steps
+pub mod Walk
+pub mod Words

@@ -1,9 +1,0 @@
-use Rattle.std.proofs.Common.{◌≡◌, ◌++◌, drop}
-use Rattle.std.specs.Prelude.{filter_map}
-use Rattle.deny_std.specs.private.Hits.{hit_at}
-use Rattle.deny_std.proofs.hits.hits_of.Given as goal
-
-abbrev pub invariant-loop-entry : goal.invariant-loop-entry
-invariant-loop-entry l =
-    l.hits ++ filter_map (hit_at l.krates l.passed) (drop l.entry-index l.entries)
-    ≡ filter_map (hit_at l.krates l.passed) l.entries

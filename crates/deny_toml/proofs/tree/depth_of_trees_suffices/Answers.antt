@@ -1,5 +1,0 @@
-use Rattle.deny_toml.proofs.TreeDepthLaws.{depth_suffices}
-use Rattle.deny_toml.proofs.tree.depth_of_trees_suffices.Goals as goal
-
-pub returns : goal.returns
-returns c = depth_suffices

@@ -1,5 +1,0 @@
-use Rattle.deny_toml.proofs.TreeOrderLaws.{tree_orderly}
-use Rattle.deny_toml.proofs.tree.names_of_trees_ascend.Goals as goal
-
-pub returns : goal.returns
-returns c = tree_orderly

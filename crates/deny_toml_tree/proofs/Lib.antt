@@ -1,0 +1,15 @@
+pub mod EntryLaws
+pub mod PathLaws
+pub mod ClashRanges
+pub mod ClashLaws
+pub mod SlotsLaws
+pub mod ClashExamples
+pub mod TreeLaws
+pub mod TreeValues
+pub mod TreeOrderLaws
+pub mod TreeDepthLaws
+pub mod TreeCases
+pub mod TreeRanges
+pub mod ApartLaws
+pub mod ApartTree
+pub mod ApartParts

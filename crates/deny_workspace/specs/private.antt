@@ -1,0 +1,3 @@
+pub mod Entries
+pub mod Wanted
+pub mod Workspace
