@@ -1,9 +1,6 @@
 -- The declarations of a crate that its manifest writes.
 use Rattle.std.specs.Prelude.{ℕ, Bool, List, Option, filter_map, option_and_then, option_map}
 use Rattle.std.specs.List.{enumerate_from}
-use Rattle.semver.specs.Parse.{Held}
-use Rattle.deny_base.specs.declared.span.Span.{Span}
-use Rattle.deny_base.specs.declared.span.Spanned.{Spanned}
 use Rattle.deny_manifests.specs.Found.{rename_of, version_of, workspace_of}
 use Rattle.deny_manifests.specs.Written.{found_in}
 use Rattle.deny_model.specs.Graph.{Crate, Dependency, Graph}

@@ -2,9 +2,6 @@
 use Rattle.std.specs.Prelude.{◌≡◌, ℕ, ◌==◌, Bool, false, IfSome, List, Option, Some, filter, find, is_none, length, map}
 use Rattle.std.specs.Prelude.{option_map, reverse, slice_get}
 use Rattle.std.specs.Option.{option_flatten, option_map_or}
-use Rattle.semver.specs.Parse.{Held}
-use Rattle.deny_base.specs.declared.span.Span.{Span}
-use Rattle.deny_base.specs.declared.span.Spanned.{Spanned}
 use Rattle.deny_krates.specs.Crates.{crate_view}
 use Rattle.deny_model.specs.Graph.{Graph}
 use Rattle.deny_model.specs.View.{WorkspaceEntry}

@@ -1,7 +1,6 @@
 -- Digits that lead past a count.
-use Rattle.std.specs.Prelude.{ℕ, ◌-◌, not, Option, None, Some}
+use Rattle.std.specs.Prelude.{ℕ, Option, None, Some}
 use Rattle.std.specs.Prelude.{◌≤◌, ⊤}
-use Rattle.deny_toml_tree.specs.Calls.{below}
 
 -- there is no index, or one that is not below the count
 abbrev pub IsPast : ℕ → Option ℕ → Type 0

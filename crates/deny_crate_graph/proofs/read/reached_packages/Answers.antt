@@ -1,4 +1,4 @@
-use Rattle.std.proofs.Common.{◌<◌, ◌≤◌, ◌^◌, sym, ℕ, List, Bool, length, subst, arith}
+use Rattle.std.proofs.Common.{◌<◌, ◌^◌, sym, ℕ, List, Bool, length, subst, arith}
 use Rattle.std.specs.Prelude.{All}
 use Rattle.deny_lists.specs.Ascending.{Lists}
 use Rattle.deny_crate_graph.specs.private.Graph.{IsKeptNode, kept_cmp}
