@@ -50,7 +50,7 @@ use Rattle.deny_cfg.specs.PolicyView.{building_of, feature_view, policy_view, re
 use Rattle.deny_cfg.specs.Valid.{build_of, features_of, older_key_of}
 use Rattle.deny_cfg.specs.declared.bans.cfg.valid.ValidKrateFeatures.{ValidKrateFeatures}
 use Rattle.deny_cfg.specs.declared.policy.Policy as cfg
-use Rattle.deny_gate.specs.Headline.{WritesRule, denies, has_element, has_entry, has_key, is_deny, writes, rule_stands}
+use Rattle.deny_gate.specs.Headline.{WritesRule, denies, has_element, has_entry, has_key, is_deny, rule_stands}
 use Rattle.deny_gate.specs.Report.{policy_id}
 use Rattle.deny_gate.proofs.Covered.{some_test}
 use Rattle.deny_gate.proofs.MindedRules.{denies_wildcards, has_features, lists_scripts, minds, minds_files, minds_rule}

@@ -14,7 +14,7 @@ use deny_toml::{TomlError, parse};
 use std::alloc::Global;
 
 /// Whether an expression holds where its requirements have these values; none where they are not as many.
-pub fn holds(alloc: Global, text: &str, values: &[bool]) -> Result<Option<bool>, SpdxError>
+fn holds(alloc: Global, text: &str, values: &[bool]) -> Result<Option<bool>, SpdxError>
     ensures { IfOk result (λ answer. IfSome answer (λ holds.
         (e : Expression) × Spells IsExpression text.now e × (holds ≡ truth values.now e.tree))) }
 {
@@ -26,7 +26,7 @@ pub fn holds(alloc: Global, text: &str, values: &[bool]) -> Result<Option<bool>,
 }
 
 /// Whether a table speaks of a crate.
-pub fn speaks_of(alloc: Global, bytes: &[u8], name: &str) -> Result<bool, ReplacementError>
+fn speaks_of(alloc: Global, bytes: &[u8], name: &str) -> Result<bool, ReplacementError>
     ensures { IfOk result (λ speaks. (entries : List Entry) × (table bytes.now ≡ Ok entries)
         × (speaks ≡ is_some (entry_named (record { bytes = bytes.now; entries = entries }) name.now))) }
 {
@@ -35,7 +35,7 @@ pub fn speaks_of(alloc: Global, bytes: &[u8], name: &str) -> Result<bool, Replac
 }
 
 /// Whether a text has a key.
-pub fn names(alloc: Global, text: &str, key: &str) -> Result<bool, TomlError>
+fn names(alloc: Global, text: &str, key: &str) -> Result<bool, TomlError>
     requires { length text.now < 2 ^ 28 }
 {
     let value = parse(alloc, text)?;
@@ -43,7 +43,7 @@ pub fn names(alloc: Global, text: &str, key: &str) -> Result<bool, TomlError>
 }
 
 /// Whether a pattern fits a path.
-pub fn fits(alloc: Global, pattern: &str, path: &str) -> Result<bool, GlobError> {
+fn fits(alloc: Global, pattern: &str, path: &str) -> Result<bool, GlobError> {
     let mut set = GlobSet::empty(alloc);
     set.add(Glob::parse(alloc, pattern)?)?;
     let mut numbers = Vec::new(alloc);
@@ -51,31 +51,26 @@ pub fn fits(alloc: Global, pattern: &str, path: &str) -> Result<bool, GlobError>
     Ok(!numbers.is_empty())
 }
 
-#[cfg(test)]
-mod tests {
-    use super::*;
+#[test]
+fn a_licence_holds(rt: HostRuntime) {
+    let holds = holds(rt.alloc(), "MIT OR Zlib AND ISC", &[false, true, true]);
+    assert!(rt; matches!(holds, Ok(Some(true))));
+}
 
-    #[test]
-    fn a_licence_holds(rt: HostRuntime) {
-        let holds = holds(rt.alloc(), "MIT OR Zlib AND ISC", &[false, true, true]);
-        assert!(rt; matches!(holds, Ok(Some(true))));
-    }
+#[test]
+fn no_table_speaks_of_a_crate(rt: HostRuntime) {
+    let speaks = speaks_of(rt.alloc(), b"\xcd\xcd\xcd\x01", "x");
+    assert!(rt; matches!(speaks, Err(ReplacementError::Bad(4))));
+}
 
-    #[test]
-    fn no_table_speaks_of_a_crate(rt: HostRuntime) {
-        let speaks = speaks_of(rt.alloc(), b"\xcd\xcd\xcd\x01", "x");
-        assert!(rt; matches!(speaks, Err(ReplacementError::Bad(4))));
-    }
+#[test]
+fn a_text_has_a_key(rt: HostRuntime) {
+    let names = names(rt.alloc(), "[bans]", "bans");
+    assert!(rt; matches!(names, Ok(true)));
+}
 
-    #[test]
-    fn a_text_has_a_key(rt: HostRuntime) {
-        let names = names(rt.alloc(), "[bans]", "bans");
-        assert!(rt; matches!(names, Ok(true)));
-    }
-
-    #[test]
-    fn a_pattern_fits(rt: HostRuntime) {
-        let fits = fits(rt.alloc(), "a/**/*.sh", "a/b/c.sh");
-        assert!(rt; matches!(fits, Ok(true)));
-    }
+#[test]
+fn a_pattern_fits(rt: HostRuntime) {
+    let fits = fits(rt.alloc(), "a/**/*.sh", "a/b/c.sh");
+    assert!(rt; matches!(fits, Ok(true)));
 }

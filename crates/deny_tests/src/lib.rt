@@ -7,7 +7,8 @@
 mod base;
 #[cfg(test)]
 mod dup_edges;
-pub mod examples;
+#[cfg(test)]
+mod examples;
 #[cfg(test)]
 mod krates;
 #[cfg(test)]

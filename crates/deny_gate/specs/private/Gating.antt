@@ -10,7 +10,6 @@ use Rattle.deny_cfg.specs.Lawful.{IsLawful, IsLawfulLicensing}
 use Rattle.deny_cfg.specs.PolicyText.{ListsFaults, TellsClashes}
 use Rattle.deny_cfg.specs.PolicyView.{building_of, policy_view}
 use Rattle.deny_cfg.specs.declared.policy.Policy.{Policy}
-use Rattle.deny_krates.specs.Checked.{checked}
 use Rattle.deny_krates.specs.Read.{IsGraphOf}
 use Rattle.deny_model.specs.Graph.{Crate, Graph}
 use Rattle.deny_model.specs.Licensing.{Licensing}
